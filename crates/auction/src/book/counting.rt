@@ -1,0 +1,30 @@
+//! The ladder of the orders that count, order by order.
+ghost use Rattle.std.specs.Prelude.{◌≡◌, ℕ, ◌+◌, ◌≤◌, true};
+ghost use Rattle.auction_terms.specs.Book.{counts};
+ghost use Rattle.tick_ladder.specs.Ladder.{standing_at, all_standing, IsInBounds};
+ghost use Rattle.auction.specs.Kept.{with_order, less_order};
+
+use auction_terms::{Kind, Order};
+use tick_ladder::Ladder;
+
+/// Adds an order to the ladder, if it counts in the auction.
+pub(super) fn add(ladder: &mut Ladder, kind: Kind, order: Order)
+    requires in_bounds { IsInBounds ladder.old order.limit }
+    requires fits { all_standing ladder.old + order.quantity ≤ 65536000000000 }
+    ensures { ladder.new ≡ with_order kind order ladder.old }
+{
+    if order.counts(kind) {
+        ladder.add(order.side, order.limit, order.quantity);
+    }
+}
+
+/// Takes a quantity of an order from the ladder, if the order counts in the auction.
+pub(super) fn take(ladder: &mut Ladder, kind: Kind, order: Order, quantity: u64)
+    requires in_bounds { IsInBounds ladder.old order.limit }
+    requires stands { counts kind order ≡ true → quantity ≤ standing_at ladder.old order.side order.limit }
+    ensures { ladder.new ≡ less_order kind order quantity ladder.old }
+{
+    if order.counts(kind) {
+        ladder.take(order.side, order.limit, quantity);
+    }
+}
