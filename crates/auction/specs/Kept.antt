@@ -29,7 +29,7 @@ pub record IsKept (low ticks : ℕ) (kind : Kind) (book : List Order) (ladder : 
   pub same : ladder ≡ ladder_of low ticks (counted book kind)
 
 -- as many orders as there is room for, at most
-pub record HasRoom (book : List Order) (max_open room : ℕ) : Type 0 where
+pub record HasRoom (book : List Order) (max_open desk : ℕ) : Type 0 where
   pub few : length book ≤ max_open
   pub small : max_open ≤ 65536
-  pub room : max_open ≤ room
+  pub room : max_open ≤ desk
