@@ -10,6 +10,7 @@ use Rattle.auction_terms.specs.declared.Limit.TheVariants.{Market, At}
 use Rattle.auction_terms.specs.Book.{on_side, is_buy, is_market, quantity_of}
 use Rattle.auction_terms.specs.Ladder.{is_at, standing, market, spread, ladder_of, IsTickOf}
 use Rattle.auction_terms.proofs.LadderLaws.{same_spread, at_spread, stands_by, market_by, by_order, by_market, standing_is, market_is}
+use Rattle.auction_terms.proofs.LadderSums.{IsMore, order_additive, market_additive}
 use Rattle.tick_ladder.specs.Ladder.{standing_at, all_standing}
 
 -- ---- at one limit
@@ -35,13 +36,13 @@ at_limit low n book Sell (At l) q tick stands sums =
     let there = ap (standing Sell book) e in
     omega (arith, here, there, stands Sell l, own l q)
 
--- an order that every sum has stands at its limit
-pub stands : (low n : ℕ) (book : List Order) (o : Order) → IsTickOf low n o.limit → ((w : Order → ℕ) → w o ≤ sum_by w book) → o.quantity ≤ standing_at (ladder_of low n book) o.side o.limit
+-- an order of the book stands at its limit
+pub stands : (low n : ℕ) (old new : List Order) (o : Order) → IsTickOf low n o.limit → IsMore o old new → o.quantity ≤ standing_at (ladder_of low n new) o.side o.limit
 unfolding by_order by_market
-stands low n book o tick has =
-    at_limit low n book o.side o.limit o.quantity tick
-    (λ s t. omega (arith, has (by_order s t), standing_is s book t))
-    (λ s. omega (arith, has (by_market s), market_is s book))
+stands low n old new o tick is =
+    at_limit low n new o.side o.limit o.quantity tick
+    (λ s t. omega (arith, is.sums (by_order s t) (order_additive s t), standing_is s new t))
+    (λ s. omega (arith, is.sums (by_market s) (market_additive s), market_is s new))
 
 -- ---- in all
 
