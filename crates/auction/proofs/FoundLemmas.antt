@@ -51,3 +51,8 @@ all_found P id (x ∷ xs) o all e =
       | false ↦ λ f. more f
     ] in
     at (nat_eq x.id id) e
+
+pub some_found : (P : Order → Type 0) (line : List Stamped) (found : Option Stamped) → All P (orders_of line) → IfSome found (λ s. open_order line s.order.id ≡ Some s) → IfSome found (λ s. P s.order)
+some_found P line None all stands = tt
+some_found P line (Some s) all stands =
+    all_found P s.order.id (orders_of line) s.order all (sym (order_of_open s.order.id line) ∙ ap (option_map (λ (s : Stamped). s.order)) stands)

@@ -19,7 +19,7 @@ use Rattle.auction.proofs.FoundLemmas.{all_found}
 use Rattle.auction.proofs.LengthLemmas.{length-filter_le}
 use Rattle.auction.proofs.Totals.{stands, all_within}
 
-abbrev IsOpen : Order → Type 0
+abbrev pub IsOpen : Order → Type 0
 IsOpen o = 0 < o.quantity
 
 abbrev HasTick : ℕ → ℕ → Order → Type 0
@@ -32,6 +32,9 @@ orderly-filter p book is = record {
   bounded = All-filter p (λ o. o.quantity ≤ 1000000000) book is.bounded;
 }
 
+pub open_counted : (kind : Kind) (book : List Order) → IsOrderly book → All IsOpen (counted book kind)
+open_counted kind book is = All-filter (counts kind) IsOpen book is.positive
+
 pub kept-same : (low n : ℕ) (kind : Kind) (book other : List Order) (ladder view : LadderView) → IsKept low n kind book ladder → other ≡ book → view ≡ ladder → IsKept low n kind other view
 kept-same low n kind book other ladder view is e f =
     subst (λ v. IsKept low n kind other v) (sym f) (subst (λ l. IsKept low n kind l ladder) (sym e) is)
@@ -39,19 +42,13 @@ kept-same low n kind book other ladder view is e f =
 -- ---- one order more, or less
 
 module _ (low n : ℕ) (kind : Kind) (o : Order) (old new : List Order) (ladder : LadderView) (was : IsKept low n kind old ladder) (orderly : IsOrderly new) (within : All (HasTick low n) new) (tick : IsTickOf low n o.limit) where
-  was_open : All IsOpen (counted old kind)
-  was_open = All-filter (counts kind) IsOpen old was.orderly.positive
-
-  now_open : All IsOpen (counted new kind)
-  now_open = All-filter (counts kind) IsOpen new orderly.positive
-
   pub kept-more : IsMore o old new → IsKept low n kind new (with_order kind o ladder)
   kept-more is = record { orderly = orderly; within = within; same = at (counts kind o) refl }
     where
       at : (b : Bool) → counts kind o ≡ b → cond b (added ladder o.side o.limit o.quantity) ladder ≡ ladder_of low n (counted new kind)
       at true e =
           ap (λ v. added v o.side o.limit o.quantity) was.same
-          ∙ sym (ladder-more low n (counted old kind) (counted new kind) was_open now_open o tick (more-counted kind o old new e is))
+          ∙ sym (ladder-more low n (counted old kind) (counted new kind) (open_counted kind old was.orderly) (open_counted kind new orderly) o tick (more-counted kind o old new e is))
       at false e = was.same ∙ sym (ladder-others low n kind o old new was.orderly.positive orderly.positive e is)
 
   pub kept-fewer : IsMore o new old → IsKept low n kind new (less_order kind o o.quantity ladder)
@@ -60,7 +57,7 @@ module _ (low n : ℕ) (kind : Kind) (o : Order) (old new : List Order) (ladder 
       at : (b : Bool) → counts kind o ≡ b → cond b (taken ladder o.side o.limit o.quantity) ladder ≡ ladder_of low n (counted new kind)
       at true e =
           ap (λ v. taken v o.side o.limit o.quantity) was.same
-          ∙ sym (ladder-fewer low n (counted old kind) (counted new kind) was_open now_open o tick (more-counted kind o new old e is))
+          ∙ sym (ladder-fewer low n (counted old kind) (counted new kind) (open_counted kind old was.orderly) (open_counted kind new orderly) o tick (more-counted kind o new old e is))
       at false e = was.same ∙ ladder-others low n kind o new old orderly.positive was.orderly.positive e is
 
 -- ---- what the calls of the ladder ask
@@ -89,13 +86,13 @@ length-spread : (f : ℕ → ℕ) (a n : ℕ) → length (spread f a n) ≡ n
 length-spread f a zero = refl
 length-spread f a (suc n) = ap suc (length-spread f (a + 1) n)
 
-pub kept_low : (low n : ℕ) (kind : Kind) (book : List Order) (ladder : LadderView) → IsKept low n kind book ladder → ladder.low ≡ low
+pub low_of : (low n : ℕ) (book : List Order) (ladder : LadderView) → ladder ≡ ladder_of low n book → ladder.low ≡ low
 unfolding ladder_of
-kept_low low n kind book ladder is = ap (λ (v : LadderView). v.low) is.same
+low_of low n book ladder same = ap (λ (v : LadderView). v.low) same
 
-pub kept_ticks : (low n : ℕ) (kind : Kind) (book : List Order) (ladder : LadderView) → IsKept low n kind book ladder → length ladder.bids ≡ n
+pub ticks_of : (low n : ℕ) (book : List Order) (ladder : LadderView) → ladder ≡ ladder_of low n book → length ladder.bids ≡ n
 unfolding ladder_of
-kept_ticks low n kind book ladder is = ap (λ (v : LadderView). length v.bids) is.same ∙ length-spread _ low n
+ticks_of low n book ladder same = ap (λ (v : LadderView). length v.bids) same ∙ length-spread _ low n
 
 -- ---- the edits
 
@@ -144,11 +141,11 @@ kept-change low n id kind limit quantity o book ladder is ticks e tick orderly w
 
 pub own_ticks : (low n : ℕ) (kind : Kind) (book : List Order) (ladder : LadderView) → IsKept low n kind book ladder → IsKept ladder.low (length ladder.bids) kind book ladder
 own_ticks low n kind book ladder is =
-    subst (λ l. IsKept l (length ladder.bids) kind book ladder) (sym (kept_low low n kind book ladder is))
-    (subst (λ k. IsKept low k kind book ladder) (sym (kept_ticks low n kind book ladder is)) is)
+    subst (λ l. IsKept l (length ladder.bids) kind book ladder) (sym (low_of low n (counted book kind) ladder is.same))
+    (subst (λ k. IsKept low k kind book ladder) (sym (ticks_of low n (counted book kind) ladder is.same)) is)
 
 -- from one step to the next
 pub same_ticks : (low n : ℕ) (kind was_kind : Kind) (book old : List Order) (ladder was : LadderView) → IsKept low n was_kind old was → IsKept was.low (length was.bids) kind book ladder → IsKept low n kind book ladder
 same_ticks low n kind was_kind book old ladder was first is =
-    subst (λ l. IsKept l n kind book ladder) (kept_low low n was_kind old was first)
-    (subst (λ k. IsKept was.low k kind book ladder) (kept_ticks low n was_kind old was first) is)
+    subst (λ l. IsKept l n kind book ladder) (low_of low n (counted old was_kind) was first.same)
+    (subst (λ k. IsKept was.low k kind book ladder) (ticks_of low n (counted old was_kind) was first.same) is)

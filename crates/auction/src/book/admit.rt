@@ -1,6 +1,7 @@
 //! The closing orders, added to the ladder when their auction begins.
-ghost use Rattle.std.specs.Prelude.{◌≡◌, ℕ, ◌+◌, ◌≤◌, length, IfSome};
+ghost use Rattle.std.specs.Prelude.{◌≡◌, ℕ, ◌+◌, ◌≤◌, true, length, IfSome};
 ghost use Rattle.auction_terms.specs.declared.Kind.TheVariants.{Intraday, Closing};
+ghost use Rattle.auction_terms.specs.Book.{names};
 ghost use Rattle.auction_terms.specs.Line.{orders_of};
 ghost use Rattle.order_book.specs.Book.{slot_at};
 ghost use Rattle.tick_ladder.specs.Ladder.{all_standing, IsInBounds};
@@ -13,7 +14,7 @@ use tick_ladder::Ladder;
 // Adds the order at a place, if there is one and it is for the closing auction alone.
 fn admit_one(ladder: &mut Ladder, found: Option<Stamped>)
     requires in_bounds { IfSome found (λ s. IsInBounds ladder.old s.order.limit) }
-    requires fits { IfSome found (λ s. all_standing ladder.old + s.order.quantity ≤ 65536000000000) }
+    requires fits { IfSome found (λ s. names Closing s.order.only ≡ true → all_standing ladder.old + s.order.quantity ≤ 65536000000000) }
     ensures { ladder.new ≡ with_closing found ladder.old }
 {
     let Some(stamped) = found else {
