@@ -6,7 +6,10 @@ use Rattle.auction_terms.specs.declared.Kind.{Kind}
 use Rattle.auction_terms.specs.declared.Kind.TheVariants.{Closing}
 use Rattle.auction_terms.specs.Book.{counts, counted, names}
 use Rattle.auction_terms.specs.Edits.{IsOrderly}
+use Rattle.auction_terms.specs.Line.{orders_of}
 use Rattle.auction_terms.specs.Ladder.{LadderView, ladder_of, added, taken, IsTickOf}
+use Rattle.order_book.specs.Book.{Book as Orders}
+use Rattle.auction.specs.Open.{OpenOrders}
 
 -- the ladder with an order more, if that counts
 abbrev pub with_order : Kind → Order → LadderView → LadderView
@@ -33,3 +36,21 @@ pub record HasRoom (book : List Order) (max_open desk : ℕ) : Type 0 where
   pub few : length book ≤ max_open
   pub small : max_open ≤ 65536
   pub room : max_open ≤ desk
+
+-- the view of the open orders with their ladder
+abbrev pub shown : Orders → LadderView → Kind → OpenOrders
+shown orders ladder kind = record {
+  orders = orders_of orders.line;
+  kind = kind;
+  low = ladder.low;
+  ticks = length ladder.bids;
+  entered = orders.entered;
+  stamps = orders.stamps;
+  max_open = orders.max_open;
+  max_calls = orders.max_calls;
+}
+
+-- a desk that has room for as many orders as may be open
+pub record IsBook (orders : Orders) (ladder : LadderView) (kind : Kind) (desk : ℕ) : Type 0 where
+  pub kept : IsKept ladder.low (length ladder.bids) kind (orders_of orders.line) ladder
+  pub room : HasRoom (orders_of orders.line) orders.max_open desk

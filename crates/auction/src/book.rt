@@ -35,25 +35,14 @@ pub(crate) struct Book {
 }
 
 impl Model for Book {
-    ghost use Rattle.std.specs.Prelude.{length};
-    ghost use Rattle.auction_terms.specs.Line.{orders_of};
     ghost use Rattle.auction.specs.Open.{OpenOrders};
-    ghost use Rattle.auction.specs.Kept.{IsKept, HasRoom};
+    ghost use Rattle.auction.specs.Kept.{shown, IsBook};
 
     ghost Value = { OpenOrders };
 
-    ghost view = { λ b. record {
-      orders = orders_of b.orders.line;
-      kind = b.kind;
-      low = b.ladder.low;
-      ticks = length b.ladder.bids;
-      entered = b.orders.entered;
-      stamps = b.orders.stamps;
-      max_open = b.orders.max_open;
-      max_calls = b.orders.max_calls;
-    } };
+    ghost view = { λ b. shown b.orders b.ladder b.kind };
 
-    ghost invariant = { λ b. IsKept b.ladder.low (length b.ladder.bids) b.kind (orders_of b.orders.line) b.ladder × HasRoom (orders_of b.orders.line) b.orders.max_open b.desk.room };
+    ghost invariant = { λ b. IsBook b.orders b.ladder b.kind b.desk.room };
 }
 
 // Adds trades to those of the day.

@@ -1,0 +1,27 @@
+use Rattle.std.proofs.Common.{◌≡◌, length, IsSome, not, sym, ap, subst, ◌∙◌, arith}
+use Rattle.auction_terms.specs.Line.{orders_of}
+use Rattle.auction_terms.specs.Edits.{has_id, order_with, without}
+use Rattle.order_book.specs.Book.{Book as Orders}
+use Rattle.auction.specs.Open.{OpenOrders}
+use Rattle.auction.proofs.FoundLemmas.{open_where}
+use Rattle.auction.proofs.LengthLemmas.{length-filter_le}
+use Rattle.auction.proofs.ShownLemmas.{closes_book, shown_rest}
+use Rattle.auction.proofs.book.Book.delete.Goals as goal
+
+pub remove-requires-clause-open : goal.remove-requires-clause-open
+remove-requires-clause-open c =
+    open_where c.args.id c.self.inside.orders.line (subst (λ (v : OpenOrders). IsSome (order_with c.args.id v.orders)) (sym c.self.view_is) c.requires)
+
+pub invariant_of-self : goal.invariant_of-self
+invariant_of-self c =
+    closes_book c.self.inside.ladder.low (length c.self.inside.ladder.bids) c.self.inside.desk.room c.self.inside.kind c.remove.new.orders c.remove.new.ladder c.self.inside.orders.max_open c.remove.ensures.kept
+    (ap (λ (o : Orders). o.max_open) c.remove.ensures.rest)
+    (omega (arith, ap length c.remove.ensures.book, length-filter_le (λ o. not (has_id c.args.id o)) (orders_of c.self.inside.orders.line), c.self.invariant.room.few))
+    c.self.invariant.room.small c.self.invariant.room.room
+
+pub returns : goal.returns
+returns c =
+    shown_rest c.self.inside.orders c.remove.new.orders c.self.inside.ladder c.remove.new.ladder c.self.inside.kind c.self.inside.kind c.args.self.now.kind c.args.self.now c.self.view_is c.remove.ensures.kept
+    (ap (λ (v : OpenOrders). v.kind) c.self.view_is) (without c.args.id c.args.self.now.orders)
+    (c.remove.ensures.book ∙ ap (λ (v : OpenOrders). without c.args.id v.orders) c.self.view_is)
+    c.remove.ensures.rest
