@@ -17,6 +17,10 @@ found_order id line o some is = sym (order_of_open id line) ∙ at (open_order l
     at None some is = absurd (cc)
     at (Some s) some is = ap Some (sym is)
 
+-- by a look-up
+pub found_from : (id : ℕ) (line : List Stamped) (got : Option Order) (o : Order) → got ≡ option_map (λ s. s.order) (open_order line id) → got ≡ Some o → order_with id (orders_of line) ≡ Some o
+found_from id line got o is some = sym (is ∙ order_of_open id line) ∙ some
+
 -- it is open where it is found in the list
 pub open_where : (id : ℕ) (line : List Stamped) → IsSome (order_with id (orders_of line)) → IsSome (open_order line id)
 open_where id line some = at (open_order line id) (subst IsSome (sym (order_of_open id line)) some)

@@ -1,0 +1,100 @@
+use Rattle.std.proofs.Common.{◌≡◌, ◌+◌, cond, Bool, Option, Some, IsSome, IfSome, length, sym, ap, subst, ◌∙◌, refl, arith}
+use Rattle.auction_terms.specs.declared.Order.{Order}
+use Rattle.auction_terms.specs.Line.{orders_of}
+use Rattle.auction_terms.specs.Edits.{order_with, without, keeps_place, IsOrderly}
+use Rattle.auction_terms.specs.Day.{book_with_change}
+use Rattle.order_book.specs.Book.{Book as Orders}
+use Rattle.order_book.proofs.OrderLaws.{order_of_open}
+use Rattle.auction.specs.Open.{OpenOrders}
+use Rattle.auction.specs.Kept.{shown, IsKept}
+use Rattle.auction.proofs.FoundLemmas.{listed_with, found_from}
+use Rattle.auction.proofs.LengthLemmas.{length-without, length-change}
+use Rattle.auction.proofs.KeptLaws.{kept_tick, kept_stands, kept_fits, kept-without, kept-same, kept-change}
+use Rattle.auction.proofs.ShownLemmas.{good_quantity, seen_tick, next_tick, closes_book, shown_changed, changed_line}
+use Rattle.auction.proofs.book.Book.change.Goals as goal
+
+pub unwrap-before-requires : goal.unwrap-before-requires
+unwrap-before-requires c =
+    subst IsSome (sym (c.get.ensures ∙ order_of_open c.args.id c.self.inside.orders.line))
+    (subst (λ (v : OpenOrders). IsSome (order_with c.args.id v.orders)) (sym c.self.view_is) c.requires.open)
+
+pub take-requires-clause-in_bounds : goal.take-requires-clause-in_bounds
+take-requires-clause-in_bounds c =
+    let found = found_from c.args.id c.self.inside.orders.line c.get.result c.unwrap-before.result c.get.ensures c.unwrap-before.ensures in
+    kept_tick c.self.inside.ladder.low (length c.self.inside.ladder.bids) c.args.id c.self.inside.kind c.unwrap-before.result (orders_of c.self.inside.orders.line) c.self.inside.ladder c.self.invariant.kept found
+
+pub take-requires-clause-stands : goal.take-requires-clause-stands
+take-requires-clause-stands c =
+    let found = found_from c.args.id c.self.inside.orders.line c.get.result c.unwrap-before.result c.get.ensures c.unwrap-before.ensures in
+    kept_stands c.self.inside.ladder.low (length c.self.inside.ladder.bids) c.self.inside.kind (record { id = c.args.id; quantity = c.unwrap-before.result.quantity }) c.unwrap-before.result (orders_of c.self.inside.orders.line) c.self.inside.ladder c.self.invariant.kept found (omega arith)
+
+pub add-requires-clause-in_bounds : goal.add-requires-clause-in_bounds
+add-requires-clause-in_bounds c =
+    let low = c.self.inside.ladder.low in
+    let n = length c.self.inside.ladder.bids in
+    let book = orders_of c.self.inside.orders.line in
+    let found = found_from c.args.id c.self.inside.orders.line c.get.result c.unwrap-before.result c.get.ensures c.unwrap-before.ensures in
+    let between = kept-same low n c.self.inside.kind (without c.args.id book) (without c.args.id book) _ c.take.new.ladder
+    (kept-without low n c.args.id c.self.inside.kind c.unwrap-before.result book c.self.inside.ladder c.self.invariant.kept found) refl c.take.ensures in
+    next_tick low n c.self.inside.kind (without c.args.id book) c.take.new.ladder c.args.limit between
+    (seen_tick c.self.inside.orders c.self.inside.ladder c.self.inside.kind c.args.self.now c.args.limit c.self.view_is c.requires.limit)
+
+pub add-requires-clause-fits : goal.add-requires-clause-fits
+add-requires-clause-fits c =
+    let low = c.self.inside.ladder.low in
+    let n = length c.self.inside.ladder.bids in
+    let book = orders_of c.self.inside.orders.line in
+    let found = found_from c.args.id c.self.inside.orders.line c.get.result c.unwrap-before.result c.get.ensures c.unwrap-before.ensures in
+    let between = kept-same low n c.self.inside.kind (without c.args.id book) (without c.args.id book) _ c.take.new.ladder
+    (kept-without low n c.args.id c.self.inside.kind c.unwrap-before.result book c.self.inside.ladder c.self.invariant.kept found) refl c.take.ensures in
+    kept_fits low n c.args.quantity c.self.inside.kind (without c.args.id book) c.take.new.ladder between
+    (omega (arith, length-without c.args.id book c.unwrap-before.result c.self.invariant.kept.orderly.ids found, c.self.invariant.room.few, c.self.invariant.room.small))
+    (good_quantity c.args.quantity c.requires.quantity).1
+
+found : (c : goal.After-add) → order_with c.args.id (orders_of c.self.inside.orders.line) ≡ Some c.unwrap-before.result
+found c = found_from c.args.id c.self.inside.orders.line c.get.result c.unwrap-before.result c.get.ensures c.unwrap-before.ensures
+
+keeps : (c : goal.After-add) → c.change-kept.result ≡ keeps_place c.unwrap-before.result c.args.limit c.args.quantity
+keeps c =
+    subst (λ x. IfSome x (λ (o : Order). c.change-kept.result ≡ keeps_place o c.args.limit c.args.quantity)) (found c)
+    (listed_with (λ o. c.change-kept.result ≡ keeps_place o c.args.limit c.args.quantity) c.args.id c.self.inside.orders.line c.change-kept.ensures.kept)
+
+changed : (c : goal.After-add) → orders_of c.change-kept.new.self.line ≡ book_with_change (orders_of c.self.inside.orders.line) c.unwrap-before.result c.args.limit c.args.quantity
+changed c =
+    changed_line c.args.id c.self.inside.orders.stamps c.args.limit c.args.quantity c.self.inside.orders.line c.change-kept.new.self.line c.unwrap-before.result c.change-kept.result c.self.invariant.kept.orderly.ids (found c) (keeps c) c.change-kept.ensures.line
+
+still_kept : (c : goal.After-add) → IsKept c.self.inside.ladder.low (length c.self.inside.ladder.bids) c.self.inside.kind (orders_of c.change-kept.new.self.line) c.add.new.ladder
+still_kept c =
+    let low = c.self.inside.ladder.low in
+    let n = length c.self.inside.ladder.bids in
+    let book = orders_of c.self.inside.orders.line in
+    let between = kept-same low n c.self.inside.kind (without c.args.id book) (without c.args.id book) _ c.take.new.ladder
+    (kept-without low n c.args.id c.self.inside.kind c.unwrap-before.result book c.self.inside.ladder c.self.invariant.kept (found c)) refl c.take.ensures in
+    let tick = seen_tick c.self.inside.orders c.self.inside.ladder c.self.inside.kind c.args.self.now c.args.limit c.self.view_is c.requires.limit in
+    kept-same low n c.self.inside.kind _ (orders_of c.change-kept.new.self.line) _ c.add.new.ladder
+    (kept-change low n c.args.id c.self.inside.kind c.args.limit c.args.quantity c.unwrap-before.result book c.take.new.ladder c.self.invariant.kept.orderly c.self.invariant.kept.within (found c) tick
+    (subst IsOrderly (changed c) c.change-kept.ensures.orderly) between)
+    (changed c) c.add.ensures
+
+pub invariant_of-self : goal.invariant_of-self
+invariant_of-self c =
+    closes_book c.self.inside.ladder.low (length c.self.inside.ladder.bids) c.self.inside.desk.room c.self.inside.kind c.change-kept.new.self c.add.new.ladder c.self.inside.orders.max_open (still_kept c)
+    (ap (λ (o : Orders). o.max_open) c.change-kept.ensures.rest)
+    (omega (arith, ap length (changed c), length-change c.args.id c.args.limit c.args.quantity (orders_of c.self.inside.orders.line) c.unwrap-before.result c.self.invariant.kept.orderly.ids (found c), c.self.invariant.room.few))
+    c.self.invariant.room.small c.self.invariant.room.room
+
+listed : (c : goal.After-add) → order_with c.args.id c.args.self.now.orders ≡ Some c.unwrap-before.result
+listed c = sym (ap (λ (v : OpenOrders). order_with c.args.id v.orders) c.self.view_is) ∙ found c
+
+pub returns-clause-kept : goal.returns-clause-kept
+returns-clause-kept c =
+    subst (λ x. IfSome x (λ (o : Order). c.change-kept.result ≡ keeps_place o c.args.limit c.args.quantity)) (sym (listed c)) (keeps c)
+
+pub returns-clause-book : goal.returns-clause-book
+returns-clause-book c =
+    let view = c.args.self.now in
+    subst (λ x. IfSome x (λ (o : Order). shown c.change-kept.new.self c.add.new.ladder c.self.inside.kind ≡ record view { orders = book_with_change view.orders o c.args.limit c.args.quantity; stamps = cond c.change-kept.result view.stamps (view.stamps + 1) })) (sym (listed c))
+    (shown_changed c.self.inside.orders c.change-kept.new.self c.self.inside.ladder c.add.new.ladder c.self.inside.kind c.self.inside.kind view.kind view c.self.view_is (still_kept c)
+    (ap (λ (v : OpenOrders). v.kind) c.self.view_is) (book_with_change view.orders c.unwrap-before.result c.args.limit c.args.quantity)
+    (changed c ∙ ap (λ (v : OpenOrders). book_with_change v.orders c.unwrap-before.result c.args.limit c.args.quantity) c.self.view_is)
+    c.change-kept.result c.change-kept.ensures.rest)
