@@ -1,7 +1,7 @@
 -- How many orders an edit leaves.
 use Rattle.std.proofs.Common.{◌≡◌, ℕ, ◌+◌, ◌≤◌, Bool, true, false, cond, not, List, [], ◌∷◌, ◌++◌, Some, length, map, filter, sum_by, refl, sym, ap, ◌∙◌, arith, length-append}
 use Rattle.std.proofs.lemmas.List.{length-map}
-use Rattle.std.proofs.lemmas.List.Sums.{sum_by-cons}
+use Rattle.std.proofs.lemmas.List.Sums.{sum_by-cons, length-filter, count_by-le-length}
 use Rattle.auction_terms.specs.declared.Order.{Order}
 use Rattle.auction_terms.specs.declared.Fill.{Fill}
 use Rattle.auction_terms.specs.declared.Limit.{Limit}
@@ -11,10 +11,7 @@ use Rattle.auction_terms.proofs.EditSums.{sum-without}
 use Rattle.auction_terms.proofs.EditLaws.{found_id}
 
 pub length-filter_le : {X : Type 0} (p : X → Bool) (xs : List X) → length (filter p xs) ≤ length xs
-length-filter_le p [] = omega arith
-length-filter_le p (x ∷ xs) =
-    let more = length-filter_le p xs in
-    elim (p x) as (λ b. length (cond b (x ∷ filter p xs) (filter p xs)) ≤ length (x ∷ xs)) [ true ↦ omega arith | false ↦ omega arith ]
+length-filter_le p xs = omega (arith, length-filter p xs, count_by-le-length p xs)
 
 length-sum : (xs : List Order) → sum_by (λ (o : Order). 1) xs ≡ length xs
 length-sum [] = refl

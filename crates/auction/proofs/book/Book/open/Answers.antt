@@ -1,0 +1,35 @@
+use Rattle.std.proofs.Common.{◌≡◌, [], length, sym, ap, ◌∙◌, arith}
+use Rattle.auction_terms.specs.declared.Kind.TheVariants.{Opening}
+use Rattle.auction_terms.specs.Line.{orders_of}
+use Rattle.auction.proofs.KeptLaws.{own_ticks}
+use Rattle.auction.proofs.OpeningLemmas.{openable, empty_kept}
+use Rattle.auction.proofs.book.Book.open.Goals as goal
+
+pub open-requires-clause-open_orders : goal.open-requires-clause-open_orders
+open-requires-clause-open_orders c = let h = openable c.args.config c.requires in (h.some_open, h.few_open)
+
+pub open-requires-clause-calls : goal.open-requires-clause-calls
+open-requires-clause-calls c = let h = openable c.args.config c.requires in (h.some_calls, h.few_calls)
+
+pub open-requires-2-clause-ordered : goal.open-requires-2-clause-ordered
+open-requires-2-clause-ordered c = (openable c.args.config c.requires).ordered
+
+pub open-requires-2-clause-bounded : goal.open-requires-2-clause-bounded
+open-requires-2-clause-bounded c = (openable c.args.config c.requires).bounded
+
+pub open-requires-2-clause-few : goal.open-requires-2-clause-few
+open-requires-2-clause-few c = let h = openable c.args.config c.requires in omega (arith, h.ordered, h.few)
+
+pub invariant_of-result : goal.invariant_of-result
+invariant_of-result c =
+    let h = openable c.args.config c.requires in
+    let none = ap (λ l. length (orders_of l)) c.in_ok-open.ensures.empty in
+    record {
+      kept = own_ticks _ _ Opening (orders_of c.in_ok-open.field-0.line) c.in_ok-open-2.field-0
+        (empty_kept _ _ Opening c.in_ok-open.field-0.line c.in_ok-open-2.field-0 c.in_ok-open.ensures.empty c.in_ok-open-2.ensures);
+      room = record {
+        few = omega arith;
+        small = omega (arith, h.few_open, c.in_ok-open.ensures.max_open);
+        room = omega (arith, c.in_ok-open-3.ensures.room, c.in_ok-open.ensures.max_open);
+      };
+    }
