@@ -6,7 +6,7 @@ use Rattle.auction_terms.specs.Book.{demand, supply, volume, surplus, has_bid_su
 use Rattle.price_rules.specs.declared.Leaders.{Leaders}
 use Rattle.price_rules.proofs.Scan.{has_key, keyed, lower_among, upper_among, NoBetter, Lead, AreBest}
 use Rattle.price_rules.proofs.Laws.{amounts, bid_amounts, key_parts}
-use Rattle.price_rules.proofs.Members.{has, All_at, All_from, has-filter, filter-has, some_in, not_empty, highest_agree, lowest_agree}
+use Rattle.auction_terms.proofs.Members.{has, All_at, All_from, has-filter, filter-has, some_in, not_empty, highest_agree, lowest_agree}
 
 -- q adds nothing to these ticks: it is one of them, or worse than one, or no better and farther away on the side of the asks
 pub data Covered (book : List Order) (few : List ℕ) (q : ℕ) : Type 0 where

@@ -14,9 +14,9 @@ use Rattle.auction_terms.proofs.Sums.{counted, quantity_of-cons}
 use Rattle.auction_terms.specs.Ladder.{LadderView, spread, is_at, standing, market, presence, ladder_of, flag_of}
 use Rattle.tick_ladder.specs.Ladder.{IsLadderOf}
 use Rattle.std.specs.List.{list_any}
-use Rattle.tick_ladder.specs.Standing.{before}
+use Rattle.lane_prefix.specs.Meeting.{before}
 use Rattle.tick_ladder.proofs.Sums.{before_next, before_all}
-use Rattle.price_rules.proofs.Members.{has, All_at}
+use Rattle.auction_terms.proofs.Members.{has, All_at}
 
 -- ---- lists by tick
 

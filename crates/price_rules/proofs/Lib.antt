@@ -1,7 +1,6 @@
 pub mod Scan
 pub mod Chosen
 pub mod Laws
-pub mod Members
 pub mod Cover
 pub mod Leading
 pub mod Curves

@@ -7,7 +7,8 @@ use Rattle.std.proofs.lemmas.List.Elements.{All-nil}
 use Rattle.auction_terms.specs.declared.Order.{Order}
 use Rattle.auction_terms.specs.Book.{demand, supply, volume, surplus, limits}
 use Rattle.auction_terms.specs.Ladder.{LadderView}
-use Rattle.tick_ladder.specs.Standing.{before, IsClear, IsLastIn, IsFirstIn, IsCrossing}
+use Rattle.lane_prefix.specs.Meeting.{before}
+use Rattle.tick_ladder.specs.Standing.{IsClear, IsLast, IsFirst, IsCrossing}
 use Rattle.tick_ladder.specs.declared.Crossing.{Crossing}
 use Rattle.tick_ladder.proofs.Sums.{before_next, before_rises}
 use Rattle.price_rules.specs.declared.Leaders.{Leaders}
@@ -15,7 +16,7 @@ use Rattle.price_rules.proofs.Scan.{AreBest, best_step}
 use Rattle.price_rules.proofs.Laws.{amounts}
 use Rattle.price_rules.specs.declared.Around.{Around}
 use Rattle.price_rules.specs.Around.{IsAround, IsFar, here_at, tick_list, few_limits, after_one, led_around}
-use Rattle.price_rules.proofs.Members.{has, has-first, has-later, has-cases, no_tick}
+use Rattle.auction_terms.proofs.Members.{has, has-first, has-later, has-cases, no_tick}
 use Rattle.price_rules.proofs.Cover.{Covered, among, beaten, behind, StandFor}
 use Rattle.price_rules.proofs.Curves.{Tells}
 
@@ -121,7 +122,7 @@ above_one v book c few i p tells cross from il top at =
 
 -- ---- every limit is covered
 
-cover_far : (v : LadderView) (book : List Order) (c : Crossing) (few : List ℕ) (i p : ℕ) (far : Option ℕ) → Tells v book → IsCrossing v.bids v.asks 0 (length v.bids) (v.market_bids + sum v.bids) v.market_asks c → 0 < get_or v.bids i 0 + get_or v.asks i 0 → i < p → p < c.place → has (v.low + p) few ≡ true → ((t : ℕ) → has t (tick_list v.low far) ≡ true → has t few ≡ true) → MatchOption far (IsClear v.bids v.asks 0 p) (IsLastIn v.bids v.asks 0 p) → Covered book few (v.low + i)
+cover_far : (v : LadderView) (book : List Order) (c : Crossing) (few : List ℕ) (i p : ℕ) (far : Option ℕ) → Tells v book → IsCrossing v.bids v.asks 0 (length v.bids) (v.market_bids + sum v.bids) v.market_asks c → 0 < get_or v.bids i 0 + get_or v.asks i 0 → i < p → p < c.place → has (v.low + p) few ≡ true → ((t : ℕ) → has t (tick_list v.low far) ≡ true → has t few ≡ true) → MatchOption far (IsClear v.bids v.asks 0 p) (IsLast v.bids v.asks 0 p) → Covered book few (v.low + i)
 cover_far v book c few i p None tells cross some il pl at into far = absurd (clear_none v.bids v.asks 0 p i far (omega arith) il some)
 cover_far v book c few i p (Some f) tells cross some il pl at into far = elim (cases_order i f) [
   | inl same ↦ among (into (v.low + i) (ap (λ n. has (v.low + i) (tick_list v.low (Some n))) (sym same) ∙ has_one v.low i))
@@ -131,7 +132,7 @@ cover_far v book c few i p (Some f) tells cross some il pl at into far = elim (c
   ]
 ]
 
-cover_below : (v : LadderView) (book : List Order) (c : Crossing) (few : List ℕ) (i : ℕ) (near far : Option ℕ) → Tells v book → IsCrossing v.bids v.asks 0 (length v.bids) (v.market_bids + sum v.bids) v.market_asks c → 0 < get_or v.bids i 0 + get_or v.asks i 0 → i < c.place → ((t : ℕ) → has t (tick_list v.low near) ≡ true → has t few ≡ true) → ((t : ℕ) → has t (tick_list v.low far) ≡ true → has t few ≡ true) → MatchOption near (IsClear v.bids v.asks 0 c.place) (IsLastIn v.bids v.asks 0 c.place) → IsFar v near far → Covered book few (v.low + i)
+cover_below : (v : LadderView) (book : List Order) (c : Crossing) (few : List ℕ) (i : ℕ) (near far : Option ℕ) → Tells v book → IsCrossing v.bids v.asks 0 (length v.bids) (v.market_bids + sum v.bids) v.market_asks c → 0 < get_or v.bids i 0 + get_or v.asks i 0 → i < c.place → ((t : ℕ) → has t (tick_list v.low near) ≡ true → has t few ≡ true) → ((t : ℕ) → has t (tick_list v.low far) ≡ true → has t few ≡ true) → MatchOption near (IsClear v.bids v.asks 0 c.place) (IsLast v.bids v.asks 0 c.place) → IsFar v near far → Covered book few (v.low + i)
 cover_below v book c few i None far tells cross some il into into_far near is = absurd (clear_none v.bids v.asks 0 c.place i near (omega arith) il some)
 cover_below v book c few i (Some p) far tells cross some il into into_far near is = elim (cases_order i p) [
   | inl same ↦ among (into (v.low + i) (ap (λ n. has (v.low + i) (tick_list v.low (Some n))) (sym same) ∙ has_one v.low i))
@@ -141,7 +142,7 @@ cover_below v book c few i (Some p) far tells cross some il into into_far near i
   ]
 ]
 
-cover_above : (v : LadderView) (book : List Order) (c : Crossing) (few : List ℕ) (i : ℕ) (after : Option ℕ) → Tells v book → IsCrossing v.bids v.asks 0 (length v.bids) (v.market_bids + sum v.bids) v.market_asks c → 0 < get_or v.bids i 0 + get_or v.asks i 0 → c.place < i → i < length v.bids → ((t : ℕ) → has t (tick_list v.low after) ≡ true → has t few ≡ true) → MatchOption after (IsClear v.bids v.asks (c.place + 1) (length v.bids)) (IsFirstIn v.bids v.asks (c.place + 1) (length v.bids)) → Covered book few (v.low + i)
+cover_above : (v : LadderView) (book : List Order) (c : Crossing) (few : List ℕ) (i : ℕ) (after : Option ℕ) → Tells v book → IsCrossing v.bids v.asks 0 (length v.bids) (v.market_bids + sum v.bids) v.market_asks c → 0 < get_or v.bids i 0 + get_or v.asks i 0 → c.place < i → i < length v.bids → ((t : ℕ) → has t (tick_list v.low after) ≡ true → has t few ≡ true) → MatchOption after (IsClear v.bids v.asks (c.place + 1) (length v.bids)) (IsFirst v.bids v.asks (c.place + 1) (length v.bids)) → Covered book few (v.low + i)
 cover_above v book c few i None tells cross some il top into after = absurd (clear_none v.bids v.asks (c.place + 1) (length v.bids) i after (omega arith) top some)
 cover_above v book c few i (Some p) tells cross some il top into after = elim (cases_order i p) [
   | inl same ↦ among (into (v.low + i) (ap (λ n. has (v.low + i) (tick_list v.low (Some n))) (sym same) ∙ has_one v.low i))
@@ -160,15 +161,15 @@ here_is v p i e = elim (cases_Bool (ltb 0 (get_or v.bids p 0 + get_or v.asks p 0
   | inr none ↦ absurd (let wrong : None ≡ Some i = rw none at e in cc)
 ]
 
-last_stands : (b a : List ℕ) (j i : ℕ) (o : Option ℕ) → o ≡ Some i → MatchOption o (IsClear b a 0 j) (IsLastIn b a 0 j) → IsLastIn b a 0 j i
+last_stands : (b a : List ℕ) (j i : ℕ) (o : Option ℕ) → o ≡ Some i → MatchOption o (IsClear b a 0 j) (IsLast b a 0 j) → IsLast b a 0 j i
 last_stands b a j i None e h = absurd (cc)
-last_stands b a j i (Some p) e h = let same : p ≡ i = cc in subst (IsLastIn b a 0 j) same h
+last_stands b a j i (Some p) e h = let same : p ≡ i = cc in subst (IsLast b a 0 j) same h
 
-first_stands : (b a : List ℕ) (s j i : ℕ) (o : Option ℕ) → o ≡ Some i → MatchOption o (IsClear b a s j) (IsFirstIn b a s j) → IsFirstIn b a s j i
+first_stands : (b a : List ℕ) (s j i : ℕ) (o : Option ℕ) → o ≡ Some i → MatchOption o (IsClear b a s j) (IsFirst b a s j) → IsFirst b a s j i
 first_stands b a s j i None e h = absurd (cc)
-first_stands b a s j i (Some p) e h = let same : p ≡ i = cc in subst (IsFirstIn b a s j) same h
+first_stands b a s j i (Some p) e h = let same : p ≡ i = cc in subst (IsFirst b a s j) same h
 
-far_stands : (v : LadderView) (j i : ℕ) (near far : Option ℕ) → far ≡ Some i → MatchOption near (IsClear v.bids v.asks 0 j) (IsLastIn v.bids v.asks 0 j) → IsFar v near far → (i < j) × (0 < get_or v.bids i 0 + get_or v.asks i 0)
+far_stands : (v : LadderView) (j i : ℕ) (near far : Option ℕ) → far ≡ Some i → MatchOption near (IsClear v.bids v.asks 0 j) (IsLast v.bids v.asks 0 j) → IsFar v near far → (i < j) × (0 < get_or v.bids i 0 + get_or v.asks i 0)
 far_stands v j i None far e near is = absurd (let wrong : None ≡ Some i = sym is ∙ e in cc)
 far_stands v j i (Some p) far e near is =
     let f = last_stands v.bids v.asks p i far e is in

@@ -5,7 +5,8 @@ use Rattle.auction_terms.specs.declared.Order.{Order}
 use Rattle.auction_terms.specs.Book.{demand, supply, volume, surplus, surplus_side, has_bid_surplus, has_ask_surplus, limits}
 use Rattle.auction_terms.specs.PriceOf.{priced, price, is_empty}
 use Rattle.auction_terms.specs.Ladder.{LadderView}
-use Rattle.tick_ladder.specs.Standing.{before, IsClear, IsFirstIn}
+use Rattle.lane_prefix.specs.Meeting.{before}
+use Rattle.tick_ladder.specs.Standing.{IsClear, IsFirst}
 use Rattle.tick_ladder.proofs.Sums.{before_all, before_most}
 use Rattle.price_rules.specs.declared.Leaders.{Leaders}
 use Rattle.price_rules.proofs.Scan.{AreBest}
@@ -13,7 +14,7 @@ use Rattle.price_rules.proofs.Chosen.{is_limited, limits_empty, price_scanned}
 use Rattle.price_rules.specs.declared.Around.{Around}
 use Rattle.price_rules.specs.Around.{IsAround, IsPoint, led_around, few_limits}
 use Rattle.price_rules.specs.Held.{price_from, priced_by, market_priced}
-use Rattle.price_rules.proofs.Members.{not_empty, none_empty}
+use Rattle.auction_terms.proofs.Members.{not_empty, none_empty}
 use Rattle.price_rules.proofs.Cover.{best_all}
 use Rattle.price_rules.proofs.Curves.{Tells}
 use Rattle.price_rules.proofs.Leading.{price_led}
@@ -39,7 +40,7 @@ all_none : (v : LadderView) (book : List Order) (a : Around) (led : Option Leade
 all_none v book a led tells is e = best_all book (few_limits v a) led (stand_around v book a tells is) (rw e (few_best book v a))
 
 -- and with none: some limit stands, but no volume
-pub price_none_some : (v : LadderView) (book : List Order) (a : Around) (r p : ℕ) → Tells v book → IsAround v a → None ≡ led_around book v a → IsFirstIn v.bids v.asks 0 (length v.bids) p → price book r ≡ None
+pub price_none_some : (v : LadderView) (book : List Order) (a : Around) (r p : ℕ) → Tells v book → IsAround v a → None ≡ led_around book v a → IsFirst v.bids v.asks 0 (length v.bids) p → price book r ≡ None
 price_none_some v book a r p tells is e first =
     let some = not_empty (limits book) (v.low + p) (tells.limit_at p first.within first.stands) in
     price_scanned book r None (all_none v book a None tells is e) ∙ limited None (cond (ltb 0 (volume book r)) (Some (priced book r)) None) (list_any is_limited book) (limits_empty book) some

@@ -3,7 +3,8 @@ use Rattle.std.specs.Prelude.{◌≡◌, ℕ, ◌+◌, if◌then◌else◌, List
 use Rattle.auction_terms.specs.declared.Order.{Order}
 use Rattle.auction_terms.specs.PriceOf.{priced}
 use Rattle.auction_terms.specs.Ladder.{LadderView}
-use Rattle.tick_ladder.specs.Standing.{before, IsClear, IsLastIn, IsFirstIn, IsCrossing}
+use Rattle.lane_prefix.specs.Meeting.{before}
+use Rattle.tick_ladder.specs.Standing.{IsClear, IsLast, IsFirst, IsCrossing}
 use Rattle.price_rules.specs.declared.Leaders.{Leaders}
 use Rattle.price_rules.specs.Leading.{next_after}
 use Rattle.price_rules.specs.declared.Around.{Around}
@@ -11,13 +12,13 @@ use Rattle.price_rules.specs.declared.Around.{Around}
 -- the next limit below near
 abbrev pub IsFar : LadderView → Option ℕ → Option ℕ → Type 0
 IsFar v None far = far ≡ None
-IsFar v (Some near) far = MatchOption far (IsClear v.bids v.asks 0 near) (IsLastIn v.bids v.asks 0 near)
+IsFar v (Some near) far = MatchOption far (IsClear v.bids v.asks 0 near) (IsLast v.bids v.asks 0 near)
 
 pub record IsAround (v : LadderView) (a : Around) : Type 0 where
   pub crossing : IsCrossing v.bids v.asks 0 (length v.bids) (v.market_bids + sum v.bids) v.market_asks a.crossing
-  pub near : MatchOption a.near (IsClear v.bids v.asks 0 a.crossing.place) (IsLastIn v.bids v.asks 0 a.crossing.place)
+  pub near : MatchOption a.near (IsClear v.bids v.asks 0 a.crossing.place) (IsLast v.bids v.asks 0 a.crossing.place)
   pub far : IsFar v a.near a.far
-  pub after : MatchOption a.after (IsClear v.bids v.asks (a.crossing.place + 1) (length v.bids)) (IsFirstIn v.bids v.asks (a.crossing.place + 1) (length v.bids))
+  pub after : MatchOption a.after (IsClear v.bids v.asks (a.crossing.place + 1) (length v.bids)) (IsFirst v.bids v.asks (a.crossing.place + 1) (length v.bids))
 
 -- a place where something stands
 abbrev pub here_at : LadderView → ℕ → Option ℕ
