@@ -1,5 +1,5 @@
 -- The closing orders, added one by one in the order of a walk.
-use Rattle.std.proofs.Common.{◌≡◌, ℕ, zero, suc, ◌+◌, ◌<◌, ◌≤◌, Bool, true, false, cond, not, List, [], ◌∷◌, ◌++◌, All, Option, Some, None, IfSome, length, take, filter, sum_by, refl, sym, ap, subst, ◌∙◌, arith, append_assoc}
+use Rattle.std.proofs.Common.{◌≡◌, ℕ, zero, suc, ◌+◌, ◌≤◌, Bool, true, false, cond, not, List, [], ◌∷◌, ◌++◌, All, Option, Some, None, IfSome, take, filter, sum_by, refl, sym, ap, subst, ◌∙◌, arith, append_assoc}
 use Rattle.std.proofs.lemmas.List.{map-append, append-nil}
 use Rattle.std.proofs.lemmas.List.Elements.{All-append, All-nil, All-cons, filter-append}
 use Rattle.std.proofs.lemmas.List.Filters.{sum_by-filter_both}
@@ -8,7 +8,7 @@ use Rattle.std.specs.Option.{option_to_list}
 use Rattle.auction_terms.specs.declared.Order.{Order}
 use Rattle.auction_terms.specs.declared.Stamped.{Stamped}
 use Rattle.auction_terms.specs.declared.Kind.TheVariants.{Intraday, Closing}
-use Rattle.auction_terms.specs.Book.{names, counts, counted, quantity_of}
+use Rattle.auction_terms.specs.Book.{names, counts, counted}
 use Rattle.auction_terms.specs.Line.{orders_of, IsLineOf}
 use Rattle.auction_terms.specs.Ladder.{LadderView, ladder_of, added, IsTickOf}
 use Rattle.auction_terms.proofs.FillLaws.{sum_by-map}
@@ -123,7 +123,7 @@ all_admitted low n walk line was view is kept still_open same = record {
   orderly = kept.orderly;
   within = kept.within;
   same = same ∙ ladder-same low n (counted (orders_of line) Closing) (admitted (orders_of line) walk)
-    (open_counted Closing (orders_of line) kept.orderly)
-    (All-append IsOpen (counted (orders_of line) Intraday) (closing walk) (open_counted Intraday (orders_of line) kept.orderly) still_open)
-    (λ w additive. sum_all w walk line is);
+      (open_counted Closing (orders_of line) kept.orderly)
+      (All-append IsOpen (counted (orders_of line) Intraday) (closing walk) (open_counted Intraday (orders_of line) kept.orderly) still_open)
+      (λ w additive. sum_all w walk line is);
 }

@@ -7,7 +7,7 @@ use Rattle.auction_terms.specs.declared.Kind.{Kind}
 use Rattle.auction_terms.specs.declared.Kind.TheVariants.{Opening, Intraday, Closing}
 use Rattle.auction_terms.specs.declared.Side.{Side}
 use Rattle.auction_terms.specs.declared.Side.TheVariants.{Buy, Sell}
-use Rattle.auction_terms.specs.Book.{counts, counted, kind_now, is_eligible, takes_part, on_side}
+use Rattle.auction_terms.specs.Book.{counts, counted, kind_now, is_eligible, on_side}
 use Rattle.auction_terms.specs.Edits.{staying}
 use Rattle.auction_terms.specs.Day.{next_auction}
 use Rattle.auction_terms.specs.Allotment.{Placed, placed, eligible, fill, filled_whole}

@@ -1,5 +1,5 @@
 -- An open order that was found, in the line and in the list of orders.
-use Rattle.std.proofs.Common.{◌≡◌, ◌≢◌, ℕ, ◌+◌, ◌<◌, ◌≤◌, Bool, true, false, cond, List, [], ◌∷◌, All, Option, Some, None, IsSome, IfSome, refl, sym, ap, subst, ◌∙◌, arith, nat_eq}
+use Rattle.std.proofs.Common.{◌≡◌, ℕ, Bool, true, false, cond, List, [], ◌∷◌, All, Option, Some, None, IsSome, IfSome, refl, sym, ap, subst, ◌∙◌, nat_eq}
 use Rattle.std.proofs.lemmas.List.Elements.{All-head, All-tail}
 use Rattle.std.specs.Option.{option_map}
 use Rattle.auction_terms.specs.declared.Order.{Order}

@@ -1,12 +1,12 @@
 -- The ladder is kept by each edit of the orders.
-use Rattle.std.proofs.Common.{◌≡◌, ℕ, ◌+◌, ◌*◌, ◌<◌, ◌≤◌, Bool, true, false, cond, not, zero, suc, List, [], ◌∷◌, ◌++◌, All, Some, length, map, filter, sum, sum_by, refl, sym, ap, subst, ◌∙◌, arith}
+use Rattle.std.proofs.Common.{◌≡◌, ℕ, ◌+◌, ◌<◌, ◌≤◌, Bool, true, false, cond, not, zero, suc, List, [], ◌∷◌, ◌++◌, All, Some, length, filter, refl, sym, ap, subst, ◌∙◌, arith}
 use Rattle.std.proofs.lemmas.List.Elements.{All-filter, All-push, All-map, All-weaker}
 use Rattle.std.proofs.lemmas.List.Sums.{sum_by-le}
 use Rattle.auction_terms.specs.declared.Order.{Order}
 use Rattle.auction_terms.specs.declared.Fill.{Fill}
 use Rattle.auction_terms.specs.declared.Limit.{Limit}
 use Rattle.auction_terms.specs.declared.Kind.{Kind}
-use Rattle.auction_terms.specs.Book.{counts, counted, quantity_of}
+use Rattle.auction_terms.specs.Book.{counts, counted}
 use Rattle.auction_terms.specs.Edits.{has_id, order_with, without, changed_at, moved_to_end, with_terms, less_quantity, is_open, reduced, keeps_place, IsOrderly}
 use Rattle.auction_terms.specs.Day.{book_with_change}
 use Rattle.auction_terms.specs.Ladder.{LadderView, spread, ladder_of, added, taken, IsTickOf}
@@ -22,7 +22,7 @@ use Rattle.auction.proofs.Totals.{stands, all_within}
 abbrev pub IsOpen : Order → Type 0
 IsOpen o = 0 < o.quantity
 
-abbrev HasTick : ℕ → ℕ → Order → Type 0
+abbrev pub HasTick : ℕ → ℕ → Order → Type 0
 HasTick low n o = IsTickOf low n o.limit
 
 pub orderly-filter : (p : Order → Bool) (book : List Order) → IsOrderly book → IsOrderly (filter p book)

@@ -1,5 +1,5 @@
 -- What is seen of the open orders after each step.
-use Rattle.std.proofs.Common.{◌≡◌, ℕ, ◌+◌, ◌<◌, ◌≤◌, Bool, true, false, cond, List, [], ◌∷◌, ◌++◌, Option, Some, IfSome, length, refl, sym, ap, subst, ◌∙◌, arith, length-append}
+use Rattle.std.proofs.Common.{◌≡◌, ℕ, ◌+◌, ◌<◌, ◌≤◌, Bool, true, false, cond, List, [], ◌∷◌, ◌++◌, Some, length, sym, ap, subst, ◌∙◌, arith, length-append}
 use Rattle.std.proofs.lemmas.Bool.Decides.{nat_tests}
 use Rattle.auction_terms.specs.declared.Order.{Order}
 use Rattle.auction_terms.specs.declared.Stamped.{Stamped}
@@ -9,12 +9,12 @@ use Rattle.auction_terms.specs.Book.{counted}
 use Rattle.auction_terms.specs.Line.{orders_of}
 use Rattle.auction_terms.specs.Edits.{order_with, changed_at as orders_changed, moved_to_end as orders_moved, with_terms as order_with_terms, keeps_place, IdsDiffer, IsOrderly}
 use Rattle.auction_terms.specs.Day.{book_with_change, is_bad_quantity}
-use Rattle.auction_terms.specs.Ladder.{LadderView, ladder_of, IsTickOf}
+use Rattle.auction_terms.specs.Ladder.{LadderView, IsTickOf}
 use Rattle.auction_terms.proofs.EditLaws.{change_is}
 use Rattle.order_book.specs.Book.{Book as Orders, with_terms, with_stamp, changed_at, moved_to_end}
 use Rattle.order_book.proofs.OrderLaws.{orders_of-push, orders_of-kept, orders_of-gone}
 use Rattle.auction.specs.Open.{OpenOrders}
-use Rattle.auction.specs.Kept.{with_order, shown, IsKept, HasRoom, IsBook}
+use Rattle.auction.specs.Kept.{with_order, shown, IsKept, IsBook}
 use Rattle.auction.proofs.KeptLaws.{low_of, ticks_of, own_ticks, kept-same, kept-push}
 
 pub good_quantity : (q : ℕ) → is_bad_quantity q ≡ false → (0 < q) × (q ≤ 1000000000)

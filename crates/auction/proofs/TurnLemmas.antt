@@ -1,10 +1,8 @@
 -- The next fill of a list.
-use Rattle.std.proofs.Common.{◌≡◌, ℕ, ◌+◌, ◌<◌, ◌≤◌, List, [], ◌∷◌, ◌++◌, Some, IsSome, IfSome, length, take, drop, get_or, refl, sym, ap, subst, ◌∙◌, zero, suc, arith}
+use Rattle.std.proofs.Common.{◌≡◌, ℕ, ◌+◌, ◌<◌, ◌≤◌, List, [], ◌∷◌, ◌++◌, Some, length, take, drop, get_or, refl, sym, ap, subst, ◌∙◌, zero, suc, arith}
 use Rattle.std.proofs.Math.Numerals.{add-one}
 use Rattle.auction_terms.specs.declared.Order.{Order}
 use Rattle.auction_terms.specs.declared.Fill.{Fill}
-use Rattle.auction_terms.specs.declared.Stamped.{Stamped}
-use Rattle.auction_terms.specs.Line.{orders_of}
 use Rattle.auction_terms.specs.Edits.{order_with, IsNext, AreExecutable, reduced, reduced_by}
 use Rattle.auction_terms.proofs.ReduceLaws.{reduced_by-push}
 

@@ -1,5 +1,5 @@
 -- Which configs an auction can be opened with.
-use Rattle.std.specs.Prelude.{ℕ, ◌+◌, Bool, ◌||◌, List, [], ◌∷◌, Option, ◌==◌, nat_lt}
+use Rattle.std.specs.Prelude.{◌+◌, Bool, ◌||◌, [], ◌∷◌, Option, ◌==◌, nat_lt}
 use Rattle.auction_terms.specs.declared.Config.{Config}
 use Rattle.auction_terms.specs.Day.{first_that_holds}
 use Rattle.auction.specs.declared.OpenFault.{OpenFault}

@@ -4,7 +4,7 @@ ghost use Rattle.auction_terms.specs.Book.{counted, kind_now};
 ghost use Rattle.auction_terms.specs.Edits.{order_with, without, staying, keeps_place};
 ghost use Rattle.auction_terms.specs.Allotment.{rest_in, trades};
 ghost use Rattle.auction_terms.specs.Ladder.{ladder_of, IsTickOf};
-ghost use Rattle.auction_terms.specs.Day.{book_with_change, is_bad_quantity, next_auction};
+ghost use Rattle.auction_terms.specs.Day.{book_with_change, display_at, is_bad_quantity, next_auction};
 ghost use Rattle.auction.specs.Opening.{open_fault};
 ghost use Rattle.auction.specs.Open.{no_orders};
 
@@ -15,11 +15,12 @@ mod execute;
 
 use admit::admit;
 use allocation::Desk;
-use auction_terms::{Config, Kind, Limit, Only, Order, Side, Trade};
+use auction_terms::{Config, Display, Kind, Limit, Only, Order, Side, Trade};
 use counting::{add, take};
 use dismiss::{dismiss, remove};
 use execute::execute;
 use order_book::Orders;
+use price_rules::determine;
 use std::alloc::{AllocError, Global};
 use std::marker::Model;
 use tick_ladder::Ladder;
@@ -90,6 +91,22 @@ impl Book {
         ensures { result.now ≡ ladder_of self.now.low self.now.ticks (counted self.now.orders self.now.kind) }
     {
         &self.ladder
+    }
+
+    /// What is shown of the orders that count: the price at this reference, or the best limits of both sides where there
+    /// is none.
+    pub(crate) fn display(&self, reference: u32) -> Display
+        requires low { self.now.low ≤ reference }
+        requires high { reference < self.now.low + self.now.ticks }
+        ensures { result ≡ display_at (counted self.now.orders self.now.kind) reference }
+    {
+        match determine(&self.ladder, reference) {
+            Some(price) => Display::Priced(price),
+            None => Display::Unpriced {
+                best_buy: self.ladder.best(Side::Buy),
+                best_sell: self.ladder.best(Side::Sell),
+            },
+        }
     }
 
     /// Adds an order as the last one in time, under the next id.

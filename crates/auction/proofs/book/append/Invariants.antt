@@ -1,4 +1,4 @@
-use Rattle.std.proofs.Common.{◌≡◌, ◌≤◌, ◌++◌, take, vec_len, vec_capacity, ◌+◌}
+use Rattle.std.proofs.Common.{◌≡◌, ◌++◌, take, vec_len, vec_capacity, ◌+◌}
 use Rattle.auction.proofs.book.append.Given as goal
 
 abbrev pub invariant-loop-trade : goal.invariant-loop-trade

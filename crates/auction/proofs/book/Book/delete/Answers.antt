@@ -1,4 +1,4 @@
-use Rattle.std.proofs.Common.{◌≡◌, length, IsSome, not, sym, ap, subst, ◌∙◌, arith}
+use Rattle.std.proofs.Common.{length, IsSome, not, sym, ap, subst, ◌∙◌, arith}
 use Rattle.auction_terms.specs.Line.{orders_of}
 use Rattle.auction_terms.specs.Edits.{has_id, order_with, without}
 use Rattle.order_book.specs.Book.{Book as Orders}

@@ -1,4 +1,4 @@
-use Rattle.std.proofs.Common.{◌≡◌, [], length, sym, ap, ◌∙◌, arith}
+use Rattle.std.proofs.Common.{length, ap, arith}
 use Rattle.auction_terms.specs.declared.Kind.TheVariants.{Opening}
 use Rattle.auction_terms.specs.Line.{orders_of}
 use Rattle.auction.proofs.KeptLaws.{own_ticks}
@@ -26,7 +26,7 @@ invariant_of-result c =
     let none = ap (λ l. length (orders_of l)) c.in_ok-open.ensures.empty in
     record {
       kept = own_ticks _ _ Opening (orders_of c.in_ok-open.field-0.line) c.in_ok-open-2.field-0
-        (empty_kept _ _ Opening c.in_ok-open.field-0.line c.in_ok-open-2.field-0 c.in_ok-open.ensures.empty c.in_ok-open-2.ensures);
+          (empty_kept _ _ Opening c.in_ok-open.field-0.line c.in_ok-open-2.field-0 c.in_ok-open.ensures.empty c.in_ok-open-2.ensures);
       room = record {
         few = omega arith;
         small = omega (arith, h.few_open, c.in_ok-open.ensures.max_open);

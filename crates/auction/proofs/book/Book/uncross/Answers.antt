@@ -1,4 +1,4 @@
-use Rattle.std.proofs.Common.{◌≡◌, ◌≤◌, length, sym, ap, subst, ◌∙◌, arith}
+use Rattle.std.proofs.Common.{◌≡◌, length, sym, ap, subst, ◌∙◌, arith}
 use Rattle.auction_terms.specs.Book.{counted}
 use Rattle.auction_terms.specs.Line.{orders_of}
 use Rattle.auction_terms.specs.Edits.{AreExecutable, reduced_by}
@@ -7,7 +7,7 @@ use Rattle.auction_terms.proofs.ReduceLaws.{fills_executable}
 use Rattle.auction_terms.proofs.RestIdLaws.{rest_in_turn}
 use Rattle.order_book.specs.Book.{Book as Orders}
 use Rattle.auction.specs.Open.{OpenOrders}
-use Rattle.auction.proofs.LengthLemmas.{length-filter_le, length-reduced_by}
+use Rattle.auction.proofs.LengthLemmas.{length-reduced_by}
 use Rattle.auction.proofs.ShownLemmas.{closes_book, shown_rest}
 use Rattle.auction.proofs.EndLemmas.{few_trades}
 use Rattle.auction.proofs.book.Book.uncross.Goals as goal

@@ -1,6 +1,5 @@
-use Rattle.std.proofs.Common.{◌≡◌, All, length, take, sym, ap, subst, ◌∙◌, arith}
+use Rattle.std.proofs.Common.{All, length, take, sym, ap, subst, ◌∙◌, arith}
 use Rattle.auction_terms.specs.declared.Kind.TheVariants.{Intraday}
-use Rattle.auction_terms.specs.Book.{counted}
 use Rattle.auction_terms.specs.Line.{orders_of}
 use Rattle.auction_terms.specs.Ladder.{ladder_of, IsTickOf}
 use Rattle.order_book.specs.Book.{present}

@@ -1,4 +1,4 @@
-use Rattle.std.proofs.Common.{◌≡◌, ℕ, length, Some, sym, ap, ◌∙◌, arith}
+use Rattle.std.proofs.Common.{length, ap, ◌∙◌, arith}
 use Rattle.auction_terms.specs.Line.{orders_of}
 use Rattle.order_book.proofs.OrderLaws.{orders_of-without}
 use Rattle.auction.proofs.FoundLemmas.{found_order}

@@ -1,4 +1,3 @@
-use Rattle.std.proofs.Common.{◌≡◌, length}
 use Rattle.auction_terms.specs.Line.{orders_of}
 use Rattle.auction.proofs.KeptLaws.{own_ticks, same_ticks}
 use Rattle.auction.proofs.RestLemmas.{rest_on}

@@ -1,4 +1,4 @@
-use Rattle.std.proofs.Common.{◌≡◌, ◌≤◌, length, Some, IsSome, IfSome, sym, ap, subst, ◌∙◌, refl}
+use Rattle.std.proofs.Common.{◌≤◌, length, IsSome, IfSome, sym, ap, subst, ◌∙◌, refl}
 use Rattle.auction_terms.specs.declared.Order.{Order}
 use Rattle.auction_terms.specs.Line.{orders_of}
 use Rattle.order_book.proofs.OrderLaws.{orders_of-reduced, order_of_open}

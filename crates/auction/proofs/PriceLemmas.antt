@@ -1,0 +1,40 @@
+-- The kept ladder is that of the orders that count, as the price asks for it.
+use Rattle.std.proofs.Common.{◌≡◌, ℕ, ◌+◌, ◌<◌, ◌≤◌, List, [], ◌∷◌, All, Option, None, length, ap, ◌∙◌}
+use Rattle.std.proofs.lemmas.List.Elements.{All-nil, All-cons, All-head, All-tail, All-filter}
+use Rattle.std.specs.List.{cons_option}
+use Rattle.auction_terms.specs.declared.Order.{Order}
+use Rattle.auction_terms.specs.declared.Kind.{Kind}
+use Rattle.auction_terms.specs.declared.Limit.{Limit}
+use Rattle.auction_terms.specs.declared.Limit.TheVariants.{Market, At}
+use Rattle.auction_terms.specs.declared.Side.TheVariants.{Buy, Sell}
+use Rattle.auction_terms.specs.declared.Display.TheVariants.{Unpriced}
+use Rattle.auction_terms.specs.Book.{counts, counted, tick_of, limits}
+use Rattle.auction_terms.specs.PriceOf.{price}
+use Rattle.auction_terms.specs.Day.{display_of, display_at}
+use Rattle.auction_terms.specs.Ladder.{LadderView, IsTickOf}
+use Rattle.tick_ladder.specs.Ladder.{IsLadderOf, best_limit}
+use Rattle.auction.specs.Kept.{IsKept}
+use Rattle.auction.proofs.KeptLaws.{HasTick}
+
+abbrev IsAmong : ℕ → ℕ → ℕ → Type 0
+IsAmong low n tick = (low ≤ tick) × (tick < low + n)
+
+all_limits : (low n : ℕ) (book : List Order) → All (HasTick low n) book → All (IsAmong low n) (limits book)
+unfolding limits
+all_limits low n [] all = All-nil (IsAmong low n)
+all_limits low n (o ∷ book) all =
+    at o.limit (limits book) (All-head (HasTick low n) o book all) (all_limits low n book (All-tail (HasTick low n) o book all))
+  where
+    at : (limit : Limit) (ticks : List ℕ) → IsTickOf low n limit → All (IsAmong low n) ticks → All (IsAmong low n) (cons_option (tick_of limit) ticks)
+    at Market ticks tick more = more
+    at (At t) ticks tick more = All-cons (IsAmong low n) t ticks tick more
+
+pub kept_ladder : (kind : Kind) (book : List Order) (ladder : LadderView) → IsKept ladder.low (length ladder.bids) kind book ladder → IsLadderOf ladder (counted book kind)
+kept_ladder kind book ladder is = record {
+  within = all_limits ladder.low (length ladder.bids) (counted book kind) (All-filter (counts kind) (HasTick ladder.low (length ladder.bids)) book is.within);
+  same = is.same;
+}
+
+pub unpriced : (book : List Order) (reference : ℕ) (bid ask : Option ℕ) → None ≡ price book reference → bid ≡ best_limit book Buy → ask ≡ best_limit book Sell → Unpriced bid ask ≡ display_at book reference
+unpriced book reference bid ask none b a =
+    ap (λ x. Unpriced x ask) b ∙ ap (Unpriced (best_limit book Buy)) a ∙ ap (display_of book) none
