@@ -1,42 +1,43 @@
-//! The quantities of a book, tick by tick.
+//! The quantities of the open orders, tick by tick.
 #![tactic(auto)]
 
-ghost use Rattle.std.specs.Prelude.{◌≡◌, ℕ, ◌+◌, ◌-◌, ◌<◌, ◌≤◌, length, sum, replicate, slice_set, slice_index, IfOk, MatchOption};
+ghost use Rattle.std.specs.Prelude.{◌≡◌, ℕ, ◌+◌, ◌-◌, ◌<◌, ◌≤◌, All, List, length, sum, replicate, slice_set, slice_index, option_map, IfOk, IfSome, MatchOption};
 ghost use Rattle.std.specs.Simd.Lanes.{zip2};
+ghost use Rattle.auction_terms.specs.declared.Order.{Order};
 ghost use Rattle.auction_terms.specs.Ladder.{added, taken, flag_of, with_bids, with_asks};
-ghost use Rattle.tick_ladder.specs.Ladder.{standing_at, all_standing, IsInBounds};
-ghost use Rattle.tick_ladder.specs.Standing.{IsClear, IsLastIn, IsFirstIn, IsCrossing, IsTop, IsBottom};
+ghost use Rattle.tick_ladder.specs.Ladder.{standing_at, all_standing, best_tick, best_limit, IsInBounds, IsLadderOf};
+ghost use Rattle.tick_ladder.specs.Standing.{IsClear, IsLast, IsFirst, IsCrossing};
 
+mod tally;
 mod walks;
 
 use auction_terms::{Limit, Side};
 use std::alloc::{AllocError, Global};
 use std::marker::Model;
-use walks::{cross_groups, first_from_all, last_before_all};
+use tally::{Tally, crossing_of};
 
-/// A place with the demand there and the supply before it.
+/// The place from which on more is offered than wanted: the last place, counted from the lowest tick, at which the
+/// demand is not below the supply before it, with both.
 #[derive(Clone, Copy)]
 pub struct Crossing {
     pub place: usize,
+    /// The shares wanted at the place.
     pub demand: u64,
+    /// The shares offered at the place before.
     pub below: u64,
 }
 
-/// The quantities of open orders, tick by tick from `low` on, with the sums of each block of 64 ticks and of each group
-/// of 64 blocks.
+/// The quantities of the open orders of a book, in shares: those of the limit orders tick by tick from the lowest tick
+/// on, and those of the market orders. All together are at most 65,536,000,000,000.
 #[derive(Drop)]
 pub struct Ladder {
     low: u32,
-    bids: Vec<u64>,
-    asks: Vec<u64>,
-    present: Vec<u64>,
-    bid_blocks: Vec<u64>,
-    ask_blocks: Vec<u64>,
-    bid_groups: Vec<u64>,
-    ask_groups: Vec<u64>,
+    bids: Tally,
+    asks: Tally,
+    // 1 where bids or asks stand.
+    present: Tally,
     market_bids: u64,
     market_asks: u64,
-    wanted: u64,
 }
 
 impl Model for Ladder {
@@ -58,15 +59,19 @@ fn flag(bids: u64, asks: u64) -> u64
     if bids > 0 || asks > 0 { 1 } else { 0 }
 }
 
-/// A quantity of 0 for each tick.
-fn zeros(alloc: Global, ticks: usize) -> Result<Vec<u64>, AllocError>
-    ensures { IfOk result (λ v. v.items ≡ replicate ticks 0) }
+/// The tick of a place.
+fn tick_at(low: u32, place: Option<usize>) -> Option<u32>
+    requires { IfSome place (λ i. low + i ≤ 1000000) }
+    ensures { result ≡ option_map (λ i. low + i) place }
 {
-    vec![in alloc; 0; ticks]
+    match place {
+        Some(place) => Some(low + place as u32),
+        None => None,
+    }
 }
 
 impl Ladder {
-    /// An empty ladder with the ticks from `low` to `high`.
+    /// An empty ladder with the ticks from `low` to `high`, both of them included. Only want of memory makes it fail.
     pub fn open(alloc: Global, low: u32, high: u32) -> Result<Ladder, AllocError>
         requires ordered { low ≤ high }
         requires bounded { high ≤ 1000000 }
@@ -74,23 +79,17 @@ impl Ladder {
         ensures { IfOk result (λ v. v ≡ record { low = low; bids = replicate (high + 1 - low) 0; asks = replicate (high + 1 - low) 0; present = replicate (high + 1 - low) 0; market_bids = 0; market_asks = 0 }) }
     {
         let ticks = (high - low) as usize + 1;
-        let blocks = (ticks + 63) / 64;
-        let groups = (blocks + 63) / 64;
         Ok(Ladder {
             low,
-            bids: zeros(alloc, ticks)?,
-            asks: zeros(alloc, ticks)?,
-            present: zeros(alloc, ticks)?,
-            bid_blocks: zeros(alloc, blocks)?,
-            ask_blocks: zeros(alloc, blocks)?,
-            bid_groups: zeros(alloc, groups)?,
-            ask_groups: zeros(alloc, groups)?,
+            bids: Tally::open(alloc, ticks)?,
+            asks: Tally::open(alloc, ticks)?,
+            present: Tally::open(alloc, ticks)?,
             market_bids: 0,
             market_asks: 0,
-            wanted: 0,
         })
     }
 
+    /// The lowest tick.
     pub fn low(&self) -> u32
         ensures value { result ≡ self.now.low }
         ensures last { self.now.low + length self.now.bids ≤ 1000001 }
@@ -99,27 +98,39 @@ impl Ladder {
         self.low
     }
 
+    /// The highest tick.
+    pub fn high(&self) -> u32
+        ensures value { result ≡ self.now.low + length self.now.bids - 1 }
+        ensures some { 0 < length self.now.bids }
+    {
+        self.low + (self.bids.places().len() as u32 - 1)
+    }
+
+    /// The shares bid with a limit at each tick, from the lowest tick on.
     pub fn bids(&self) -> &[u64]
         ensures value { result.now ≡ self.now.bids }
         ensures total { all_standing self.now ≤ 65536000000000 }
     {
-        &self.bids
+        self.bids.places()
     }
 
+    /// The shares offered with a limit at each tick, from the lowest tick on.
     pub fn asks(&self) -> &[u64]
         ensures value { result.now ≡ self.now.asks }
         ensures len { length result.now ≡ length self.now.bids }
     {
-        &self.asks
+        self.asks.places()
     }
 
+    /// 1 at each tick where bids or asks stand, and else 0, from the lowest tick on.
     pub fn present(&self) -> &[u64]
         ensures value { result.now ≡ self.now.present }
         ensures flags { result.now ≡ zip2 flag_of self.now.bids self.now.asks }
     {
-        &self.present
+        self.present.places()
     }
 
+    /// The shares of the market orders of a side.
     pub fn market(&self, side: Side) -> u64
         ensures { result ≡ standing_at self.now side Limit.Market }
     {
@@ -129,112 +140,63 @@ impl Ladder {
         }
     }
 
-    /// The bids at a place.
+    /// The best limit of a side: the highest tick where bids stand, the lowest where asks stand. In a book of orders
+    /// with shares left, whose ladder this is, it is the highest limit of a bid, the lowest of an ask.
+    pub fn best(&self, side: Side) -> Option<u32>
+        ensures value { result ≡ best_tick self.now side }
+        ensures book { (book : List Order) → All (λ order. 0 < order.quantity) book → IsLadderOf self.now book → result ≡ best_limit book side }
+    {
+        match side {
+            Side::Buy => tick_at(self.low, self.bids.last_before(self.bids.places().len())),
+            Side::Sell => tick_at(self.low, self.asks.first_from(0)),
+        }
+    }
+
+    /// The shares bid at a place, counted from the lowest tick.
     pub fn bids_at(&self, place: usize) -> u64
         requires { place < length self.now.bids }
         ensures value { result ≡ slice_index self.now.bids place }
         ensures total { all_standing self.now ≤ 65536000000000 }
     {
-        self.bids[place]
+        self.bids.at(place)
     }
 
-    /// The asks at a place.
+    /// The shares offered at a place, counted from the lowest tick.
     pub fn asks_at(&self, place: usize) -> u64
         requires { place < length self.now.bids }
         ensures value { result ≡ slice_index self.now.asks place }
         ensures total { all_standing self.now ≤ 65536000000000 }
     {
-        self.asks[place]
+        self.asks.at(place)
     }
 
     /// The last place before `end` where an order stands.
     pub fn last_before(&self, end: usize) -> Option<usize>
         requires { end ≤ length self.now.bids }
-        ensures { MatchOption result (IsClear self.now.bids self.now.asks 0 end) (IsLastIn self.now.bids self.now.asks 0 end) }
+        ensures { MatchOption result (IsClear self.now.bids self.now.asks 0 end) (IsLast self.now.bids self.now.asks 0 end) }
     {
-        last_before_all(
-            &self.bids,
-            &self.asks,
-            &self.bid_blocks,
-            &self.ask_blocks,
-            &self.bid_groups,
-            &self.ask_groups,
-            end,
-        )
+        self.present.last_before(end)
     }
 
     /// The first place from `start` on where an order stands.
     pub fn first_from(&self, start: usize) -> Option<usize>
         requires { start ≤ length self.now.bids }
-        ensures { MatchOption result (IsClear self.now.bids self.now.asks start (length self.now.bids)) (IsFirstIn self.now.bids self.now.asks start (length self.now.bids)) }
+        ensures { MatchOption result (IsClear self.now.bids self.now.asks start (length self.now.bids)) (IsFirst self.now.bids self.now.asks start (length self.now.bids)) }
     {
-        first_from_all(
-            &self.bids,
-            &self.asks,
-            &self.bid_blocks,
-            &self.ask_blocks,
-            &self.bid_groups,
-            &self.ask_groups,
-            start,
-        )
+        self.present.first_from(start)
     }
 
-    /// The highest tick where bids stand.
-    pub fn best_bid(&self) -> Option<u32>
-        ensures { MatchOption result (sum self.now.bids ≡ 0) (IsTop self.now.low self.now.bids) }
-    {
-        let end = self.bids.len();
-        match last_before_all(
-            &self.bids,
-            &self.bids,
-            &self.bid_blocks,
-            &self.bid_blocks,
-            &self.bid_groups,
-            &self.bid_groups,
-            end,
-        ) {
-            Some(place) => Some(self.low + place as u32),
-            None => None,
-        }
-    }
-
-    /// The lowest tick where asks stand.
-    pub fn best_ask(&self) -> Option<u32>
-        ensures { MatchOption result (sum self.now.asks ≡ 0) (IsBottom self.now.low self.now.asks) }
-    {
-        match first_from_all(
-            &self.asks,
-            &self.asks,
-            &self.ask_blocks,
-            &self.ask_blocks,
-            &self.ask_groups,
-            &self.ask_groups,
-            0,
-        ) {
-            Some(place) => Some(self.low + place as u32),
-            None => None,
-        }
-    }
-
-    /// The last place where the demand is not below the supply before it.
+    /// Where demand and supply cross.
     pub fn crossing(&self) -> Crossing
         ensures few { length self.now.bids ≤ 65536 }
         ensures flags { self.now.present ≡ zip2 flag_of self.now.bids self.now.asks }
         ensures value { IsCrossing self.now.bids self.now.asks 0 (length self.now.bids) (self.now.market_bids + sum self.now.bids) self.now.market_asks result }
     {
-        cross_groups(
-            &self.bids,
-            &self.asks,
-            &self.bid_blocks,
-            &self.ask_blocks,
-            &self.bid_groups,
-            &self.ask_groups,
-            self.wanted,
-            self.market_asks,
-        )
+        let demand = self.market_bids + self.bids.total();
+        crossing_of(&self.bids, &self.asks, demand, self.market_asks)
     }
 
-    /// Adds a quantity at a side and limit.
+    /// Adds the shares of an order at its side and limit.
     pub fn add(&mut self, side: Side, limit: Limit, quantity: u64)
         requires in_bounds { IsInBounds self.old limit }
         requires fits { all_standing self.old + quantity ≤ 65536000000000 }
@@ -246,11 +208,11 @@ impl Ladder {
                 let place = (tick - self.low) as usize;
                 match side {
                     Side::Buy => {
-                        let bids = self.bids[place] + quantity;
+                        let bids = self.bids.at(place) + quantity;
                         self.put_bids(place, bids);
                     }
                     Side::Sell => {
-                        let asks = self.asks[place] + quantity;
+                        let asks = self.asks.at(place) + quantity;
                         self.put_asks(place, asks);
                     }
                 }
@@ -258,7 +220,7 @@ impl Ladder {
         }
     }
 
-    /// Takes a quantity away at a side and limit.
+    /// Takes shares away that stand at a side and limit.
     pub fn take(&mut self, side: Side, limit: Limit, quantity: u64)
         requires in_bounds { IsInBounds self.old limit }
         requires stands { quantity ≤ standing_at self.old side limit }
@@ -270,11 +232,11 @@ impl Ladder {
                 let place = (tick - self.low) as usize;
                 match side {
                     Side::Buy => {
-                        let bids = self.bids[place] - quantity;
+                        let bids = self.bids.at(place) - quantity;
                         self.put_bids(place, bids);
                     }
                     Side::Sell => {
-                        let asks = self.asks[place] - quantity;
+                        let asks = self.asks.at(place) - quantity;
                         self.put_asks(place, asks);
                     }
                 }
@@ -287,10 +249,7 @@ impl Ladder {
         ensures { self.new ≡ added self.old side Limit.Market quantity }
     {
         match side {
-            Side::Buy => {
-                self.market_bids += quantity;
-                self.wanted += quantity;
-            }
+            Side::Buy => self.market_bids += quantity,
             Side::Sell => self.market_asks += quantity,
         }
     }
@@ -300,10 +259,7 @@ impl Ladder {
         ensures { self.new ≡ taken self.old side Limit.Market quantity }
     {
         match side {
-            Side::Buy => {
-                self.market_bids -= quantity;
-                self.wanted -= quantity;
-            }
+            Side::Buy => self.market_bids -= quantity,
             Side::Sell => self.market_asks -= quantity,
         }
     }
@@ -314,16 +270,8 @@ impl Ladder {
         requires fits { all_standing self.old + bids ≤ 65536000000000 + slice_index self.old.bids place }
         ensures { self.new ≡ with_bids self.old (slice_set self.old.bids place bids) }
     {
-        let old = self.bids[place];
-        let block = place / 64;
-        let sum = self.bid_blocks[block] - old + bids;
-        let group = block / 64;
-        let group_sum = self.bid_groups[group] - old + bids;
-        self.bids[place] = bids;
-        self.present[place] = flag(bids, self.asks[place]);
-        self.bid_blocks[block] = sum;
-        self.bid_groups[group] = group_sum;
-        self.wanted = self.wanted - old + bids;
+        self.bids.put(place, bids);
+        self.present.put(place, flag(bids, self.asks.at(place)));
     }
 
     /// Puts other asks at a place.
@@ -332,14 +280,7 @@ impl Ladder {
         requires fits { all_standing self.old + asks ≤ 65536000000000 + slice_index self.old.asks place }
         ensures { self.new ≡ with_asks self.old (slice_set self.old.asks place asks) }
     {
-        let old = self.asks[place];
-        let block = place / 64;
-        let sum = self.ask_blocks[block] - old + asks;
-        let group = block / 64;
-        let group_sum = self.ask_groups[group] - old + asks;
-        self.asks[place] = asks;
-        self.present[place] = flag(self.bids[place], asks);
-        self.ask_blocks[block] = sum;
-        self.ask_groups[group] = group_sum;
+        self.asks.put(place, asks);
+        self.present.put(place, flag(self.bids.at(place), asks));
     }
 }

@@ -1,0 +1,15 @@
+use Rattle.std.proofs.Common.{◌≡◌, ◌≤◌, ◌-◌, ℕ, length}
+use Rattle.auction_terms.specs.Ladder.{LadderView}
+use Rattle.tick_ladder.specs.Ladder.{all_standing}
+use Rattle.price_clock.proofs.fill.Given as goal
+
+pub record Going (v w : LadderView) (most : ℕ) : Type 0 where
+  pub total : all_standing v ≤ most
+  pub low : v.low ≡ w.low
+  pub len : length v.bids ≡ length w.bids
+
+abbrev pub invariant-fill : goal.invariant-fill
+invariant-fill l = Going l.ladder l.fn.ladder l.total
+
+abbrev pub decreases-fill : goal.decreases-fill
+decreases-fill l = l.count - l.k

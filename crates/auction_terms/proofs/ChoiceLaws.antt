@@ -1,0 +1,251 @@
+-- What the best of the limits make of the price.
+use Rattle.std.proofs.Common.{◌≡◌, ℕ, ◌<◌, min, Bool, true, false, cond, ◌&&◌, not, eqb, ltb, leb, List, [], ◌∷◌, filter, fold, All, Option, Some, None, is_some, option_map, inl, inr, refl, sym, ap, subst, ◌∙◌, arith}
+use Rattle.std.specs.List.{list_any, list_all}
+use Rattle.std.proofs.lemmas.Bool.{ltb-true, leb-true, eqb-true, lt-ltb, le-ltb, le-leb, eq-eqb, ne_eqb, cases_eq, cases_Bool, and_parts, and_from, or_cases, or_parts, or_left, or_right, and_left}
+use Rattle.std.proofs.lemmas.Bool.Decides.{nat_tests}
+use Rattle.std.proofs.lemmas.List.Elements.{All-head, All-tail, All-weaker, filter_passes}
+use Rattle.std.proofs.lemmas.List.Sums.{AllPass-from_list_all, list_all-from_AllPass}
+use Rattle.auction_terms.specs.declared.Order.{Order}
+use Rattle.auction_terms.specs.declared.Limit.{Limit}
+use Rattle.auction_terms.specs.declared.Limit.TheVariants.{Market, At}
+use Rattle.auction_terms.specs.declared.Price.{Price}
+use Rattle.auction_terms.specs.Book.{demand, supply, volume, surplus, has_bid_surplus, has_ask_surplus, limits, tick_of, is_bid, is_ask, is_market, is_eligible}
+use Rattle.auction_terms.specs.PriceOf.{highest, lowest, is_empty, priced, is_no_better, is_best, best_limits, lower_kept, upper_kept, held_between, has_market_orders, price_tick, price}
+use Rattle.auction_terms.specs.Leading.{Leaders, has_key, keyed, lower_among, upper_among, NoBetter, Lead, AreBest, tick_between}
+use Rattle.auction_terms.proofs.BestLemmas.{on_bid, on_ask, balanced, side_of, next_after, scanned_best}
+
+-- ---- lists
+
+same_bools : (a b : Bool) → (a ≡ true → b ≡ true) → (b ≡ true → a ≡ true) → a ≡ b
+same_bools true b f g = sym (f refl)
+same_bools false true f g = g refl
+same_bools false false f g = refl
+
+filter_agree_on : (a b : ℕ → Bool) (ps : List ℕ) → All (λ p. a p ≡ b p) ps → filter a ps ≡ filter b ps
+filter_agree_on a b [] same = refl
+filter_agree_on a b (p ∷ ps) same =
+    ap (λ t. cond t (p ∷ filter a ps) (filter a ps)) (All-head (λ q. a q ≡ b q) p ps same)
+    ∙ ap (λ qs. cond (b p) (p ∷ qs) qs) (filter_agree_on a b ps (All-tail (λ q. a q ≡ b q) p ps same))
+
+filter_none : (a : ℕ → Bool) (ps : List ℕ) → All (λ p. a p ≡ false) ps → filter a ps ≡ []
+filter_none a [] none = refl
+filter_none a (p ∷ ps) none =
+    ap (λ t. cond t (p ∷ filter a ps) (filter a ps)) (All-head (λ q. a q ≡ false) p ps none)
+    ∙ filter_none a ps (All-tail (λ q. a q ≡ false) p ps none)
+
+pub filter_all : (a : ℕ → Bool) (ps : List ℕ) → list_all a ps ≡ true → filter a ps ≡ ps
+filter_all a [] all = refl
+filter_all a (p ∷ ps) all =
+    let parts = and_parts (a p) (list_all a ps) all in
+    ap (λ t. cond t (p ∷ filter a ps) (filter a ps)) parts.0 ∙ ap (λ qs. p ∷ qs) (filter_all a ps parts.1)
+
+nonempty : (a : ℕ → Bool) (ps : List ℕ) → is_empty (filter a ps) ≡ false → is_empty ps ≡ false
+nonempty a [] h = h
+nonempty a (p ∷ ps) h = refl
+
+-- some element passes, and has what each has
+pub some_kept : (a : ℕ → Bool) (P : ℕ → Type 0) (ps : List ℕ) → is_empty (filter a ps) ≡ false → All P ps → (q : ℕ) × (a q ≡ true) × P q
+some_kept a P [] some all = absurd (let h : true ≡ false = some in cc)
+some_kept a P (p ∷ ps) some all = elim (cases_Bool (a p)) [
+  | inl passes ↦ (p, passes, All-head P p ps all)
+  | inr fails ↦ some_kept a P ps (rw fails at some) (All-tail P p ps all)
+]
+
+-- all pass one of two opposite tests where none passes the other
+pub all_or_some : (a b : ℕ → Bool) (ps : List ℕ) → All (λ p. a p ≡ not (b p)) ps → list_all a ps ≡ is_empty (filter b ps)
+all_or_some a b [] opposite = refl
+all_or_some a b (p ∷ ps) opposite =
+    let here : a p ≡ not (b p) = All-head (λ q. a q ≡ not (b q)) p ps opposite in
+    let rest = all_or_some a b ps (All-tail (λ q. a q ≡ not (b q)) p ps opposite) in
+    elim (cases_Bool (b p)) [
+      | inl passes ↦ rw (here, passes) refl
+      | inr fails ↦ rw (here, fails) rest
+    ]
+
+-- ---- the best limits are those with the leaders' key
+
+is_best_from_key : (book : List Order) (leaders : Leaders) (p : ℕ) → Lead book (limits book) leaders → has_key book leaders.volume leaders.surplus p ≡ true → is_best book p ≡ true
+unfolding is_best is_no_better
+is_best_from_key book leaders p lead key =
+    let parts = and_parts (eqb (volume book p) leaders.volume) (eqb (surplus book p) leaders.surplus) key in
+    let same = eqb-true (volume book p) leaders.volume parts.0 in
+    let equal = eqb-true (surplus book p) leaders.surplus parts.1 in
+    and_from _ _ (lt-ltb 0 (volume book p) (omega (arith, lead.positive)))
+    (list_all-from_AllPass (is_no_better book p) (limits book)
+    (All-weaker (NoBetter book leaders) (λ q. is_no_better book p q ≡ true)
+    (λ q h. elim (cases_eq (volume book q) (volume book p)) [
+      | inl tie ↦ or_right (ltb (volume book q) (volume book p)) _ (and_from _ _ (eq-eqb _ _ tie) (le-leb (surplus book p) (surplus book q) (let no_less = h.1 (tie ∙ same) in omega arith)))
+      | inr apart ↦ or_left (ltb (volume book q) (volume book p)) _ (lt-ltb (volume book q) (volume book p) (omega (arith, h.0)))
+    ]) (limits book) lead.none_better))
+
+key_from_is_best : (book : List Order) (leaders : Leaders) (p : ℕ) → Lead book (limits book) leaders → NoBetter book leaders p → is_best book p ≡ true → has_key book leaders.volume leaders.surplus p ≡ true
+unfolding is_best is_no_better
+key_from_is_best book leaders p lead no_better best =
+    let parts = and_parts (ltb 0 (volume book p)) (list_all (is_no_better book p) (limits book)) best in
+    let found = some_kept (has_key book leaders.volume leaders.surplus) (λ q. is_no_better book p q ≡ true) (limits book) lead.some_among (AllPass-from_list_all (is_no_better book p) (limits book) parts.1) in
+    let q = found.0 in
+    let keys = and_parts (eqb (volume book q) leaders.volume) (eqb (surplus book q) leaders.surplus) found.1 in
+    let same = eqb-true (volume book q) leaders.volume keys.0 in
+    let equal = eqb-true (surplus book q) leaders.surplus keys.1 in
+    let tie : (volume book p ≡ leaders.volume) × (surplus book p ≡ leaders.surplus) = elim (or_cases (ltb (volume book q) (volume book p)) (eqb (volume book q) (volume book p) && leb (surplus book p) (surplus book q)) found.2) [
+      | inl less ↦ absurd (let more = ltb-true (volume book q) (volume book p) less in omega (arith, no_better.0))
+      | inr level ↦
+          let levels = and_parts (eqb (volume book q) (volume book p)) (leb (surplus book p) (surplus book q)) level in
+          let level_volume = sym (eqb-true (volume book q) (volume book p) levels.0) ∙ same in
+          let at_most = leb-true (surplus book p) (surplus book q) levels.1 in
+          let at_least = no_better.1 level_volume in
+          (level_volume, omega arith)
+    ] in
+    and_from _ _ (eq-eqb _ _ tie.0) (eq-eqb _ _ tie.1)
+
+pub best_limits_keyed : (book : List Order) (leaders : Leaders) → Lead book (limits book) leaders → best_limits book ≡ keyed book leaders.volume leaders.surplus (limits book)
+unfolding best_limits
+best_limits_keyed book leaders lead =
+    filter_agree_on (is_best book) (has_key book leaders.volume leaders.surplus) (limits book)
+    (All-weaker (NoBetter book leaders) (λ p. is_best book p ≡ has_key book leaders.volume leaders.surplus p)
+    (λ p h. same_bools (is_best book p) (has_key book leaders.volume leaders.surplus p) (key_from_is_best book leaders p lead h) (is_best_from_key book leaders p lead))
+    (limits book) lead.none_better)
+
+pub best_limits_none : (book : List Order) → All (λ p. volume book p ≡ 0) (limits book) → best_limits book ≡ []
+unfolding best_limits is_best
+best_limits_none book none =
+    filter_none (is_best book) (limits book)
+    (All-weaker (λ p. volume book p ≡ 0) (λ p. is_best book p ≡ false)
+    (λ p h. and_left (ltb 0 (volume book p)) _ (le-ltb 0 (volume book p) (omega arith))) (limits book) none)
+
+-- ---- the choice among the best limits
+
+-- the last three cases of the price, of any list of limits
+abbrev choice : List Order → List ℕ → ℕ → Option ℕ
+choice book ps r =
+    cond (list_all (has_bid_surplus book) ps) (highest ps)
+    (cond (list_all (has_ask_surplus book) ps) (lowest ps)
+    (held_between
+    (cond (list_all (λ p. eqb (surplus book p) 0) ps) (lowest ps) (highest (filter (has_bid_surplus book) ps)))
+    (cond (list_all (λ p. eqb (surplus book p) 0) ps) (highest ps) (lowest (filter (has_ask_surplus book) ps))) r))
+
+-- no best limit has a surplus
+choice_balanced : (book : List Order) (p : ℕ) (ps : List ℕ) (r : ℕ) → All (λ q. surplus book q ≡ 0) (p ∷ ps) → choice book (p ∷ ps) r ≡ tick_between (lowest (p ∷ ps)) (highest (p ∷ ps)) r
+choice_balanced book p ps r even =
+    let here : surplus book p ≡ 0 = All-head (λ q. surplus book q ≡ 0) p ps even in
+    let all : list_all (λ q. eqb (surplus book q) 0) (p ∷ ps) ≡ true =
+    list_all-from_AllPass (λ q. eqb (surplus book q) 0) (p ∷ ps) (All-weaker (λ q. surplus book q ≡ 0) (λ q. eqb (surplus book q) 0 ≡ true) (λ q e. eq-eqb (surplus book q) 0 e) (p ∷ ps) even) in
+    elim (side_of book p) [
+      | on_bid side bid ask some ↦ absurd (omega arith)
+      | on_ask side bid ask some ↦ absurd (omega arith)
+      | balanced side bid ask none ↦ rw (bid, ask, all) refl
+    ]
+
+-- the highest with a bid surplus and the lowest with an ask surplus, where each has the one or the other
+held_of : (ps bids asks : List ℕ) (r : ℕ) → (is_empty asks ≡ true → bids ≡ ps) → (is_empty bids ≡ true → asks ≡ ps) → cond (is_empty asks) (highest ps) (cond (is_empty bids) (lowest ps) (held_between (highest bids) (lowest asks) r)) ≡ tick_between (highest bids) (lowest asks) r
+held_of ps [] [] r only_bids only_asks = ap highest (sym (only_bids refl))
+held_of ps (b ∷ bids) [] r only_bids only_asks = ap highest (sym (only_bids refl))
+held_of ps [] (a ∷ asks) r only_bids only_asks = ap lowest (sym (only_asks refl))
+held_of ps (b ∷ bids) (a ∷ asks) r only_bids only_asks = refl
+
+choice_uneven : (book : List Order) (p : ℕ) (ps : List ℕ) (r s : ℕ) → 0 < s → All (λ q. surplus book q ≡ s) (p ∷ ps) → choice book (p ∷ ps) r ≡ tick_between (highest (filter (has_bid_surplus book) (p ∷ ps))) (lowest (filter (has_ask_surplus book) (p ∷ ps))) r
+choice_uneven book p ps r s some even =
+    let qs = p ∷ ps in
+    let bids = filter (has_bid_surplus book) qs in
+    let asks = filter (has_ask_surplus book) qs in
+    let here : surplus book p ≡ s = All-head (λ q. surplus book q ≡ s) p ps even in
+    let not_zero : list_all (λ q. eqb (surplus book q) 0) qs ≡ false = and_left (eqb (surplus book p) 0) _ (ne_eqb (surplus book p) 0 (λ e. omega arith)) in
+    let no_bids : list_all (has_bid_surplus book) qs ≡ is_empty asks =
+    all_or_some (has_bid_surplus book) (has_ask_surplus book) qs
+    (All-weaker (λ q. surplus book q ≡ s) (λ q. has_bid_surplus book q ≡ not (has_ask_surplus book q)) (λ q e. bid_or_ask book q (omega arith)) qs even) in
+    let no_asks : list_all (has_ask_surplus book) qs ≡ is_empty bids =
+    all_or_some (has_ask_surplus book) (has_bid_surplus book) qs
+    (All-weaker (λ q. surplus book q ≡ s) (λ q. has_ask_surplus book q ≡ not (has_bid_surplus book q)) (λ q e. ask_or_bid book q (omega arith)) qs even) in
+    let bids_alone : is_empty asks ≡ true → bids ≡ qs = λ e. filter_all (has_bid_surplus book) qs (no_bids ∙ e) in
+    let asks_alone : is_empty bids ≡ true → asks ≡ qs = λ e. filter_all (has_ask_surplus book) qs (no_asks ∙ e) in
+    rw (no_bids, no_asks, not_zero) (held_of qs bids asks r bids_alone asks_alone)
+  where
+    bid_or_ask : (book : List Order) (q : ℕ) → 0 < surplus book q → has_bid_surplus book q ≡ not (has_ask_surplus book q)
+    bid_or_ask book q some = elim (side_of book q) [
+      | on_bid side bid ask more ↦ rw (bid, ask) refl
+      | on_ask side bid ask more ↦ rw (bid, ask) refl
+      | balanced side bid ask none ↦ absurd (omega arith)
+    ]
+
+    ask_or_bid : (book : List Order) (q : ℕ) → 0 < surplus book q → has_ask_surplus book q ≡ not (has_bid_surplus book q)
+    ask_or_bid book q some = elim (side_of book q) [
+      | on_bid side bid ask more ↦ rw (bid, ask) refl
+      | on_ask side bid ask more ↦ rw (bid, ask) refl
+      | balanced side bid ask none ↦ absurd (omega arith)
+    ]
+
+choice_is : (book : List Order) (ps : List ℕ) (r s : ℕ) → is_empty ps ≡ false → All (λ q. surplus book q ≡ s) ps → choice book ps r ≡ tick_between (lower_among book s ps) (upper_among book s ps) r
+choice_is book [] r s some even = absurd (let h : true ≡ false = some in cc)
+choice_is book (p ∷ ps) r s some even = elim (cases_eq s 0) [
+  | inl zero ↦ rw (eq-eqb s 0 zero) (choice_balanced book p ps r (All-weaker (λ q. surplus book q ≡ s) (λ q. surplus book q ≡ 0) (λ q e. omega arith) (p ∷ ps) even))
+  | inr positive ↦ rw (ne_eqb s 0 positive) (choice_uneven book p ps r s (omega arith) even)
+]
+
+-- ---- the price
+
+pub tick_found : (book : List Order) (r : ℕ) (leaders : Leaders) → Lead book (limits book) leaders → price_tick book r ≡ tick_between leaders.lower leaders.upper r
+unfolding price_tick lower_kept upper_kept
+tick_found book r leaders lead =
+    let v = leaders.volume in
+    let s = leaders.surplus in
+    let best = keyed book v s (limits book) in
+    let even : All (λ q. surplus book q ≡ s) best =
+    All-weaker (λ q. has_key book v s q ≡ true) (λ q. surplus book q ≡ s)
+    (λ q e. let parts = and_parts (eqb (volume book q) v) (eqb (surplus book q) s) e in eqb-true (surplus book q) s parts.1) best (filter_passes (has_key book v s) (limits book)) in
+    rw (nonempty (has_key book v s) (limits book) lead.some_among, best_limits_keyed book leaders lead, lead.some_among, lead.lower, lead.upper)
+    (choice_is book best r s lead.some_among even)
+
+-- a book with no limit is one of market orders
+abbrev pub is_limited : Order → Bool
+is_limited order = is_some (tick_of order.limit)
+
+limits_empty-cons : (limit : Limit) (order : Order) (book : List Order) → order.limit ≡ limit → is_empty (limits book) ≡ not (list_any is_limited book) → is_empty (limits (order ∷ book)) ≡ not (list_any is_limited (order ∷ book))
+unfolding limits
+limits_empty-cons Market order book e rest = rw e rest
+limits_empty-cons (At tick) order book e rest = rw e refl
+
+pub limits_empty : (book : List Order) → is_empty (limits book) ≡ not (list_any is_limited book)
+unfolding limits
+limits_empty [] = refl
+limits_empty (order ∷ book) = limits_empty-cons order.limit order book refl (limits_empty book)
+
+eligible_market : (limit : Limit) (order : Order) (p : ℕ) → order.limit ≡ limit → is_some (tick_of order.limit) ≡ false → is_eligible p order ≡ is_market order.limit
+eligible_market Market order p e none = rw e refl
+eligible_market (At tick) order p e none = absurd (let h : true ≡ false = rw e at none in cc)
+
+-- with no limits, the eligible orders are the market orders
+market_kept : (t : Order → Bool) (book : List Order) (p : ℕ) → list_any is_limited book ≡ false → filter (λ o. t o && is_eligible p o) book ≡ filter (λ o. t o && is_market o.limit) book
+market_kept t [] p none = refl
+market_kept t (order ∷ book) p none =
+    let parts = or_parts (is_limited order) (list_any is_limited book) none in
+    ap (λ b. cond (t order && b) (order ∷ filter (λ o. t o && is_eligible p o) book) (filter (λ o. t o && is_eligible p o) book)) (eligible_market order.limit order p refl parts.0)
+    ∙ ap (λ orders. cond (t order && is_market order.limit) (order ∷ orders) orders) (market_kept t book p parts.1)
+
+positive_min : (a b : ℕ) → (ltb 0 a && ltb 0 b) ≡ ltb 0 (min a b)
+positive_min a b = grind (arith, nat_tests)
+
+pub has_market_volume : (book : List Order) (p : ℕ) → list_any is_limited book ≡ false → has_market_orders book ≡ ltb 0 (volume book p)
+unfolding volume demand supply
+has_market_volume book p none =
+    rw (← market_kept is_bid book p none, ← market_kept is_ask book p none) (positive_min _ _)
+
+-- the price that the scan gives
+abbrev pub scanned : List Order → ℕ → Option Leaders → Option Price
+scanned book r None = cond (list_any is_limited book) None (cond (ltb 0 (volume book r)) (Some (priced book r)) None)
+scanned book r (Some leaders) = option_map (priced book) (tick_between leaders.lower leaders.upper r)
+
+pub price_scanned : (book : List Order) (r : ℕ) (leaders : Option Leaders) → AreBest book (limits book) leaders → price book r ≡ scanned book r leaders
+unfolding price price_tick
+price_scanned book r (Some leaders) lead = ap (option_map (priced book)) (tick_found book r leaders lead)
+price_scanned book r None none = elim (cases_Bool (list_any is_limited book)) [
+  | inl some ↦ rw (limits_empty book, some, best_limits_none book none) refl
+  | inr no_limit ↦ rw (limits_empty book, no_limit, has_market_volume book r no_limit) (cond_map (ltb 0 (volume book r)) book r)
+]
+  where
+    cond_map : (b : Bool) (book : List Order) (r : ℕ) → option_map (priced book) (cond b (Some r) None) ≡ cond b (Some (priced book r)) None
+    cond_map true book r = refl
+    cond_map false book r = refl
+
+pub price_from_scan : (book : List Order) (r : ℕ) (leaders : Option Leaders) → leaders ≡ fold (λ best p. next_after best (priced book p)) None (limits book) → price book r ≡ scanned book r leaders
+price_from_scan book r leaders found =
+    price_scanned book r leaders (subst (AreBest book (limits book)) (sym found) (scanned_best book (limits book)))

@@ -1,0 +1,124 @@
+-- Which ticks a list has, and its highest and lowest.
+use Rattle.std.proofs.Common.{◌≡◌, ℕ, ◌≤◌, ◌⊎◌, inl, inr, Bool, true, false, ◌||◌, cond, eqb, List, [], ◌∷◌, filter, All, Some, min, max, refl, sym, ap, subst, ◌∙◌, arith}
+use Rattle.std.specs.Option.{option_map_or}
+use Rattle.std.proofs.lemmas.Bool.{eqb-true, eq-eqb, or_cases, or_left, or_right, cases_lt}
+use Rattle.std.proofs.lemmas.List.Elements.{All-nil, All-cons, All-head, All-tail}
+use Rattle.auction_terms.specs.PriceOf.{highest, lowest, is_empty}
+use Rattle.auction_terms.specs.Leading.{has}
+
+pub no_tick : {X : Type 0} (t : ℕ) → has t [] ≡ true → X
+no_tick t e = absurd (let wrong : false ≡ true = e in cc)
+
+pub has-first : (p : ℕ) (ps : List ℕ) → has p (p ∷ ps) ≡ true
+has-first p ps = or_left (eqb p p) (has p ps) (eq-eqb p p refl)
+
+pub has-later : (t p : ℕ) (ps : List ℕ) → has t ps ≡ true → has t (p ∷ ps) ≡ true
+has-later t p ps e = or_right (eqb p t) (has t ps) e
+
+pub has-cases : (t p : ℕ) (ps : List ℕ) → has t (p ∷ ps) ≡ true → (p ≡ t) ⊎ (has t ps ≡ true)
+has-cases t p ps e = elim (or_cases (eqb p t) (has t ps) e) [ inl a ↦ inl (eqb-true p t a) | inr b ↦ inr b ]
+
+pub All_at : (P : ℕ → Type 0) (ps : List ℕ) → All P ps → (t : ℕ) → has t ps ≡ true → P t
+All_at P [] all t e = no_tick t e
+All_at P (p ∷ ps) all t e = elim (has-cases t p ps e) [
+  | inl same ↦ subst P same (All-head P p ps all)
+  | inr later ↦ All_at P ps (All-tail P p ps all) t later
+]
+
+pub All_from : (P : ℕ → Type 0) (ps : List ℕ) → ((t : ℕ) → has t ps ≡ true → P t) → All P ps
+All_from P [] h = All-nil P
+All_from P (p ∷ ps) h = All-cons P p ps (h p (has-first p ps)) (All_from P ps (λ t e. h t (has-later t p ps e)))
+
+has_taken : (T : ℕ → Bool) (x : ℕ) (xs : List ℕ) (t : ℕ) (b : Bool) → T x ≡ b → (x ≡ t) ⊎ (has t (filter T xs) ≡ true) → T t ≡ true → has t (cond b (x ∷ filter T xs) (filter T xs)) ≡ true
+has_taken T x xs t true is (inl same) p = subst (λ n. has n (x ∷ filter T xs) ≡ true) same (has-first x (filter T xs))
+has_taken T x xs t true is (inr later) p = has-later t x (filter T xs) later
+has_taken T x xs t false is (inl same) p = absurd (let wrong : false ≡ true = sym is ∙ ap T same ∙ p in cc)
+has_taken T x xs t false is (inr later) p = later
+
+pub has-filter : (T : ℕ → Bool) (xs : List ℕ) (t : ℕ) → has t xs ≡ true → T t ≡ true → has t (filter T xs) ≡ true
+has-filter T [] t e p = e
+has-filter T (x ∷ xs) t e p = has_taken T x xs t (T x) refl (elim (has-cases t x xs e) [ inl same ↦ inl same | inr later ↦ inr (has-filter T xs t later p) ]) p
+
+taken_has : (T : ℕ → Bool) (x : ℕ) (xs : List ℕ) (t : ℕ) (b : Bool) → T x ≡ b → (has t (filter T xs) ≡ true → (has t xs ≡ true) × (T t ≡ true)) → has t (cond b (x ∷ filter T xs) (filter T xs)) ≡ true → (has t (x ∷ xs) ≡ true) × (T t ≡ true)
+taken_has T x xs t true is ih e = elim (has-cases t x (filter T xs) e) [
+  | inl same ↦ (subst (λ n. has n (x ∷ xs) ≡ true) same (has-first x xs), ap T (sym same) ∙ is)
+  | inr later ↦ (has-later t x xs (ih later).0, (ih later).1)
+]
+taken_has T x xs t false is ih e = (has-later t x xs (ih e).0, (ih e).1)
+
+pub filter-has : (T : ℕ → Bool) (xs : List ℕ) (t : ℕ) → has t (filter T xs) ≡ true → (has t xs ≡ true) × (T t ≡ true)
+filter-has T [] t e = no_tick t e
+filter-has T (x ∷ xs) t e = taken_has T x xs t (T x) refl (filter-has T xs t) e
+
+pub none_empty : (ps : List ℕ) → ((t : ℕ) → has t ps ≡ true → ⊥) → ps ≡ []
+none_empty [] h = refl
+none_empty (p ∷ ps) h = absurd (h p (has-first p ps))
+
+pub some_in : (ps : List ℕ) → is_empty ps ≡ false → (t : ℕ) × (has t ps ≡ true)
+some_in [] e = absurd (let wrong : true ≡ false = e in cc)
+some_in (p ∷ ps) e = (p, has-first p ps)
+
+pub not_empty : (ps : List ℕ) (t : ℕ) → has t ps ≡ true → is_empty ps ≡ false
+not_empty [] t e = no_tick t e
+not_empty (p ∷ ps) t e = refl
+
+record IsHighest (xs : List ℕ) (m : ℕ) : Type 0 where
+  here : has m xs ≡ true
+  bound : (t : ℕ) → has t xs ≡ true → t ≤ m
+
+record IsLowest (xs : List ℕ) (m : ℕ) : Type 0 where
+  here : has m xs ≡ true
+  bound : (t : ℕ) → has t xs ≡ true → m ≤ t
+
+higher : (p k : ℕ) (ps : List ℕ) → IsHighest ps k → IsHighest (p ∷ ps) (max p k)
+higher p k ps h =
+    let b : (t : ℕ) → has t (p ∷ ps) ≡ true → t ≤ max p k = λ t e. elim (has-cases t p ps e) [ inl same ↦ omega (arith, same) | inr later ↦ omega (arith, h.bound t later) ] in
+    elim (cases_lt p k) [
+      | inl less ↦ let m : max p k ≡ k = omega (arith, less) in record { here = ap (λ n. has n (p ∷ ps)) m ∙ has-later k p ps h.here; bound = b }
+      | inr more ↦ let m : max p k ≡ p = omega (arith, more) in record { here = ap (λ n. has n (p ∷ ps)) m ∙ has-first p ps; bound = b }
+    ]
+
+lower : (p k : ℕ) (ps : List ℕ) → IsLowest ps k → IsLowest (p ∷ ps) (min p k)
+lower p k ps h =
+    let b : (t : ℕ) → has t (p ∷ ps) ≡ true → min p k ≤ t = λ t e. elim (has-cases t p ps e) [ inl same ↦ omega (arith, same) | inr later ↦ omega (arith, h.bound t later) ] in
+    elim (cases_lt p k) [
+      | inl less ↦ let m : min p k ≡ p = omega (arith, less) in record { here = ap (λ n. has n (p ∷ ps)) m ∙ has-first p ps; bound = b }
+      | inr more ↦ let m : min p k ≡ k = omega (arith, more) in record { here = ap (λ n. has n (p ∷ ps)) m ∙ has-later k p ps h.here; bound = b }
+    ]
+
+highest-first : (p : ℕ) (ps : List ℕ) → IsHighest (p ∷ ps) (option_map_or (max p) (highest ps) p)
+highest-first p [] = record { here = has-first p []; bound = λ t e. elim (has-cases t p [] e) [ inl same ↦ omega (arith, same) | inr later ↦ no_tick t later ] }
+highest-first p (q ∷ qs) = higher p (option_map_or (max q) (highest qs) q) (q ∷ qs) (highest-first q qs)
+
+lowest-first : (p : ℕ) (ps : List ℕ) → IsLowest (p ∷ ps) (option_map_or (min p) (lowest ps) p)
+lowest-first p [] = record { here = has-first p []; bound = λ t e. elim (has-cases t p [] e) [ inl same ↦ omega (arith, same) | inr later ↦ no_tick t later ] }
+lowest-first p (q ∷ qs) = lower p (option_map_or (min q) (lowest qs) q) (q ∷ qs) (lowest-first q qs)
+
+-- two lists in which each tick of the one is no higher than some tick of the other
+pub highest_agree : (xs ys : List ℕ) → ((q : ℕ) → has q xs ≡ true → (c : ℕ) × (has c ys ≡ true) × (q ≤ c)) → ((q : ℕ) → has q ys ≡ true → (c : ℕ) × (has c xs ≡ true) × (q ≤ c)) → highest xs ≡ highest ys
+highest_agree [] [] f g = refl
+highest_agree [] (y ∷ ys) f g = let c = g y (has-first y ys) in no_tick c.0 c.1
+highest_agree (x ∷ xs) [] f g = let c = f x (has-first x xs) in no_tick c.0 c.1
+highest_agree (x ∷ xs) (y ∷ ys) f g =
+    let m = option_map_or (max x) (highest xs) x in
+    let n = option_map_or (max y) (highest ys) y in
+    let a : IsHighest (x ∷ xs) m = highest-first x xs in
+    let b : IsHighest (y ∷ ys) n = highest-first y ys in
+    let c = f m a.here in
+    let d = g n b.here in
+    let e : m ≡ n = omega (arith, c.2, b.bound c.0 c.1, d.2, a.bound d.0 d.1) in
+    ap Some e
+
+pub lowest_agree : (xs ys : List ℕ) → ((q : ℕ) → has q xs ≡ true → (c : ℕ) × (has c ys ≡ true) × (c ≤ q)) → ((q : ℕ) → has q ys ≡ true → (c : ℕ) × (has c xs ≡ true) × (c ≤ q)) → lowest xs ≡ lowest ys
+lowest_agree [] [] f g = refl
+lowest_agree [] (y ∷ ys) f g = let c = g y (has-first y ys) in no_tick c.0 c.1
+lowest_agree (x ∷ xs) [] f g = let c = f x (has-first x xs) in no_tick c.0 c.1
+lowest_agree (x ∷ xs) (y ∷ ys) f g =
+    let m = option_map_or (min x) (lowest xs) x in
+    let n = option_map_or (min y) (lowest ys) y in
+    let a : IsLowest (x ∷ xs) m = lowest-first x xs in
+    let b : IsLowest (y ∷ ys) n = lowest-first y ys in
+    let c = f m a.here in
+    let d = g n b.here in
+    let e : m ≡ n = omega (arith, c.2, b.bound c.0 c.1, d.2, a.bound d.0 d.1) in
+    ap Some e

@@ -1,0 +1,15 @@
+use Rattle.std.proofs.Common.{◌≡◌, ◌≤◌, ◌-◌, length}
+use Rattle.lane_prefix.specs.Meeting.{before}
+use Rattle.lane_prefix.proofs.total.Given as goal
+
+abbrev pub invariant-eights : goal.invariant-eights
+invariant-eights l = record { within : l.at ≤ length l.src; done : l.sum ≡ before l.src l.at }
+
+abbrev pub invariant-rest : goal.invariant-rest
+invariant-rest l = record { within : l.at ≤ length l.src; done : l.sum ≡ before l.src l.at }
+
+abbrev pub decreases-eights : goal.decreases-eights
+decreases-eights l = length l.src - l.at
+
+abbrev pub decreases-rest : goal.decreases-rest
+decreases-rest l = length l.src - l.at

@@ -1,0 +1,128 @@
+//! Numbers place by place, with sums that lead to them.
+
+ghost use Rattle.std.specs.Prelude.{◌≡◌, ℕ, ◌+◌, ◌-◌, ◌<◌, ◌≤◌, length, sum, replicate, slice_set, slice_index, IfOk, MatchOption};
+ghost use Rattle.tick_ladder.specs.Standing.{IsBlank, IsLastIn, IsFirstIn, IsCrossing};
+
+use crate::Crossing;
+use crate::walks::{BLOCK, cross, first_from, last_before};
+use lane_prefix::total;
+use std::alloc::{AllocError, Global};
+use std::marker::Model;
+
+/// Numbers place by place, with the sums of each block of 64 places and of each group of 64 blocks.
+#[derive(Drop)]
+pub struct Tally {
+    places: Vec<u64>,
+    blocks: Vec<u64>,
+    groups: Vec<u64>,
+}
+
+impl Model for Tally {
+    ghost use Rattle.std.specs.Prelude.{List, ℕ};
+    ghost use Rattle.tick_ladder.specs.Standing.{IsTally};
+
+    ghost Value = { List ℕ };
+
+    ghost view = { λ t. t.places.items };
+
+    ghost invariant = { λ t. IsTally t.places.items t.blocks.items t.groups.items };
+}
+
+/// A 0 for each place.
+fn zeros(alloc: Global, places: usize) -> Result<Vec<u64>, AllocError>
+    ensures { IfOk result (λ v. v.items ≡ replicate places 0) }
+{
+    vec![in alloc; 0; places]
+}
+
+impl Tally {
+    /// A 0 at each place.
+    pub fn open(alloc: Global, places: usize) -> Result<Tally, AllocError>
+        requires { places ≤ 65536 }
+        ensures { IfOk result (λ t. t ≡ replicate places 0) }
+    {
+        let blocks = (places + BLOCK - 1) / BLOCK;
+        let groups = (blocks + BLOCK - 1) / BLOCK;
+        Ok(Tally {
+            places: zeros(alloc, places)?,
+            blocks: zeros(alloc, blocks)?,
+            groups: zeros(alloc, groups)?,
+        })
+    }
+
+    /// The numbers.
+    pub fn places(&self) -> &[u64]
+        ensures { result.now ≡ self.now }
+    {
+        &self.places
+    }
+
+    /// The number at a place.
+    pub fn at(&self, place: usize) -> u64
+        requires { place < length self.now }
+        ensures { result ≡ slice_index self.now place }
+    {
+        self.places[place]
+    }
+
+    /// Puts another number at a place.
+    pub fn put(&mut self, place: usize, number: u64)
+        requires within { place < length self.old }
+        requires fits { sum self.old + number ≤ 65536000000000 + slice_index self.old place }
+        ensures { self.new ≡ slice_set self.old place number }
+    {
+        let block = place / BLOCK;
+        let group = block / BLOCK;
+        let old = self.places[place];
+        let block_sum = self.blocks[block] - old + number;
+        let group_sum = self.groups[group] - old + number;
+        self.places[place] = number;
+        self.blocks[block] = block_sum;
+        self.groups[group] = group_sum;
+    }
+
+    /// All numbers together.
+    pub fn total(&self) -> u64
+        requires { sum self.now ≤ 65536000000000 }
+        ensures { result ≡ sum self.now }
+    {
+        total(&self.groups)
+    }
+
+    /// The last place before `end` with a number above 0.
+    pub fn last_before(&self, end: usize) -> Option<usize>
+        requires { end ≤ length self.now }
+        ensures { MatchOption result (IsBlank self.now 0 end) (IsLastIn self.now 0 end) }
+    {
+        last_before(&self.places, &self.blocks, &self.groups, end)
+    }
+
+    /// The first place from `start` on with a number above 0.
+    pub fn first_from(&self, start: usize) -> Option<usize>
+        requires { start ≤ length self.now }
+        ensures { MatchOption result (IsBlank self.now start (length self.now)) (IsFirstIn self.now start (length self.now)) }
+    {
+        first_from(&self.places, &self.blocks, &self.groups, start)
+    }
+}
+
+/// The last place where the demand is not below the supply before it, if `demand` and `below` are those at the first
+/// place.
+pub fn crossing_of(bids: &Tally, asks: &Tally, demand: u64, below: u64) -> Crossing
+    requires same { length asks.now ≡ length bids.now }
+    requires some { 0 < length bids.now }
+    requires enough { sum bids.now ≤ demand }
+    requires fits { below + sum asks.now ≤ 65536000000000 }
+    ensures { IsCrossing bids.now asks.now 0 (length bids.now) demand below result }
+{
+    cross(
+        &bids.places,
+        &asks.places,
+        &bids.blocks,
+        &asks.blocks,
+        &bids.groups,
+        &asks.groups,
+        demand,
+        below,
+    )
+}
