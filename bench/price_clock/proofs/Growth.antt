@@ -6,7 +6,7 @@ use Rattle.auction_terms.specs.declared.Side.TheVariants.{Buy, Sell}
 use Rattle.auction_terms.specs.declared.Limit.TheVariants.{At}
 use Rattle.auction_terms.specs.Ladder.{LadderView, added}
 use Rattle.tick_ladder.specs.Ladder.{all_standing}
-use Rattle.tick_ladder.proofs.Places.{sum-set}
+use Rattle.tick_ladder.proofs.Flags.{sum-set}
 
 pub record Grown (v w : LadderView) (q : ℕ) : Type 0 where
   pub all : all_standing w ≡ all_standing v + q

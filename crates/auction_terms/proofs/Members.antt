@@ -4,11 +4,7 @@ use Rattle.std.specs.Option.{option_map_or}
 use Rattle.std.proofs.lemmas.Bool.{eqb-true, eq-eqb, or_cases, or_left, or_right, cases_lt}
 use Rattle.std.proofs.lemmas.List.Elements.{All-nil, All-cons, All-head, All-tail}
 use Rattle.auction_terms.specs.PriceOf.{highest, lowest, is_empty}
-
--- whether a tick is in a list
-abbrev pub has : ℕ → List ℕ → Bool
-has t [] = false
-has t (p ∷ ps) = eqb p t || has t ps
+use Rattle.auction_terms.specs.Leading.{has}
 
 pub no_tick : {X : Type 0} (t : ℕ) → has t [] ≡ true → X
 no_tick t e = absurd (let wrong : false ≡ true = e in cc)

@@ -9,7 +9,8 @@ use Rattle.auction_terms.specs.declared.Limit.TheVariants.{Market, At}
 use Rattle.auction_terms.specs.Book.{is_on, limits, quantity_of}
 use Rattle.auction_terms.specs.Ladder.{is_at, standing}
 use Rattle.auction_terms.proofs.Sums.{counted, quantity_of-cons}
-use Rattle.auction_terms.proofs.Members.{has, has-first, has-later, has-cases, no_tick}
+use Rattle.auction_terms.specs.Leading.{has}
+use Rattle.auction_terms.proofs.Members.{has-first, has-later, has-cases, no_tick}
 
 -- the limits with one more in front
 abbrev with_limit : Limit → List ℕ → List ℕ

@@ -3,10 +3,9 @@ use Rattle.std.proofs.Common.{◌≡◌, ℕ, ◌<◌, ◌≤◌, inl, inr, Bool
 use Rattle.std.proofs.lemmas.Bool.{eq-eqb, ne_eqb, cases_eq, lt-ltb, and_from}
 use Rattle.auction_terms.specs.declared.Order.{Order}
 use Rattle.auction_terms.specs.Book.{demand, supply, volume, surplus, has_bid_surplus, has_ask_surplus, limits}
-use Rattle.price_rules.specs.declared.Leaders.{Leaders}
-use Rattle.price_rules.proofs.Scan.{has_key, keyed, lower_among, upper_among, NoBetter, Lead, AreBest}
-use Rattle.price_rules.proofs.Laws.{amounts, bid_amounts, key_parts}
-use Rattle.auction_terms.proofs.Members.{has, All_at, All_from, has-filter, filter-has, some_in, not_empty, highest_agree, lowest_agree}
+use Rattle.auction_terms.specs.Leading.{Leaders, has, has_key, keyed, lower_among, upper_among, NoBetter, Lead, AreBest}
+use Rattle.auction_terms.proofs.KeptLaws.{amounts, bid_amounts, key_parts}
+use Rattle.auction_terms.proofs.Members.{All_at, All_from, has-filter, filter-has, some_in, not_empty, highest_agree, lowest_agree}
 
 -- q adds nothing to these ticks: it is one of them, or worse than one, or no better and farther away on the side of the asks
 pub data Covered (book : List Order) (few : List ℕ) (q : ℕ) : Type 0 where

@@ -16,7 +16,8 @@ use Rattle.tick_ladder.specs.Ladder.{IsLadderOf}
 use Rattle.std.specs.List.{list_any}
 use Rattle.lane_prefix.specs.Meeting.{before}
 use Rattle.tick_ladder.proofs.Sums.{before_next, before_all}
-use Rattle.auction_terms.proofs.Members.{has, All_at}
+use Rattle.auction_terms.specs.Leading.{has}
+use Rattle.auction_terms.proofs.Members.{All_at}
 
 -- ---- lists by tick
 

@@ -7,11 +7,11 @@ use Rattle.auction_terms.specs.declared.Side.{Side}
 use Rattle.auction_terms.specs.declared.Side.TheVariants.{Buy, Sell}
 use Rattle.auction_terms.specs.Book.{volume, surplus, surplus_side, has_bid_surplus, has_ask_surplus, limits}
 use Rattle.auction_terms.specs.PriceOf.{priced, price}
-use Rattle.price_rules.specs.declared.Leaders.{Leaders}
-use Rattle.price_rules.specs.Leading.{tick_between}
-use Rattle.price_rules.proofs.Scan.{on_bid, on_ask, balanced, side_of, Lead}
-use Rattle.price_rules.proofs.Chosen.{tick_found}
-use Rattle.price_rules.proofs.Laws.{Kept, lower_is_kept, upper_is_kept, balanced_between, leaders_most}
+use Rattle.auction_terms.specs.Leading.{Leaders, Lead, tick_between}
+use Rattle.auction_terms.proofs.BestLemmas.{on_bid, on_ask, balanced, side_of}
+use Rattle.auction_terms.proofs.ChoiceLaws.{tick_found}
+use Rattle.auction_terms.proofs.KeptLaws.{Kept, lower_is_kept, upper_is_kept, balanced_between}
+use Rattle.auction_terms.proofs.PriceLaws.{leaders_most}
 use Rattle.price_rules.specs.Held.{sided, even, price_held, price_from}
 
 abbrev the_price : ℕ → ℕ → ℕ → Option Side → Price

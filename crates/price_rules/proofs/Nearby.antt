@@ -11,29 +11,28 @@ use Rattle.lane_prefix.specs.Meeting.{before}
 use Rattle.tick_ladder.specs.Standing.{IsClear, IsLast, IsFirst, IsCrossing}
 use Rattle.tick_ladder.specs.declared.Crossing.{Crossing}
 use Rattle.tick_ladder.proofs.Sums.{before_next, before_rises}
-use Rattle.price_rules.specs.declared.Leaders.{Leaders}
-use Rattle.price_rules.proofs.Scan.{AreBest, best_step}
-use Rattle.price_rules.proofs.Laws.{amounts}
-use Rattle.price_rules.specs.declared.Around.{Around}
-use Rattle.price_rules.specs.Around.{IsAround, IsFar, here_at, tick_list, few_limits, after_one, led_around}
-use Rattle.auction_terms.proofs.Members.{has, has-first, has-later, has-cases, no_tick}
+use Rattle.auction_terms.proofs.KeptLaws.{amounts}
+use Rattle.price_rules.specs.declared.surroundings.Around.{Around}
+use Rattle.price_rules.specs.Around.{IsAround, IsFar, here_at, tick_list, few_limits}
+use Rattle.auction_terms.specs.Leading.{has}
+use Rattle.auction_terms.proofs.Members.{has-first, has-later, has-cases, no_tick}
 use Rattle.price_rules.proofs.Cover.{Covered, among, beaten, behind, StandFor}
 use Rattle.price_rules.proofs.Curves.{Tells}
 
 -- ---- lists of ticks joined
 
-has-left : (t : ℕ) (xs ys : List ℕ) → has t xs ≡ true → has t (xs ++ ys) ≡ true
+pub has-left : (t : ℕ) (xs ys : List ℕ) → has t xs ≡ true → has t (xs ++ ys) ≡ true
 has-left t [] ys e = no_tick t e
 has-left t (x ∷ xs) ys e = elim (has-cases t x xs e) [
   | inl same ↦ subst (λ n. has n (x ∷ (xs ++ ys)) ≡ true) same (has-first x (xs ++ ys))
   | inr later ↦ has-later t x (xs ++ ys) (has-left t xs ys later)
 ]
 
-has-right : (t : ℕ) (xs ys : List ℕ) → has t ys ≡ true → has t (xs ++ ys) ≡ true
+pub has-right : (t : ℕ) (xs ys : List ℕ) → has t ys ≡ true → has t (xs ++ ys) ≡ true
 has-right t [] ys e = e
 has-right t (x ∷ xs) ys e = has-later t x (xs ++ ys) (has-right t xs ys e)
 
-has-either : (t : ℕ) (xs ys : List ℕ) → has t (xs ++ ys) ≡ true → (has t xs ≡ true) ⊎ (has t ys ≡ true)
+pub has-either : (t : ℕ) (xs ys : List ℕ) → has t (xs ++ ys) ≡ true → (has t xs ≡ true) ⊎ (has t ys ≡ true)
 has-either t [] ys e = inr e
 has-either t (x ∷ xs) ys e = elim (has-cases t x (xs ++ ys) e) [
   | inl same ↦ inl (subst (λ n. has n (x ∷ xs) ≡ true) same (has-first x xs))
@@ -43,10 +42,10 @@ has-either t (x ∷ xs) ys e = elim (has-cases t x (xs ++ ys) e) [
   ]
 ]
 
-has_one : (low i : ℕ) → has (low + i) (tick_list low (Some i)) ≡ true
+pub has_one : (low i : ℕ) → has (low + i) (tick_list low (Some i)) ≡ true
 has_one low i = has-first (low + i) []
 
-one_is : (low t : ℕ) (o : Option ℕ) → has t (tick_list low o) ≡ true → (i : ℕ) × (o ≡ Some i) × (low + i ≡ t)
+pub one_is : (low t : ℕ) (o : Option ℕ) → has t (tick_list low o) ≡ true → (i : ℕ) × (o ≡ Some i) × (low + i ≡ t)
 one_is low t None e = no_tick t e
 one_is low t (Some i) e = elim (has-cases t (low + i) [] e) [
   | inl same ↦ (i, refl, same)
@@ -155,21 +154,21 @@ cover_above v book c few i (Some p) tells cross some il top into after = elim (c
 here_some : (v : LadderView) (p : ℕ) → 0 < get_or v.bids p 0 + get_or v.asks p 0 → here_at v p ≡ Some p
 here_some v p some = rw (lt-ltb 0 (get_or v.bids p 0 + get_or v.asks p 0) some) refl
 
-here_is : (v : LadderView) (p i : ℕ) → here_at v p ≡ Some i → (p ≡ i) × (0 < get_or v.bids p 0 + get_or v.asks p 0)
+pub here_is : (v : LadderView) (p i : ℕ) → here_at v p ≡ Some i → (p ≡ i) × (0 < get_or v.bids p 0 + get_or v.asks p 0)
 here_is v p i e = elim (cases_Bool (ltb 0 (get_or v.bids p 0 + get_or v.asks p 0))) [
   | inl stands ↦ let same : Some p ≡ Some i = rw stands at e in (cc, ltb-true 0 (get_or v.bids p 0 + get_or v.asks p 0) stands)
   | inr none ↦ absurd (let wrong : None ≡ Some i = rw none at e in cc)
 ]
 
-last_stands : (b a : List ℕ) (j i : ℕ) (o : Option ℕ) → o ≡ Some i → MatchOption o (IsClear b a 0 j) (IsLast b a 0 j) → IsLast b a 0 j i
+pub last_stands : (b a : List ℕ) (j i : ℕ) (o : Option ℕ) → o ≡ Some i → MatchOption o (IsClear b a 0 j) (IsLast b a 0 j) → IsLast b a 0 j i
 last_stands b a j i None e h = absurd (cc)
 last_stands b a j i (Some p) e h = let same : p ≡ i = cc in subst (IsLast b a 0 j) same h
 
-first_stands : (b a : List ℕ) (s j i : ℕ) (o : Option ℕ) → o ≡ Some i → MatchOption o (IsClear b a s j) (IsFirst b a s j) → IsFirst b a s j i
+pub first_stands : (b a : List ℕ) (s j i : ℕ) (o : Option ℕ) → o ≡ Some i → MatchOption o (IsClear b a s j) (IsFirst b a s j) → IsFirst b a s j i
 first_stands b a s j i None e h = absurd (cc)
 first_stands b a s j i (Some p) e h = let same : p ≡ i = cc in subst (IsFirst b a s j) same h
 
-far_stands : (v : LadderView) (j i : ℕ) (near far : Option ℕ) → far ≡ Some i → MatchOption near (IsClear v.bids v.asks 0 j) (IsLast v.bids v.asks 0 j) → IsFar v near far → (i < j) × (0 < get_or v.bids i 0 + get_or v.asks i 0)
+pub far_stands : (v : LadderView) (j i : ℕ) (near far : Option ℕ) → far ≡ Some i → MatchOption near (IsClear v.bids v.asks 0 j) (IsLast v.bids v.asks 0 j) → IsFar v near far → (i < j) × (0 < get_or v.bids i 0 + get_or v.asks i 0)
 far_stands v j i None far e near is = absurd (let wrong : None ≡ Some i = sym is ∙ e in cc)
 far_stands v j i (Some p) far e near is =
     let f = last_stands v.bids v.asks p i far e is in
@@ -215,16 +214,3 @@ stand_around v book a tells is =
             ]
           ]);
     }
-
--- ---- the best of the few
-
-offered : (book : List Order) (low : ℕ) (ps : List ℕ) (best : Option Leaders) (o : Option ℕ) → AreBest book ps best → AreBest book (ps ++ tick_list low o) (after_one book low best o)
-offered book low ps best None h = subst (λ qs. AreBest book qs best) (sym (append-nil ps)) h
-offered book low ps best (Some i) h = best_step book ps (low + i) best h
-
-pub few_best : (book : List Order) (v : LadderView) (a : Around) → AreBest book (few_limits v a) (led_around book v a)
-few_best book v a =
-    let low = v.low in
-    let none : AreBest book [] None = All-nil (λ p. volume book p ≡ 0) in
-    let one : AreBest book (tick_list low a.far) (after_one book low None a.far) = offered book low [] None a.far none in
-    offered book low _ _ a.after (offered book low _ _ (here_at v a.crossing.place) (offered book low _ _ a.near one))

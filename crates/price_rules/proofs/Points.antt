@@ -8,49 +8,40 @@ use Rattle.auction_terms.specs.Ladder.{LadderView}
 use Rattle.lane_prefix.specs.Meeting.{before}
 use Rattle.tick_ladder.specs.Standing.{IsClear, IsFirst}
 use Rattle.tick_ladder.proofs.Sums.{before_all, before_most}
-use Rattle.price_rules.specs.declared.Leaders.{Leaders}
-use Rattle.price_rules.proofs.Scan.{AreBest}
-use Rattle.price_rules.proofs.Chosen.{is_limited, limits_empty, price_scanned}
-use Rattle.price_rules.specs.declared.Around.{Around}
-use Rattle.price_rules.specs.Around.{IsAround, IsPoint, led_around, few_limits}
+use Rattle.auction_terms.specs.Leading.{Leaders, AreBest}
+use Rattle.auction_terms.proofs.ChoiceLaws.{is_limited, limits_empty, price_scanned}
+use Rattle.price_rules.specs.declared.surroundings.Around.{Around}
+use Rattle.price_rules.specs.Around.{IsAround, few_limits}
 use Rattle.price_rules.specs.Held.{price_from, priced_by, market_priced}
 use Rattle.auction_terms.proofs.Members.{not_empty, none_empty}
 use Rattle.price_rules.proofs.Cover.{best_all}
 use Rattle.price_rules.proofs.Curves.{Tells}
 use Rattle.price_rules.proofs.Leading.{price_led}
-use Rattle.price_rules.proofs.Nearby.{stand_around, few_best, clear_none}
+use Rattle.price_rules.proofs.Nearby.{stand_around, clear_none}
 
 pub priced_there : (book : List Order) (p d s : ℕ) → d ≡ demand book p → s ≡ supply book p → priced_by p d s ≡ priced book p
 unfolding priced volume surplus surplus_side has_bid_surplus has_ask_surplus
 priced_there book p d s hd hs = ap (λ x. priced_by p x s) hd ∙ ap (priced_by p (demand book p)) hs
 
-pub priced_point : (v : LadderView) (book : List Order) (place d s : ℕ) → Tells v book → place < length v.bids → IsPoint v place d s → priced_by (v.low + place) d s ≡ priced book (v.low + place)
-priced_point v book place d s tells inside point =
-    priced_there book (v.low + place) d s (omega (arith, point.demand_is, tells.demand_is place (omega arith))) (omega (arith, point.supply_is, tells.supply_is place inside))
-
 -- the price, with leaders
-pub price_some : (v : LadderView) (book : List Order) (a : Around) (r : ℕ) (leaders : Leaders) → Tells v book → IsAround v a → Some leaders ≡ led_around book v a → price book r ≡ price_from leaders r
-price_some v book a r leaders tells is e =
-    price_led book r leaders (best_all book (few_limits v a) (Some leaders) (stand_around v book a tells is) (few_led v book a (Some leaders) e))
-  where
-    few_led : (v : LadderView) (book : List Order) (a : Around) (led : Option Leaders) → led ≡ led_around book v a → AreBest book (few_limits v a) led
-    few_led v book a led e = rw e (few_best book v a)
+pub price_some : (v : LadderView) (book : List Order) (a : Around) (r : ℕ) (leaders : Leaders) → Tells v book → IsAround v a → AreBest book (few_limits v a) (Some leaders) → price book r ≡ price_from leaders r
+price_some v book a r leaders tells is best = price_led book r leaders (best_all book (few_limits v a) (Some leaders) (stand_around v book a tells is) best)
 
-all_none : (v : LadderView) (book : List Order) (a : Around) (led : Option Leaders) → Tells v book → IsAround v a → led ≡ led_around book v a → AreBest book (limits book) led
-all_none v book a led tells is e = best_all book (few_limits v a) led (stand_around v book a tells is) (rw e (few_best book v a))
+all_none : (v : LadderView) (book : List Order) (a : Around) → Tells v book → IsAround v a → AreBest book (few_limits v a) None → AreBest book (limits book) None
+all_none v book a tells is best = best_all book (few_limits v a) None (stand_around v book a tells is) best
 
 -- and with none: some limit stands, but no volume
-pub price_none_some : (v : LadderView) (book : List Order) (a : Around) (r p : ℕ) → Tells v book → IsAround v a → None ≡ led_around book v a → IsFirst v.bids v.asks 0 (length v.bids) p → price book r ≡ None
+pub price_none_some : (v : LadderView) (book : List Order) (a : Around) (r p : ℕ) → Tells v book → IsAround v a → AreBest book (few_limits v a) None → IsFirst v.bids v.asks 0 (length v.bids) p → price book r ≡ None
 price_none_some v book a r p tells is e first =
     let some = not_empty (limits book) (v.low + p) (tells.limit_at p first.within first.stands) in
-    price_scanned book r None (all_none v book a None tells is e) ∙ limited None (cond (ltb 0 (volume book r)) (Some (priced book r)) None) (list_any is_limited book) (limits_empty book) some
+    price_scanned book r None (all_none v book a tells is e) ∙ limited None (cond (ltb 0 (volume book r)) (Some (priced book r)) None) (list_any is_limited book) (limits_empty book) some
   where
     limited : {X : Type 0} (x y : X) {k : Bool} (b : Bool) → k ≡ not b → k ≡ false → cond b x y ≡ x
     limited x y true e f = refl
     limited x y false e f = absurd (let wrong : true ≡ false = sym e ∙ f in cc)
 
 -- no limit at all
-pub price_market : (v : LadderView) (book : List Order) (a : Around) (r : ℕ) → Tells v book → IsAround v a → None ≡ led_around book v a → IsClear v.bids v.asks 0 (length v.bids) → v.low ≤ r → r < v.low + length v.bids → price book r ≡ market_priced v r
+pub price_market : (v : LadderView) (book : List Order) (a : Around) (r : ℕ) → Tells v book → IsAround v a → AreBest book (few_limits v a) None → IsClear v.bids v.asks 0 (length v.bids) → v.low ≤ r → r < v.low + length v.bids → price book r ≡ market_priced v r
 unfolding volume
 price_market v book a r tells is e clear from to =
     let n = length v.bids in
@@ -63,7 +54,7 @@ price_market v book a r tells is e clear from to =
     omega (arith, ap (demand book) back, tells.demand_is (r - v.low) (omega arith), clear.no_bids, before_all v.bids n (omega arith), before_most v.bids (r - v.low)) in
     let s : supply book r ≡ v.market_asks =
     omega (arith, ap (supply book) back, tells.supply_is (r - v.low) (omega arith), clear.no_asks, before_all v.asks n (let l = tells.same in omega arith), before_most v.asks (r - v.low + 1)) in
-    price_scanned book r None (all_none v book a None tells is e)
+    price_scanned book r None (all_none v book a tells is e)
     ∙ unlimited None (cond (ltb 0 (min (demand book r) (supply book r))) (Some (priced book r)) None) (list_any is_limited book) (limits_empty book) (ap is_empty none)
     ∙ ap (λ x. cond (ltb 0 (min x (supply book r))) (Some (priced book r)) None) d
     ∙ ap (λ x. cond (ltb 0 (min v.market_bids x)) (Some (priced book r)) None) s

@@ -3,7 +3,7 @@ use Rattle.std.specs.Prelude.{ℕ, ◌+◌, ◌-◌, min, if◌then◌else◌, O
 use Rattle.auction_terms.specs.declared.Price.{Price}
 use Rattle.auction_terms.specs.declared.Side.{Side}
 use Rattle.auction_terms.specs.declared.Side.TheVariants.{Buy, Sell}
-use Rattle.price_rules.specs.declared.Leaders.{Leaders}
+use Rattle.auction_terms.specs.Leading.{Leaders}
 use Rattle.auction_terms.specs.Ladder.{LadderView}
 
 abbrev pub sided : Leaders → ℕ → Side → Price

@@ -1,3 +1,3 @@
-pub mod Leading
 pub mod Held
 pub mod Around
+pub mod InLanes

@@ -8,7 +8,8 @@ use Rattle.auction_terms.specs.declared.Side.TheVariants.{Buy, Sell}
 use Rattle.auction_terms.specs.Book.{limits, is_on}
 use Rattle.auction_terms.specs.PriceOf.{highest, lowest}
 use Rattle.auction_terms.specs.Ladder.{LadderView, ladder_of, spread, standing}
-use Rattle.auction_terms.proofs.Members.{has, has-first, has-later, has-cases, no_tick, none_empty, All_at, highest_agree, lowest_agree}
+use Rattle.auction_terms.specs.Leading.{has}
+use Rattle.auction_terms.proofs.Members.{has-first, has-later, has-cases, no_tick, none_empty, All_at, highest_agree, lowest_agree}
 use Rattle.auction_terms.proofs.StandingLaws.{standing_limit, limit_standing, side_limit}
 use Rattle.auction_terms.proofs.LadderLaws.{at_spread}
 use Rattle.lane_prefix.specs.Meeting.{before}

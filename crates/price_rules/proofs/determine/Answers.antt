@@ -1,4 +1,4 @@
-use Rattle.price_rules.proofs.Laws.{most_of, none_of, price_balanced}
+use Rattle.auction_terms.proofs.PriceLaws.{most_of, none_of, price_balanced}
 use Rattle.price_rules.proofs.determine.Goals as goal
 
 pub returns-clause-most : goal.returns-clause-most

@@ -1,19 +1,31 @@
-use Rattle.std.proofs.Common.{sym, ◌∙◌}
+use Rattle.std.proofs.Common.{◌≡◌, ap, sym, ◌∙◌}
+use Rattle.auction_terms.specs.Leading.{AreBest}
+use Rattle.price_rules.specs.Around.{few_limits}
+use Rattle.price_rules.specs.InLanes.{lead_of}
 use Rattle.price_rules.proofs.Curves.{tells}
 use Rattle.price_rules.proofs.Points.{price_some, price_none_some, price_market}
 use Rattle.price_rules.proofs.price_of.Goals as goal
 
 pub returns-in-Some : goal.returns-in-Some
 returns-in-Some c book h =
-    let t = tells c.args.ladder.now book h c.look_around-around.ensures.flags in
-    c.hold.ensures ∙ sym (price_some c.args.ladder.now book c.look_around-around.result c.args.reference c.in-Some.leaders t c.look_around-around.ensures.value (c.in-Some.ensures book h))
+    let v = c.args.ladder.now in
+    let a = c.look_around-around.result in
+    let t = tells v book h c.look_around-around.ensures.flags in
+    let best = c.in-Some.ensures book (few_limits v a) (c.limits_around.ensures.candidates book h) c.limits_around.ensures.marked in
+    c.hold.ensures ∙ sym (price_some v book a c.args.reference (lead_of c.in-Some.leaders) t c.look_around-around.ensures.value best)
 
 pub returns-in-Some-first_from : goal.returns-in-Some-first_from
 returns-in-Some-first_from c book h =
-    let t = tells c.args.ladder.now book h c.look_around-around.ensures.flags in
-    sym (price_none_some c.args.ladder.now book c.look_around-around.result c.args.reference c.in-Some-first_from.field-0 t c.look_around-around.ensures.value (c.in-None.ensures book h) c.in-Some-first_from.ensures)
+    let v = c.args.ladder.now in
+    let a = c.look_around-around.result in
+    let t = tells v book h c.look_around-around.ensures.flags in
+    let best = c.in-None.ensures book (few_limits v a) (c.limits_around.ensures.candidates book h) c.limits_around.ensures.marked in
+    sym (price_none_some v book a c.args.reference c.in-Some-first_from.field-0 t c.look_around-around.ensures.value best c.in-Some-first_from.ensures)
 
 pub returns-in-None-first_from : goal.returns-in-None-first_from
 returns-in-None-first_from c book h =
-    let t = tells c.args.ladder.now book h c.look_around-around.ensures.flags in
-    c.market_price.ensures ∙ sym (price_market c.args.ladder.now book c.look_around-around.result c.args.reference t c.look_around-around.ensures.value (c.in-None.ensures book h) c.in-None-first_from.ensures c.requires.low c.requires.high)
+    let v = c.args.ladder.now in
+    let a = c.look_around-around.result in
+    let t = tells v book h c.look_around-around.ensures.flags in
+    let best = c.in-None.ensures book (few_limits v a) (c.limits_around.ensures.candidates book h) c.limits_around.ensures.marked in
+    c.market_price.ensures ∙ sym (price_market v book a c.args.reference t c.look_around-around.ensures.value best c.in-None-first_from.ensures c.requires.low c.requires.high)

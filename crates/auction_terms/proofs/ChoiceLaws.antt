@@ -1,4 +1,4 @@
--- What the scan finds is the price.
+-- What the best of the limits make of the price.
 use Rattle.std.proofs.Common.{◌≡◌, ℕ, ◌<◌, min, Bool, true, false, cond, ◌&&◌, not, eqb, ltb, leb, List, [], ◌∷◌, filter, fold, All, Option, Some, None, is_some, option_map, inl, inr, refl, sym, ap, subst, ◌∙◌, arith}
 use Rattle.std.specs.List.{list_any, list_all}
 use Rattle.std.proofs.lemmas.Bool.{ltb-true, leb-true, eqb-true, lt-ltb, le-ltb, le-leb, eq-eqb, ne_eqb, cases_eq, cases_Bool, and_parts, and_from, or_cases, or_parts, or_left, or_right, and_left}
@@ -11,9 +11,8 @@ use Rattle.auction_terms.specs.declared.Limit.TheVariants.{Market, At}
 use Rattle.auction_terms.specs.declared.Price.{Price}
 use Rattle.auction_terms.specs.Book.{demand, supply, volume, surplus, has_bid_surplus, has_ask_surplus, limits, tick_of, is_bid, is_ask, is_market, is_eligible}
 use Rattle.auction_terms.specs.PriceOf.{highest, lowest, is_empty, priced, is_no_better, is_best, best_limits, lower_kept, upper_kept, held_between, has_market_orders, price_tick, price}
-use Rattle.price_rules.specs.declared.Leaders.{Leaders}
-use Rattle.price_rules.specs.Leading.{next_after, tick_between}
-use Rattle.price_rules.proofs.Scan.{on_bid, on_ask, balanced, side_of, has_key, keyed, lower_among, upper_among, NoBetter, Lead, AreBest, scanned_best}
+use Rattle.auction_terms.specs.Leading.{Leaders, has_key, keyed, lower_among, upper_among, NoBetter, Lead, AreBest, tick_between}
+use Rattle.auction_terms.proofs.BestLemmas.{on_bid, on_ask, balanced, side_of, next_after, scanned_best}
 
 -- ---- lists
 

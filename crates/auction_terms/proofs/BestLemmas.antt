@@ -1,4 +1,4 @@
--- The scan over the limits keeps what the best of them have in common.
+-- The best of some ticks, found one by one.
 use Rattle.std.proofs.Common.{◌≡◌, ℕ, ◌<◌, ◌≤◌, min, max, Bool, true, false, cond, ◌&&◌, ◌||◌, eqb, ltb, List, [], ◌∷◌, ◌++◌, filter, fold, All, Option, Some, None, ◌⊎◌, inl, inr, refl, sym, ap, subst, ◌∙◌, arith}
 use Rattle.std.specs.Option.{option_map_or}
 use Rattle.std.proofs.lemmas.Bool.{ltb-true, ltb-false, eqb-true, eqb-false, lt-ltb, le-ltb, eq-eqb, ne_eqb, cond_both, cases_order, cases_eq, and_parts, and_cases, or_cases, or_parts, and_left, and_right, and_from}
@@ -8,8 +8,59 @@ use Rattle.auction_terms.specs.declared.Order.{Order}
 use Rattle.auction_terms.specs.declared.Side.TheVariants.{Buy, Sell}
 use Rattle.auction_terms.specs.Book.{demand, supply, volume, surplus, has_bid_surplus, has_ask_surplus, surplus_side}
 use Rattle.auction_terms.specs.PriceOf.{highest, lowest, is_empty, priced}
-use Rattle.price_rules.specs.declared.Leaders.{Leaders}
-use Rattle.price_rules.specs.Leading.{raised_by, lowered_by, lower_alone, upper_alone, lower_tied, upper_tied, alone_of, tied_with, next_after}
+use Rattle.auction_terms.specs.declared.Price.{Price}
+use Rattle.auction_terms.specs.declared.Side.{Side}
+use Rattle.auction_terms.specs.Leading.{Leaders, has_key, keyed, lower_among, upper_among, NoBetter, Lead, AreBest}
+
+-- ---- the best so far, after one more tick
+
+abbrev raised_by : Option ℕ → ℕ → ℕ
+raised_by None tick = tick
+raised_by (Some highest) tick = max highest tick
+
+abbrev lowered_by : Option ℕ → ℕ → ℕ
+lowered_by None tick = tick
+lowered_by (Some lowest) tick = min lowest tick
+
+-- where the price may be held: not below a tick with a bid surplus, not above one with an ask surplus
+abbrev lower_alone : Option Side → ℕ → Option ℕ
+lower_alone None tick = Some tick
+lower_alone (Some Buy) tick = Some tick
+lower_alone (Some Sell) tick = None
+
+abbrev upper_alone : Option Side → ℕ → Option ℕ
+upper_alone None tick = Some tick
+upper_alone (Some Buy) tick = None
+upper_alone (Some Sell) tick = Some tick
+
+abbrev alone_of : Price → Leaders
+alone_of candidate = record {
+  volume = candidate.volume;
+  surplus = candidate.surplus;
+  lower = lower_alone candidate.side candidate.tick;
+  upper = upper_alone candidate.side candidate.tick;
+}
+
+abbrev lower_tied : Option Side → Option ℕ → ℕ → Option ℕ
+lower_tied None lower tick = Some (lowered_by lower tick)
+lower_tied (Some Buy) lower tick = Some (raised_by lower tick)
+lower_tied (Some Sell) lower tick = lower
+
+abbrev upper_tied : Option Side → Option ℕ → ℕ → Option ℕ
+upper_tied None upper tick = Some (raised_by upper tick)
+upper_tied (Some Buy) upper tick = upper
+upper_tied (Some Sell) upper tick = Some (lowered_by upper tick)
+
+abbrev tied_with : Leaders → Price → Leaders
+tied_with leaders candidate = record leaders {
+  lower = lower_tied candidate.side leaders.lower candidate.tick;
+  upper = upper_tied candidate.side leaders.upper candidate.tick;
+}
+
+abbrev pub next_after : Option Leaders → Price → Option Leaders
+next_after None candidate = cond (ltb 0 candidate.volume) (Some (alone_of candidate)) None
+next_after (Some leaders) candidate =
+    cond (ltb leaders.volume candidate.volume || (eqb candidate.volume leaders.volume && ltb candidate.surplus leaders.surplus)) (Some (alone_of candidate)) (cond (eqb candidate.volume leaders.volume && eqb candidate.surplus leaders.surplus) (Some (tied_with leaders candidate)) (Some leaders))
 
 -- ---- the side of a surplus
 
@@ -47,38 +98,6 @@ pub lowest_push : (ps : List ℕ) (p : ℕ) → lowest (ps ++ p ∷ []) ≡ Some
 lowest_push [] p = refl
 lowest_push (q ∷ ps) p =
     ap (λ (h : Option ℕ). Some (option_map_or (min q) h q)) (lowest_push ps p) ∙ ap Some (lowered_more q p (lowest ps))
-
--- ---- the limits with a volume and a surplus
-
--- p has this volume and this surplus
-abbrev pub has_key : List Order → ℕ → ℕ → ℕ → Bool
-has_key book v s p = eqb (volume book p) v && eqb (surplus book p) s
-
-abbrev pub keyed : List Order → ℕ → ℕ → List ℕ → List ℕ
-keyed book v s ps = filter (has_key book v s) ps
-
-abbrev pub lower_among : List Order → ℕ → List ℕ → Option ℕ
-lower_among book s ps = cond (eqb s 0) (lowest ps) (highest (filter (has_bid_surplus book) ps))
-
-abbrev pub upper_among : List Order → ℕ → List ℕ → Option ℕ
-upper_among book s ps = cond (eqb s 0) (highest ps) (lowest (filter (has_ask_surplus book) ps))
-
--- p has no more volume than the leaders, and at the same volume no less surplus
-abbrev pub NoBetter : List Order → Leaders → ℕ → Type 0
-NoBetter book leaders p =
-    (volume book p ≤ leaders.volume) × (volume book p ≡ leaders.volume → leaders.surplus ≤ surplus book p)
-
--- what the leaders say of the limits so far
-pub record Lead (book : List Order) (ps : List ℕ) (leaders : Leaders) : Type 0 where
-  pub positive : 0 < leaders.volume
-  pub none_better : All (NoBetter book leaders) ps
-  pub some_among : is_empty (keyed book leaders.volume leaders.surplus ps) ≡ false
-  pub lower : leaders.lower ≡ lower_among book leaders.surplus (keyed book leaders.volume leaders.surplus ps)
-  pub upper : leaders.upper ≡ upper_among book leaders.surplus (keyed book leaders.volume leaders.surplus ps)
-
-abbrev pub AreBest : List Order → List ℕ → Option Leaders → Type 0
-AreBest book ps None = All (λ p. volume book p ≡ 0) ps
-AreBest book ps (Some leaders) = Lead book ps leaders
 
 -- ---- one more limit
 
@@ -239,6 +258,6 @@ best_after book ps (q ∷ qs) leaders best =
     subst (λ ts. AreBest book ts (fold (λ best p. next_after best (priced book p)) next qs)) (append_assoc ps (q ∷ []) qs)
     (best_after book (ps ++ q ∷ []) qs next (best_step book ps q leaders best))
 
--- what the scan over all limits finds
+-- the best of all, one by one
 pub scanned_best : (book : List Order) (ps : List ℕ) → AreBest book ps (fold (λ best p. next_after best (priced book p)) None ps)
 scanned_best book ps = best_after book [] ps None (All-nil (λ p. volume book p ≡ 0))

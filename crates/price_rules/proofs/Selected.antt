@@ -1,0 +1,142 @@
+-- The candidates that the kernels leave are the best.
+use Rattle.std.proofs.Common.{◌≡◌, ◌≢◌, ℕ, ◌+◌, ◌-◌, ◌≤◌, ◌<◌, inl, inr, true, min, eqb, List, filter, All, Option, Some, None, length, get_or, refl, sym, ap, ◌∙◌, arith}
+use Rattle.std.specs.Simd.Lanes.{zip2}
+use Rattle.std.proofs.lemmas.Bool.{lt-ltb, eq-eqb, and_from}
+use Rattle.std.proofs.lemmas.Simd.{length-zip2}
+use Rattle.auction_terms.specs.declared.Order.{Order}
+use Rattle.auction_terms.specs.Book.{demand, supply, volume, surplus, has_bid_surplus, has_ask_surplus}
+use Rattle.auction_terms.specs.PriceOf.{highest, lowest}
+use Rattle.auction_terms.specs.Leading.{Leaders, has, has_key, keyed, lower_among, upper_among, NoBetter, Lead}
+use Rattle.auction_terms.proofs.KeptLaws.{amounts, bid_amounts, ask_amounts, key_parts}
+use Rattle.auction_terms.proofs.Members.{All_from, not_empty}
+use Rattle.lane_select.specs.Select.{distance, kept_if_equal, kept_if_above, NoFlagIn, IsFirstFlag, IsLastFlag, IsGreatestFlagged, IsLeastFlagged}
+use Rattle.price_rules.specs.declared.candidates.Lanes.{Lanes}
+use Rattle.price_rules.specs.InLanes.{AreCandidates, AreMarked, IsWithin}
+use Rattle.price_rules.proofs.Marks.{zip_at, kept_parts, kept_there, above_parts, above_there, inside, marked_part}
+
+bid_true : (book : List Order) (t : ℕ) → supply book t < demand book t → has_bid_surplus book t ≡ true
+unfolding has_bid_surplus
+bid_true book t h = lt-ltb (supply book t) (demand book t) h
+
+ask_true : (book : List Order) (t : ℕ) → demand book t < supply book t → has_ask_surplus book t ≡ true
+unfolding has_ask_surplus
+ask_true book t h = lt-ltb (demand book t) (supply book t) h
+
+-- all lists of the lanes are equally long
+pub record AreEven (lanes : Lanes) : Type 0 where
+  pub demands : length lanes.demands ≡ length lanes.flags
+  pub supplies : length lanes.supplies ≡ length lanes.flags
+
+module _ (book : List Order) (lanes : Lanes) (even : AreEven lanes) (cand : AreCandidates book lanes) where
+  -- the flags of the best with a surplus on one side
+  pub bids_marked : (fs best : List ℕ) → length fs ≡ length lanes.flags → IsWithin fs lanes.flags → AreMarked lanes.ticks fs best → AreMarked lanes.ticks (kept_if_above lanes.demands lanes.supplies fs) (filter (has_bid_surplus book) best)
+  bids_marked fs best same within marked =
+      let d : length lanes.demands ≡ length fs = omega (arith, even.demands) in
+      let s : length lanes.supplies ≡ length fs = omega (arith, even.supplies) in
+      marked_part lanes.ticks fs (kept_if_above lanes.demands lanes.supplies fs) best (has_bid_surplus book) marked
+      (λ k h. let p = above_parts lanes.demands lanes.supplies fs k d s h in
+      let more = cand.demands_are k (within k p.1) in
+      let less = cand.supplies_are k (within k p.1) in
+      (bid_true book (get_or lanes.ticks k 0) (omega (arith, p.0)), p.1))
+      (λ k h f. let more = cand.demands_are k (within k f) in
+      let less = cand.supplies_are k (within k f) in
+      above_there lanes.demands lanes.supplies fs k d s (omega (arith, bid_amounts book (get_or lanes.ticks k 0) h)) f)
+
+  pub asks_marked : (fs best : List ℕ) → length fs ≡ length lanes.flags → IsWithin fs lanes.flags → AreMarked lanes.ticks fs best → AreMarked lanes.ticks (kept_if_above lanes.supplies lanes.demands fs) (filter (has_ask_surplus book) best)
+  asks_marked fs best same within marked =
+      let d : length lanes.demands ≡ length fs = omega (arith, even.demands) in
+      let s : length lanes.supplies ≡ length fs = omega (arith, even.supplies) in
+      marked_part lanes.ticks fs (kept_if_above lanes.supplies lanes.demands fs) best (has_ask_surplus book) marked
+      (λ k h. let p = above_parts lanes.supplies lanes.demands fs k s d h in
+      let less = cand.demands_are k (within k p.1) in
+      let more = cand.supplies_are k (within k p.1) in
+      (ask_true book (get_or lanes.ticks k 0) (omega (arith, p.0)), p.1))
+      (λ k h f. let less = cand.demands_are k (within k f) in
+      let more = cand.supplies_are k (within k f) in
+      above_there lanes.supplies lanes.demands fs k s d (omega (arith, ask_amounts book (get_or lanes.ticks k 0) h)) f)
+
+  pub rising_within : (fs : List ℕ) → IsWithin fs lanes.flags → (j k : ℕ) → j < k → get_or fs j 0 ≡ 1 → get_or fs k 0 ≡ 1 → get_or lanes.ticks j 0 ≤ get_or lanes.ticks k 0
+  rising_within fs within j k less f g = cand.rising j k less (within j f) (within k g)
+
+  above_within : (xs ys fs : List ℕ) → length xs ≡ length fs → length ys ≡ length fs → IsWithin fs lanes.flags → IsWithin (kept_if_above xs ys fs) lanes.flags
+  above_within xs ys fs d e within k h = within k (above_parts xs ys fs k d e h).1
+
+  pub rising_bids : (fs : List ℕ) → length fs ≡ length lanes.flags → IsWithin fs lanes.flags → (j k : ℕ) → j < k → get_or (kept_if_above lanes.demands lanes.supplies fs) j 0 ≡ 1 → get_or (kept_if_above lanes.demands lanes.supplies fs) k 0 ≡ 1 → get_or lanes.ticks j 0 ≤ get_or lanes.ticks k 0
+  rising_bids fs same within = rising_within (kept_if_above lanes.demands lanes.supplies fs) (above_within lanes.demands lanes.supplies fs (omega (arith, even.demands)) (omega (arith, even.supplies)) within)
+
+  pub rising_asks : (fs : List ℕ) → length fs ≡ length lanes.flags → IsWithin fs lanes.flags → (j k : ℕ) → j < k → get_or (kept_if_above lanes.supplies lanes.demands fs) j 0 ≡ 1 → get_or (kept_if_above lanes.supplies lanes.demands fs) k 0 ≡ 1 → get_or lanes.ticks j 0 ≤ get_or lanes.ticks k 0
+  rising_asks fs same within = rising_within (kept_if_above lanes.supplies lanes.demands fs) (above_within lanes.supplies lanes.demands fs (omega (arith, even.supplies)) (omega (arith, even.demands)) within)
+
+  -- ---- volume and surplus of a candidate
+
+  module _ (few volumes : List ℕ) (marked : AreMarked lanes.ticks lanes.flags few) (vols : volumes ≡ zip2 min lanes.demands lanes.supplies) where
+    volume_at : (k : ℕ) → get_or lanes.flags k 0 ≡ 1 → volume book (get_or lanes.ticks k 0) ≡ get_or volumes k 0
+    volume_at k h =
+        let a = amounts book (get_or lanes.ticks k 0) in
+        let at = ap (λ l. get_or l k 0) vols ∙ zip_at min lanes.demands lanes.supplies k refl (omega (arith, even.demands, even.supplies)) in
+        omega (arith, a.least, cand.demands_are k h, cand.supplies_are k h)
+
+    -- with no candidate, or with none that has volume
+    pub none_flagged : NoFlagIn lanes.flags 0 (length lanes.flags) → All (λ t. volume book t ≡ 0) few
+    none_flagged none = All_from (λ t. volume book t ≡ 0) few (λ t e. let p = marked.place t e in absurd (none p.0 (omega arith) p.1 p.2))
+
+    pub none_positive : (m : ℕ) → m ≡ 0 → IsGreatestFlagged volumes lanes.flags m → All (λ t. volume book t ≡ 0) few
+    none_positive m zero most = All_from (λ t. volume book t ≡ 0) few (λ t e. let p = marked.place t e in let here = ap (volume book) p.3 in omega (arith, volume_at p.0 p.2, most.bound p.0 p.1 p.2))
+
+    module _ (m : ℕ) (fs : List ℕ) (most : IsGreatestFlagged volumes lanes.flags m) (left : fs ≡ zip2 (kept_if_equal m) volumes lanes.flags) where
+      long : length volumes ≡ length lanes.flags
+      long = ap length vols ∙ length-zip2 min lanes.demands lanes.supplies (omega (arith, even.demands, even.supplies)) ∙ even.demands
+
+      first_parts : (k : ℕ) → get_or fs k 0 ≡ 1 → (get_or volumes k 0 ≡ m) × (get_or lanes.flags k 0 ≡ 1)
+      first_parts k h = kept_parts m volumes lanes.flags k long (sym (ap (λ l. get_or l k 0) left) ∙ h)
+
+      first_there : (k : ℕ) → get_or volumes k 0 ≡ m → get_or lanes.flags k 0 ≡ 1 → get_or fs k 0 ≡ 1
+      first_there k v h = ap (λ l. get_or l k 0) left ∙ kept_there m volumes lanes.flags k long v h
+
+      -- a candidate with the most volume is left
+      pub some_left : NoFlagIn fs 0 (length fs) → ⊥
+      some_left none =
+          let at = first_there most.place most.value most.here in
+          none most.place (omega arith) (inside fs most.place at) at
+
+      module _ (surpluses : List ℕ) (s : ℕ) (gs : List ℕ) (gaps : surpluses ≡ zip2 distance lanes.demands lanes.supplies) (same : length fs ≡ length lanes.flags) (least : IsLeastFlagged surpluses fs s) (left_too : gs ≡ zip2 (kept_if_equal s) surpluses fs) where
+        surplus_at : (k : ℕ) → get_or lanes.flags k 0 ≡ 1 → surplus book (get_or lanes.ticks k 0) ≡ get_or surpluses k 0
+        surplus_at k h =
+            let a = amounts book (get_or lanes.ticks k 0) in
+            let at = ap (λ l. get_or l k 0) gaps ∙ zip_at distance lanes.demands lanes.supplies k refl (omega (arith, even.demands, even.supplies)) in
+            omega (arith, a.apart, cand.demands_are k h, cand.supplies_are k h)
+
+        long_too : length surpluses ≡ length fs
+        long_too = ap length gaps ∙ length-zip2 distance lanes.demands lanes.supplies (omega (arith, even.demands, even.supplies)) ∙ even.demands ∙ sym same
+
+        second_parts : (k : ℕ) → get_or gs k 0 ≡ 1 → (get_or surpluses k 0 ≡ s) × (get_or fs k 0 ≡ 1)
+        second_parts k h = kept_parts s surpluses fs k long_too (sym (ap (λ l. get_or l k 0) left_too) ∙ h)
+
+        second_there : (k : ℕ) → get_or surpluses k 0 ≡ s → get_or fs k 0 ≡ 1 → get_or gs k 0 ≡ 1
+        second_there k v h = ap (λ l. get_or l k 0) left_too ∙ kept_there s surpluses fs k long_too v h
+
+        pub best_within : IsWithin gs lanes.flags
+        best_within k h = (first_parts k (second_parts k h).1).1
+
+        pub best_marked : AreMarked lanes.ticks gs (keyed book m s few)
+        best_marked = marked_part lanes.ticks lanes.flags gs few (has_key book m s) marked
+            (λ k h. let p = second_parts k h in
+            let q = first_parts k p.1 in
+            (and_from (eqb (volume book (get_or lanes.ticks k 0)) m) (eqb (surplus book (get_or lanes.ticks k 0)) s) (eq-eqb _ m (volume_at k q.1 ∙ q.0)) (eq-eqb _ s (surplus_at k q.1 ∙ p.0)), q.1))
+            (λ k h f. let p = key_parts book m s (get_or lanes.ticks k 0) h in
+            second_there k (sym (surplus_at k f) ∙ p.1) (first_there k (sym (volume_at k f) ∙ p.0) f))
+
+        pub best_lead : (lower upper : Option ℕ) → 0 < m → lower ≡ lower_among book s (keyed book m s few) → upper ≡ upper_among book s (keyed book m s few) → Lead book few (record { volume = m; surplus = s; lower = lower; upper = upper })
+        best_lead lower upper positive is_lower is_upper =
+            let leaders : Leaders = record { volume = m; surplus = s; lower = lower; upper = upper } in
+            record {
+              positive = positive;
+              none_better = All_from (NoBetter book leaders) few (λ t e.
+                  let p = marked.place t e in
+                  let vol = sym (ap (volume book) p.3) ∙ volume_at p.0 p.2 in
+                  let sur = sym (ap (surplus book) p.3) ∙ surplus_at p.0 p.2 in
+                  (omega (arith, vol, most.bound p.0 p.1 p.2), λ same. let f = first_there p.0 (sym vol ∙ same) p.2 in omega (arith, sur, least.bound p.0 (inside fs p.0 f) f)));
+              some_among = not_empty (keyed book m s few) (get_or lanes.ticks least.place 0) (best_marked.there least.place (second_there least.place least.value least.here));
+              lower = is_lower;
+              upper = is_upper;
+            }
