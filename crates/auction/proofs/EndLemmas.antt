@@ -14,7 +14,7 @@ use Rattle.auction_terms.specs.Allotment.{Placed, placed, eligible, fill, filled
 use Rattle.auction_terms.specs.Ladder.{LadderView, ladder_of}
 use Rattle.auction_terms.proofs.NextLaws.{counted-staying}
 use Rattle.auction.specs.Kept.{IsKept}
-use Rattle.auction.proofs.LengthLemmas.{length-filter_le}
+use Rattle.auction.proofs.LengthLaws.{length-filter_le}
 
 -- after an auction those count that count in the intraday auction
 pub kept_staying : (low n : ℕ) (kind : Kind) (old new : List Order) (ladder : LadderView) → IsKept low n kind new ladder → new ≡ staying kind old → IsKept low n Intraday new ladder

@@ -16,7 +16,7 @@ use Rattle.auction_terms.proofs.LadderSums.{with_quantity, IsMore, more-push, mo
 use Rattle.tick_ladder.specs.Ladder.{standing_at, all_standing}
 use Rattle.auction.specs.Kept.{with_order, less_order, IsKept}
 use Rattle.auction.proofs.FoundLemmas.{all_found}
-use Rattle.auction.proofs.LengthLemmas.{length-filter_le}
+use Rattle.auction.proofs.LengthLaws.{length-filter_le}
 use Rattle.auction.proofs.Totals.{stands, all_within}
 
 abbrev pub IsOpen : Order → Type 0

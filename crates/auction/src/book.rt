@@ -1,7 +1,7 @@
 //! The open orders, and the ladder of those that count in the auction.
-ghost use Rattle.std.specs.Prelude.{◌≡◌, ℕ, ◌+◌, ◌<◌, ◌≤◌, [], ◌∷◌, ◌++◌, length, false, None, IsSome, IfSome, IfOk, nat_le, vec_len, vec_capacity, if◌then◌else◌};
-ghost use Rattle.auction_terms.specs.Book.{counted, kind_now};
-ghost use Rattle.auction_terms.specs.Edits.{order_with, without, staying, keeps_place};
+ghost use Rattle.std.specs.Prelude.{All, ◌≡◌, ℕ, ◌+◌, ◌<◌, ◌≤◌, [], ◌∷◌, ◌++◌, length, false, None, IsSome, IfSome, IfOk, nat_le, vec_len, vec_capacity, if◌then◌else◌};
+ghost use Rattle.auction_terms.specs.Book.{counted, kind_now, limits};
+ghost use Rattle.auction_terms.specs.Edits.{order_with, without, staying, keeps_place, IdsDiffer};
 ghost use Rattle.auction_terms.specs.Allotment.{rest_in, trades};
 ghost use Rattle.auction_terms.specs.Ladder.{ladder_of, IsTickOf};
 ghost use Rattle.auction_terms.specs.Day.{book_with_change, display_at, is_bad_quantity, next_auction};
@@ -81,7 +81,8 @@ impl Book {
 
     /// The open order with an id.
     pub(crate) fn get(&self, id: u32) -> Option<Order>
-        ensures { result ≡ order_with id self.now.orders }
+        ensures value { result ≡ order_with id self.now.orders }
+        ensures ids { IdsDiffer self.now.orders }
     {
         self.orders.get(id)
     }
@@ -177,6 +178,7 @@ impl Book {
         ensures count { result ≡ length (trades (counted self.old.orders self.old.kind) price) }
         ensures few { result ≤ length self.old.orders }
         ensures within { length self.old.orders ≤ self.old.max_open }
+        ensures limits { All (λ tick. (self.old.low ≤ tick) × (tick < self.old.low + self.old.ticks)) (limits (counted self.old.orders self.old.kind)) }
         ensures capacity { vec_capacity tape.new ≡ vec_capacity tape.old }
     {
         self.desk.allocate(&self.orders, self.kind, price);

@@ -8,7 +8,7 @@ use Rattle.order_book.proofs.OrderLaws.{order_of_open}
 use Rattle.auction.specs.Open.{OpenOrders}
 use Rattle.auction.specs.Kept.{shown, IsKept}
 use Rattle.auction.proofs.FoundLemmas.{listed_with, found_from}
-use Rattle.auction.proofs.LengthLemmas.{length-without, length-change}
+use Rattle.auction.proofs.LengthLaws.{one_less, length-change}
 use Rattle.auction.proofs.KeptLaws.{kept_tick, kept_stands, kept_fits, kept-without, kept-same, kept-change}
 use Rattle.auction.proofs.ShownLemmas.{good_quantity, seen_tick, next_tick, closes_book, shown_changed, changed_line}
 use Rattle.auction.proofs.book.Book.change.Goals as goal
@@ -21,12 +21,12 @@ unwrap-before-requires c =
 pub take-requires-clause-in_bounds : goal.take-requires-clause-in_bounds
 take-requires-clause-in_bounds c =
     let found = found_from c.args.id c.self.inside.orders.line c.get.result c.unwrap-before.result c.get.ensures c.unwrap-before.ensures in
-    kept_tick c.self.inside.ladder.low (length c.self.inside.ladder.bids) c.args.id c.self.inside.kind c.unwrap-before.result (orders_of c.self.inside.orders.line) c.self.inside.ladder c.self.invariant.kept found
+    kept_tick _ _ c.args.id c.self.inside.kind c.unwrap-before.result (orders_of c.self.inside.orders.line) c.self.inside.ladder c.self.invariant.kept found
 
 pub take-requires-clause-stands : goal.take-requires-clause-stands
 take-requires-clause-stands c =
     let found = found_from c.args.id c.self.inside.orders.line c.get.result c.unwrap-before.result c.get.ensures c.unwrap-before.ensures in
-    kept_stands c.self.inside.ladder.low (length c.self.inside.ladder.bids) c.self.inside.kind (record { id = c.args.id; quantity = c.unwrap-before.result.quantity }) c.unwrap-before.result (orders_of c.self.inside.orders.line) c.self.inside.ladder c.self.invariant.kept found (omega arith)
+    kept_stands _ _ c.self.inside.kind (record { id = c.args.id; quantity = c.unwrap-before.result.quantity }) c.unwrap-before.result (orders_of c.self.inside.orders.line) c.self.inside.ladder c.self.invariant.kept found (omega arith)
 
 pub add-requires-clause-in_bounds : goal.add-requires-clause-in_bounds
 add-requires-clause-in_bounds c =
@@ -48,7 +48,7 @@ add-requires-clause-fits c =
     let between = kept-same low n c.self.inside.kind (without c.args.id book) (without c.args.id book) _ c.take.new.ladder
     (kept-without low n c.args.id c.self.inside.kind c.unwrap-before.result book c.self.inside.ladder c.self.invariant.kept found) refl c.take.ensures in
     kept_fits low n c.args.quantity c.self.inside.kind (without c.args.id book) c.take.new.ladder between
-    (omega (arith, length-without c.args.id book c.unwrap-before.result c.self.invariant.kept.orderly.ids found, c.self.invariant.room.few, c.self.invariant.room.small))
+    (omega (arith, one_less c.args.id book c.unwrap-before.result found, c.self.invariant.room.few, c.self.invariant.room.small))
     (good_quantity c.args.quantity c.requires.quantity).1
 
 found : (c : goal.After-add) → order_with c.args.id (orders_of c.self.inside.orders.line) ≡ Some c.unwrap-before.result
@@ -78,9 +78,9 @@ still_kept c =
 
 pub invariant_of-self : goal.invariant_of-self
 invariant_of-self c =
-    closes_book c.self.inside.ladder.low (length c.self.inside.ladder.bids) c.self.inside.desk.room c.self.inside.kind c.change-kept.new.self c.add.new.ladder c.self.inside.orders.max_open (still_kept c)
+    closes_book _ _ c.self.inside.desk.room c.self.inside.kind c.change-kept.new.self c.add.new.ladder c.self.inside.orders.max_open (still_kept c)
     (ap (λ (o : Orders). o.max_open) c.change-kept.ensures.rest)
-    (omega (arith, ap length (changed c), length-change c.args.id c.args.limit c.args.quantity (orders_of c.self.inside.orders.line) c.unwrap-before.result c.self.invariant.kept.orderly.ids (found c), c.self.invariant.room.few))
+    (omega (arith, ap length (changed c), length-change c.args.id c.args.limit c.args.quantity (orders_of c.self.inside.orders.line) c.unwrap-before.result (found c), c.self.invariant.room.few))
     c.self.invariant.room.small c.self.invariant.room.room
 
 listed : (c : goal.After-add) → order_with c.args.id c.args.self.now.orders ≡ Some c.unwrap-before.result

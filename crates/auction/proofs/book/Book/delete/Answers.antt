@@ -1,10 +1,10 @@
-use Rattle.std.proofs.Common.{length, IsSome, not, sym, ap, subst, ◌∙◌, arith}
+use Rattle.std.proofs.Common.{length, IsSome, sym, ap, subst, ◌∙◌, arith}
 use Rattle.auction_terms.specs.Line.{orders_of}
-use Rattle.auction_terms.specs.Edits.{has_id, order_with, without}
+use Rattle.auction_terms.specs.Edits.{order_with, without}
 use Rattle.order_book.specs.Book.{Book as Orders}
 use Rattle.auction.specs.Open.{OpenOrders}
 use Rattle.auction.proofs.FoundLemmas.{open_where}
-use Rattle.auction.proofs.LengthLemmas.{length-filter_le}
+use Rattle.auction.proofs.LengthLaws.{length-without}
 use Rattle.auction.proofs.ShownLemmas.{closes_book, shown_rest}
 use Rattle.auction.proofs.book.Book.delete.Goals as goal
 
@@ -14,9 +14,9 @@ remove-requires-clause-open c =
 
 pub invariant_of-self : goal.invariant_of-self
 invariant_of-self c =
-    closes_book c.self.inside.ladder.low (length c.self.inside.ladder.bids) c.self.inside.desk.room c.self.inside.kind c.remove.new.orders c.remove.new.ladder c.self.inside.orders.max_open c.remove.ensures.kept
+    closes_book _ _ c.self.inside.desk.room c.self.inside.kind c.remove.new.orders c.remove.new.ladder c.self.inside.orders.max_open c.remove.ensures.kept
     (ap (λ (o : Orders). o.max_open) c.remove.ensures.rest)
-    (omega (arith, ap length c.remove.ensures.book, length-filter_le (λ o. not (has_id c.args.id o)) (orders_of c.self.inside.orders.line), c.self.invariant.room.few))
+    (omega (arith, ap length c.remove.ensures.book, length-without c.args.id (orders_of c.self.inside.orders.line), c.self.invariant.room.few))
     c.self.invariant.room.small c.self.invariant.room.room
 
 pub returns : goal.returns

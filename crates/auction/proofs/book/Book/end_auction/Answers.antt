@@ -1,14 +1,14 @@
-use Rattle.std.proofs.Common.{◌≡◌, length, not, refl, sym, ap, ◌∙◌, arith}
+use Rattle.std.proofs.Common.{◌≡◌, length, refl, sym, ap, ◌∙◌, arith}
 use Rattle.auction_terms.specs.declared.Kind.{Kind}
 use Rattle.auction_terms.specs.declared.Kind.TheVariants.{Intraday, Closing}
-use Rattle.auction_terms.specs.Book.{kind_now, names}
+use Rattle.auction_terms.specs.Book.{kind_now}
 use Rattle.auction_terms.specs.Line.{orders_of}
 use Rattle.auction_terms.specs.Edits.{staying}
 use Rattle.auction_terms.specs.Day.{next_auction}
 use Rattle.auction_terms.proofs.NextLaws.{staying-intraday}
 use Rattle.order_book.specs.Book.{Book as Orders}
 use Rattle.auction.specs.Open.{OpenOrders}
-use Rattle.auction.proofs.LengthLemmas.{length-filter_le}
+use Rattle.auction.proofs.LengthLaws.{length-staying}
 use Rattle.auction.proofs.KeptLaws.{own_ticks}
 use Rattle.auction.proofs.ShownLemmas.{closes_book, shown_rest}
 use Rattle.auction.proofs.EndLemmas.{kept_staying, other_next}
@@ -32,10 +32,10 @@ returns-in-Intraday c =
 
 pub invariant_of-self-in_default : goal.invariant_of-self-in_default
 invariant_of-self-in_default c =
-    closes_book c.self.inside.ladder.low (length c.self.inside.ladder.bids) c.self.inside.desk.room Intraday c.dismiss.new.orders c.dismiss.new.ladder c.self.inside.orders.max_open
+    closes_book _ _ c.self.inside.desk.room Intraday c.dismiss.new.orders c.dismiss.new.ladder c.self.inside.orders.max_open
     (kept_staying _ _ c.self.inside.kind (orders_of c.self.inside.orders.line) (orders_of c.dismiss.new.orders.line) c.dismiss.new.ladder c.dismiss.ensures.kept c.dismiss.ensures.book)
     (ap (λ (o : Orders). o.max_open) c.dismiss.ensures.rest)
-    (omega (arith, ap length c.dismiss.ensures.book, length-filter_le (λ o. not (names c.self.inside.kind o.only)) (orders_of c.self.inside.orders.line), c.self.invariant.room.few))
+    (omega (arith, ap length c.dismiss.ensures.book, length-staying c.self.inside.kind (orders_of c.self.inside.orders.line), c.self.invariant.room.few))
     c.self.invariant.room.small c.self.invariant.room.room
 
 pub returns-in_default : goal.returns-in_default

@@ -11,19 +11,19 @@ use Rattle.auction.proofs.book.Book.enter.Goals as goal
 
 pub add-requires-clause-fits : goal.add-requires-clause-fits
 add-requires-clause-fits c =
-    kept_fits c.self.inside.ladder.low (length c.self.inside.ladder.bids) c.args.quantity c.self.inside.kind (orders_of c.self.inside.orders.line) c.self.inside.ladder c.self.invariant.kept
+    kept_fits _ _ c.args.quantity c.self.inside.kind (orders_of c.self.inside.orders.line) c.self.inside.ladder c.self.invariant.kept
     (omega (arith, c.requires.room, ap (λ (v : OpenOrders). length v.orders) c.self.view_is, ap (λ (v : OpenOrders). v.max_open) c.self.view_is, c.self.invariant.room.small))
     (good_quantity c.args.quantity c.requires.quantity).1
 
 still_kept : (c : goal.After-add) → IsKept c.self.inside.ladder.low (length c.self.inside.ladder.bids) c.self.inside.kind (orders_of c.enter-id.new.self.line) c.add.new.ladder
 still_kept c =
-    entered_kept c.self.inside.ladder.low (length c.self.inside.ladder.bids) c.self.inside.kind c.self.inside.orders.line c.enter-id.new.self.line _ c.self.inside.ladder c.add.new.ladder c.self.invariant.kept c.enter-id.ensures.line c.enter-id.ensures.orderly
+    entered_kept _ _ c.self.inside.kind c.self.inside.orders.line c.enter-id.new.self.line _ c.self.inside.ladder c.add.new.ladder c.self.invariant.kept c.enter-id.ensures.line c.enter-id.ensures.orderly
     (seen_tick c.self.inside.orders c.self.inside.ladder c.self.inside.kind c.args.self.now c.args.limit c.self.view_is c.requires.limit)
     c.add.ensures
 
 pub invariant_of-self : goal.invariant_of-self
 invariant_of-self c =
-    closes_book c.self.inside.ladder.low (length c.self.inside.ladder.bids) c.self.inside.desk.room c.self.inside.kind c.enter-id.new.self c.add.new.ladder c.self.inside.orders.max_open (still_kept c)
+    closes_book _ _ c.self.inside.desk.room c.self.inside.kind c.enter-id.new.self c.add.new.ladder c.self.inside.orders.max_open (still_kept c)
     (ap (λ (o : Orders). o.max_open) c.enter-id.ensures.rest)
     (omega (arith, length-entered c.self.inside.orders.line c.enter-id.new.self.line _ c.enter-id.ensures.line, c.requires.room, ap (λ (v : OpenOrders). length v.orders) c.self.view_is, ap (λ (v : OpenOrders). v.max_open) c.self.view_is))
     c.self.invariant.room.small c.self.invariant.room.room

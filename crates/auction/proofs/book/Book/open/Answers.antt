@@ -2,27 +2,28 @@ use Rattle.std.proofs.Common.{length, ap, arith}
 use Rattle.auction_terms.specs.declared.Kind.TheVariants.{Opening}
 use Rattle.auction_terms.specs.Line.{orders_of}
 use Rattle.auction.proofs.KeptLaws.{own_ticks}
-use Rattle.auction.proofs.OpeningLemmas.{openable, empty_kept}
+use Rattle.auction.proofs.EmptyLemmas.{empty_kept}
+use Rattle.auction.proofs.OpeningLaws.{terms_within}
 use Rattle.auction.proofs.book.Book.open.Goals as goal
 
 pub open-requires-clause-open_orders : goal.open-requires-clause-open_orders
-open-requires-clause-open_orders c = let h = openable c.args.config c.requires in (h.some_open, h.few_open)
+open-requires-clause-open_orders c = let h = terms_within c.args.config c.requires in (h.some_open, h.few_open)
 
 pub open-requires-clause-calls : goal.open-requires-clause-calls
-open-requires-clause-calls c = let h = openable c.args.config c.requires in (h.some_calls, h.few_calls)
+open-requires-clause-calls c = let h = terms_within c.args.config c.requires in (h.some_calls, h.calls)
 
 pub open-requires-2-clause-ordered : goal.open-requires-2-clause-ordered
-open-requires-2-clause-ordered c = (openable c.args.config c.requires).ordered
+open-requires-2-clause-ordered c = let h = terms_within c.args.config c.requires in omega (arith, h.low, h.high)
 
 pub open-requires-2-clause-bounded : goal.open-requires-2-clause-bounded
-open-requires-2-clause-bounded c = (openable c.args.config c.requires).bounded
+open-requires-2-clause-bounded c = (terms_within c.args.config c.requires).last
 
 pub open-requires-2-clause-few : goal.open-requires-2-clause-few
-open-requires-2-clause-few c = let h = openable c.args.config c.requires in omega (arith, h.ordered, h.few)
+open-requires-2-clause-few c = let h = terms_within c.args.config c.requires in omega (arith, h.low, h.high, h.ticks)
 
 pub invariant_of-result : goal.invariant_of-result
 invariant_of-result c =
-    let h = openable c.args.config c.requires in
+    let h = terms_within c.args.config c.requires in
     let none = ap (λ l. length (orders_of l)) c.in_ok-open.ensures.empty in
     record {
       kept = own_ticks _ _ Opening (orders_of c.in_ok-open.field-0.line) c.in_ok-open-2.field-0

@@ -21,7 +21,7 @@ admit_one-requires-clause-in_bounds c =
 
 pub admit_one-requires-clause-fits : goal.admit_one-requires-clause-fits
 admit_one-requires-clause-fits c =
-    admit_fits c.args.ladder.now.low (length c.args.ladder.now.bids) c.args.orders.now.slots c.args.orders.now.line c.loop-place.place c.at.result c.loop-place.ladder c.places-place-end.ensures.line c.places-place-end.ensures.bounded c.at.ensures.value c.loop-place.invariant.same
+    admit_fits _ _ c.args.orders.now.slots c.args.orders.now.line c.loop-place.place c.at.result c.loop-place.ladder c.places-place-end.ensures.line c.places-place-end.ensures.bounded c.at.ensures.value c.loop-place.invariant.same
 
 pub loop-place-preserved : goal.loop-place-preserved
 loop-place-preserved c =

@@ -8,12 +8,12 @@ use Rattle.auction.proofs.book.dismiss.remove.Goals as goal
 pub take-requires-clause-in_bounds : goal.take-requires-clause-in_bounds
 take-requires-clause-in_bounds c =
     let found = found_order c.args.id c.args.orders.now.line c.delete-order.result c.requires.open c.delete-order.ensures.order in
-    kept_tick c.args.ladder.now.low (length c.args.ladder.now.bids) c.args.id c.args.kind c.delete-order.result (orders_of c.args.orders.now.line) c.args.ladder.now c.requires.kept found
+    kept_tick _ _ c.args.id c.args.kind c.delete-order.result (orders_of c.args.orders.now.line) c.args.ladder.now c.requires.kept found
 
 pub take-requires-clause-stands : goal.take-requires-clause-stands
 take-requires-clause-stands c =
     let found = found_order c.args.id c.args.orders.now.line c.delete-order.result c.requires.open c.delete-order.ensures.order in
-    kept_stands c.args.ladder.now.low (length c.args.ladder.now.bids) c.args.kind (record { id = c.args.id; quantity = c.delete-order.result.quantity }) c.delete-order.result (orders_of c.args.orders.now.line) c.args.ladder.now c.requires.kept found (omega arith)
+    kept_stands _ _ c.args.kind (record { id = c.args.id; quantity = c.delete-order.result.quantity }) c.delete-order.result (orders_of c.args.orders.now.line) c.args.ladder.now c.requires.kept found (omega arith)
 
 pub returns-clause-book : goal.returns-clause-book
 returns-clause-book c = ap orders_of c.delete-order.ensures.line ∙ orders_of-without c.args.id c.args.orders.now.line

@@ -20,12 +20,12 @@ reduce-requires-clause-within c =
 pub take-requires-clause-in_bounds : goal.take-requires-clause-in_bounds
 take-requires-clause-in_bounds c =
     let found = sym (order_of_open c.args.fill.id c.args.orders.now.line) ∙ sym c.get.ensures ∙ c.unwrap-order.ensures in
-    kept_tick c.args.ladder.now.low (length c.args.ladder.now.bids) c.args.fill.id c.args.kind c.unwrap-order.result (orders_of c.args.orders.now.line) c.args.ladder.now c.requires.kept found
+    kept_tick _ _ c.args.fill.id c.args.kind c.unwrap-order.result (orders_of c.args.orders.now.line) c.args.ladder.now c.requires.kept found
 
 pub take-requires-clause-stands : goal.take-requires-clause-stands
 take-requires-clause-stands c =
     let found = sym (order_of_open c.args.fill.id c.args.orders.now.line) ∙ sym c.get.ensures ∙ c.unwrap-order.ensures in
-    kept_stands c.args.ladder.now.low (length c.args.ladder.now.bids) c.args.kind c.args.fill c.unwrap-order.result (orders_of c.args.orders.now.line) c.args.ladder.now c.requires.kept found
+    kept_stands _ _ c.args.kind c.args.fill c.unwrap-order.result (orders_of c.args.orders.now.line) c.args.ladder.now c.requires.kept found
     (next_within c.args.fill c.unwrap-order.result (orders_of c.args.orders.now.line) c.requires.next found)
 
 pub returns-clause-book : goal.returns-clause-book

@@ -1,0 +1,57 @@
+-- What an auction without a fault is opened with.
+use Rattle.std.proofs.Common.{◌≡◌, ◌<◌, ◌≤◌, ◌+◌, Bool, true, false, [], ◌∷◌, None, refl, arith}
+use Rattle.std.proofs.lemmas.Bool.Decides.{nat_tests}
+use Rattle.auction_terms.specs.declared.Config.{Config}
+use Rattle.auction_terms.specs.Day.{first_that_holds}
+use Rattle.auction.specs.declared.OpenFault.TheVariants.{BadBounds, BadReference, BadLimits}
+use Rattle.auction.specs.Opening.{open_fault, has_bad_bounds, has_bad_reference, has_bad_limits}
+
+none_holds : (a b d : Bool) → first_that_holds ((a, BadBounds) ∷ (b, BadReference) ∷ (d, BadLimits) ∷ []) ≡ None → (a ≡ false) × ((b ≡ false) × (d ≡ false))
+none_holds true b d e = absurd (cc)
+none_holds false true d e = absurd (cc)
+none_holds false false true e = absurd (cc)
+none_holds false false false e = (refl, (refl, refl))
+
+pub record IsWithin (config : Config) : Type 0 where
+  pub low : config.low ≤ config.reference
+  pub high : config.reference ≤ config.high
+  pub last : config.high ≤ 1000000
+  pub ticks : config.high < config.low + 65536
+  pub some_open : 1 ≤ config.max_open
+  pub few_open : config.max_open ≤ 65536
+  pub some_calls : 1 ≤ config.max_calls
+  pub calls : config.max_calls ≤ 1048576
+
+module _ (config : Config) (bounds : has_bad_bounds config ≡ false) (reference : has_bad_reference config ≡ false) (limits : has_bad_limits config ≡ false) where
+  from_low : config.low ≤ config.reference
+  from_low = grind (arith, nat_tests)
+
+  to_high : config.reference ≤ config.high
+  to_high = grind (arith, nat_tests)
+
+  last : config.high ≤ 1000000
+  last = grind (arith, nat_tests)
+
+  ticks : config.high < config.low + 65536
+  ticks = grind (arith, nat_tests)
+
+  some_open : 1 ≤ config.max_open
+  some_open = grind (arith, nat_tests)
+
+  few_open : config.max_open ≤ 65536
+  few_open = grind (arith, nat_tests)
+
+  some_calls : 1 ≤ config.max_calls
+  some_calls = grind (arith, nat_tests)
+
+  few_calls : config.max_calls ≤ 1048576
+  few_calls = grind (arith, nat_tests)
+
+  all_within : IsWithin config
+  all_within = record { low = from_low; high = to_high; last = last; ticks = ticks; some_open = some_open; few_open = few_open; some_calls = some_calls; calls = few_calls }
+
+pub terms_within : (config : Config) → open_fault config ≡ None → IsWithin config
+unfolding open_fault
+terms_within config e =
+    let fine = none_holds (has_bad_bounds config) (has_bad_reference config) (has_bad_limits config) e in
+    all_within config fine.0 fine.1.0 fine.1.1
