@@ -1,3 +1,5 @@
-pub mod Opening
-pub mod Open
+pub mod Audits
 pub mod Kept
+pub mod Open
+pub mod Opening
+pub mod Sound

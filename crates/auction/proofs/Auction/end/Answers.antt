@@ -1,0 +1,28 @@
+-- The auction has ended without a price.
+use Rattle.std.proofs.Common.{◌≡◌, ℕ, ◌+◌, ◌*◌, ◌≤◌, Some, sym, ap, subst, ◌∙◌, arith, length}
+use Rattle.auction_terms.specs.Running.{Running}
+use Rattle.auction_terms.specs.Day.{next_auction}
+use Rattle.auction.specs.Sound.{IsBookOf, auctions_ended}
+use Rattle.auction.proofs.BookLaws.{book_ended, ended_more}
+use Rattle.auction.proofs.Auction.end.Goals as goal
+
+pub invariant_of-self : goal.invariant_of-self
+invariant_of-self c =
+    let inside = c.self.invariant in
+    let fields = c.self.inside in
+    let current = ap (λ (r : Running). r.state.auction) c.self.view_is ∙ c.requires.current in
+    let next = sym c.next_auction-self-inside.ensures in
+    let most = fields.config.max_open in
+    let before = subst (λ a. length fields.tape.items ≤ auctions_ended a * most) current inside.trades in
+    let after = ended_more c.args.kind (length fields.tape.items) 0 most before (omega arith) in
+    record {
+      book = subst (λ a. IsBookOf fields.config a (fields.calls + 1) c.end_auction.new.self) next
+          (book_ended fields.config c.args.kind fields.calls fields.book c.end_auction.new.self (subst (λ a. IsBookOf fields.config a fields.calls fields.book) current inside.book) c.end_auction.ensures);
+      calls = omega (arith, rw (← c.self.view_is) at c.requires.call);
+      short = inside.short;
+      low = inside.low;
+      high = inside.high;
+      trades = subst (λ a. length fields.tape.items ≤ auctions_ended a * most) next (omega (arith, after));
+      room = inside.room;
+      shown = c.display-self-inside.ensures;
+    }

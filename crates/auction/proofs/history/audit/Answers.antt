@@ -1,0 +1,40 @@
+-- The first reply that is not the auction's own, and the next entry of a legal history.
+use Rattle.std.proofs.Common.{◌≡◌, ◌<◌, ◌≤◌, ◌∙◌, sym, ap, subst, arith, take, get_or, None, refl, IsTrue, false}
+use Rattle.std.proofs.lemmas.List.{take_more}
+use Rattle.auction_terms.specs.declared.Entry.{Entry}
+use Rattle.auction_terms.specs.declared.Side.TheVariants.{Buy}
+use Rattle.auction_terms.specs.declared.Limit.TheVariants.{Market}
+use Rattle.auction_terms.specs.declared.Only.TheVariants.{Any}
+use Rattle.auction_terms.specs.declared.Command.TheVariants.{Enter}
+use Rattle.auction_terms.specs.declared.Reply.TheVariants.{Entered}
+use Rattle.auction_terms.specs.Running.{Running}
+use Rattle.auction.proofs.AuditLaws.{IsAudited, audited_more, bad_reply, full_at}
+use Rattle.auction.proofs.history.audit.Goals as goal
+
+no_entry : Entry
+no_entry = record { member = 0; command = Enter Buy Market 0 None Any; reply = Entered 0 }
+
+pub returns-then-not-is_same-clause-finding : goal.returns-then-not-is_same-clause-finding
+unfolding no_entry
+returns-then-not-is_same-clause-finding c =
+    let entries = c.args.entries.now in
+    let place = c.loop-place.place in
+    let entry = get_or entries place no_entry in
+    bad_reply c.args.config entries place entry c.loop-place.auction c.loop-place-test.true (take_more entries place no_entry c.loop-place-test.true) c.loop-place.invariant
+    (λ same. absurd (is_no (c.if-not-is_same.ensures.1 (same ∙ sym c.apply-reply.ensures.reply))))
+  where
+    is_no : IsTrue false → ⊥
+    is_no e = absurd (cc)
+
+pub loop-place-preserved : goal.loop-place-preserved
+unfolding no_entry
+loop-place-preserved c =
+    let entries = c.args.entries.now in
+    let place = c.loop-place.place in
+    let entry = get_or entries place no_entry in
+    subst (λ es. IsAudited c.args.config es c.apply-reply.new.self) (sym (take_more entries place no_entry c.loop-place-test.true))
+    (audited_more c.args.config (take place entries) entry c.loop-place.auction c.apply-reply.new.self c.loop-place.invariant (sym c.if-is_full.ensures) c.apply-reply.ensures.state (c.if-not-is_same.ensures.0 refl ∙ c.apply-reply.ensures.reply))
+
+pub returns-then-is_full-clause-finding : goal.returns-then-is_full-clause-finding
+returns-then-is_full-clause-finding c =
+    full_at c.args.config c.args.entries.now c.loop-place.place c.loop-place.auction c.loop-place-test.true c.loop-place.invariant (sym c.if-is_full.ensures)

@@ -1,0 +1,6 @@
+use Rattle.std.proofs.Common.{take}
+use Rattle.auction.proofs.AuditLaws.{IsAudited}
+use Rattle.auction.proofs.history.audit.Given as goal
+
+abbrev pub invariant-loop-place : goal.invariant-loop-place
+invariant-loop-place l = IsAudited l.fn.config (take l.place l.entries) l.auction

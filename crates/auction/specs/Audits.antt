@@ -1,0 +1,18 @@
+-- What an audit finds.
+use Rattle.std.specs.Prelude.{◌≡◌, ℕ, ◌+◌, ◌<◌, List, length, take}
+use Rattle.auction_terms.specs.declared.Config.{Config}
+use Rattle.auction_terms.specs.declared.Entry.{Entry}
+use Rattle.auction_terms.specs.Day.{IsLegal}
+use Rattle.auction.specs.declared.Verdict.{Verdict}
+use Rattle.auction.specs.declared.Verdict.TheVariants.{Legal, BadAt}
+
+-- the entries before the place are a legal history, and with the one at the place they are not
+pub record IsFirstBad (config : Config) (entries : List Entry) (place : ℕ) : Type 0 where
+  pub within : place < length entries
+  pub legal_before : IsLegal config (take place entries)
+  pub broken : IsLegal config (take (place + 1) entries) → ⊥
+
+-- Legal for a legal history, else the first place that breaks it
+abbrev pub Finds : Config → List Entry → Verdict → Type 0
+Finds config entries Legal = IsLegal config entries
+Finds config entries (BadAt place) = IsFirstBad config entries place
