@@ -17,8 +17,8 @@ use Rattle.auction.specs.Kept.{IsKept}
 use Rattle.auction.proofs.LengthLaws.{length-filter_le}
 
 -- after an auction those count that count in the intraday auction
-pub kept_staying : (low n : ℕ) (kind : Kind) (old new : List Order) (ladder : LadderView) → IsKept low n kind new ladder → new ≡ staying kind old → IsKept low n Intraday new ladder
-kept_staying low n kind old new ladder is e = record {
+pub kept_staying : {low n : ℕ} {kind : Kind} {new : List Order} {ladder : LadderView} (old : List Order) → IsKept low n kind new ladder → new ≡ staying kind old → IsKept low n Intraday new ladder
+kept_staying {low} {n} {kind} {new} {ladder} old is e = record {
   orderly = is.orderly;
   within = is.within;
   same = is.same ∙ ap (ladder_of low n) (ap (λ l. counted l kind) e ∙ counted-staying kind old ∙ sym (ap (λ l. counted l Intraday) e));

@@ -25,7 +25,7 @@ IsOpen o = 0 < o.quantity
 abbrev pub HasTick : ℕ → ℕ → Order → Type 0
 HasTick low n o = IsTickOf low n o.limit
 
-pub orderly-filter : (p : Order → Bool) (book : List Order) → IsOrderly book → IsOrderly (filter p book)
+orderly-filter : (p : Order → Bool) (book : List Order) → IsOrderly book → IsOrderly (filter p book)
 orderly-filter p book is = record {
   ids = IdsDiffer-filter p book is.ids;
   positive = All-filter p IsOpen book is.positive;
@@ -35,52 +35,7 @@ orderly-filter p book is = record {
 pub open_counted : (kind : Kind) (book : List Order) → IsOrderly book → All IsOpen (counted book kind)
 open_counted kind book is = All-filter (counts kind) IsOpen book is.positive
 
-pub kept-same : (low n : ℕ) (kind : Kind) (book other : List Order) (ladder view : LadderView) → IsKept low n kind book ladder → other ≡ book → view ≡ ladder → IsKept low n kind other view
-kept-same low n kind book other ladder view is e f =
-    subst (λ v. IsKept low n kind other v) (sym f) (subst (λ l. IsKept low n kind l ladder) (sym e) is)
-
--- ---- one order more, or less
-
-module _ (low n : ℕ) (kind : Kind) (o : Order) (old new : List Order) (ladder : LadderView) (was : IsKept low n kind old ladder) (orderly : IsOrderly new) (within : All (HasTick low n) new) (tick : IsTickOf low n o.limit) where
-  pub kept-more : IsMore o old new → IsKept low n kind new (with_order kind o ladder)
-  kept-more is = record { orderly = orderly; within = within; same = at (counts kind o) refl }
-    where
-      at : (b : Bool) → counts kind o ≡ b → cond b (added ladder o.side o.limit o.quantity) ladder ≡ ladder_of low n (counted new kind)
-      at true e =
-          ap (λ v. added v o.side o.limit o.quantity) was.same
-          ∙ sym (ladder-more low n (counted old kind) (counted new kind) (open_counted kind old was.orderly) (open_counted kind new orderly) o tick (more-counted kind o old new e is))
-      at false e = was.same ∙ sym (ladder-others low n kind o old new was.orderly.positive orderly.positive e is)
-
-  pub kept-fewer : IsMore o new old → IsKept low n kind new (less_order kind o o.quantity ladder)
-  kept-fewer is = record { orderly = orderly; within = within; same = at (counts kind o) refl }
-    where
-      at : (b : Bool) → counts kind o ≡ b → cond b (taken ladder o.side o.limit o.quantity) ladder ≡ ladder_of low n (counted new kind)
-      at true e =
-          ap (λ v. taken v o.side o.limit o.quantity) was.same
-          ∙ sym (ladder-fewer low n (counted old kind) (counted new kind) (open_counted kind old was.orderly) (open_counted kind new orderly) o tick (more-counted kind o new old e is))
-      at false e = was.same ∙ ladder-others low n kind o new old orderly.positive was.orderly.positive e is
-
--- ---- what the calls of the ladder ask
-
--- the part of an order that leaves stands in the ladder
-stands_kept : (low n : ℕ) (kind : Kind) (o : Order) (old new : List Order) (ladder : LadderView) → IsKept low n kind old ladder → IsTickOf low n o.limit → IsMore o new old → counts kind o ≡ true → o.quantity ≤ standing_at ladder o.side o.limit
-stands_kept low n kind o old new ladder was tick is e =
-    subst (λ v. o.quantity ≤ standing_at v o.side o.limit) (sym was.same) (stands low n (counted new kind) (counted old kind) o tick (more-counted kind o new old e is))
-
-pub kept_tick : (low n id : ℕ) (kind : Kind) (o : Order) (book : List Order) (ladder : LadderView) → IsKept low n kind book ladder → order_with id book ≡ Some o → IsTickOf low n o.limit
-kept_tick low n id kind o book ladder was e = all_found (HasTick low n) id book o was.within e
-
-pub kept_stands : (low n : ℕ) (kind : Kind) (f : Fill) (o : Order) (book : List Order) (ladder : LadderView) → IsKept low n kind book ladder → order_with f.id book ≡ Some o → f.quantity ≤ o.quantity → counts kind o ≡ true → f.quantity ≤ standing_at ladder o.side o.limit
-kept_stands low n kind f o book ladder was e within c =
-    stands_kept low n kind (with_quantity f.quantity o) book (reduced f book) ladder was (kept_tick low n f.id kind o book ladder was e) (more-reduced f book o was.orderly.ids e within) c
-
-pub kept_fits : (low n q : ℕ) (kind : Kind) (book : List Order) (ladder : LadderView) → IsKept low n kind book ladder → length book < 65536 → q ≤ 1000000000 → all_standing ladder + q ≤ 65536000000000
-kept_fits low n q kind book ladder is few bounded =
-    let same = ap all_standing is.same in
-    let all = all_within low n (counted book kind) in
-    let each = sum_by-le (λ (o : Order). o.quantity) 1000000000 (counted book kind) (All-filter (counts kind) (λ o. o.quantity ≤ 1000000000) book is.orderly.bounded) in
-    let fewer = length-filter_le (counts kind) book in
-    omega arith
+-- ---- the ticks
 
 length-spread : (f : ℕ → ℕ) (a n : ℕ) → length (spread f a n) ≡ n
 length-spread f a zero = refl
@@ -94,19 +49,26 @@ pub ticks_of : (low n : ℕ) (book : List Order) (ladder : LadderView) → ladde
 unfolding ladder_of
 ticks_of low n book ladder same = ap (λ (v : LadderView). length v.bids) same ∙ length-spread _ low n
 
--- ---- the edits
+-- ---- one order more, or less
 
-pub kept-without : (low n id : ℕ) (kind : Kind) (o : Order) (book : List Order) (ladder : LadderView) → IsKept low n kind book ladder → order_with id book ≡ Some o → IsKept low n kind (without id book) (less_order kind o o.quantity ladder)
-kept-without low n id kind o book ladder was e =
-    kept-fewer low n kind o book (without id book) ladder was
-    (orderly-filter (λ o. not (has_id id o)) book was.orderly)
-    (All-filter (λ o. not (has_id id o)) (HasTick low n) book was.within)
-    (kept_tick low n id kind o book ladder was e)
-    (more-without id book o was.orderly.ids e)
+module _ {low n : ℕ} {kind : Kind} {old : List Order} {ladder : LadderView} (was : IsKept low n kind old ladder) (new : List Order) (o : Order) (orderly : IsOrderly new) (within : All (HasTick low n) new) (tick : IsTickOf low n o.limit) where
+  kept_more : IsMore o old new → IsKept low n kind new (with_order kind o ladder)
+  kept_more is = record { orderly = orderly; within = within; same = at (counts kind o) refl }
+    where
+      at : (b : Bool) → counts kind o ≡ b → cond b (added ladder o.side o.limit o.quantity) ladder ≡ ladder_of low n (counted new kind)
+      at true e =
+          ap (λ v. added v o.side o.limit o.quantity) was.same
+          ∙ sym (ladder-more low n (counted old kind) (counted new kind) (open_counted kind old was.orderly) (open_counted kind new orderly) o tick (more-counted kind o old new e is))
+      at false e = was.same ∙ sym (ladder-others low n kind o old new was.orderly.positive orderly.positive e is)
 
-pub kept-push : (low n : ℕ) (kind : Kind) (o : Order) (book : List Order) (ladder : LadderView) → IsKept low n kind book ladder → IsOrderly (book ++ o ∷ []) → IsTickOf low n o.limit → IsKept low n kind (book ++ o ∷ []) (with_order kind o ladder)
-kept-push low n kind o book ladder was orderly tick =
-    kept-more low n kind o book (book ++ o ∷ []) ladder was orderly (All-push (HasTick low n) book o was.within tick) tick (more-push book o)
+  kept_fewer : IsMore o new old → IsKept low n kind new (less_order kind o o.quantity ladder)
+  kept_fewer is = record { orderly = orderly; within = within; same = at (counts kind o) refl }
+    where
+      at : (b : Bool) → counts kind o ≡ b → cond b (taken ladder o.side o.limit o.quantity) ladder ≡ ladder_of low n (counted new kind)
+      at true e =
+          ap (λ v. taken v o.side o.limit o.quantity) was.same
+          ∙ sym (ladder-fewer low n (counted old kind) (counted new kind) (open_counted kind old was.orderly) (open_counted kind new orderly) o tick (more-counted kind o new old e is))
+      at false e = was.same ∙ ladder-others low n kind o new old orderly.positive was.orderly.positive e is
 
 changed_ticks : (low n id : ℕ) (change : Order → Order) (book : List Order) → ((o : Order) → HasTick low n o → HasTick low n (change o)) → All (HasTick low n) book → All (HasTick low n) (changed_at id change book)
 changed_ticks low n id change book keeps all =
@@ -114,38 +76,99 @@ changed_ticks low n id change book keeps all =
     (All-weaker (HasTick low n) (λ o. HasTick low n (cond (has_id id o) (change o) o))
     (λ o h. elim (has_id id o) as (λ b. HasTick low n (cond b (change o) o)) [ true ↦ keeps o h | false ↦ h ]) book all)
 
-pub kept-reduced : (low n : ℕ) (kind : Kind) (f : Fill) (o : Order) (book : List Order) (ladder : LadderView) → IsKept low n kind book ladder → order_with f.id book ≡ Some o → f.quantity ≤ o.quantity → IsOrderly (reduced f book) → IsKept low n kind (reduced f book) (less_order kind o f.quantity ladder)
-kept-reduced low n kind f o book ladder was e within orderly =
-    kept-fewer low n kind (with_quantity f.quantity o) book (reduced f book) ladder was orderly
-    (All-filter is_open (HasTick low n) (changed_at f.id (less_quantity f.quantity) book) (changed_ticks low n f.id (less_quantity f.quantity) book (λ o h. h) was.within))
-    (kept_tick low n f.id kind o book ladder was e)
-    (more-reduced f book o was.orderly.ids e within)
+module _ {low n : ℕ} {kind : Kind} {book : List Order} {ladder : LadderView} (was : IsKept low n kind book ladder) where
+  -- ---- the ticks, as the ladder itself has them
 
--- a change, after the order was taken from the ladder
-pub kept-change : (low n id : ℕ) (kind : Kind) (limit : Limit) (quantity : ℕ) (o : Order) (book : List Order) (ladder : LadderView) → IsOrderly book → All (HasTick low n) book → order_with id book ≡ Some o → IsTickOf low n limit → IsOrderly (book_with_change book o limit quantity) → IsKept low n kind (without id book) ladder → IsKept low n kind (book_with_change book o limit quantity) (with_order kind (with_terms limit quantity o) ladder)
-kept-change low n id kind limit quantity o book ladder is ticks e tick orderly was =
-    let same = change_is id limit quantity book o is.ids e in
-    let change = with_terms limit quantity in
-    subst (λ l. IsKept low n kind l (with_order kind (change o) ladder)) same
-    (at (keeps_place o limit quantity) (subst IsOrderly (sym same) orderly))
-  where
-    at : (b : Bool) → IsOrderly (cond b (changed_at id (with_terms limit quantity) book) (moved_to_end id (with_terms limit quantity) book)) → IsKept low n kind (cond b (changed_at id (with_terms limit quantity) book) (moved_to_end id (with_terms limit quantity) book)) (with_order kind (with_terms limit quantity o) ladder)
-    at true h =
-        kept-more low n kind (with_terms limit quantity o) (without id book) (changed_at id (with_terms limit quantity) book) ladder was h
-        (changed_ticks low n id (with_terms limit quantity) book (λ o h. tick) ticks) tick (more-changed id (with_terms limit quantity) book o is.ids e)
-    at false h =
-        kept-more low n kind (with_terms limit quantity o) (without id book) (moved_to_end id (with_terms limit quantity) book) ladder was h
-        (subst (All (HasTick low n)) (sym (moved_is id (with_terms limit quantity) book o is.ids e)) (All-push (HasTick low n) (without id book) (with_terms limit quantity o) was.within tick)) tick (more-moved id (with_terms limit quantity) book o is.ids e)
+  pub own_ticks : IsKept ladder.low (length ladder.bids) kind book ladder
+  own_ticks =
+      subst (λ l. IsKept l (length ladder.bids) kind book ladder) (sym (low_of low n (counted book kind) ladder was.same))
+      (subst (λ k. IsKept low k kind book ladder) (sym (ticks_of low n (counted book kind) ladder was.same)) was)
 
--- ---- the ticks as the ladder itself has them
+  pub same_ticks : {next : Kind} {new : List Order} {view : LadderView} → IsKept ladder.low (length ladder.bids) next new view → IsKept low n next new view
+  same_ticks {next} {new} {view} is =
+      subst (λ l. IsKept l n next new view) (low_of low n (counted book kind) ladder was.same)
+      (subst (λ k. IsKept ladder.low k next new view) (ticks_of low n (counted book kind) ladder was.same) is)
 
-pub own_ticks : (low n : ℕ) (kind : Kind) (book : List Order) (ladder : LadderView) → IsKept low n kind book ladder → IsKept ladder.low (length ladder.bids) kind book ladder
-own_ticks low n kind book ladder is =
-    subst (λ l. IsKept l (length ladder.bids) kind book ladder) (sym (low_of low n (counted book kind) ladder is.same))
-    (subst (λ k. IsKept low k kind book ladder) (sym (ticks_of low n (counted book kind) ladder is.same)) is)
+  pub own_tick : (limit : Limit) → IsTickOf low n limit → IsTickOf ladder.low (length ladder.bids) limit
+  own_tick limit tick =
+      subst (λ l. IsTickOf l (length ladder.bids) limit) (sym (low_of low n (counted book kind) ladder was.same))
+      (subst (λ k. IsTickOf low k limit) (sym (ticks_of low n (counted book kind) ladder was.same)) tick)
 
--- from one step to the next
-pub same_ticks : (low n : ℕ) (kind was_kind : Kind) (book old : List Order) (ladder was : LadderView) → IsKept low n was_kind old was → IsKept was.low (length was.bids) kind book ladder → IsKept low n kind book ladder
-same_ticks low n kind was_kind book old ladder was first is =
-    subst (λ l. IsKept l n kind book ladder) (low_of low n (counted old was_kind) was first.same)
-    (subst (λ k. IsKept was.low k kind book ladder) (ticks_of low n (counted old was_kind) was first.same) is)
+  -- ---- what the calls of the ladder ask
+
+  pub kept_tick : (id : ℕ) (o : Order) → order_with id book ≡ Some o → IsTickOf low n o.limit
+  kept_tick id o e = all_found (HasTick low n) id book o was.within e
+
+  -- the part of an order that leaves stands in the ladder
+  pub kept_stands : (f : Fill) (o : Order) → order_with f.id book ≡ Some o → f.quantity ≤ o.quantity → counts kind o ≡ true → f.quantity ≤ standing_at ladder o.side o.limit
+  kept_stands f o e within c =
+      let part = with_quantity f.quantity o in
+      let more = more-counted kind part (reduced f book) book c (more-reduced f book o was.orderly.ids e within) in
+      subst (λ v. f.quantity ≤ standing_at v o.side o.limit) (sym was.same) (stands low n (counted (reduced f book) kind) (counted book kind) part (kept_tick f.id o e) more)
+
+  pub kept_fits : (q : ℕ) → length book < 65536 → q ≤ 1000000000 → all_standing ladder + q ≤ 65536000000000
+  kept_fits q few bounded =
+      let same = ap all_standing was.same in
+      let all = all_within low n (counted book kind) in
+      let each = sum_by-le (λ (o : Order). o.quantity) 1000000000 (counted book kind) (All-filter (counts kind) (λ o. o.quantity ≤ 1000000000) book was.orderly.bounded) in
+      let fewer = length-filter_le (counts kind) book in
+      omega arith
+
+  -- ---- the edits
+
+  pub kept-same : {new : List Order} {view : LadderView} → new ≡ book → view ≡ ladder → IsKept low n kind new view
+  kept-same {new} {view} e f = subst (λ v. IsKept low n kind new v) (sym f) (subst (λ l. IsKept low n kind l ladder) (sym e) was)
+
+  kept_without : (id : ℕ) (o : Order) → order_with id book ≡ Some o → IsKept low n kind (without id book) (less_order kind o o.quantity ladder)
+  kept_without id o e =
+      kept_fewer was (without id book) o
+      (orderly-filter (λ o. not (has_id id o)) book was.orderly)
+      (All-filter (λ o. not (has_id id o)) (HasTick low n) book was.within)
+      (kept_tick id o e) (more-without id book o was.orderly.ids e)
+
+  kept_part : (f : Fill) (o : Order) → order_with f.id book ≡ Some o → f.quantity ≤ o.quantity → IsOrderly (reduced f book) → IsKept low n kind (reduced f book) (less_order kind o f.quantity ladder)
+  kept_part f o e within orderly =
+      kept_fewer was (reduced f book) (with_quantity f.quantity o) orderly
+      (All-filter is_open (HasTick low n) (changed_at f.id (less_quantity f.quantity) book) (changed_ticks low n f.id (less_quantity f.quantity) book (λ o h. h) was.within))
+      (kept_tick f.id o e) (more-reduced f book o was.orderly.ids e within)
+
+-- each with the list and the ladder that are there then
+module _ {low n : ℕ} {kind : Kind} {book new : List Order} {ladder view : LadderView} (was : IsKept low n kind book ladder) where
+  pub kept-without : (id : ℕ) (o : Order) → order_with id book ≡ Some o → new ≡ without id book → view ≡ less_order kind o o.quantity ladder → IsKept low n kind new view
+  kept-without id o e is after = kept-same (kept_without was id o e) is after
+
+  pub kept-reduced : (f : Fill) (o : Order) → order_with f.id book ≡ Some o → f.quantity ≤ o.quantity → IsOrderly new → new ≡ reduced f book → view ≡ less_order kind o f.quantity ladder → IsKept low n kind new view
+  kept-reduced f o e within orderly is after = kept-same (kept_part was f o e within (subst IsOrderly is orderly)) is after
+
+  pub kept-push : (o : Order) → IsTickOf low n o.limit → IsOrderly new → new ≡ book ++ o ∷ [] → view ≡ with_order kind o ladder → IsKept low n kind new view
+  kept-push o tick orderly is after =
+      kept-same (kept_more was (book ++ o ∷ []) o (subst IsOrderly is orderly) (All-push (HasTick low n) book o was.within tick) tick (more-push book o)) is after
+
+  -- a change: all of the order is taken from the ladder, and then added with its new terms
+  pub kept-change : (id : ℕ) (limit : Limit) (quantity : ℕ) (o : Order) (between : LadderView) → order_with id book ≡ Some o → IsTickOf low n limit → IsOrderly new → new ≡ book_with_change book o limit quantity → between ≡ less_order kind o o.quantity ladder → view ≡ with_order kind (with_terms limit quantity o) between → IsKept low n kind new view
+  kept-change id limit quantity o between e tick orderly is before after =
+      kept-same (subst (λ l. IsKept low n kind l (with_order kind changed between)) same (at (keeps_place o limit quantity) (subst IsOrderly (is ∙ sym same) orderly))) is after
+    where
+      changed : Order
+      changed = with_terms limit quantity o
+
+      here : List Order
+      here = changed_at id (with_terms limit quantity) book
+
+      there : List Order
+      there = moved_to_end id (with_terms limit quantity) book
+
+      same : cond (keeps_place o limit quantity) here there ≡ book_with_change book o limit quantity
+      same = change_is id limit quantity book o was.orderly.ids e
+
+      less : IsKept low n kind (without id book) between
+      less = kept-same (kept_without was id o e) refl before
+
+      at : (b : Bool) → IsOrderly (cond b here there) → IsKept low n kind (cond b here there) (with_order kind changed between)
+      at true h =
+          kept_more less here changed h (changed_ticks low n id (with_terms limit quantity) book (λ o h. tick) was.within) tick
+          (more-changed id (with_terms limit quantity) book o was.orderly.ids e)
+      at false h =
+          kept_more less there changed h
+          (subst (All (HasTick low n)) (sym (moved_is id (with_terms limit quantity) book o was.orderly.ids e)) (All-push (HasTick low n) (without id book) changed less.within tick)) tick
+          (more-moved id (with_terms limit quantity) book o was.orderly.ids e)

@@ -7,15 +7,15 @@ use Rattle.auction_terms.specs.declared.Limit.{Limit}
 use Rattle.auction_terms.specs.declared.Kind.{Kind}
 use Rattle.auction_terms.specs.Book.{counted}
 use Rattle.auction_terms.specs.Line.{orders_of}
-use Rattle.auction_terms.specs.Edits.{order_with, changed_at as orders_changed, moved_to_end as orders_moved, with_terms as order_with_terms, keeps_place, IdsDiffer, IsOrderly}
+use Rattle.auction_terms.specs.Edits.{order_with, changed_at as orders_changed, moved_to_end as orders_moved, with_terms as order_with_terms, keeps_place, IdsDiffer}
 use Rattle.auction_terms.specs.Day.{book_with_change, is_bad_quantity}
 use Rattle.auction_terms.specs.Ladder.{LadderView, IsTickOf}
 use Rattle.auction_terms.proofs.EditLaws.{change_is}
 use Rattle.order_book.specs.Book.{Book as Orders, with_terms, with_stamp, changed_at, moved_to_end}
 use Rattle.order_book.proofs.OrderLaws.{orders_of-push, orders_of-kept, orders_of-gone}
 use Rattle.auction.specs.Open.{OpenOrders}
-use Rattle.auction.specs.Kept.{with_order, shown, IsKept, IsBook}
-use Rattle.auction.proofs.KeptLaws.{low_of, ticks_of, own_ticks, kept-same, kept-push}
+use Rattle.auction.specs.Kept.{shown, IsKept, IsBook}
+use Rattle.auction.proofs.KeptLaws.{low_of, ticks_of, own_ticks}
 
 pub good_quantity : (q : ℕ) → is_bad_quantity q ≡ false → (0 < q) × (q ≤ 1000000000)
 good_quantity q e = (above q e, within q e)
@@ -30,16 +30,10 @@ good_quantity q e = (above q e, within q e)
 pub seen_tick : (orders : Orders) (ladder : LadderView) (kind : Kind) (view : OpenOrders) (limit : Limit) → shown orders ladder kind ≡ view → IsTickOf view.low view.ticks limit → IsTickOf ladder.low (length ladder.bids) limit
 seen_tick orders ladder kind view limit e tick = subst (λ (v : OpenOrders). IsTickOf v.low v.ticks limit) (sym e) tick
 
--- of the ladder that comes after
-pub next_tick : (low n : ℕ) (kind : Kind) (book : List Order) (ladder : LadderView) (limit : Limit) → IsKept low n kind book ladder → IsTickOf low n limit → IsTickOf ladder.low (length ladder.bids) limit
-next_tick low n kind book ladder limit is tick =
-    subst (λ l. IsTickOf l (length ladder.bids) limit) (sym (low_of low n (counted book kind) ladder is.same))
-    (subst (λ k. IsTickOf low k limit) (sym (ticks_of low n (counted book kind) ladder is.same)) tick)
-
 -- the book holds after a step
-pub closes_book : (low n desk : ℕ) (kind : Kind) (orders : Orders) (ladder : LadderView) (max_open : ℕ) → IsKept low n kind (orders_of orders.line) ladder → orders.max_open ≡ max_open → length (orders_of orders.line) ≤ max_open → max_open ≤ 65536 → max_open ≤ desk → IsBook orders ladder kind desk
-closes_book low n desk kind orders ladder max_open is same few small room = record {
-  kept = own_ticks low n kind (orders_of orders.line) ladder is;
+pub closes_book : {low n : ℕ} {kind : Kind} {ladder : LadderView} (orders : Orders) (max_open desk : ℕ) → IsKept low n kind (orders_of orders.line) ladder → orders.max_open ≡ max_open → length (orders_of orders.line) ≤ max_open → max_open ≤ 65536 → max_open ≤ desk → IsBook orders ladder kind desk
+closes_book orders max_open desk is same few small room = record {
+  kept = own_ticks is;
   room = record { few = omega arith; small = omega arith; room = omega arith };
 }
 
@@ -77,12 +71,6 @@ module _ (old new : Orders) (was now : LadderView) (was_kind kind next : Kind) (
       (ap (λ (o : Orders). o.max_open) rest) (ap (λ (o : Orders). o.max_calls) rest)
 
 -- ---- the lines that calls return
-
-pub entered_kept : (low n : ℕ) (kind : Kind) (line new : List Stamped) (s : Stamped) (ladder view : LadderView) → IsKept low n kind (orders_of line) ladder → new ≡ line ++ s ∷ [] → IsOrderly (orders_of new) → IsTickOf low n s.order.limit → view ≡ with_order kind s.order ladder → IsKept low n kind (orders_of new) view
-entered_kept low n kind line new s ladder view was is orderly tick after =
-    let pushed = ap orders_of is ∙ orders_of-push line s in
-    kept-same low n kind (orders_of line ++ s.order ∷ []) (orders_of new) (with_order kind s.order ladder) view
-    (kept-push low n kind s.order (orders_of line) ladder was (subst IsOrderly pushed orderly) tick) pushed after
 
 pub length-entered : (line new : List Stamped) (s : Stamped) → new ≡ line ++ s ∷ [] → length (orders_of new) ≡ length (orders_of line) + 1
 length-entered line new s is = ap length (ap orders_of is ∙ orders_of-push line s) ∙ length-append (orders_of line) (s.order ∷ [])

@@ -25,7 +25,10 @@ use std::alloc::{AllocError, Global};
 use std::marker::Model;
 use tick_ladder::Ladder;
 
-/// The open orders, the ladder of those that count in one auction, and the desk where it is executed.
+/// The open orders, the ladder of those that count in the current auction, and the desk where they are executed.
+///
+/// An order for another auction alone waits: it is open, but not in the ladder. Each call changes the ladder for the
+/// order concerned alone, and only `open` takes memory.
 #[derive(Drop)]
 pub(crate) struct Book {
     orders: Orders,
@@ -58,7 +61,7 @@ fn append(tape: &mut Vec<Trade>, trades: &[Trade])
 }
 
 impl Book {
-    /// No orders, with room for all that the config allows, before the opening auction.
+    /// No orders, with room for all that the config allows, in the opening auction. Only want of memory makes it fail.
     pub(crate) fn open(alloc: Global, config: Config) -> Result<Book, AllocError>
         requires { open_fault config ≡ None }
         ensures { IfOk result (λ b. b ≡ no_orders config) }
@@ -141,7 +144,8 @@ impl Book {
         id
     }
 
-    /// Gives the open order with an id another limit and quantity, and says whether it kept its place in time.
+    /// Gives the open order with an id another limit and quantity, in ticks and shares, and says whether it kept its
+    /// place in time: it does with the same limit and no more quantity.
     pub(crate) fn change(&mut self, id: u32, limit: Limit, quantity: u64) -> bool
         requires open { IsSome (order_with id self.old.orders) }
         requires stamps { self.old.stamps < self.old.max_calls }
@@ -170,7 +174,8 @@ impl Book {
         remove(&mut self.orders, &mut self.ladder, self.kind, id);
     }
 
-    /// Executes the orders that count at a price, and adds the trades to those of the day.
+    /// Executes the orders that count at the tick of a price, adds the trades to those of the day, and returns how many
+    /// they are. What is left of each order stays open, in its place.
     pub(crate) fn uncross(&mut self, price: u32, tape: &mut Vec<Trade>) -> u32
         requires room { vec_len tape.old + length self.old.orders ≤ vec_capacity tape.old }
         ensures book { self.new ≡ record self.old { orders = rest_in self.old.kind self.old.orders price } }
@@ -193,8 +198,8 @@ impl Book {
         trades.len() as u32
     }
 
-    /// Drops the orders for this auction alone, and goes on to the next; after the closing auction just the orders for
-    /// every auction count.
+    /// Removes the orders for this auction alone, and goes on to the next, in which the orders for it alone count too.
+    /// After the closing auction just the orders for every auction count.
     pub(crate) fn end_auction(&mut self)
         ensures { self.new ≡ record self.old { orders = staying self.old.kind self.old.orders; kind = kind_now (next_auction self.old.kind) } }
     {

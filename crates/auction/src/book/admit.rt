@@ -11,7 +11,7 @@ use auction_terms::{Kind, Stamped};
 use order_book::Orders;
 use tick_ladder::Ladder;
 
-// Adds the order at a place, if there is one and it is for the closing auction alone.
+// Adds the order that was found, if there is one and it is for the closing auction alone.
 fn admit_one(ladder: &mut Ladder, found: Option<Stamped>)
     requires in_bounds { IfSome found (λ s. IsInBounds ladder.old s.order.limit) }
     requires fits { IfSome found (λ s. names Closing s.order.only ≡ true → all_standing ladder.old + s.order.quantity ≤ 65536000000000) }
@@ -26,7 +26,7 @@ fn admit_one(ladder: &mut Ladder, found: Option<Stamped>)
     }
 }
 
-/// Adds the orders for the closing auction alone to the ladder of the intraday auction.
+/// Adds the orders for the closing auction alone, which waited until now, to the ladder of the intraday auction.
 pub(super) fn admit(orders: &Orders, ladder: &mut Ladder)
     requires { IsKept ladder.old.low (length ladder.old.bids) Intraday (orders_of orders.now.line) ladder.old }
     ensures { IsKept ladder.old.low (length ladder.old.bids) Closing (orders_of orders.now.line) ladder.new }

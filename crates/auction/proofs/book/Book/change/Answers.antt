@@ -1,7 +1,7 @@
 use Rattle.std.proofs.Common.{◌≡◌, ◌+◌, cond, Some, IsSome, IfSome, length, sym, ap, subst, ◌∙◌, refl, arith}
 use Rattle.auction_terms.specs.declared.Order.{Order}
 use Rattle.auction_terms.specs.Line.{orders_of}
-use Rattle.auction_terms.specs.Edits.{order_with, without, keeps_place, IsOrderly}
+use Rattle.auction_terms.specs.Edits.{order_with, keeps_place}
 use Rattle.auction_terms.specs.Day.{book_with_change}
 use Rattle.order_book.specs.Book.{Book as Orders}
 use Rattle.order_book.proofs.OrderLaws.{order_of_open}
@@ -9,8 +9,8 @@ use Rattle.auction.specs.Open.{OpenOrders}
 use Rattle.auction.specs.Kept.{shown, IsKept}
 use Rattle.auction.proofs.FoundLemmas.{listed_with, found_from}
 use Rattle.auction.proofs.LengthLaws.{one_less, length-change}
-use Rattle.auction.proofs.KeptLaws.{kept_tick, kept_stands, kept_fits, kept-without, kept-same, kept-change}
-use Rattle.auction.proofs.ShownLemmas.{good_quantity, seen_tick, next_tick, closes_book, shown_changed, changed_line}
+use Rattle.auction.proofs.KeptLaws.{kept_tick, own_tick, kept_stands, kept_fits, kept-without, kept-change}
+use Rattle.auction.proofs.ShownLemmas.{good_quantity, seen_tick, closes_book, shown_changed, changed_line}
 use Rattle.auction.proofs.book.Book.change.Goals as goal
 
 pub unwrap-before-requires : goal.unwrap-before-requires
@@ -21,34 +21,24 @@ unwrap-before-requires c =
 pub take-requires-clause-in_bounds : goal.take-requires-clause-in_bounds
 take-requires-clause-in_bounds c =
     let found = found_from c.args.id c.self.inside.orders.line c.get.result c.unwrap-before.result c.get.ensures c.unwrap-before.ensures in
-    kept_tick _ _ c.args.id c.self.inside.kind c.unwrap-before.result (orders_of c.self.inside.orders.line) c.self.inside.ladder c.self.invariant.kept found
+    kept_tick c.self.invariant.kept c.args.id c.unwrap-before.result found
 
 pub take-requires-clause-stands : goal.take-requires-clause-stands
 take-requires-clause-stands c =
     let found = found_from c.args.id c.self.inside.orders.line c.get.result c.unwrap-before.result c.get.ensures c.unwrap-before.ensures in
-    kept_stands _ _ c.self.inside.kind (record { id = c.args.id; quantity = c.unwrap-before.result.quantity }) c.unwrap-before.result (orders_of c.self.inside.orders.line) c.self.inside.ladder c.self.invariant.kept found (omega arith)
+    kept_stands c.self.invariant.kept (record { id = c.args.id; quantity = c.unwrap-before.result.quantity }) c.unwrap-before.result found (omega arith)
 
 pub add-requires-clause-in_bounds : goal.add-requires-clause-in_bounds
 add-requires-clause-in_bounds c =
-    let low = c.self.inside.ladder.low in
-    let n = length c.self.inside.ladder.bids in
-    let book = orders_of c.self.inside.orders.line in
     let found = found_from c.args.id c.self.inside.orders.line c.get.result c.unwrap-before.result c.get.ensures c.unwrap-before.ensures in
-    let between = kept-same low n c.self.inside.kind (without c.args.id book) (without c.args.id book) _ c.take.new.ladder
-    (kept-without low n c.args.id c.self.inside.kind c.unwrap-before.result book c.self.inside.ladder c.self.invariant.kept found) refl c.take.ensures in
-    next_tick low n c.self.inside.kind (without c.args.id book) c.take.new.ladder c.args.limit between
+    own_tick (kept-without c.self.invariant.kept c.args.id c.unwrap-before.result found refl c.take.ensures) c.args.limit
     (seen_tick c.self.inside.orders c.self.inside.ladder c.self.inside.kind c.args.self.now c.args.limit c.self.view_is c.requires.limit)
 
 pub add-requires-clause-fits : goal.add-requires-clause-fits
 add-requires-clause-fits c =
-    let low = c.self.inside.ladder.low in
-    let n = length c.self.inside.ladder.bids in
-    let book = orders_of c.self.inside.orders.line in
     let found = found_from c.args.id c.self.inside.orders.line c.get.result c.unwrap-before.result c.get.ensures c.unwrap-before.ensures in
-    let between = kept-same low n c.self.inside.kind (without c.args.id book) (without c.args.id book) _ c.take.new.ladder
-    (kept-without low n c.args.id c.self.inside.kind c.unwrap-before.result book c.self.inside.ladder c.self.invariant.kept found) refl c.take.ensures in
-    kept_fits low n c.args.quantity c.self.inside.kind (without c.args.id book) c.take.new.ladder between
-    (omega (arith, one_less c.args.id book c.unwrap-before.result found, c.self.invariant.room.few, c.self.invariant.room.small))
+    kept_fits (kept-without c.self.invariant.kept c.args.id c.unwrap-before.result found refl c.take.ensures) c.args.quantity
+    (omega (arith, one_less c.args.id (orders_of c.self.inside.orders.line) c.unwrap-before.result found, c.self.invariant.room.few, c.self.invariant.room.small))
     (good_quantity c.args.quantity c.requires.quantity).1
 
 found : (c : goal.After-add) → order_with c.args.id (orders_of c.self.inside.orders.line) ≡ Some c.unwrap-before.result
@@ -65,20 +55,13 @@ changed c =
 
 still_kept : (c : goal.After-add) → IsKept c.self.inside.ladder.low (length c.self.inside.ladder.bids) c.self.inside.kind (orders_of c.change-kept.new.self.line) c.add.new.ladder
 still_kept c =
-    let low = c.self.inside.ladder.low in
-    let n = length c.self.inside.ladder.bids in
-    let book = orders_of c.self.inside.orders.line in
-    let between = kept-same low n c.self.inside.kind (without c.args.id book) (without c.args.id book) _ c.take.new.ladder
-    (kept-without low n c.args.id c.self.inside.kind c.unwrap-before.result book c.self.inside.ladder c.self.invariant.kept (found c)) refl c.take.ensures in
-    let tick = seen_tick c.self.inside.orders c.self.inside.ladder c.self.inside.kind c.args.self.now c.args.limit c.self.view_is c.requires.limit in
-    kept-same low n c.self.inside.kind _ (orders_of c.change-kept.new.self.line) _ c.add.new.ladder
-    (kept-change low n c.args.id c.self.inside.kind c.args.limit c.args.quantity c.unwrap-before.result book c.take.new.ladder c.self.invariant.kept.orderly c.self.invariant.kept.within (found c) tick
-    (subst IsOrderly (changed c) c.change-kept.ensures.orderly) between)
-    (changed c) c.add.ensures
+    kept-change c.self.invariant.kept c.args.id c.args.limit c.args.quantity c.unwrap-before.result c.take.new.ladder (found c)
+    (seen_tick c.self.inside.orders c.self.inside.ladder c.self.inside.kind c.args.self.now c.args.limit c.self.view_is c.requires.limit)
+    c.change-kept.ensures.orderly (changed c) c.take.ensures c.add.ensures
 
 pub invariant_of-self : goal.invariant_of-self
 invariant_of-self c =
-    closes_book _ _ c.self.inside.desk.room c.self.inside.kind c.change-kept.new.self c.add.new.ladder c.self.inside.orders.max_open (still_kept c)
+    closes_book c.change-kept.new.self c.self.inside.orders.max_open c.self.inside.desk.room (still_kept c)
     (ap (λ (o : Orders). o.max_open) c.change-kept.ensures.rest)
     (omega (arith, ap length (changed c), length-change c.args.id c.args.limit c.args.quantity (orders_of c.self.inside.orders.line) c.unwrap-before.result (found c), c.self.invariant.room.few))
     c.self.invariant.room.small c.self.invariant.room.room

@@ -14,7 +14,7 @@ remove-requires-clause-open c =
 
 pub invariant_of-self : goal.invariant_of-self
 invariant_of-self c =
-    closes_book _ _ c.self.inside.desk.room c.self.inside.kind c.remove.new.orders c.remove.new.ladder c.self.inside.orders.max_open c.remove.ensures.kept
+    closes_book c.remove.new.orders c.self.inside.orders.max_open c.self.inside.desk.room c.remove.ensures.kept
     (ap (λ (o : Orders). o.max_open) c.remove.ensures.rest)
     (omega (arith, ap length c.remove.ensures.book, length-without c.args.id (orders_of c.self.inside.orders.line), c.self.invariant.room.few))
     c.self.invariant.room.small c.self.invariant.room.room

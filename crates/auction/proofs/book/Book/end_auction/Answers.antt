@@ -16,7 +16,7 @@ use Rattle.auction.proofs.book.Book.end_auction.Goals as goal
 
 pub invariant_of-self : goal.invariant_of-self
 invariant_of-self c = record {
-  kept = own_ticks _ _ Closing (orders_of c.self.inside.orders.line) c.admit.new.ladder c.admit.ensures;
+  kept = own_ticks c.admit.ensures;
   room = c.self.invariant.room;
 }
 
@@ -32,8 +32,8 @@ returns-in-Intraday c =
 
 pub invariant_of-self-in_default : goal.invariant_of-self-in_default
 invariant_of-self-in_default c =
-    closes_book _ _ c.self.inside.desk.room Intraday c.dismiss.new.orders c.dismiss.new.ladder c.self.inside.orders.max_open
-    (kept_staying _ _ c.self.inside.kind (orders_of c.self.inside.orders.line) (orders_of c.dismiss.new.orders.line) c.dismiss.new.ladder c.dismiss.ensures.kept c.dismiss.ensures.book)
+    closes_book c.dismiss.new.orders c.self.inside.orders.max_open c.self.inside.desk.room
+    (kept_staying (orders_of c.self.inside.orders.line) c.dismiss.ensures.kept c.dismiss.ensures.book)
     (ap (λ (o : Orders). o.max_open) c.dismiss.ensures.rest)
     (omega (arith, ap length c.dismiss.ensures.book, length-staying c.self.inside.kind (orders_of c.self.inside.orders.line), c.self.invariant.room.few))
     c.self.invariant.room.small c.self.invariant.room.room
@@ -42,7 +42,7 @@ pub returns-in_default : goal.returns-in_default
 returns-in_default c =
     let was : c.self.inside.kind ≡ c.args.self.now.kind = ap (λ (v : OpenOrders). v.kind) c.self.view_is in
     shown_rest c.self.inside.orders c.dismiss.new.orders c.self.inside.ladder c.dismiss.new.ladder c.self.inside.kind Intraday (kind_now (next_auction c.args.self.now.kind)) c.args.self.now c.self.view_is
-    (kept_staying _ _ c.self.inside.kind (orders_of c.self.inside.orders.line) (orders_of c.dismiss.new.orders.line) c.dismiss.new.ladder c.dismiss.ensures.kept c.dismiss.ensures.book)
+    (kept_staying (orders_of c.self.inside.orders.line) c.dismiss.ensures.kept c.dismiss.ensures.book)
     (other_next c.self.inside.kind c.in_default.not-Intraday ∙ ap (λ (k : Kind). kind_now (next_auction k)) was) (staying c.args.self.now.kind c.args.self.now.orders)
     (c.dismiss.ensures.book
     ∙ ap (λ k. staying k (orders_of c.self.inside.orders.line)) was

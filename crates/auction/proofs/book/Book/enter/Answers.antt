@@ -5,25 +5,25 @@ use Rattle.order_book.specs.Book.{Book as Orders}
 use Rattle.order_book.proofs.OrderLaws.{orders_of-push}
 use Rattle.auction.specs.Open.{OpenOrders}
 use Rattle.auction.specs.Kept.{IsKept}
-use Rattle.auction.proofs.KeptLaws.{kept_fits}
-use Rattle.auction.proofs.ShownLemmas.{good_quantity, seen_tick, entered_kept, length-entered, closes_book, shown_entered}
+use Rattle.auction.proofs.KeptLaws.{kept_fits, kept-push}
+use Rattle.auction.proofs.ShownLemmas.{good_quantity, seen_tick, length-entered, closes_book, shown_entered}
 use Rattle.auction.proofs.book.Book.enter.Goals as goal
 
 pub add-requires-clause-fits : goal.add-requires-clause-fits
 add-requires-clause-fits c =
-    kept_fits _ _ c.args.quantity c.self.inside.kind (orders_of c.self.inside.orders.line) c.self.inside.ladder c.self.invariant.kept
+    kept_fits c.self.invariant.kept c.args.quantity
     (omega (arith, c.requires.room, ap (λ (v : OpenOrders). length v.orders) c.self.view_is, ap (λ (v : OpenOrders). v.max_open) c.self.view_is, c.self.invariant.room.small))
     (good_quantity c.args.quantity c.requires.quantity).1
 
 still_kept : (c : goal.After-add) → IsKept c.self.inside.ladder.low (length c.self.inside.ladder.bids) c.self.inside.kind (orders_of c.enter-id.new.self.line) c.add.new.ladder
 still_kept c =
-    entered_kept _ _ c.self.inside.kind c.self.inside.orders.line c.enter-id.new.self.line _ c.self.inside.ladder c.add.new.ladder c.self.invariant.kept c.enter-id.ensures.line c.enter-id.ensures.orderly
+    kept-push c.self.invariant.kept _
     (seen_tick c.self.inside.orders c.self.inside.ladder c.self.inside.kind c.args.self.now c.args.limit c.self.view_is c.requires.limit)
-    c.add.ensures
+    c.enter-id.ensures.orderly (ap orders_of c.enter-id.ensures.line ∙ orders_of-push c.self.inside.orders.line _) c.add.ensures
 
 pub invariant_of-self : goal.invariant_of-self
 invariant_of-self c =
-    closes_book _ _ c.self.inside.desk.room c.self.inside.kind c.enter-id.new.self c.add.new.ladder c.self.inside.orders.max_open (still_kept c)
+    closes_book c.enter-id.new.self c.self.inside.orders.max_open c.self.inside.desk.room (still_kept c)
     (ap (λ (o : Orders). o.max_open) c.enter-id.ensures.rest)
     (omega (arith, length-entered c.self.inside.orders.line c.enter-id.new.self.line _ c.enter-id.ensures.line, c.requires.room, ap (λ (v : OpenOrders). length v.orders) c.self.view_is, ap (λ (v : OpenOrders). v.max_open) c.self.view_is))
     c.self.invariant.room.small c.self.invariant.room.room

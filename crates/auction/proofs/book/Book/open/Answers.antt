@@ -26,8 +26,7 @@ invariant_of-result c =
     let h = terms_within c.args.config c.requires in
     let none = ap (λ l. length (orders_of l)) c.in_ok-open.ensures.empty in
     record {
-      kept = own_ticks _ _ Opening (orders_of c.in_ok-open.field-0.line) c.in_ok-open-2.field-0
-          (empty_kept _ _ Opening c.in_ok-open.field-0.line c.in_ok-open-2.field-0 c.in_ok-open.ensures.empty c.in_ok-open-2.ensures);
+      kept = own_ticks (empty_kept _ _ Opening c.in_ok-open.field-0.line c.in_ok-open-2.field-0 c.in_ok-open.ensures.empty c.in_ok-open-2.ensures);
       room = record {
         few = omega arith;
         small = omega (arith, h.few_open, c.in_ok-open.ensures.max_open);

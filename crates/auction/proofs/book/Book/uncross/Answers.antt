@@ -34,7 +34,7 @@ executed c =
 
 pub invariant_of-self : goal.invariant_of-self
 invariant_of-self c =
-    closes_book _ _ c.allocate.new.self.room c.self.inside.kind c.execute.new.orders c.execute.new.ladder c.self.inside.orders.max_open c.execute.ensures.kept
+    closes_book c.execute.new.orders c.self.inside.orders.max_open c.allocate.new.self.room c.execute.ensures.kept
     (ap (λ (o : Orders). o.max_open) c.execute.ensures.rest)
     (omega (arith, ap length (executed c), length-rest_in c.self.inside.kind (orders_of c.self.inside.orders.line) c.args.price, c.self.invariant.room.few))
     c.self.invariant.room.small (omega (arith, c.allocate.ensures.room, c.self.invariant.room.room))

@@ -2,7 +2,6 @@ use Rattle.std.proofs.Common.{◌≡◌, inl, inr, false, IfSome, sym, subst, �
 use Rattle.std.proofs.lemmas.Bool.{cases_lt, cases_eq}
 use Rattle.auction_terms.specs.declared.Stamped.{Stamped}
 use Rattle.auction_terms.specs.Book.{names}
-use Rattle.auction_terms.specs.Line.{orders_of}
 use Rattle.auction_terms.proofs.StayLaws.{all_stay}
 use Rattle.order_book.specs.Book.{present, slot_at}
 use Rattle.auction.proofs.KeptLaws.{own_ticks, same_ticks}
@@ -11,12 +10,12 @@ use Rattle.auction.proofs.StayLemmas.{none_leaving, still_passed, still_none, pa
 use Rattle.auction.proofs.book.dismiss.dismiss.Goals as goal
 
 pub dismiss_at-requires-clause-kept : goal.dismiss_at-requires-clause-kept
-dismiss_at-requires-clause-kept c = own_ticks _ _ c.args.kind (orders_of c.loop-place.orders.line) c.loop-place.ladder c.loop-place.invariant.kept
+dismiss_at-requires-clause-kept c = own_ticks c.loop-place.invariant.kept
 
 pub loop-place-preserved : goal.loop-place-preserved
 loop-place-preserved c = record {
   same = c.dismiss_at.ensures.same ∙ c.loop-place.invariant.same;
-  kept = same_ticks _ _ c.args.kind c.args.kind (orders_of c.dismiss_at.new.orders.line) (orders_of c.loop-place.orders.line) c.dismiss_at.new.ladder c.loop-place.ladder c.loop-place.invariant.kept c.dismiss_at.ensures.kept;
+  kept = same_ticks c.loop-place.invariant.kept c.dismiss_at.ensures.kept;
   walk = c.dismiss_at.ensures.walk;
   passed = λ p below. elim (cases_eq p c.loop-place.place) [
     | inl same ↦ subst (λ n. IfSome (slot_at c.dismiss_at.new.orders.slots n) (λ (s : Stamped). names c.args.kind s.order.only ≡ false)) (sym same) c.dismiss_at.ensures.passed

@@ -9,11 +9,11 @@ execute_one-requires-clause-next c =
     next_fill c.args.fills.now c.loop-fill.fill-index (record { id = 0; quantity = 0 }) (orders_of c.args.orders.now.line) (orders_of c.loop-fill.orders.line) c.loop-fill-test.true c.requires.executable c.loop-fill.invariant.book
 
 pub execute_one-requires-clause-kept : goal.execute_one-requires-clause-kept
-execute_one-requires-clause-kept c = own_ticks _ _ c.args.kind (orders_of c.loop-fill.orders.line) c.loop-fill.ladder c.loop-fill.invariant.kept
+execute_one-requires-clause-kept c = own_ticks c.loop-fill.invariant.kept
 
 pub loop-fill-preserved : goal.loop-fill-preserved
 loop-fill-preserved c = record {
   book = reduced_more c.args.fills.now c.loop-fill.fill-index (record { id = 0; quantity = 0 }) (orders_of c.args.orders.now.line) (orders_of c.loop-fill.orders.line) (orders_of c.execute_one.new.orders.line) c.loop-fill-test.true c.loop-fill.invariant.book c.execute_one.ensures.book;
-  kept = same_ticks _ _ c.args.kind c.args.kind (orders_of c.execute_one.new.orders.line) (orders_of c.loop-fill.orders.line) c.execute_one.new.ladder c.loop-fill.ladder c.loop-fill.invariant.kept c.execute_one.ensures.kept;
+  kept = same_ticks c.loop-fill.invariant.kept c.execute_one.ensures.kept;
   rest = rest_on c.args.orders.now c.loop-fill.orders c.execute_one.new.orders c.loop-fill.invariant.rest c.execute_one.ensures.rest;
 }

@@ -1,10 +1,9 @@
-use Rattle.std.proofs.Common.{◌≤◌, length, IsSome, IfSome, sym, ap, subst, ◌∙◌, refl}
+use Rattle.std.proofs.Common.{◌≤◌, IsSome, IfSome, sym, ap, subst, ◌∙◌, refl}
 use Rattle.auction_terms.specs.declared.Order.{Order}
 use Rattle.auction_terms.specs.Line.{orders_of}
 use Rattle.order_book.proofs.OrderLaws.{orders_of-reduced, order_of_open}
-use Rattle.auction_terms.specs.Edits.{IsOrderly}
-use Rattle.auction.proofs.FoundLemmas.{open_with}
-use Rattle.auction.proofs.KeptLaws.{kept_tick, kept_stands, kept-reduced, kept-same}
+use Rattle.auction.proofs.FoundLemmas.{found_from, open_with}
+use Rattle.auction.proofs.KeptLaws.{kept_tick, kept_stands, kept-reduced}
 use Rattle.auction.proofs.TurnLemmas.{next_within}
 use Rattle.auction.proofs.book.execute.execute_one.Goals as goal
 
@@ -19,26 +18,19 @@ reduce-requires-clause-within c =
 
 pub take-requires-clause-in_bounds : goal.take-requires-clause-in_bounds
 take-requires-clause-in_bounds c =
-    let found = sym (order_of_open c.args.fill.id c.args.orders.now.line) ∙ sym c.get.ensures ∙ c.unwrap-order.ensures in
-    kept_tick _ _ c.args.fill.id c.args.kind c.unwrap-order.result (orders_of c.args.orders.now.line) c.args.ladder.now c.requires.kept found
+    let found = found_from c.args.fill.id c.args.orders.now.line c.get.result c.unwrap-order.result c.get.ensures c.unwrap-order.ensures in
+    kept_tick c.requires.kept c.args.fill.id c.unwrap-order.result found
 
 pub take-requires-clause-stands : goal.take-requires-clause-stands
 take-requires-clause-stands c =
-    let found = sym (order_of_open c.args.fill.id c.args.orders.now.line) ∙ sym c.get.ensures ∙ c.unwrap-order.ensures in
-    kept_stands _ _ c.args.kind c.args.fill c.unwrap-order.result (orders_of c.args.orders.now.line) c.args.ladder.now c.requires.kept found
-    (next_within c.args.fill c.unwrap-order.result (orders_of c.args.orders.now.line) c.requires.next found)
+    let found = found_from c.args.fill.id c.args.orders.now.line c.get.result c.unwrap-order.result c.get.ensures c.unwrap-order.ensures in
+    kept_stands c.requires.kept c.args.fill c.unwrap-order.result found (next_within c.args.fill c.unwrap-order.result (orders_of c.args.orders.now.line) c.requires.next found)
 
 pub returns-clause-book : goal.returns-clause-book
 returns-clause-book c = ap orders_of c.reduce.ensures.line ∙ orders_of-reduced c.args.fill c.args.orders.now.line
 
 pub returns-clause-kept : goal.returns-clause-kept
 returns-clause-kept c =
-    let low = c.args.ladder.now.low in
-    let n = length c.args.ladder.now.bids in
-    let book = orders_of c.args.orders.now.line in
-    let found = sym (order_of_open c.args.fill.id c.args.orders.now.line) ∙ sym c.get.ensures ∙ c.unwrap-order.ensures in
-    kept-same low n c.args.kind _ (orders_of c.reduce.new.self.line) _ c.take.new.ladder
-    (kept-reduced low n c.args.kind c.args.fill c.unwrap-order.result book c.args.ladder.now c.requires.kept found
-    (next_within c.args.fill c.unwrap-order.result book c.requires.next found)
-    (subst IsOrderly (returns-clause-book c) c.reduce.ensures.orderly))
-    (returns-clause-book c) c.take.ensures
+    let found = found_from c.args.fill.id c.args.orders.now.line c.get.result c.unwrap-order.result c.get.ensures c.unwrap-order.ensures in
+    kept-reduced c.requires.kept c.args.fill c.unwrap-order.result found (next_within c.args.fill c.unwrap-order.result (orders_of c.args.orders.now.line) c.requires.next found)
+    c.reduce.ensures.orderly (returns-clause-book c) c.take.ensures
