@@ -1,0 +1,77 @@
+//! A call auction board for one instrument: reads an order file on standard input, runs it on an
+//! auction, and prints a line for each command on standard output.
+#![tactic(auto)]
+
+ghost use Rattle.std.specs.Prelude.{◌≡◌, ◌<◌};
+
+mod fault;
+mod run;
+mod serve;
+
+pub use fault::Fault;
+use order_file::{Failures, FromRead, ToWrite};
+pub use run::run_file;
+pub use serve::serve;
+use std::marker::Brand;
+use std::process::ExitCode;
+use std::sync::ledger::{Blank, Ledger};
+use std::{env, io};
+
+/// Runs the program on the process's words and its ends, each of which counts its failures in a
+/// ledger of its own.
+fn run_program<I: Ledger, O: Ledger, E: Ledger>(
+    rt: &HostRuntime,
+    input: Blank,
+    output: Blank,
+    errors: Blank,
+) -> io::Result<u8>
+    requires input_name { input.name ≡ I.name }
+    requires input_parts { input.parts ≡ I.parts }
+    requires input_backed { 0 < I.parts }
+    requires output_name { output.name ≡ O.name }
+    requires output_parts { output.parts ≡ O.parts }
+    requires output_backed { 0 < O.parts }
+    requires errors_name { errors.name ≡ E.name }
+    requires errors_parts { errors.parts ≡ E.parts }
+    requires errors_backed { 0 < E.parts }
+{
+    let alloc = rt.alloc();
+    let mut reader = FromRead {
+        reader: rt.stdin(),
+        failures: Failures::<I>::new(input),
+    };
+    let mut out = ToWrite {
+        writer: rt.stdout(),
+        failures: Failures::<O>::new(output),
+    };
+    let mut err = ToWrite {
+        writer: rt.stderr(),
+        failures: Failures::<E>::new(errors),
+    };
+    let texts: Vec<String> = env::args(rt)?.collect(alloc)?;
+    let mut words = Vec::new(alloc);
+    for text in &texts {
+        words.push(text.as_str())?;
+    }
+    Ok(serve(alloc, words.as_slice(), &mut reader, &mut out, &mut err))
+}
+
+/// Says why the process's words could not be had: memory was refused, or one is not UTF-8.
+fn refuse_words(rt: &HostRuntime, error: &io::Error) -> u8 {
+    if error.kind() == io::ErrorKind::OutOfMemory {
+        let _ = eprintln!(rt; "out of memory");
+        return 3;
+    }
+    let _ = eprintln!(rt; "bad command line");
+    2
+}
+
+fn main(rt: HostRuntime) -> ExitCode {
+    match run_program::<Brand, Brand, Brand>(&rt, Blank::new(1), Blank::new(1), Blank::new(1)) {
+        Ok(status) => ExitCode::from(status),
+        Err(error) => ExitCode::from(refuse_words(&rt, &error)),
+    }
+}
+
+#[cfg(test)]
+mod tests;

@@ -1,0 +1,73 @@
+//! The whole program, but for the process's own ends.
+
+ghost use Rattle.std.specs.Prelude.{◌≡◌, ◌≤◌, ◌⊎◌};
+ghost use Rattle.callboard.specs.Status.{status_of};
+
+use crate::fault::Fault;
+use crate::run::run_file;
+use clap::Error;
+use clap::error::ErrorKind;
+use order_file::{FileFault, Sink, Source};
+use printed_lines::write_all;
+use settings::settings;
+use std::alloc::Global;
+use std::fmt::InlineText;
+
+/// Writes one line on standard error. Where that fails too there is nobody left to tell.
+fn tell<E: Sink>(err: &mut E, text: &str) {
+    if write_all(err, text.as_bytes()).is_ok() {
+        let _ = write_all(err, b"\n".as_slice());
+    }
+}
+
+fn tell_fault<E: Sink>(err: &mut E, fault: Fault) -> u8
+    ensures { result ≡ status_of fault }
+{
+    tell(err, InlineText::<64>::of(fault).as_str());
+    fault.status()
+}
+
+/// Prints the text of a command line that was refused, or the help that was asked for.
+fn answer_words<O: Sink, E: Sink>(alloc: Global, out: &mut O, err: &mut E, error: &Error) -> u8
+    ensures status { result ≤ 3 }
+    ensures quiet { (result ≡ 1) ⊎ (result ≡ 2) → O.written out.new ≡ O.written out.old }
+{
+    let text = match format!(in alloc; "{error}") {
+        Ok(text) if error.kind() != ErrorKind::OutOfMemory => text,
+        _ => return tell_fault(err, Fault::File(FileFault::NoMemory)),
+    };
+    if error.use_stderr() {
+        let _ = write_all(err, text.as_bytes());
+        return 2;
+    }
+    if write_all(out, text.as_bytes()).is_err() {
+        return tell_fault(err, Fault::WriteFailed);
+    }
+    0
+}
+
+/// Runs the program on these words, the first being its name, and answers its status: 0 done, 1 a
+/// bad order file, 2 a bad command line or bounds, a reference or limits that no auction has, 3 want
+/// of memory or a read or a write that failed.
+///
+/// What it prints goes to `out`; a fault is one line on `err`. Where the file or the command line is
+/// bad, nothing goes to `out`.
+pub fn serve<'a, R: Source, O: Sink, E: Sink>(
+    alloc: Global,
+    words: &'a [&'a str],
+    reader: &mut R,
+    out: &mut O,
+    err: &mut E,
+) -> u8
+    ensures status { result ≤ 3 }
+    ensures quiet { (result ≡ 1) ⊎ (result ≡ 2) → O.written out.new ≡ O.written out.old }
+{
+    let settings = match settings(alloc, words) {
+        Ok(settings) => settings,
+        Err(error) => return answer_words(alloc, out, err, &error),
+    };
+    match run_file(alloc, reader, out, settings.config, settings.members) {
+        Ok(()) => 0,
+        Err(fault) => tell_fault(err, fault),
+    }
+}

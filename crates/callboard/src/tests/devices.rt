@@ -1,0 +1,180 @@
+//! Readers and writers that give and take little at a time, or fail.
+
+ghost use Rattle.std.specs.Prelude.{◌≡◌, ◌<◌};
+
+use super::PLAIN;
+use crate::serve;
+use order_file::{Failures, FromRead, ToMemory, ToWrite};
+use std::alloc::Global;
+use std::io;
+use std::io::{ErrorKind, Read, Write};
+use std::marker::Brand;
+use std::str::from_utf8;
+use std::sync::ledger::{Blank, Ledger};
+
+const INPUT: &str = "1,enter,bid,100,200\n2,enter,ask,60,200\n0,uncross\n1,status,1\n";
+
+const OUTPUT: &str =
+    "1: entered 1\n2: entered 2\n3: opening price 200 volume 60 surplus 40 bid trades 1\n4: order bid 40 at 200 visible 40\n";
+
+/// Gives at most `step` bytes at a time, and fails from the read on that comes after `reads`.
+#[derive(Drop)]
+struct Giver<'a> {
+    rest: &'a [u8],
+    step: usize,
+    reads: usize,
+}
+
+impl Read for Giver<'_> {
+    fn read(&mut self, buf: &mut [u8]) -> io::Result<usize> {
+        if self.reads == 0 {
+            return Err(io::Error::from(ErrorKind::Other));
+        }
+        self.reads -= 1;
+        let count = self.rest.len().min(buf.len()).min(self.step);
+        let (front, rest) = self.rest.split_at(count);
+        buf[..count].copy_from_slice(front);
+        self.rest = rest;
+        Ok(count)
+    }
+}
+
+/// Takes at most `step` bytes at a time, and from the write on that comes after `writes` takes none,
+/// or fails.
+#[derive(Drop)]
+struct Taker {
+    bytes: Vec<u8>,
+    step: usize,
+    writes: usize,
+    fails: bool,
+}
+
+impl Write for Taker {
+    fn write(&mut self, buf: &[u8]) -> io::Result<usize> {
+        if self.writes == 0 {
+            if self.fails {
+                return Err(io::Error::from(ErrorKind::Other));
+            }
+            return Ok(0);
+        }
+        self.writes -= 1;
+        let count = buf.len().min(self.step);
+        self.bytes.extend_from_slice(&buf[..count])?;
+        Ok(count)
+    }
+
+    fn flush(&mut self) -> io::Result<()> {
+        Ok(())
+    }
+}
+
+/// What a run on such devices came to.
+#[derive(Drop)]
+struct Written {
+    status: u8,
+    out: Vec<u8>,
+    err: Vec<u8>,
+}
+
+fn serve_devices<I: Ledger, O: Ledger, E: Ledger>(
+    alloc: Global,
+    blanks: (Blank, Blank, Blank),
+    giver: Giver<'_>,
+    taker: Taker,
+) -> Written
+    requires input_name { blanks.0.name ≡ I.name }
+    requires input_parts { blanks.0.parts ≡ I.parts }
+    requires input_backed { 0 < I.parts }
+    requires output_name { blanks.1.name ≡ O.name }
+    requires output_parts { blanks.1.parts ≡ O.parts }
+    requires output_backed { 0 < O.parts }
+    requires errors_name { blanks.2.name ≡ E.name }
+    requires errors_parts { blanks.2.parts ≡ E.parts }
+    requires errors_backed { 0 < E.parts }
+{
+    let mut reader = FromRead {
+        reader: giver,
+        failures: Failures::<I>::new(blanks.0),
+    };
+    let mut out = ToWrite {
+        writer: taker,
+        failures: Failures::<O>::new(blanks.1),
+    };
+    let mut err = ToMemory {
+        bytes: Vec::new(alloc),
+        failures: Failures::<E>::new(blanks.2),
+    };
+    let status = serve(alloc, PLAIN.as_slice(), &mut reader, &mut out, &mut err);
+    let ToWrite {
+        writer,
+        failures: _,
+    } = out;
+    let ToMemory {
+        bytes: err,
+        failures: _,
+    } = err;
+    Written {
+        status,
+        out: writer.bytes,
+        err,
+    }
+}
+
+/// A run that reads and writes `step` bytes at a time, so many times.
+fn run_devices<T: AllocGlobal>(
+    rt: &T,
+    step: usize,
+    reads: usize,
+    writes: usize,
+    fails: bool,
+) -> Written {
+    let giver = Giver {
+        rest: INPUT.as_bytes(),
+        step,
+        reads,
+    };
+    let taker = Taker {
+        bytes: Vec::new(rt.alloc()),
+        step,
+        writes,
+        fails,
+    };
+    let blanks = (Blank::new(1), Blank::new(1), Blank::new(1));
+    serve_devices::<Brand, Brand, Brand>(rt.alloc(), blanks, giver, taker)
+}
+
+#[test]
+fn one_byte_at_a_time_is_enough(rt: HostRuntime) {
+    let written = run_devices(&rt, 1, 10_000, 10_000, true);
+    assert_eq!(rt; written.status, 0);
+    assert_eq!(rt; from_utf8(written.out.as_slice()).unwrap_or("?"), OUTPUT);
+    assert!(rt; written.err.is_empty());
+}
+
+#[test]
+fn a_read_that_fails_stops_the_run(rt: HostRuntime) {
+    for reads in 0..9usize {
+        let written = run_devices(&rt, 8, reads, 10_000, true);
+        assert_eq!(rt; written.status, 3);
+        assert!(rt; written.out.is_empty());
+        assert_eq!(rt;
+            from_utf8(written.err.as_slice()).unwrap_or("?"),
+            "read failed\n"
+        );
+    }
+}
+
+#[test]
+fn a_write_that_fails_leaves_a_beginning(rt: HostRuntime) {
+    for writes in 0..15usize {
+        for fails in [true, false] {
+            let written = run_devices(&rt, 8, 10_000, writes, fails);
+            assert_eq!(rt; written.status, 3);
+            assert!(rt; written.out.as_slice() == &OUTPUT.as_bytes()[..8 * writes]);
+            assert_eq!(rt;
+                from_utf8(written.err.as_slice()).unwrap_or("?"),
+                "write failed\n"
+            );
+        }
+    }
+}

@@ -1,0 +1,304 @@
+//! The order files of `examples/`, each with its printed lines.
+
+use super::{PLAIN, replies};
+use std::test::Fail;
+
+#[test]
+fn opening(rt: HostRuntime) -> Result<(), Fail> {
+    let rows = [
+        ("1,enter,bid,200,202", "entered 1"),
+        ("1,enter,bid,200,201", "entered 2"),
+        ("1,enter,bid,300,200", "entered 3"),
+        ("2,enter,ask,100,200", "entered 4"),
+        ("2,enter,ask,200,199", "entered 5"),
+        ("2,enter,ask,200,198", "entered 6"),
+        ("1,ask", "price 200 volume 500 surplus 200 bid"),
+        (
+            "0,uncross",
+            "opening price 200 volume 500 surplus 200 bid trades 3",
+        ),
+    ];
+    replies(&rt, PLAIN.as_slice(), rows.as_slice())
+}
+
+#[test]
+fn most_volume(rt: HostRuntime) -> Result<(), Fail> {
+    let rows = [
+        ("1,enter,bid,200,202", "entered 1"),
+        ("1,enter,bid,100,201", "entered 2"),
+        ("1,enter,bid,300,200", "entered 3"),
+        ("2,enter,ask,250,201", "entered 4"),
+        ("2,enter,ask,100,200", "entered 5"),
+        ("0,ask", "price 201 volume 300 surplus 50 ask"),
+        (
+            "0,uncross",
+            "opening price 201 volume 300 surplus 50 ask trades 3",
+        ),
+        ("2,trade,1", "trade 1 5 100 at 201"),
+        ("2,trade,2", "trade 1 4 100 at 201"),
+        ("2,trade,3", "trade 2 4 100 at 201"),
+        ("2,status,4", "order ask 50 at 201 visible 50"),
+    ];
+    replies(&rt, PLAIN.as_slice(), rows.as_slice())
+}
+
+#[test]
+fn least_surplus(rt: HostRuntime) -> Result<(), Fail> {
+    let rows = [
+        ("1,enter,bid,100,202", "entered 1"),
+        ("1,enter,bid,50,199", "entered 2"),
+        ("2,enter,ask,100,198", "entered 3"),
+        ("2,enter,ask,20,201", "entered 4"),
+        ("0,ask", "price 201 volume 100 surplus 20 ask"),
+    ];
+    replies(&rt, PLAIN.as_slice(), rows.as_slice())
+}
+
+#[test]
+fn surplus_bid(rt: HostRuntime) -> Result<(), Fail> {
+    let rows = [
+        ("1,enter,bid,400,202", "entered 1"),
+        ("1,enter,bid,200,201", "entered 2"),
+        ("2,enter,ask,300,199", "entered 3"),
+        ("2,enter,ask,200,198", "entered 4"),
+        ("0,ask", "price 201 volume 500 surplus 100 bid"),
+    ];
+    replies(&rt, PLAIN.as_slice(), rows.as_slice())
+}
+
+#[test]
+fn surplus_ask(rt: HostRuntime) -> Result<(), Fail> {
+    let rows = [
+        ("1,enter,bid,300,202", "entered 1"),
+        ("1,enter,bid,200,201", "entered 2"),
+        ("2,enter,ask,200,199", "entered 3"),
+        ("2,enter,ask,400,198", "entered 4"),
+        ("0,ask", "price 199 volume 500 surplus 100 ask"),
+    ];
+    replies(&rt, PLAIN.as_slice(), rows.as_slice())
+}
+
+#[test]
+fn reference(rt: HostRuntime) -> Result<(), Fail> {
+    let rows = [
+        ("1,enter,bid,100,market", "entered 1"),
+        ("2,enter,ask,100,market", "entered 2"),
+        ("1,enter,bid,50,190", "entered 3"),
+        ("2,enter,ask,50,210", "entered 4"),
+        ("0,ask", "price 200 volume 100 surplus 0 none"),
+    ];
+    replies(&rt, PLAIN.as_slice(), rows.as_slice())
+}
+
+#[test]
+fn market_orders(rt: HostRuntime) -> Result<(), Fail> {
+    let rows = [
+        ("1,enter,bid,900,market", "entered 1"),
+        ("2,enter,ask,800,market", "entered 2"),
+        ("0,ask", "price 200 volume 800 surplus 100 bid"),
+        (
+            "0,uncross",
+            "opening price 200 volume 800 surplus 100 bid trades 1",
+        ),
+        ("1,trade,1", "trade 1 2 800 at 200"),
+        ("1,status,1", "order bid 100 market visible 100"),
+    ];
+    replies(&rt, PLAIN.as_slice(), rows.as_slice())
+}
+
+#[test]
+fn no_cross(rt: HostRuntime) -> Result<(), Fail> {
+    let rows = [
+        ("1,enter,bid,80,199", "entered 1"),
+        ("2,enter,ask,80,201", "entered 2"),
+        ("0,ask", "no price bid 199 ask 201"),
+        ("0,uncross", "opening no price"),
+        ("0,ask", "no price bid 199 ask 201"),
+    ];
+    replies(&rt, PLAIN.as_slice(), rows.as_slice())
+}
+
+#[test]
+fn price_priority(rt: HostRuntime) -> Result<(), Fail> {
+    let rows = [
+        ("1,enter,bid,100,200", "entered 1"),
+        ("2,enter,bid,100,market", "entered 2"),
+        ("3,enter,ask,150,200", "entered 3"),
+        (
+            "0,uncross",
+            "opening price 200 volume 150 surplus 50 bid trades 2",
+        ),
+        ("0,trade,1", "trade 2 3 100 at 200"),
+        ("0,trade,2", "trade 1 3 50 at 200"),
+        ("0,trade,3", "refused 8 NoSuchTrade"),
+        ("1,status,1", "order bid 50 at 200 visible 50"),
+        ("2,status,2", "refused 5 UnknownOrder"),
+    ];
+    replies(&rt, PLAIN.as_slice(), rows.as_slice())
+}
+
+#[test]
+fn time_priority(rt: HostRuntime) -> Result<(), Fail> {
+    let rows = [
+        ("1,enter,bid,100,200", "entered 1"),
+        ("2,enter,bid,100,200", "entered 2"),
+        ("3,enter,ask,150,200", "entered 3"),
+        (
+            "0,uncross",
+            "opening price 200 volume 150 surplus 50 bid trades 2",
+        ),
+        ("0,trade,1", "trade 1 3 100 at 200"),
+        ("0,trade,2", "trade 2 3 50 at 200"),
+        ("1,status,1", "refused 5 UnknownOrder"),
+        ("2,status,2", "order bid 50 at 200 visible 50"),
+    ];
+    replies(&rt, PLAIN.as_slice(), rows.as_slice())
+}
+
+#[test]
+fn more_quantity(rt: HostRuntime) -> Result<(), Fail> {
+    let rows = [
+        ("1,enter,bid,100,200", "entered 1"),
+        ("2,enter,bid,100,200", "entered 2"),
+        ("1,change,1,120,200", "changed moved"),
+        ("3,enter,ask,100,200", "entered 3"),
+        (
+            "0,uncross",
+            "opening price 200 volume 100 surplus 120 bid trades 1",
+        ),
+        ("0,trade,1", "trade 2 3 100 at 200"),
+    ];
+    replies(&rt, PLAIN.as_slice(), rows.as_slice())
+}
+
+#[test]
+fn less_quantity(rt: HostRuntime) -> Result<(), Fail> {
+    let rows = [
+        ("1,enter,bid,100,200", "entered 1"),
+        ("2,enter,bid,100,200", "entered 2"),
+        ("1,change,1,60,200", "changed kept"),
+        ("3,enter,ask,100,200", "entered 3"),
+        (
+            "0,uncross",
+            "opening price 200 volume 100 surplus 60 bid trades 2",
+        ),
+        ("0,trade,1", "trade 1 3 60 at 200"),
+        ("0,trade,2", "trade 2 3 40 at 200"),
+    ];
+    replies(&rt, PLAIN.as_slice(), rows.as_slice())
+}
+
+#[test]
+fn iceberg(rt: HostRuntime) -> Result<(), Fail> {
+    let rows = [
+        ("1,enter,bid,500,200,100", "entered 1"),
+        ("2,enter,ask,300,200", "entered 2"),
+        (
+            "0,uncross",
+            "opening price 200 volume 300 surplus 200 bid trades 1",
+        ),
+        ("1,status,1", "order bid 200 at 200 visible 100"),
+    ];
+    replies(&rt, PLAIN.as_slice(), rows.as_slice())
+}
+
+#[test]
+fn day(rt: HostRuntime) -> Result<(), Fail> {
+    let rows = [
+        ("1,enter,bid,100,210", "entered 1"),
+        ("2,enter,ask,100,206", "entered 2"),
+        (
+            "0,uncross",
+            "opening price 206 volume 100 surplus 0 none trades 1",
+        ),
+        ("1,enter,bid,30,market", "entered 3"),
+        ("2,enter,ask,20,market", "entered 4"),
+        (
+            "0,uncross",
+            "intraday price 206 volume 20 surplus 10 bid trades 1",
+        ),
+        ("3,trade,2", "trade 3 4 20 at 206"),
+        ("1,status,3", "order bid 10 market visible 10"),
+        ("0,uncross", "closing no price"),
+        ("1,trade,1", "trade 1 2 100 at 206"),
+        ("1,delete,3", "refused 7 DayOver"),
+    ];
+    replies(&rt, PLAIN.as_slice(), rows.as_slice())
+}
+
+#[test]
+fn closing_only(rt: HostRuntime) -> Result<(), Fail> {
+    let rows = [
+        ("1,enter,bid,100,200,,closing", "entered 1"),
+        ("2,enter,ask,100,200", "entered 2"),
+        ("0,ask", "no price bid - ask 200"),
+        ("0,uncross", "opening no price"),
+        ("0,uncross", "intraday no price"),
+        ("0,ask", "price 200 volume 100 surplus 0 none"),
+        (
+            "0,uncross",
+            "closing price 200 volume 100 surplus 0 none trades 1",
+        ),
+    ];
+    replies(&rt, PLAIN.as_slice(), rows.as_slice())
+}
+
+#[test]
+fn opening_only(rt: HostRuntime) -> Result<(), Fail> {
+    let rows = [
+        ("1,enter,bid,100,200,,opening", "entered 1"),
+        ("0,uncross", "opening no price"),
+        ("1,status,1", "refused 5 UnknownOrder"),
+        ("1,enter,bid,5,200,,opening", "refused 9 PastAuction"),
+    ];
+    replies(&rt, PLAIN.as_slice(), rows.as_slice())
+}
+
+#[test]
+fn interruption(rt: HostRuntime) -> Result<(), Fail> {
+    let rows = [
+        ("1,enter,bid,100,210", "entered 1"),
+        ("2,enter,ask,100,206", "entered 2"),
+        (
+            "0,uncross",
+            "interrupted price 206 volume 100 surplus 0 none",
+        ),
+        ("1,delete,1", "deleted"),
+        ("0,uncross", "opening no price"),
+        ("1,enter,bid,100,210", "entered 3"),
+        (
+            "0,uncross",
+            "interrupted price 206 volume 100 surplus 0 none",
+        ),
+        (
+            "0,uncross",
+            "intraday price 206 volume 100 surplus 0 none trades 1",
+        ),
+    ];
+    replies(
+        &rt,
+        ["callboard", "--range", "5"].as_slice(),
+        rows.as_slice(),
+    )
+}
+
+#[test]
+fn refusals(rt: HostRuntime) -> Result<(), Fail> {
+    let rows = [
+        ("1,enter,bid,0,200", "refused 1 BadQuantity"),
+        ("1,enter,bid,5,1001", "refused 2 BadLimit"),
+        ("1,enter,bid,5,200,6", "refused 3 BadPeak"),
+        ("1,enter,bid,5,market,5", "refused 3 BadPeak"),
+        ("1,enter,bid,5,200", "entered 1"),
+        ("2,delete,1", "refused 5 UnknownOrder"),
+        ("1,uncross", "refused 6 NotOperator"),
+        ("0,trade,1", "refused 8 NoSuchTrade"),
+        ("0,uncross", "opening no price"),
+        ("0,uncross", "intraday no price"),
+        ("0,uncross", "closing no price"),
+        ("1,enter,bid,0,200", "refused 7 DayOver"),
+        ("1,status,1", "order bid 5 at 200 visible 5"),
+        ("1,ask", "refused 7 DayOver"),
+    ];
+    replies(&rt, PLAIN.as_slice(), rows.as_slice())
+}

@@ -1,0 +1,54 @@
+-- What an order file says: the calls, each a member and a command, or the first fault.
+use Rattle.std.specs.Prelude.{◌≡◌, ℕ, ◌+◌, ◌<◌, List, [], ◌∷◌, length, nat_le, nat_lt, if◌then◌else◌, Result, Ok, Err}
+use Rattle.csv.specs.Reading.{default_config, records, strip_bom}
+use Rattle.order_file.specs.Record.{numbered_call, ◌>>=◌}
+use Rattle.order_file.specs.declared.fault.FileFault.{FileFault}
+use Rattle.order_file.specs.declared.fault.FileFault.TheVariants.{TooLong, ReadFailed, TooManyCommands, NoMemory}
+use Rattle.auction_terms.specs.declared.Command.{Command}
+
+abbrev pub Call : Type 0
+Call = ℕ × Command
+
+-- the calls of the records that come after so many others
+unfoldable pub calls_after : ℕ → ℕ → ℕ → List (List (List ℕ)) → Result (List Call) FileFault
+calls_after members max_calls before [] = Ok []
+calls_after members max_calls before (r ∷ rs) =
+    if nat_le max_calls before then Err (TooManyCommands (before + 1))
+    else do
+      call ← numbered_call members (before + 1) r
+      rest ← calls_after members max_calls (before + 1) rs
+      Ok (call ∷ rest)
+
+-- the calls of the records of a text
+abbrev pub calls_of : ℕ → ℕ → List ℕ → Result (List Call) FileFault
+calls_of members max_calls bytes = calls_after members max_calls 0 (records default_config (strip_bom bytes))
+
+-- how many bytes an order file may have
+abbrev pub max_bytes : ℕ
+max_bytes = 67108864
+
+unfoldable pub within_limit : List ℕ → Result (List ℕ) FileFault
+within_limit bytes = if nat_lt max_bytes (length bytes) then Err TooLong else Ok bytes
+
+unfoldable pub file : List ℕ → ℕ → ℕ → Result (List Call) FileFault
+file bytes members max_calls = within_limit bytes >>= calls_of members max_calls
+
+-- What a function returned, seen by view, is what was wanted, unless memory ran out or a read failed.
+abbrev pub Fails : {Y : Type 0} → FileFault → Result Y FileFault → Type 0
+Fails NoMemory wanted = Unit {0}
+Fails ReadFailed wanted = Unit {0}
+Fails e wanted = wanted ≡ Err e
+
+abbrev pub Gives : {X Y : Type 0} → (X → Y) → Result X FileFault → Result Y FileFault → Type 0
+Gives view (Ok x) wanted = wanted ≡ Ok (view x)
+Gives view (Err e) wanted = Fails e wanted
+
+-- a call of a member with a number below this
+abbrev pub IsBelow : ℕ → Call → Type 0
+IsBelow members call = call.0 < members
+
+-- a fault that comes after the reading
+abbrev pub IsOfRecord : FileFault → Type 0
+IsOfRecord ReadFailed = ⊥
+IsOfRecord TooLong = ⊥
+IsOfRecord e = Unit {0}

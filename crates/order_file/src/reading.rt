@@ -1,0 +1,139 @@
+//! Reading an order file.
+
+ghost use Rattle.std.specs.Prelude.{◌≡◌, ◌<◌, ◌≤◌, ◌↔◌, ◌∷◌, ℕ, All, List, [], length, IfErr, IfOk, IfSome, IsErrOf, MatchBool};
+ghost use Rattle.std.specs.Io.KnownBytes.{Consumes};
+ghost use Rattle.csv.specs.Records.{fields_of};
+ghost use Rattle.order_file.specs.File.{Gives, IsBelow, IsOfRecord, file, calls_after, calls_of, within_limit};
+ghost use Rattle.order_file.specs.Rows.{Stands, rows_left};
+
+use crate::fault::FileFault;
+use crate::record::numbered_call;
+use crate::source::Source;
+use auction_terms::Command;
+use csv::{ByteRecord, Reader, ReaderBuilder};
+use std::alloc::Global;
+
+/// How many bytes an order file may have at most.
+pub const MAX_BYTES: usize = 67_108_864;
+
+// How many bytes are asked for at a time.
+const CHUNK: usize = 65_536;
+
+/// Everything that is left to read.
+fn bytes_of<R: Source>(alloc: Global, reader: &mut R) -> Result<Vec<u8>, FileFault>
+    ensures failed { IsErrOf result FileFault.ReadFailed ↔ (R.failures reader.old < R.failures reader.new) }
+    ensures bytes { IfSome (R.left reader.old) (λ left. Gives (λ v. v.items) result (within_limit left)) }
+    ensures taken { (bytes : List ℕ) × Consumes (R.left reader.old) (R.left reader.new) bytes × (length bytes ≤ 67108865) }
+{
+    let mut bytes = Vec::new(alloc);
+    let mut chunk = [0u8; CHUNK];
+    'reads: while bytes.len() <= MAX_BYTES {
+        let room = (MAX_BYTES + 1 - bytes.len()).min(CHUNK);
+        let buffer = &mut chunk[..room];
+        let Ok(count) = reader.read(buffer) else {
+            return Err(FileFault::ReadFailed);
+        };
+        if count == 0 {
+            return Ok(bytes);
+        }
+        if bytes.extend_from_slice(&buffer[..count]).is_err() {
+            return Err(FileFault::NoMemory);
+        }
+    }
+    Err(FileFault::TooLong)
+}
+
+/// The next record of the file, and whether there was one.
+fn next_row(reader: &mut Reader<&[u8]>, row: &mut ByteRecord) -> Result<bool, FileFault>
+    requires { Stands reader.old }
+    ensures memory { IfErr result (λ e. e ≡ FileFault.NoMemory) }
+    ensures row { IfOk result (λ found. MatchBool found
+        ((rows_left reader.old ≡ fields_of row.new ∷ rows_left reader.new) × Stands reader.new)
+        (rows_left reader.old ≡ [])) }
+{
+    // Bytes in memory are read without a failure, so what fails is memory.
+    let Ok(found) = reader.read_byte_record(row) else {
+        return Err(FileFault::NoMemory);
+    };
+    Ok(found)
+}
+
+/// The calls of the records that a reader has left.
+fn calls_from(
+    alloc: Global,
+    reader: &mut Reader<&[u8]>,
+    members: u8,
+    max_calls: u32,
+) -> Result<Vec<(u8, Command)>, FileFault>
+    requires { Stands reader.old }
+    ensures calls { Gives (λ v. v.items) result (calls_after members max_calls 0 (rows_left reader.old)) }
+    ensures parsed { IfErr result IsOfRecord }
+    ensures few { IfOk result (λ v. length v.items ≤ max_calls) }
+    ensures below { IfOk result (λ v. All (IsBelow members) v.items) }
+{
+    let mut row = ByteRecord::new(alloc);
+    let mut calls = Vec::new(alloc);
+    for before in 0..max_calls {
+        if !next_row(reader, &mut row)? {
+            return Ok(calls);
+        }
+        let call = numbered_call(&row, u64::from(before) + 1, members)?;
+        if calls.push(call).is_err() {
+            return Err(FileFault::NoMemory);
+        }
+    }
+    if next_row(reader, &mut row)? {
+        return Err(FileFault::TooManyCommands {
+            number: u64::from(max_calls) + 1,
+        });
+    }
+    Ok(calls)
+}
+
+/// The calls of a file that was read.
+fn calls_of(
+    alloc: Global,
+    bytes: &[u8],
+    members: u8,
+    max_calls: u32,
+) -> Result<Vec<(u8, Command)>, FileFault>
+    ensures calls { Gives (λ v. v.items) result (calls_of members max_calls bytes.now) }
+    ensures parsed { IfErr result IsOfRecord }
+    ensures few { IfOk result (λ v. length v.items ≤ max_calls) }
+    ensures below { IfOk result (λ v. All (IsBelow members) v.items) }
+{
+    let mut reader = ReaderBuilder::new()
+        .has_headers(false)
+        .flexible(true)
+        .from_reader(alloc, bytes);
+    calls_from(alloc, &mut reader, members, max_calls)
+}
+
+/// Reads an order file to its end, and answers its calls, each a member and a command, in the order
+/// of the records.
+///
+/// `members` is how many members the board has, `max_calls` how many commands may be applied. No call
+/// is answered where the file has a fault: that of the first bad record, in a record the member before
+/// the command word, then the number of fields, then the fields from left to right. A file that is too
+/// long and a read that fails are found before any record is looked at. That the numbers of a command
+/// are within the auction's limits is for the auction to say.
+#[tactic(auto, unfolding(crate::specs::File::file))]
+pub fn read_orders<R: Source>(
+    alloc: Global,
+    reader: &mut R,
+    members: u8,
+    max_calls: u32,
+) -> Result<Vec<(u8, Command)>, FileFault>
+    // A read failed.
+    ensures failed { IsErrOf result FileFault.ReadFailed ↔ (R.failures reader.old < R.failures reader.new) }
+    // Else, want of memory aside, it is what the file says.
+    ensures answer { IfSome (R.left reader.old) (λ bytes. Gives (λ v. v.items) result (file bytes members max_calls)) }
+    // It is never more calls than may be applied, each of one of the members.
+    ensures few { IfOk result (λ v. length v.items ≤ max_calls) }
+    ensures below { IfOk result (λ v. All (IsBelow members) v.items) }
+    // However long the file is, so many bytes are taken.
+    ensures taken { (bytes : List ℕ) × Consumes (R.left reader.old) (R.left reader.new) bytes × (length bytes ≤ 67108865) }
+{
+    let bytes = bytes_of(alloc, reader)?;
+    calls_of(alloc, bytes.as_slice(), members, max_calls)
+}

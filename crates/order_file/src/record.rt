@@ -1,0 +1,245 @@
+//! A record of the order file as a command.
+
+ghost use Rattle.std.specs.Prelude.{◌≡◌, ◌<◌, IfErr, IfOk};
+ghost use Rattle.csv.specs.Records.{fields_of};
+ghost use Rattle.order_file.specs.Field.{number_of, side_of, limit_of, peak_of, only_of};
+ghost use Rattle.order_file.specs.File.{IsOfRecord};
+ghost use Rattle.order_file.specs.Word.{word_of};
+ghost use Rattle.order_file.specs.Record.{field_as, peak_at, only_at, member_of, word_at, count_within, enter_of, change_of, lone_number, command_of, call_of, numbered_call};
+
+use crate::fault::{FileFault, RecordFault};
+use crate::field::{limit_of, number_of, only_of, peak_of, side_of};
+use auction_terms::{Command, Limit, Only, Side};
+use csv::ByteRecord;
+
+/// The word of a command.
+#[derive(Clone, Copy, Debug, PartialEq, Eq)]
+enum Word {
+    Enter,
+    Change,
+    Delete,
+    Status,
+    Ask,
+    Trade,
+    Uncross,
+}
+
+#[tactic(auto, unfolding(crate::specs::Word::word_of))]
+fn word_of(field: &[u8]) -> Option<Word>
+    ensures { result ≡ word_of field.now }
+{
+    if field == b"enter".as_slice() {
+        Some(Word::Enter)
+    } else if field == b"change".as_slice() {
+        Some(Word::Change)
+    } else if field == b"delete".as_slice() {
+        Some(Word::Delete)
+    } else if field == b"status".as_slice() {
+        Some(Word::Status)
+    } else if field == b"ask".as_slice() {
+        Some(Word::Ask)
+    } else if field == b"trade".as_slice() {
+        Some(Word::Trade)
+    } else if field == b"uncross".as_slice() {
+        Some(Word::Uncross)
+    } else {
+        None
+    }
+}
+
+/// Whether the record has so many fields.
+#[tactic(auto, unfolding(crate::specs::Record::count_within))]
+fn count_within(fields: &ByteRecord, least: usize, most: usize) -> Result<(), RecordFault>
+    ensures { result ≡ count_within least most (fields_of fields.now) }
+{
+    let count = fields.len();
+    if count < least || count > most {
+        return Err(RecordFault::BadCount);
+    }
+    Ok(())
+}
+
+#[tactic(auto, unfolding(crate::specs::Record::field_as))]
+fn number_at(fields: &ByteRecord, place: usize) -> Result<u32, RecordFault>
+    requires { place < 64 }
+    ensures { result ≡ field_as number_of place (fields_of fields.now) }
+{
+    fields
+        .get(place)
+        .and_then(|field| number_of(field))
+        .ok_or(RecordFault::BadField { field: place + 1 })
+}
+
+#[tactic(auto, unfolding(crate::specs::Record::field_as))]
+fn side_at(fields: &ByteRecord, place: usize) -> Result<Side, RecordFault>
+    requires { place < 64 }
+    ensures { result ≡ field_as side_of place (fields_of fields.now) }
+{
+    fields
+        .get(place)
+        .and_then(|field| side_of(field))
+        .ok_or(RecordFault::BadField { field: place + 1 })
+}
+
+#[tactic(auto, unfolding(crate::specs::Record::field_as))]
+fn limit_at(fields: &ByteRecord, place: usize) -> Result<Limit, RecordFault>
+    requires { place < 64 }
+    ensures { result ≡ field_as limit_of place (fields_of fields.now) }
+{
+    fields
+        .get(place)
+        .and_then(|field| limit_of(field))
+        .ok_or(RecordFault::BadField { field: place + 1 })
+}
+
+/// The peak, which may be left out.
+#[tactic(auto, unfolding(crate::specs::Record::peak_at))]
+fn peak_at(fields: &ByteRecord, place: usize) -> Result<Option<u64>, RecordFault>
+    requires { place < 64 }
+    ensures { result ≡ peak_at place (fields_of fields.now) }
+{
+    match fields.get(place) {
+        None => Ok(None),
+        Some(field) => peak_of(field).ok_or(RecordFault::BadField { field: place + 1 }),
+    }
+}
+
+/// The auctions that the order is for, which may be left out.
+#[tactic(auto, unfolding(crate::specs::Record::only_at))]
+fn only_at(fields: &ByteRecord, place: usize) -> Result<Only, RecordFault>
+    requires { place < 64 }
+    ensures { result ≡ only_at place (fields_of fields.now) }
+{
+    match fields.get(place) {
+        None => Ok(Only::Any),
+        Some(field) => only_of(field).ok_or(RecordFault::BadField { field: place + 1 }),
+    }
+}
+
+#[tactic(auto, unfolding(crate::specs::Record::member_of))]
+fn member_of(fields: &ByteRecord, members: u8) -> Result<u8, RecordFault>
+    ensures member { result ≡ member_of members (fields_of fields.now) }
+    ensures below { IfOk result (λ member. member < members) }
+{
+    let member = fields
+        .get(0)
+        .and_then(|field| number_of(field))
+        .ok_or(RecordFault::BadMember)?;
+    if member >= u32::from(members) {
+        return Err(RecordFault::BadMember);
+    }
+    Ok(member as u8)
+}
+
+#[tactic(auto, unfolding(crate::specs::Record::word_at))]
+fn word_at(fields: &ByteRecord) -> Result<Word, RecordFault>
+    ensures { result ≡ word_at (fields_of fields.now) }
+{
+    fields
+        .get(1)
+        .and_then(|field| word_of(field))
+        .ok_or(RecordFault::BadCommand)
+}
+
+#[tactic(auto, unfolding(crate::specs::Record::enter_of))]
+fn enter_of(fields: &ByteRecord) -> Result<Command, RecordFault>
+    ensures { result ≡ enter_of (fields_of fields.now) }
+{
+    count_within(fields, 5, 7)?;
+    let side = side_at(fields, 2)?;
+    let quantity = number_at(fields, 3)?;
+    let limit = limit_at(fields, 4)?;
+    let peak = peak_at(fields, 5)?;
+    let only = only_at(fields, 6)?;
+    Ok(Command::Enter {
+        side,
+        limit,
+        quantity: u64::from(quantity),
+        peak,
+        only,
+    })
+}
+
+#[tactic(auto, unfolding(crate::specs::Record::change_of))]
+fn change_of(fields: &ByteRecord) -> Result<Command, RecordFault>
+    ensures { result ≡ change_of (fields_of fields.now) }
+{
+    count_within(fields, 5, 5)?;
+    let id = number_at(fields, 2)?;
+    let quantity = number_at(fields, 3)?;
+    let limit = limit_at(fields, 4)?;
+    Ok(Command::Change {
+        id,
+        limit,
+        quantity: u64::from(quantity),
+    })
+}
+
+/// The number that stands alone behind the command word.
+#[tactic(auto, unfolding(crate::specs::Record::lone_number))]
+fn lone_number(fields: &ByteRecord) -> Result<u32, RecordFault>
+    ensures { result ≡ lone_number (fields_of fields.now) }
+{
+    count_within(fields, 3, 3)?;
+    number_at(fields, 2)
+}
+
+/// What stands behind a command word.
+#[tactic(auto, unfolding(crate::specs::Record::command_of))]
+fn command_of(word: Word, fields: &ByteRecord) -> Result<Command, RecordFault>
+    ensures { result ≡ command_of word (fields_of fields.now) }
+{
+    match word {
+        Word::Enter => enter_of(fields),
+        Word::Change => change_of(fields),
+        Word::Delete => {
+            let id = lone_number(fields)?;
+            Ok(Command::Delete { id })
+        }
+        Word::Status => {
+            let id = lone_number(fields)?;
+            Ok(Command::Status { id })
+        }
+        Word::Trade => {
+            let number = lone_number(fields)?;
+            Ok(Command::Trade { number })
+        }
+        Word::Ask => {
+            count_within(fields, 2, 2)?;
+            Ok(Command::Ask)
+        }
+        Word::Uncross => {
+            count_within(fields, 2, 2)?;
+            Ok(Command::Uncross)
+        }
+    }
+}
+
+/// The member and the command of a record, or its first fault.
+#[tactic(auto, unfolding(crate::specs::Record::call_of))]
+fn call_of(fields: &ByteRecord, members: u8) -> Result<(u8, Command), RecordFault>
+    ensures call { result ≡ call_of members (fields_of fields.now) }
+    ensures below { IfOk result (λ call. call.0 < members) }
+{
+    let member = member_of(fields, members)?;
+    let word = word_at(fields)?;
+    let command = command_of(word, fields)?;
+    Ok((member, command))
+}
+
+/// The same, with the number of the record in its fault.
+#[tactic(auto, unfolding(crate::specs::Record::numbered_call))]
+pub fn numbered_call(
+    fields: &ByteRecord,
+    number: u64,
+    members: u8,
+) -> Result<(u8, Command), FileFault>
+    ensures call { result ≡ numbered_call members number (fields_of fields.now) }
+    ensures parsed { IfErr result IsOfRecord }
+    ensures below { IfOk result (λ call. call.0 < members) }
+{
+    match call_of(fields, members) {
+        Ok(call) => Ok(call),
+        Err(fault) => Err(fault.in_record(number)),
+    }
+}
