@@ -1,15 +1,14 @@
 -- Laws of the price: no tick has more volume, none has any without a price, and a reference that is itself the price is balanced.
-use Rattle.std.proofs.Common.{◌≡◌, ℕ, ◌+◌, ◌-◌, ◌<◌, ◌≤◌, min, max, Bool, true, false, ◌&&◌, not, eqb, ltb, leb, List, [], ◌∷◌, filter, fold, All, Option, Some, None, option_map, ◌⊎◌, inl, inr, refl, sym, ap, subst, ◌∙◌, arith}
+use Rattle.std.proofs.Common.{◌≡◌, ℕ, ◌<◌, ◌≤◌, Bool, true, false, ◌&&◌, not, eqb, ltb, leb, List, [], ◌∷◌, filter, fold, All, Option, Some, None, option_map, ◌⊎◌, inl, inr, refl, sym, ap, subst, ◌∙◌, arith}
 use Rattle.std.specs.Prelude.{IfSome, IfNone}
 use Rattle.std.specs.List.{list_any, list_all}
-use Rattle.std.specs.Option.{option_map_or}
-use Rattle.std.proofs.lemmas.Bool.{ltb-true, ltb-false, leb-false, eqb-true, eq-eqb, ne_eqb, cases_lt, cases_eq, cases_Bool, and_parts, and_from}
-use Rattle.std.proofs.lemmas.List.Elements.{All-nil, All-cons, All-head, All-tail, All-weaker, All-filter, filter_passes}
+use Rattle.std.proofs.lemmas.Bool.{ltb-false, leb-false, eq-eqb, ne_eqb, cases_lt, cases_eq, cases_Bool}
+use Rattle.std.proofs.lemmas.List.Elements.{All-nil, All-head, All-tail, All-weaker, filter_passes}
 use Rattle.auction_terms.specs.declared.Order.{Order}
 use Rattle.auction_terms.specs.declared.Price.{Price}
-use Rattle.auction_terms.specs.Book.{demand, supply, volume, surplus, has_bid_surplus, has_ask_surplus, limits}
+use Rattle.auction_terms.specs.Book.{volume, surplus, has_bid_surplus, has_ask_surplus, limits}
 use Rattle.auction_terms.specs.PriceOf.{highest, lowest, is_empty, priced, lower_kept, upper_kept, price}
-use Rattle.auction_terms.proofs.Shape.{demand_falls, supply_rises, demand_same, supply_same, volume_le}
+use Rattle.auction_terms.proofs.Shape.{demand_same, supply_same, volume_le}
 use Rattle.auction_terms.specs.Leading.{Leaders, has_key, keyed, lower_among, upper_among, NoBetter, Lead, AreBest, tick_between}
 use Rattle.auction_terms.proofs.BestLemmas.{on_bid, on_ask, balanced, side_of, next_after, scanned_best}
 use Rattle.auction_terms.proofs.ChoiceLaws.{is_limited, limits_empty, best_limits_keyed, best_limits_none, scanned, price_scanned, filter_all, all_or_some}

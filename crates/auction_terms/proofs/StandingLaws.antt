@@ -1,5 +1,5 @@
 -- Where orders of a side have their limits, their quantities stand.
-use Rattle.std.proofs.Common.{◌≡◌, ℕ, ◌+◌, ◌<◌, ◌≤◌, inl, inr, Bool, true, false, cond, ◌&&◌, List, [], ◌∷◌, filter, All, refl, sym, ap, subst, ◌∙◌, arith, nat_eq, zero-add}
+use Rattle.std.proofs.Common.{◌≡◌, ℕ, ◌+◌, ◌<◌, inl, inr, Bool, true, false, cond, ◌&&◌, List, [], ◌∷◌, filter, All, refl, sym, ap, subst, ◌∙◌, arith, nat_eq, zero-add}
 use Rattle.std.proofs.lemmas.Bool.{cases_Bool, eqb-true, eq-eqb}
 use Rattle.std.proofs.lemmas.List.Elements.{All-head, All-tail}
 use Rattle.auction_terms.specs.declared.Order.{Order}
@@ -8,7 +8,7 @@ use Rattle.auction_terms.specs.declared.Limit.{Limit}
 use Rattle.auction_terms.specs.declared.Limit.TheVariants.{Market, At}
 use Rattle.auction_terms.specs.Book.{is_on, limits, quantity_of}
 use Rattle.auction_terms.specs.Ladder.{is_at, standing}
-use Rattle.auction_terms.proofs.Sums.{counted, quantity_of-cons}
+use Rattle.auction_terms.proofs.Sums.{quantity_of-cons}
 use Rattle.auction_terms.specs.Leading.{has}
 use Rattle.auction_terms.proofs.Members.{has-first, has-later, has-cases, no_tick}
 

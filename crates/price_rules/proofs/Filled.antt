@@ -1,11 +1,9 @@
 -- The limits around the crossing in their lanes.
-use Rattle.std.proofs.Common.{◌≡◌, ℕ, zero, suc, ◌+◌, ◌≤◌, ◌<◌, ◌⊎◌, inl, inr, true, List, [], ◌∷◌, ◌++◌, Option, Some, None, length, get_or, refl, sym, ap, subst, ◌∙◌, arith}
-use Rattle.std.specs.Prelude.{MatchOption}
+use Rattle.std.proofs.Common.{◌≡◌, ℕ, zero, suc, ◌+◌, ◌≤◌, ◌<◌, inl, inr, true, List, [], ◌∷◌, ◌++◌, Option, Some, None, length, get_or, refl, ap, ◌∙◌, arith}
 use Rattle.auction_terms.specs.declared.Order.{Order}
 use Rattle.auction_terms.specs.Book.{demand, supply}
 use Rattle.auction_terms.specs.Ladder.{LadderView}
 use Rattle.auction_terms.specs.Leading.{has}
-use Rattle.tick_ladder.specs.Standing.{IsClear, IsLast, IsFirst}
 use Rattle.price_rules.specs.declared.surroundings.Around.{Around}
 use Rattle.price_rules.specs.declared.candidates.Candidate.{Candidate}
 use Rattle.price_rules.specs.Around.{IsAround, IsFar, IsPoint, here_at, tick_list, few_limits}

@@ -1,5 +1,5 @@
 -- Demand and supply at the limits next to the crossing, and the price from them.
-use Rattle.std.proofs.Common.{◌≡◌, ℕ, ◌+◌, ◌-◌, ◌≤◌, ◌<◌, Bool, true, false, cond, ltb, not, List, [], Option, Some, None, length, min, refl, sym, ap, ◌∙◌, arith}
+use Rattle.std.proofs.Common.{◌≡◌, ℕ, ◌+◌, ◌-◌, ◌≤◌, ◌<◌, Bool, true, false, cond, ltb, not, List, [], Some, None, length, min, refl, sym, ap, ◌∙◌, arith}
 use Rattle.std.specs.List.{list_any}
 use Rattle.auction_terms.specs.declared.Order.{Order}
 use Rattle.auction_terms.specs.Book.{demand, supply, volume, surplus, surplus_side, has_bid_surplus, has_ask_surplus, limits}

@@ -1,15 +1,14 @@
 -- The candidates that the kernels leave are the best.
-use Rattle.std.proofs.Common.{◌≡◌, ◌≢◌, ℕ, ◌+◌, ◌-◌, ◌≤◌, ◌<◌, inl, inr, true, min, eqb, List, filter, All, Option, Some, None, length, get_or, refl, sym, ap, ◌∙◌, arith}
+use Rattle.std.proofs.Common.{◌≡◌, ℕ, ◌≤◌, ◌<◌, true, min, eqb, List, filter, All, Option, length, get_or, refl, sym, ap, ◌∙◌, arith}
 use Rattle.std.specs.Simd.Lanes.{zip2}
 use Rattle.std.proofs.lemmas.Bool.{lt-ltb, eq-eqb, and_from}
 use Rattle.std.proofs.lemmas.Simd.{length-zip2}
 use Rattle.auction_terms.specs.declared.Order.{Order}
 use Rattle.auction_terms.specs.Book.{demand, supply, volume, surplus, has_bid_surplus, has_ask_surplus}
-use Rattle.auction_terms.specs.PriceOf.{highest, lowest}
-use Rattle.auction_terms.specs.Leading.{Leaders, has, has_key, keyed, lower_among, upper_among, NoBetter, Lead}
+use Rattle.auction_terms.specs.Leading.{Leaders, has_key, keyed, lower_among, upper_among, NoBetter, Lead}
 use Rattle.auction_terms.proofs.KeptLaws.{amounts, bid_amounts, ask_amounts, key_parts}
 use Rattle.auction_terms.proofs.Members.{All_from, not_empty}
-use Rattle.lane_select.specs.Select.{distance, kept_if_equal, kept_if_above, NoFlagIn, IsFirstFlag, IsLastFlag, IsGreatestFlagged, IsLeastFlagged}
+use Rattle.lane_select.specs.Select.{distance, kept_if_equal, kept_if_above, NoFlagIn, IsGreatestFlagged, IsLeastFlagged}
 use Rattle.price_rules.specs.declared.candidates.Lanes.{Lanes}
 use Rattle.price_rules.specs.InLanes.{AreCandidates, AreMarked, IsWithin}
 use Rattle.price_rules.proofs.Marks.{zip_at, kept_parts, kept_there, above_parts, above_there, inside, marked_part}

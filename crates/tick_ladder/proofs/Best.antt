@@ -1,7 +1,7 @@
 -- The best tick of a side.
-use Rattle.std.proofs.Common.{◌≡◌, ℕ, zero, suc, ◌+◌, ◌-◌, ◌≤◌, ◌<◌, inl, inr, true, false, cond, ltb, List, [], ◌∷◌, filter, All, Option, Some, None, option_map, length, get_or, refl, sym, ap, ◌∙◌, arith}
-use Rattle.std.specs.Prelude.{IfSome, MatchOption}
-use Rattle.std.proofs.lemmas.Bool.{cases_lt, cases_order, lt-ltb, le-ltb}
+use Rattle.std.proofs.Common.{◌≡◌, ℕ, zero, suc, ◌+◌, ◌-◌, ◌≤◌, ◌<◌, inl, inr, true, List, [], ◌∷◌, filter, All, Option, Some, None, option_map, length, get_or, refl, sym, ap, ◌∙◌, arith}
+use Rattle.std.specs.Prelude.{MatchOption}
+use Rattle.std.proofs.lemmas.Bool.{cases_lt, lt-ltb, le-ltb}
 use Rattle.auction_terms.specs.declared.Order.{Order}
 use Rattle.auction_terms.specs.declared.Side.{Side}
 use Rattle.auction_terms.specs.declared.Side.TheVariants.{Buy, Sell}
@@ -12,7 +12,6 @@ use Rattle.auction_terms.specs.Leading.{has}
 use Rattle.auction_terms.proofs.Members.{has-first, has-later, has-cases, no_tick, none_empty, All_at, highest_agree, lowest_agree}
 use Rattle.auction_terms.proofs.StandingLaws.{standing_limit, limit_standing, side_limit}
 use Rattle.auction_terms.proofs.LadderLaws.{at_spread}
-use Rattle.lane_prefix.specs.Meeting.{before}
 use Rattle.tick_ladder.specs.Ladder.{positive_ticks, best_tick, best_limit, IsLadderOf}
 use Rattle.tick_ladder.specs.Standing.{IsBlank, IsLastIn, IsFirstIn}
 use Rattle.tick_ladder.proofs.Sums.{before_next, before_rises}

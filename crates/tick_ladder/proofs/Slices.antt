@@ -1,5 +1,5 @@
 -- What a part of a list tells of the list.
-use Rattle.std.proofs.Common.{◌≡◌, ℕ, zero, suc, ◌+◌, ◌-◌, ◌≤◌, ◌<◌, ◌⊎◌, inl, inr, List, length, take, drop, get_or, sum, refl, sym, ap, ◌∙◌, arith}
+use Rattle.std.proofs.Common.{◌≡◌, ℕ, zero, suc, ◌+◌, ◌-◌, ◌≤◌, ◌<◌, inl, inr, List, length, take, drop, get_or, sum, refl, ap, ◌∙◌, arith}
 use Rattle.std.specs.Simd.Lanes.{chunk}
 use Rattle.std.proofs.Math.Seq.{take-add}
 use Rattle.std.proofs.lemmas.List.{take-take, get_or-take, get_or-drop}
@@ -10,7 +10,7 @@ use Rattle.lane_prefix.specs.Meeting.{before, IsMeeting}
 use Rattle.lane_select.specs.Positive.{NoneIn, IsFirstPositive, IsLastPositive}
 use Rattle.tick_ladder.specs.declared.Crossing.{Crossing}
 use Rattle.tick_ladder.specs.Standing.{IsBlank, IsLastIn, IsFirstIn, IsCrossing}
-use Rattle.tick_ladder.proofs.Sums.{before_next, before_all, before_most}
+use Rattle.tick_ladder.proofs.Sums.{before_next, before_all}
 
 pub before_chunk : (xs : List ℕ) (s n k : ℕ) → k ≤ n → before (chunk s n xs) k + before xs s ≡ before xs (s + k)
 before_chunk xs s n k h =

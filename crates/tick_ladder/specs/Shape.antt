@@ -1,5 +1,5 @@
 -- What the fields of a ladder keep, and what they stand for.
-use Rattle.std.specs.Prelude.{◌≡◌, ℕ, ◌+◌, ◌<◌, ◌≤◌, length, sum}
+use Rattle.std.specs.Prelude.{◌≡◌, ◌+◌, ◌<◌, ◌≤◌, length, sum}
 use Rattle.std.specs.Simd.Lanes.{zip2}
 use Rattle.auction_terms.specs.Ladder.{LadderView, flag_of}
 use Rattle.tick_ladder.specs.declared.Ladder.TheInside.{Inside}

@@ -8,8 +8,8 @@ pub record Going (v w : LadderView) (most : ℕ) : Type 0 where
   pub low : v.low ≡ w.low
   pub len : length v.bids ≡ length w.bids
 
-abbrev pub invariant-fill : goal.invariant-fill
-invariant-fill l = Going l.ladder l.fn.ladder l.total
+abbrev pub invariant-limits : goal.invariant-limits
+invariant-limits l = Going l.ladder l.fn.ladder l.total
 
-abbrev pub decreases-fill : goal.decreases-fill
-decreases-fill l = l.count - l.k
+abbrev pub decreases-limits : goal.decreases-limits
+decreases-limits l = l.shape.count - l.limit

@@ -1,7 +1,7 @@
-use Rattle.std.proofs.Common.{◌≡◌, ◌+◌, sum, take, arith, ap, ◌∙◌}
+use Rattle.std.proofs.Common.{sum, arith, ap}
 use Rattle.std.specs.Simd.Lanes.{chunk}
 use Rattle.std.proofs.lemmas.Simd.{length-chunk}
-use Rattle.lane_prefix.proofs.Eight.{Eight, eight}
+use Rattle.lane_prefix.proofs.Eight.{eight}
 use Rattle.lane_prefix.proofs.Running.{sum_take_chunk}
 use Rattle.lane_prefix.proofs.sum_of_eight.Goals as goal
 

@@ -1,5 +1,4 @@
-use Rattle.std.proofs.Common.{◌≡◌, ap, sym, ◌∙◌}
-use Rattle.auction_terms.specs.Leading.{AreBest}
+use Rattle.std.proofs.Common.{sym, ◌∙◌}
 use Rattle.price_rules.specs.Around.{few_limits}
 use Rattle.price_rules.specs.InLanes.{lead_of}
 use Rattle.price_rules.proofs.Curves.{tells}

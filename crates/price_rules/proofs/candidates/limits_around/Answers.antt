@@ -1,5 +1,5 @@
-use Rattle.std.proofs.Common.{◌≡◌, sym, subst}
-use Rattle.price_rules.specs.InLanes.{AreCandidates, AreMarked, in_lanes}
+use Rattle.std.proofs.Common.{sym, subst}
+use Rattle.price_rules.specs.InLanes.{AreCandidates, AreMarked}
 use Rattle.price_rules.specs.Around.{few_limits}
 use Rattle.price_rules.proofs.Curves.{tells}
 use Rattle.price_rules.proofs.Filled.{are_candidates, are_marked}

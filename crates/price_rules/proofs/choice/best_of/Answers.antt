@@ -1,4 +1,4 @@
-use Rattle.std.proofs.Common.{◌≡◌, ℕ, ◌∙◌, ap, sym, length, get_or, arith}
+use Rattle.std.proofs.Common.{◌≡◌, length, arith}
 use Rattle.auction_terms.specs.Leading.{keyed}
 use Rattle.price_rules.proofs.Selected.{AreEven, none_flagged, none_positive, some_left, best_within, best_marked, best_lead}
 use Rattle.price_rules.proofs.choice.best_of.Goals as goal

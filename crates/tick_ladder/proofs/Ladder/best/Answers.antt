@@ -1,6 +1,5 @@
-use Rattle.std.proofs.Common.{◌≡◌, Option, ℕ, ap, sym, ◌∙◌}
+use Rattle.std.proofs.Common.{ap, sym, ◌∙◌}
 use Rattle.auction_terms.specs.declared.Side.TheVariants.{Buy, Sell}
-use Rattle.auction_terms.specs.Ladder.{LadderView}
 use Rattle.tick_ladder.specs.Ladder.{best_tick, best_limit}
 use Rattle.tick_ladder.proofs.Best.{highest_found, lowest_found, best_of_book}
 use Rattle.tick_ladder.proofs.Ladder.best.Goals as goal

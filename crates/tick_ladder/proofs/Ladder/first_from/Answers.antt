@@ -1,4 +1,4 @@
-use Rattle.std.proofs.Common.{◌≤◌, length, ap, subst, ◌∙◌, arith}
+use Rattle.std.proofs.Common.{length, ap, ◌∙◌, arith}
 use Rattle.auction_terms.specs.Ladder.{LadderView}
 use Rattle.tick_ladder.proofs.Flags.{length-flags, first_found}
 use Rattle.tick_ladder.proofs.Ladder.first_from.Goals as goal

@@ -1,4 +1,4 @@
-use Rattle.std.proofs.Common.{◌≤◌, arith}
+use Rattle.std.proofs.Common.{arith}
 use Rattle.tick_ladder.proofs.Sums.{before_most}
 use Rattle.tick_ladder.proofs.Slices.{sum_part, crossing_is}
 use Rattle.tick_ladder.proofs.walks.cross_in.Goals as goal
