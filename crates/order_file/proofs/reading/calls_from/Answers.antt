@@ -27,11 +27,12 @@ loop-before-preserved c =
     let found = rw c.if-not-branch.false at c.in_ok-next_row.ensures.row in
     let call = rw c.from.ensures at c.in_ok-call.ensures.call in
     let good : is_ok c.push.result ≡ true = search rules in
-    let items = rw good at c.push.ensures.items in
-    (found.1,
-    rw items (at-call _ _ _ _ _ _ _ _ _ c.loop-before.invariant.1 found.0 c.loop-before-test.true (sym call)),
-    rw items (length-append _ _ ∙ ap (λ n. n + 1) c.loop-before.invariant.2),
-    rw items (All-push (IsBelow c.args.members) _ _ c.loop-before.invariant.3 c.in_ok-call.ensures.below))
+    let items = rw good at c.push.ensures.items in (
+      found.1,
+      rw items (at-call _ _ _ _ _ _ _ _ _ c.loop-before.invariant.1 found.0 c.loop-before-test.true (sym call)),
+      rw items (length-append _ _ ∙ ap (λ n. n + 1) c.loop-before.invariant.2),
+      rw items (All-push (IsBelow c.args.members) _ _ c.loop-before.invariant.3 c.in_ok-call.ensures.below),
+    )
 
 pub returns-then-branch-clause-calls : goal.returns-then-branch-clause-calls
 returns-then-branch-clause-calls c =
