@@ -4,27 +4,11 @@
 # long as at 1,000, and 2,000 nanoseconds at most. The first run proves and builds the program, which takes minutes.
 set -euo pipefail
 cd "$(dirname "$0")/.."
-crates="auction_terms lane_prefix lane_select tick_ladder price_rules"
-place=bench/out/price_clock
-mkdir -p "$place/crates"
-cp HANDLES "$place"
-: > "$place/crates.txt"
-for crate in $crates; do
-    grep "^$crate:" crates.txt >> "$place/crates.txt"
-    mkdir -p "$place/crates/$crate"
-    for part in src specs proofs; do
-        rm -rf "$place/crates/$crate/$part"
-        cp -a "crates/$crate/$part" "$place/crates/$crate"
-    done
-done
-echo 'price_clock: auction_terms tick_ladder price_rules' >> "$place/crates.txt"
-mkdir -p "$place/crates/price_clock"
-rm -rf "$place/crates/price_clock/src" "$place/crates/price_clock/proofs"
-cp -a bench/price_clock/. "$place/crates/price_clock"
-cd "$place/crates/price_clock"
+cd crates/price_clock
+mkdir -p out
 echo 'proving and building' >&2
-rt run > run.log 2>&1 || { cat run.log >&2; exit 1; }
-best=$(for _ in 1 2 3 4 5 6 7; do out/price_clock; done | awk '
+rt run > out/run.log 2>&1 || { cat out/run.log >&2; exit 1; }
+best=$(for _ in 1 2 3 4 5 6 7; do out/price_clock measure; done | awk '
     { key = $1 " " $2; if (!(key in least)) order[++n] = key; if (!(key in least) || $3 < least[key]) least[key] = $3 }
     END { for (i = 1; i <= n; i++) print order[i], least[order[i]] }')
 echo "$best" | awk '
