@@ -71,15 +71,31 @@ fn a_floor_is_printed(rt: HostRuntime) {
         },
     ];
     let calls = [0, 3, 0, 0];
-    let text = floor_text::<Brand>(rt.alloc(), Blank::new(1), entries.as_slice(), calls.as_slice(), None);
-    let wanted = "entries 3\nmember 0 calls 0\nmember 1 calls 3\nmember 2 calls 0\nmember 3 calls 0\naudit legal\n1: member 1 entered 1\n2: member 1 no price bid 200 ask -\n3: member 1 deleted\n";
+    let text = floor_text::<Brand>(
+        rt.alloc(),
+        Blank::new(1),
+        entries.as_slice(),
+        calls.as_slice(),
+        None,
+    );
+    let wanted =
+        "entries 3\nmember 0 calls 0\nmember 1 calls 3\nmember 2 calls 0\nmember 3 calls 0\naudit legal\n1: member 1 entered 1\n2: member 1 no price bid 200 ask -\n3: member 1 deleted\n";
     assert_eq!(rt; from_utf8(text.as_slice()).unwrap_or("?"), wanted);
 }
 
 #[test]
 fn a_bad_entry_is_named(rt: HostRuntime) {
-    let text = floor_text::<Brand>(rt.alloc(), Blank::new(1), [].as_slice(), [0].as_slice(), Some(7));
-    assert_eq!(rt; from_utf8(text.as_slice()).unwrap_or("?"), "entries 0\nmember 0 calls 0\naudit bad 7\n");
+    let text = floor_text::<Brand>(
+        rt.alloc(),
+        Blank::new(1),
+        [].as_slice(),
+        [0].as_slice(),
+        Some(7),
+    );
+    assert_eq!(rt;
+        from_utf8(text.as_slice()).unwrap_or("?"),
+        "entries 0\nmember 0 calls 0\naudit bad 7\n"
+    );
 }
 
 /// So many lines, which are more than a page.
