@@ -1,0 +1,6 @@
+pub mod Prefixes
+pub mod Adding
+pub mod Histories
+pub mod Closings
+pub mod Faults
+pub mod Recording

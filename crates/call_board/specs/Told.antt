@@ -1,0 +1,62 @@
+-- What a call and a look tell.
+use Rattle.std.specs.Prelude.{◌≡◌, ◌≢◌, ℕ, ◌+◌, ◌<◌, ◌≤◌, ◌⊎◌, List, [], ◌∷◌, ◌++◌, All, length}
+use mathlib.Core.List.{IsPrefix}
+use Rattle.auction_terms.specs.declared.Config.{Config}
+use Rattle.auction_terms.specs.declared.Command.{Command}
+use Rattle.auction_terms.specs.declared.Reply.{Reply}
+use Rattle.auction_terms.specs.declared.Entry.{Entry}
+use Rattle.auction_terms.specs.Day.{IsLegal, step, replay, calls_of, display}
+use Rattle.call_board.specs.Standing.{Standing, own}
+use Rattle.call_board.specs.declared.floor.Receipt.{Receipt}
+use Rattle.call_board.specs.declared.member.Shown.{Shown}
+
+abbrev pub entry : ℕ → Command → Reply → Entry
+entry member command reply = record { member = member; command = command; reply = reply }
+
+-- the history is legal, has as many entries as the receipt says, and ends with this call and its reply
+pub record ToldCall (c : Config) (history : List Entry) (member : ℕ) (command : Command) (r : Receipt) : Type 0 where
+  pub legal : IsLegal c history
+  pub number : length history ≡ r.number
+  pub before : List Entry
+  pub last : history ≡ before ++ entry member command r.reply ∷ []
+
+abbrev pub EndsWith : List (ℕ × Command) → ℕ × Command → Type 0
+EndsWith xs x = (before : List (ℕ × Command)) × (xs ≡ before ++ x ∷ [])
+
+-- what is shown is the display after these calls
+pub record ShowsAfter (c : Config) (calls : List (ℕ × Command)) (s : Shown) : Type 0 where
+  pub calls_are : length calls ≡ s.calls
+  pub display : s.display ≡ display (replay c calls).0
+
+-- the call comes after all that the member had seen and calls of others, is one more of its own, and has the auction's reply there
+pub record CallsOnce (c : Config) (old new : Standing) (command : Command) (r : Receipt) : Type 0 where
+  pub number : new.number ≡ old.number
+  pub calls : new.calls ≡ old.calls + 1
+  pub between : List (ℕ × Command)
+  pub others : All (λ (x : ℕ × Command). x.0 ≢ old.number) between
+  pub seen : new.seen ≡ (old.seen ++ between) ++ (old.number, command) ∷ []
+  pub place : r.number ≡ length new.seen
+  pub reply : r.reply ≡ (step c (replay c (old.seen ++ between)).0 old.number command).1
+  pub mine : new.mine ≡ old.mine ++ (r.number, command) ∷ []
+  pub all_mine : own new.seen old.number ≡ new.mine
+
+-- the member has seen no less, and what it is shown is the display after all that it has now seen
+pub record Looks (c : Config) (old new : Standing) (s : Shown) : Type 0 where
+  pub number : new.number ≡ old.number
+  pub calls : new.calls ≡ old.calls
+  pub mine : new.mine ≡ old.mine
+  pub seen : IsPrefix old.seen new.seen
+  pub shown : ShowsAfter c new.seen s
+  pub own_begins : IsPrefix new.mine (own new.seen new.number)
+
+-- the member has seen more than the history has, or its count isn't that of its entries there
+abbrev pub IsBehind : List Entry → Standing → Type 0
+IsBehind history m = (length history < length m.seen) ⊎ (m.calls ≢ length (own (calls_of history) m.number))
+
+-- the member has seen all of a full history, and is else as before
+pub record SeesFull (c : Config) (old new : Standing) : Type 0 where
+  pub number : new.number ≡ old.number
+  pub calls : new.calls ≡ old.calls
+  pub begins : IsPrefix old.seen new.seen
+  pub all_calls : c.max_calls ≤ length new.seen
+  pub mine : new.mine ≡ old.mine

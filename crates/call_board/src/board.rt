@@ -1,0 +1,55 @@
+//! The board: one lock round the floor.
+
+use crate::day::Day;
+use crate::floor::Floor;
+use crate::versions::{Slot, Version};
+use left_right::Absorb;
+use std::marker::Model;
+use std::sync::{Mutex, Wait};
+
+/// A board whose day has begun. Threads share it, each calling with members of its own. What the lock keeps is a
+/// legal history of the day, whatever was called. Contracts see the number of its members.
+#[derive(Drop)]
+pub struct Board<K: Day>
+where
+    Version<K>: Absorb<Slot<K>, State = ()>,
+{
+    pub(crate) floor: Mutex<Floor<K>>,
+    /// A count for each member, which the closing writes.
+    pub(crate) counts: Vec<u32>,
+    pub(crate) members: u8,
+}
+
+impl<K: Day> Model for Board<K>
+where
+    Version<K>: Absorb<Slot<K>, State = ()>,
+{
+    ghost use Rattle.std.specs.Prelude.{◌≡◌, ℕ, replicate};
+
+    ghost Value = { ℕ };
+
+    ghost view = { λ b. b.members };
+
+    ghost invariant = { λ b. (b.members ≡ K.parts) × (b.counts.items ≡ replicate b.members 0) };
+}
+
+impl<K: Day> Board<K>
+where
+    Version<K>: Absorb<Slot<K>, State = ()>,
+{
+    /// The floor under its lock.
+    pub fn floor(&self) -> &Mutex<Floor<K>> {
+        &self.floor
+    }
+
+    /// Ends a board whose day can't be closed, as where a member was lost. It waits for the looks that still read, and
+    /// gives back all of the board's room, the two copies too. A board that is dropped gives back all but these.
+    pub fn abandon<R: Wait>(self, rt: &R) {
+        let Board {
+            floor,
+            counts: _counts,
+            members: _,
+        } = self;
+        floor.into_inner().end(rt);
+    }
+}

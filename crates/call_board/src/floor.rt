@@ -1,0 +1,184 @@
+//! What the board's lock keeps, and the one event of the day: a call is recorded.
+ghost use Rattle.std.specs.Prelude.{◌≡◌, ◌+◌, ◌<◌, ◌≤◌, ◌≢◌, ◌++◌, ◌∷◌, [], ◌↔◌, ℕ, length, IfOk, OnOk, OnErr, Err};
+ghost use mathlib.Core.List.{IsPrefix};
+ghost use Rattle.auction_terms.specs.Day.{IsLegal, calls_of};
+ghost use Rattle.call_board.specs.declared.member.Shown.{Shown};
+ghost use Rattle.call_board.specs.Standing.{own};
+ghost use Rattle.call_board.specs.Told.{entry, CallsOnce, IsBehind, Looks};
+
+use crate::day::Day;
+use crate::member::{Member, Shown};
+use crate::story::{Front, Head};
+use crate::versions::{Copies, Slot, Stamp, Version};
+use auction::Auction;
+use auction_terms::{Command, Entry, Reply};
+use left_right::Absorb;
+use std::marker::Model;
+use std::sync::Wait;
+use std::sync::ledger::{Book, Share};
+
+/// A recorded call: its place in the history, from 1, and the auction's reply.
+#[derive(Clone, Copy, PartialEq, Eq, Debug)]
+pub struct Receipt {
+    pub number: u32,
+    pub reply: Reply,
+}
+
+/// Why a call was not recorded. They are looked at in the order `HistoryFull`, `Behind`, `NoMemory`, and after any of
+/// them the history, the copies, the ledger and the member's counts are as they were.
+#[derive(Clone, Copy, PartialEq, Eq, Debug)]
+pub enum CallFault {
+    /// The history has `max_calls` entries.
+    HistoryFull,
+    /// Room to show the call to readers was refused.
+    NoMemory,
+    /// The member has seen more than the `history` calls that are recorded, or has counted other than the `counted`
+    /// entries with its number.
+    Behind { history: u32, counted: u32 },
+}
+
+/// What the board's lock keeps: the auction that gives the replies, the history of the day with the story of its
+/// calls, how many entries each number has, the ledger's book, and the writer of the copies that looks read. Contracts
+/// see the history.
+#[derive(Drop)]
+pub struct Floor<K: Day>
+where
+    Version<K>: Absorb<Slot<K>, State = ()>,
+{
+    pub(crate) auction: Auction,
+    pub(crate) history: Vec<Entry>,
+    pub(crate) front: Front<K>,
+    pub(crate) head: Head<K>,
+    /// How many entries each number has.
+    pub(crate) counted: Vec<u32>,
+    pub(crate) book: Book<K>,
+    /// A share without a part, in which the closing joins those of the members.
+    pub(crate) joined: Share<K>,
+    pub(crate) copies: Copies<K>,
+}
+
+impl<K: Day> Model for Floor<K>
+where
+    Version<K>: Absorb<Slot<K>, State = ()>,
+{
+    ghost use Rattle.std.specs.Prelude.{◌≡◌, List, vec_capacity};
+    ghost use Rattle.auction_terms.specs.declared.Entry.{Entry};
+    ghost use Rattle.call_board.specs.Kept.{Kept};
+
+    ghost Value = { List Entry };
+
+    ghost view = { λ f. f.history.items };
+
+    ghost invariant = { λ f. Kept K.config K.parts f.auction f.history.items f.front f.counted.items f.book.total (vec_capacity f.history) × (f.joined.parts ≡ 0) × (f.joined.amount ≡ 0) };
+}
+
+impl<K: Day> Floor<K>
+where
+    Version<K>: Absorb<Slot<K>, State = ()>,
+{
+    /// Applies a member's command to the auction, shows the call to readers, writes it with its reply at the end of the
+    /// history, and counts it once in the member's share and in the ledger's book. A command that the auction refuses
+    /// is recorded and counted too.
+    pub fn record<R: Wait>(
+        &mut self,
+        by: &mut Member<K>,
+        rt: &R,
+        command: Command,
+    ) -> Result<Receipt, CallFault>
+        ensures history { IfOk result (λ r. self.new ≡ self.old ++ entry by.old.number command r.reply ∷ []) }
+        ensures number { IfOk result (λ r. r.number ≡ length self.new) }
+        ensures call { IfOk result (λ r. CallsOnce K.config by.old by.new command r) }
+        ensures story { OnOk result (by.new.seen ≡ calls_of self.new) }
+        ensures full { (result ≡ Err CallFault.HistoryFull) ↔ (length self.old ≡ K.config.max_calls) }
+        ensures behind { IsBehind self.old by.old → length self.old ≢ K.config.max_calls → result ≡ Err (CallFault.Behind (length self.old) (length (own (calls_of self.old) by.old.number))) }
+        ensures behind_only { (h k : ℕ) → result ≡ Err (CallFault.Behind h k) → IsBehind self.old by.old × (h ≡ length self.old) × (k ≡ length (own (calls_of self.old) by.old.number)) }
+        ensures fault { OnErr result ((self.new ≡ self.old) × (by.new ≡ by.old)) }
+        ensures legal { IsLegal K.config self.new }
+    {
+        if self.auction.is_full() {
+            return Err(CallFault::HistoryFull);
+        }
+        let history = self.auction.calls();
+        let number = by.number();
+        let counted = self.counted[usize::from(number)];
+        if by.seen_len() > history || by.calls() != counted {
+            return Err(CallFault::Behind { history, counted });
+        }
+        let Ok(slot) = self.copies.reserve() else {
+            return Err(CallFault::NoMemory);
+        };
+        let mut front = self.front.again();
+        // The floor alone adds to the story, under its lock, so this adds always.
+        if !front.add(&self.head, (number, command)) {
+            return Err(CallFault::NoMemory);
+        }
+        by.compare(&self.front);
+        Ok(self.enter(by, rt, command, slot, front))
+    }
+
+    // A member that finds the history full is shown all of it.
+    pub(crate) fn hand_on(&self, by: &mut Member<K>)
+        ensures look { (s : Shown) × Looks K.config by.old by.new s }
+        ensures all_calls { length self.now ≤ length by.new.seen }
+    {
+        let shown = Shown {
+            calls: self.auction.calls(),
+            display: self.auction.display(),
+        };
+        by.meet(self.front.again(), shown);
+    }
+
+    // Gives back the copies.
+    pub(crate) fn end<R: Wait>(self, rt: &R) {
+        let Floor { copies, .. } = self;
+        copies.end(rt);
+    }
+
+    // The part of a recorded call that can't fail.
+    fn enter<R: Wait>(
+        &mut self,
+        by: &mut Member<K>,
+        rt: &R,
+        command: Command,
+        slot: Slot<K>,
+        front: Front<K>,
+    ) -> Receipt
+        requires room { length self.old < K.config.max_calls }
+        requires front { front ≡ calls_of self.old ++ (by.old.number, command) ∷ [] }
+        requires seen { IsPrefix by.old.seen (calls_of self.old) }
+        requires counted { by.old.calls ≡ length (own (calls_of self.old) by.old.number) }
+        ensures history { self.new ≡ self.old ++ entry by.old.number command result.reply ∷ [] }
+        ensures call { CallsOnce K.config by.old by.new command result }
+        ensures story { by.new.seen ≡ calls_of self.new }
+        ensures legal { IsLegal K.config self.new }
+    {
+        let member = by.number();
+        let stamp = Stamp {
+            member,
+            command,
+            front: front.again(),
+        };
+        self.copies.publish(rt, slot, stamp);
+        self.book.audit(&mut by.share);
+        let reply = self.auction.apply(member, command);
+        self.history.push_reserved(Entry {
+            member,
+            command,
+            reply,
+        });
+        self.book.add(&mut by.share, 1);
+        self.counted[usize::from(member)] += 1;
+        by.calls += 1;
+        by.last = self.auction.calls();
+        by.shown = Shown {
+            calls: self.auction.calls(),
+            display: self.auction.display(),
+        };
+        by.front = front.again();
+        self.front = front;
+        Receipt {
+            number: self.auction.calls(),
+            reply,
+        }
+    }
+}

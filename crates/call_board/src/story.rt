@@ -1,0 +1,182 @@
+//! The story of the day: the list of all calls, which only grows, as evidence that can be copied.
+//! It exists in the proofs alone. What is kept at run time is its length.
+//!
+//! The floor adds to it under its lock; members and copies hold beginnings of it. Of two beginnings the shorter one
+//! begins the longer, so what a member has seen can be held against what another was told.
+ghost use Rattle.std.specs.Prelude.{◌≡◌, ◌+◌, ◌<◌, ◌≤◌, ◌^◌, ◌++◌, ◌∷◌, ◌⊎◌, [], length, MatchBool};
+ghost use mathlib.Core.List.{IsPrefix};
+ghost use Rattle.call_board.specs.Stories.{head_of};
+
+use crate::day::Day;
+use auction_terms::Command;
+use logbook::{Gain, Offer, Plain, Play, Rule, Seen, Start, Word};
+use std::marker::{Model, PhantomData};
+
+/// The rule of the story: one word has its length.
+pub(crate) struct Law;
+
+impl Rule<(u8, Command), u64> for Law {
+    ghost use Rattle.std.specs.Prelude.{[]};
+    ghost use base.Fml.{ftrue};
+    ghost use Rattle.call_board.specs.Stories.{IsStory};
+
+    ghost holds = { λ cells log. IsStory cells log };
+
+    ghost first = { [] };
+
+    ghost hinted = { λ n log. Unit {0} };
+
+    ghost shows = { λ log. [] };
+
+    ghost keeps = { λ names log. ftrue };
+
+    ghost moves = { λ ask before after answer. Unit {0} };
+}
+
+/// The floor gains nothing by a step but what it has seen.
+pub(crate) struct Nothing;
+
+impl Gain<(u8, Command), u64> for Nothing {
+    ghost use base.Fml.{ftrue};
+
+    ghost after = { λ names about answer. ftrue };
+}
+
+/// A step that adds a call.
+pub(crate) struct Add;
+
+impl Play<(u8, Command), u64> for Add {
+    ghost use Rattle.call_board.specs.Stories.{Adds};
+
+    ghost then = { Adds };
+}
+
+impl Plain<(u8, Command), (u8, Command), u64> for Add {
+    ghost use Rattle.std.specs.Prelude.{None};
+
+    ghost ask = { λ call. call };
+
+    ghost state = { λ call. None };
+}
+
+/// An empty story, which has no name yet.
+#[derive(Drop)]
+pub(crate) struct Blank {
+    head: Word<(u8, Command), u64, Law>,
+    seen: Seen<(u8, Command), u64, Law>,
+    pub ghost empty: { seen.log ≡ [] },
+    pub ghost head_is: { head ≡ head_of seen.book },
+}
+
+impl Blank {
+    pub(crate) fn new() -> Blank {
+        let (seen, mut first, _second) = Seen::open(Start::alone(), 0, 0);
+        Blank {
+            head: Word::tracked(0, &mut first),
+            seen,
+        }
+    }
+
+    /// The story's word for the day that K names, and the beginning that has nothing.
+    pub(crate) fn named<K: Day>(self) -> (Head<K>, Front<K>)
+        requires { self.seen.book ≡ K.story }
+        ensures { result.1 ≡ [] }
+    {
+        let Blank { head, seen } = self;
+        (
+            Head {
+                head,
+                of: PhantomData,
+            },
+            Front {
+                count: 0,
+                seen,
+                of: PhantomData,
+            },
+        )
+    }
+}
+
+/// The length of the story, in one word.
+#[derive(Drop)]
+pub(crate) struct Head<K: Day> {
+    head: Word<(u8, Command), u64, Law>,
+    of: PhantomData<K>,
+    ghost head_is: { head ≡ head_of K.story },
+}
+
+/// A beginning of the story that was seen. Contracts see it as the list of its calls.
+#[derive(Drop)]
+pub(crate) struct Front<K: Day> {
+    count: u64,
+    seen: Seen<(u8, Command), u64, Law>,
+    of: PhantomData<K>,
+}
+
+impl<K: Day> Model for Front<K> {
+    ghost use Rattle.std.specs.Prelude.{◌≡◌, List, ℕ, length};
+    ghost use Rattle.auction_terms.specs.declared.Command.{Command};
+
+    ghost Value = { List (ℕ × Command) };
+
+    ghost view = { λ f. f.seen.log };
+
+    ghost invariant = { λ f. (f.count ≡ length f.seen.log) × (f.seen.book ≡ K.story) };
+}
+
+impl<K: Day> Front<K> {
+    /// How many calls it has.
+    pub(crate) fn len(&self) -> u64
+        ensures { result ≡ length self.now }
+    {
+        self.count
+    }
+
+    /// A copy.
+    pub(crate) fn again(&self) -> Front<K>
+        ensures { result ≡ self.now }
+    {
+        Front {
+            count: self.count,
+            seen: self.seen.again(),
+            of: PhantomData,
+        }
+    }
+
+    /// The longer of two beginnings, which the other begins.
+    pub(crate) fn longer(&self, other: &Front<K>) -> Front<K>
+        ensures shorter { length self.now < length other.now → (result ≡ other.now) × IsPrefix self.now other.now }
+        ensures no_shorter { length other.now ≤ length self.now → (result ≡ self.now) × IsPrefix other.now self.now }
+    {
+        let mut both = self.seen.again();
+        both.learn(&other.seen);
+        if self.count < other.count {
+            other.again()
+        } else {
+            self.again()
+        }
+    }
+
+    /// Adds a call to all that was seen, and says whether it did. It did not where the story was longer.
+    pub(crate) fn add(&mut self, head: &Head<K>, call: (u8, Command)) -> bool
+        requires room { length self.old < 2 ^ 62 }
+        ensures { MatchBool result (self.new ≡ self.old ++ call ∷ []) (IsPrefix self.old self.new) }
+    {
+        let mut offer: Offer<(u8, Command), u64, Law, Nothing> = self
+            .seen
+            .plain::<Nothing, (u8, Command), Add>(&call);
+        let mut pen = self.seen.no_pen();
+        let count = self.count;
+        let found = head
+            .head
+            .compare_exchange::<Add, Nothing>(
+                count,
+                count + 1,
+                &mut self.seen,
+                &mut offer,
+                &mut pen,
+            );
+        self.count = if found == count { count + 1 } else { found };
+        found == count
+    }
+}
