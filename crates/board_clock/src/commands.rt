@@ -1,0 +1,72 @@
+//! The commands that are measured, and the auction of one thread that they are measured on.
+
+use auction::Auction;
+use auction_terms::{Command, Limit, Only, Reply, Side};
+
+/// How many orders are open before the measuring.
+pub const STANDING: u32 = 1000;
+
+fn order(side: Side, tick: u32) -> Command {
+    Command::Enter {
+        side,
+        limit: Limit::At(tick),
+        quantity: 100,
+        peak: None,
+        only: Only::Any,
+    }
+}
+
+/// One of the orders that are open before the measuring: bids at the lower ticks, asks at the higher ones.
+pub fn standing(k: u32) -> Command {
+    let tick = 1 + k % 1000;
+    let side = if tick < 500 { Side::Buy } else { Side::Sell };
+    order(side, tick)
+}
+
+/// In turn an order somewhere on the ladder, a question, a change of that order, and its deletion.
+pub fn command(k: u32, id: u32) -> Command {
+    let tick = 1 + k.wrapping_mul(7919) % 1000;
+    let side = if k % 8 < 4 { Side::Buy } else { Side::Sell };
+    match k % 4 {
+        0 => order(side, tick),
+        1 => Command::Ask,
+        2 => Command::Change {
+            id,
+            limit: Limit::At(tick),
+            quantity: 50,
+        },
+        _ => Command::Delete { id },
+    }
+}
+
+/// The id of the order that was entered last.
+pub fn last_id(reply: Reply, before: u32) -> u32 {
+    match reply {
+        Reply::Entered { id } => id,
+        _ => before,
+    }
+}
+
+/// Applies a command where the auction isn't full.
+fn apply(auction: &mut Auction, command: Command, id: u32) -> u32 {
+    if auction.calls() >= auction.config().max_calls {
+        return id;
+    }
+    last_id(auction.apply(1, command), id)
+}
+
+/// Enters the orders that are open before the measuring.
+pub fn fill(auction: &mut Auction) {
+    for k in 0..STANDING {
+        let _ = apply(auction, standing(k), 0);
+    }
+}
+
+/// Applies so many commands.
+pub fn apply_many(auction: &mut Auction, count: u32) -> u32 {
+    let mut id = 0;
+    for k in 0..count {
+        id = apply(auction, command(k, id), id);
+    }
+    id
+}

@@ -1,0 +1,161 @@
+//! Prints what a board's calls and looks take, beside the same commands on an auction alone. It measures where a word is
+//! given, and else does nothing.
+#![tactic(auto)]
+
+ghost use Rattle.std.specs.Prelude.{◌≡◌};
+
+mod commands;
+mod tasks;
+
+use auction::Auction;
+use auction_terms::Config;
+use call_board::{Board, Day, Fresh, Member, Slot, Version, close};
+use left_right::Absorb;
+use std::alloc::{AllocError, AllocGlobal, Global};
+use std::io::Print;
+use std::marker::Brand;
+use std::sync::Wait;
+use std::sync::atomic::AtomicBool;
+use std::thread::Threads;
+use std::time::{Clock, Instant};
+use std::{env, io, thread};
+use tasks::{Task, perform};
+
+const CONFIG: Config = Config {
+    low: 1,
+    high: 1000,
+    reference: 500,
+    max_open: 4096,
+    max_calls: 1_048_576,
+    range: None,
+};
+
+/// How many calls are measured, of all members together.
+const CALLS: u32 = 400_000;
+
+/// How many looks of one member are measured.
+const LOOKS: u32 = 1_000_000;
+
+/// Each member does its task on a thread of its own.
+fn all_at_once<K: Day + Send + Sync, R: Wait + Threads + Sync>(
+    rt: &R,
+    alloc: Global,
+    board: &Board<K>,
+    members: Vec<Member<K>>,
+    tasks: &[Task],
+) -> Result<Vec<Member<K>>, AllocError>
+where
+    Version<K>: Absorb<Slot<K>, State = ()> + Send + Sync,
+{
+    let is_done = AtomicBool::new(false);
+    let is_done = &is_done;
+    thread::scope(thread::scope_env(), rt, |scope| {
+        let mut running = Vec::new(alloc);
+        let mut back = Vec::new(alloc);
+        for (member, task) in members.into_iter().zip(tasks.iter()) {
+            let task = *task;
+            if let Ok(handle) = scope.spawn(move || perform(rt, board, member, task, is_done)) {
+                running.push(handle)?;
+            }
+        }
+        for handle in running {
+            back.push(handle.join(rt).0)?;
+        }
+        Ok(back)
+    })
+}
+
+/// The nanoseconds that the tasks take together, on a board with open orders.
+fn board_time<K: Day + Send + Sync, R: Wait + Threads + Sync + Clock>(
+    rt: &R,
+    alloc: Global,
+    board: Board<K>,
+    members: Vec<Member<K>>,
+    tasks: &[Task],
+) -> io::Result<u128>
+where
+    Version<K>: Absorb<Slot<K>, State = ()> + Send + Sync,
+{
+    let mut members = members;
+    if let Some(first) = members.last_mut() {
+        tasks::fill(rt, &board, first);
+    }
+    let start = Instant::now(rt)?;
+    let back = all_at_once(rt, alloc, &board, members, tasks)?;
+    let nanoseconds = start.elapsed(rt)?.as_nanos();
+    let _ = close(board, back, rt);
+    Ok(nanoseconds)
+}
+
+// The day that K names. It has no bound but K's, so that its caller can name the day.
+fn day<K: Day + Send + Sync, R: Wait + Threads + Sync + Clock>(
+    rt: &R,
+    alloc: Global,
+    fresh: Fresh,
+    tasks: &[Task],
+) -> io::Result<u128>
+    requires names { (K.config ≡ fresh.config) × (K.parts ≡ fresh.members) × (K.name ≡ fresh.ledger) × (K.story ≡ fresh.story) }
+{
+    let (board, members) = fresh.begin::<K>().map_err(|_| AllocError)?;
+    board_time(rt, alloc, board, members, tasks)
+}
+
+/// Measures members at their tasks, of which each does so many, and prints nanoseconds for one.
+fn measure<R: Wait + Threads + Sync + Clock + Print + AllocGlobal>(
+    rt: &R,
+    name: &str,
+    tasks: &[Task],
+    count: u32,
+) -> io::Result<()> {
+    let fresh = Fresh::open(rt.alloc(), CONFIG, u8::try_from(tasks.len()).unwrap_or(0)).map_err(
+        |_| AllocError,
+    )?;
+    let nanoseconds = day::<Brand, R>(rt, rt.alloc(), fresh, tasks)?;
+    let each = nanoseconds / u128::from(count.max(1));
+    println!(rt; "{name} {each}")?;
+    Ok(())
+}
+
+/// Measures the same commands on an auction alone.
+fn measure_alone<R: Clock + Print + AllocGlobal>(rt: &R) -> io::Result<()> {
+    let mut auction = Auction::open(rt.alloc(), CONFIG).map_err(|_| AllocError)?;
+    commands::fill(&mut auction);
+    let start = Instant::now(rt)?;
+    let last = commands::apply_many(&mut auction, CALLS);
+    let each = start.elapsed(rt)?.as_nanos() / u128::from(CALLS);
+    println!(rt; "apply-alone {each} {last}")?;
+    Ok(())
+}
+
+fn measure_all<R: Wait + Threads + Sync + Clock + Print + AllocGlobal>(rt: &R) -> io::Result<()> {
+    measure_alone(rt)?;
+    let one = [Task::Call(CALLS)];
+    let two = [Task::Call(CALLS / 2); 2];
+    let four = [Task::Call(CALLS / 4); 4];
+    measure(rt, "calls-of-1-member", one.as_slice(), CALLS)?;
+    measure(rt, "calls-of-2-members", two.as_slice(), CALLS)?;
+    measure(rt, "calls-of-4-members", four.as_slice(), CALLS)?;
+    let idle = [Task::Look(LOOKS)];
+    let lookers = [Task::Look(LOOKS); 4];
+    let beside = [Task::CallOn, Task::Look(LOOKS)];
+    let locked = [Task::LookUnderLock(LOOKS)];
+    let locked_beside = [Task::CallOn, Task::LookUnderLock(LOOKS)];
+    measure(rt, "look", idle.as_slice(), LOOKS)?;
+    measure(rt, "look-of-4-members", lookers.as_slice(), LOOKS * 4)?;
+    measure(rt, "look-beside-calls", beside.as_slice(), LOOKS)?;
+    measure(rt, "look-under-lock", locked.as_slice(), LOOKS)?;
+    measure(
+        rt,
+        "look-under-lock-beside-calls",
+        locked_beside.as_slice(),
+        LOOKS,
+    )
+}
+
+fn main(rt: HostRuntime) -> io::Result<()> {
+    let words: Vec<String> = env::args(&rt)?.collect(rt.alloc())?;
+    if words.len() > 1 {
+        measure_all(&rt)?;
+    }
+    Ok(())
+}

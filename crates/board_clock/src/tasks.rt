@@ -1,0 +1,97 @@
+//! What a member does while it is measured.
+
+use crate::commands::{STANDING, command, last_id, standing};
+use call_board::{Board, Day, Member, Slot, Version};
+use left_right::Absorb;
+use std::sync::Wait;
+use std::sync::atomic::AtomicBool;
+use std::sync::atomic::Ordering::SeqCst;
+
+/// What a member does while it is measured.
+#[derive(Clone, Copy, Debug, PartialEq, Eq)]
+pub enum Task {
+    /// So many calls.
+    Call(u32),
+    /// Calls until a member that looks is done.
+    CallOn,
+    /// So many looks.
+    Look(u32),
+    /// So many looks at what the lock keeps.
+    LookUnderLock(u32),
+}
+
+/// Enters the orders that are open before the measuring.
+pub fn fill<K: Day, R: Wait>(rt: &R, board: &Board<K>, member: &mut Member<K>)
+where
+    Version<K>: Absorb<Slot<K>, State = ()>,
+{
+    for k in 0..STANDING {
+        let _ = member.call(board, rt, standing(k));
+    }
+}
+
+fn call_many<K: Day, R: Wait>(
+    rt: &R,
+    board: &Board<K>,
+    member: &mut Member<K>,
+    count: u32,
+    is_done: &AtomicBool,
+)
+where
+    Version<K>: Absorb<Slot<K>, State = ()>,
+{
+    let mut id = 0;
+    for k in 0..count {
+        let Ok(receipt) = member.call(board, rt, command(k, id)) else {
+            return;
+        };
+        id = last_id(receipt.reply, id);
+        if is_done.load(SeqCst) {
+            return;
+        }
+    }
+}
+
+fn look_many<K: Day>(member: &mut Member<K>, count: u32) -> u32 {
+    let mut seen: u32 = 0;
+    for _ in 0..count {
+        seen = seen.wrapping_add(member.look().calls);
+    }
+    seen
+}
+
+fn look_under_lock<K: Day, R: Wait>(rt: &R, board: &Board<K>, count: u32) -> u32
+where
+    Version<K>: Absorb<Slot<K>, State = ()>,
+{
+    let mut seen: u32 = 0;
+    for _ in 0..count {
+        seen = seen.wrapping_add(board.floor().lock(rt).shown().calls);
+    }
+    seen
+}
+
+/// Does a task, and gives back the member with a number that changes with what was seen.
+pub fn perform<K: Day, R: Wait>(
+    rt: &R,
+    board: &Board<K>,
+    member: Member<K>,
+    task: Task,
+    is_done: &AtomicBool,
+) -> (Member<K>, u32)
+where
+    Version<K>: Absorb<Slot<K>, State = ()>,
+{
+    let mut member = member;
+    let mut seen = 0;
+    match task {
+        Task::Call(count) => call_many(rt, board, &mut member, count, &AtomicBool::new(false)),
+        Task::CallOn => call_many(rt, board, &mut member, 1_000_000, is_done),
+        Task::Look(count) => seen = look_many(&mut member, count),
+        Task::LookUnderLock(count) => seen = look_under_lock(rt, board, count),
+    }
+    if matches!(task, Task::Look(_) | Task::LookUnderLock(_)) {
+        is_done.store(true, SeqCst);
+    }
+    (member, seen)
+}
