@@ -1,4 +1,4 @@
-use Rattle.std.proofs.Common.{rules, arith, ◌≡◌, ◌≤◌, ◌∷◌, [], ◌++◌, length, get_or}
+use Rattle.std.proofs.Common.{rules, ◌≡◌, ◌≤◌, ◌∷◌, [], ◌++◌, length, get_or}
 use Rattle.member_floor.specs.declared.script.Script.{Script}
 use Rattle.member_floor.proofs.Playings.{fits_next}
 use Rattle.member_floor.proofs.tests.scripts.Goals as goal

@@ -1,5 +1,4 @@
 use Rattle.std.proofs.Common.{◌≡◌, ◌∙◌, ap, sym, ℕ, replicate}
-use Rattle.auction_terms.specs.declared.Config.{Config}
 use Rattle.auction_terms.specs.Running.{opened}
 use Rattle.call_board.specs.Opening.{Opening}
 use Rattle.call_board.proofs.Beginnings.{begun}
