@@ -1,25 +1,13 @@
 -- The tick of an auction price is a limit of the book, or the reference.
-use Rattle.std.proofs.Common.{◌≡◌, ℕ, max, min, Bool, true, false, cond, List, [], ◌∷◌, inl, inr, ◌==◌, Option, Some, None, IfSome, All, filter, nat_le, refl, sym, ap, subst, ◌∙◌, arith}
+use Rattle.std.proofs.Common.{◌≡◌, ℕ, max, min, Bool, true, false, cond, List, [], ◌∷◌, inl, inr, ◌==◌, Option, Some, None, IfSome, All, filter, nat_le, ap, subst, arith}
 use Rattle.std.proofs.lemmas.Bool.{cases_lt}
 use Rattle.std.specs.Option.{option_map_or, option_map}
 use Rattle.std.specs.List.{list_all}
 use Rattle.std.proofs.lemmas.List.Elements.{All-head, All-tail, All-filter}
 use Rattle.auction_terms.specs.declared.Order.{Order}
 use Rattle.auction_terms.specs.declared.Price.{Price}
-use Rattle.auction_terms.specs.declared.Display.{Display}
-use Rattle.auction_terms.specs.declared.Display.TheVariants.{Priced, Unpriced}
 use Rattle.auction_terms.specs.Book.{limits, surplus, has_bid_surplus, has_ask_surplus}
 use Rattle.auction_terms.specs.PriceOf.{is_empty, highest, lowest, is_best, best_limits, lower_kept, upper_kept, held_between, has_market_orders, price_tick, priced, price}
-use Rattle.auction_terms.specs.Day.{display_of}
-
--- a price is shown exactly where there is one
-pub priced_from : (book : List Order) (found : Option Price) (p : Price) → display_of book found ≡ Priced p → found ≡ Some p
-priced_from book None p e = absurd (cc)
-priced_from book (Some q) p e = cc
-
-pub unpriced_from : (book : List Order) (found : Option Price) (bid ask : Option ℕ) → display_of book found ≡ Unpriced bid ask → found ≡ None
-unpriced_from book None bid ask e = refl
-unpriced_from book (Some q) bid ask e = absurd (cc)
 
 module _ (P : ℕ → Type 0) where
   greater_in : (p q : ℕ) → P p → P q → P (max p q)

@@ -1,5 +1,5 @@
 -- What the best of the limits make of the price.
-use Rattle.std.proofs.Common.{◌≡◌, ℕ, ◌<◌, min, Bool, true, false, cond, ◌&&◌, not, eqb, ltb, leb, List, [], ◌∷◌, filter, fold, All, Option, Some, None, is_some, option_map, inl, inr, refl, sym, ap, subst, ◌∙◌, arith}
+use Rattle.std.proofs.Common.{◌≡◌, ℕ, ◌<◌, min, Bool, true, false, cond, ◌&&◌, not, eqb, ltb, leb, List, [], ◌∷◌, filter, All, Option, Some, None, is_some, option_map, inl, inr, refl, sym, ap, ◌∙◌, arith}
 use Rattle.std.specs.List.{list_any, list_all}
 use Rattle.std.proofs.lemmas.Bool.{ltb-true, leb-true, eqb-true, lt-ltb, le-ltb, le-leb, eq-eqb, ne_eqb, cases_eq, cases_Bool, and_parts, and_from, or_cases, or_parts, or_left, or_right, and_left}
 use Rattle.std.proofs.lemmas.Bool.Decides.{nat_tests}
@@ -12,7 +12,7 @@ use Rattle.auction_terms.specs.declared.Price.{Price}
 use Rattle.auction_terms.specs.Book.{demand, supply, volume, surplus, has_bid_surplus, has_ask_surplus, limits, tick_of, is_bid, is_ask, is_market, is_eligible}
 use Rattle.auction_terms.specs.PriceOf.{highest, lowest, is_empty, priced, is_no_better, is_best, best_limits, lower_kept, upper_kept, held_between, has_market_orders, price_tick, price}
 use Rattle.auction_terms.specs.Leading.{Leaders, has_key, keyed, lower_among, upper_among, NoBetter, Lead, AreBest, tick_between}
-use Rattle.auction_terms.proofs.BestLemmas.{on_bid, on_ask, balanced, side_of, next_after, scanned_best}
+use Rattle.auction_terms.proofs.BestLemmas.{on_bid, on_ask, balanced, side_of}
 
 -- ---- lists
 
@@ -245,7 +245,3 @@ price_scanned book r None none = elim (cases_Bool (list_any is_limited book)) [
     cond_map : (b : Bool) (book : List Order) (r : ℕ) → option_map (priced book) (cond b (Some r) None) ≡ cond b (Some (priced book r)) None
     cond_map true book r = refl
     cond_map false book r = refl
-
-pub price_from_scan : (book : List Order) (r : ℕ) (leaders : Option Leaders) → leaders ≡ fold (λ best p. next_after best (priced book p)) None (limits book) → price book r ≡ scanned book r leaders
-price_from_scan book r leaders found =
-    price_scanned book r leaders (subst (AreBest book (limits book)) (sym found) (scanned_best book (limits book)))

@@ -120,9 +120,6 @@ no_price : (book : List Order) (o : Option ℕ) → option_map (priced book) o �
 no_price book None e = refl
 no_price book (Some t) e = absurd (cc)
 
-empty_or_some : (ps : List ℕ) → (is_empty ps ≡ true) ⊎ (is_empty ps ≡ false)
-empty_or_some ps = cases_Bool (is_empty ps)
-
 -- leaders have a price
 leaders_chosen : (book : List Order) (leaders : Leaders) (r : ℕ) → Lead book (limits book) leaders → tick_between leaders.lower leaders.upper r ≡ None → ⊥
 leaders_chosen book leaders r lead e =

@@ -10,10 +10,6 @@ use Rattle.order_file.specs.declared.fault.FileFault.TheVariants as file
 abbrev pub after : List Call → Result (List Call) FileFault → Result (List Call) FileFault
 after front rest = rest >>= λ calls. Ok (front ++ calls)
 
-pub after-nothing : (r : Result (List Call) FileFault) → after [] r ≡ r
-after-nothing (Ok x) = refl
-after-nothing (Err e) = refl
-
 -- one more call goes to the end of the front
 after-more : (front : List Call) (call : Call) (r : Result (List Call) FileFault)
     → after (front ++ call ∷ []) r ≡ after front (r >>= λ rest. Ok (call ∷ rest))

@@ -4,7 +4,6 @@ use Rattle.std.specs.Prelude.{MatchOption}
 use Rattle.std.specs.Simd.Lanes.{zip2}
 use Rattle.std.proofs.lemmas.Bool.{cases_eq, cases_lt, cases_order, eq-eqb, ne_eqb, lt-ltb, le-ltb}
 use Rattle.auction_terms.specs.PriceOf.{highest, lowest}
-use Rattle.auction_terms.specs.Leading.{has}
 use Rattle.auction_terms.proofs.Members.{has-first, has-cases, no_tick, none_empty, has-filter, filter-has, highest_agree, lowest_agree}
 use Rattle.lane_select.specs.Select.{kept_if_equal, kept_if_above, NoFlagIn, IsFirstFlag, IsLastFlag}
 use Rattle.price_rules.specs.InLanes.{AreMarked}
@@ -74,9 +73,6 @@ inside (f ∷ fs) (suc k) h = let rest = inside fs k h in omega arith
 module _ (ts fs few : List ℕ) (marked : AreMarked ts fs few) where
   no_mark : NoFlagIn fs 0 (length fs) → few ≡ []
   no_mark none = none_empty few (λ t e. let p = marked.place t e in none p.0 (omega arith) p.1 p.2)
-
-  pub marked_some : (k : ℕ) → get_or fs k 0 ≡ 1 → has (get_or ts k 0) few ≡ true
-  marked_some k h = marked.there k h
 
   module _ (rising : (j k : ℕ) → j < k → get_or fs j 0 ≡ 1 → get_or fs k 0 ≡ 1 → get_or ts j 0 ≤ get_or ts k 0) where
     pub lowest_at : (o : Option ℕ) → MatchOption o (NoFlagIn fs 0 (length fs)) (IsFirstFlag fs) → option_map (λ i. get_or ts i 0) o ≡ lowest few

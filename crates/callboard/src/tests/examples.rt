@@ -91,6 +91,53 @@ fn reference(rt: HostRuntime) -> Result<(), Fail> {
 }
 
 #[test]
+fn reference_above(rt: HostRuntime) -> Result<(), Fail> {
+    let rows = [
+        ("1,enter,bid,100,market", "entered 1"),
+        ("2,enter,ask,100,market", "entered 2"),
+        ("1,enter,bid,50,190", "entered 3"),
+        ("2,enter,ask,50,210", "entered 4"),
+        ("0,ask", "price 210 volume 100 surplus 50 ask"),
+    ];
+    replies(
+        &rt,
+        ["callboard", "--reference", "215"].as_slice(),
+        rows.as_slice(),
+    )
+}
+
+#[test]
+fn reference_below(rt: HostRuntime) -> Result<(), Fail> {
+    let rows = [
+        ("1,enter,bid,100,market", "entered 1"),
+        ("2,enter,ask,100,market", "entered 2"),
+        ("1,enter,bid,50,190", "entered 3"),
+        ("2,enter,ask,50,210", "entered 4"),
+        ("0,ask", "price 190 volume 100 surplus 50 bid"),
+    ];
+    replies(
+        &rt,
+        ["callboard", "--reference", "185"].as_slice(),
+        rows.as_slice(),
+    )
+}
+
+#[test]
+fn no_surplus(rt: HostRuntime) -> Result<(), Fail> {
+    let rows = [
+        ("1,enter,bid,100,210", "entered 1"),
+        ("2,enter,ask,100,190", "entered 2"),
+        ("0,ask", "price 200 volume 100 surplus 0 none"),
+        (
+            "0,uncross",
+            "opening price 200 volume 100 surplus 0 none trades 1",
+        ),
+        ("0,trade,1", "trade 1 2 100 at 200"),
+    ];
+    replies(&rt, PLAIN.as_slice(), rows.as_slice())
+}
+
+#[test]
 fn market_orders(rt: HostRuntime) -> Result<(), Fail> {
     let rows = [
         ("1,enter,bid,900,market", "entered 1"),
@@ -102,6 +149,23 @@ fn market_orders(rt: HostRuntime) -> Result<(), Fail> {
         ),
         ("1,trade,1", "trade 1 2 800 at 200"),
         ("1,status,1", "order bid 100 market visible 100"),
+    ];
+    replies(&rt, PLAIN.as_slice(), rows.as_slice())
+}
+
+#[test]
+fn market_and_limit(rt: HostRuntime) -> Result<(), Fail> {
+    let rows = [
+        ("1,enter,bid,100,market", "entered 1"),
+        ("2,enter,ask,60,market", "entered 2"),
+        ("1,enter,bid,40,150", "entered 3"),
+        ("0,ask", "price 150 volume 60 surplus 80 bid"),
+        (
+            "0,uncross",
+            "opening price 150 volume 60 surplus 80 bid trades 1",
+        ),
+        ("1,trade,1", "trade 1 2 60 at 150"),
+        ("1,status,1", "order bid 40 market visible 40"),
     ];
     replies(&rt, PLAIN.as_slice(), rows.as_slice())
 }
@@ -184,6 +248,24 @@ fn less_quantity(rt: HostRuntime) -> Result<(), Fail> {
         ),
         ("0,trade,1", "trade 1 3 60 at 200"),
         ("0,trade,2", "trade 2 3 40 at 200"),
+    ];
+    replies(&rt, PLAIN.as_slice(), rows.as_slice())
+}
+
+#[test]
+fn other_limit(rt: HostRuntime) -> Result<(), Fail> {
+    let rows = [
+        ("1,enter,bid,100,200", "entered 1"),
+        ("2,enter,bid,100,200", "entered 2"),
+        ("1,change,1,100,199", "changed moved"),
+        ("1,change,1,100,200", "changed moved"),
+        ("3,enter,ask,100,200", "entered 3"),
+        (
+            "0,uncross",
+            "opening price 200 volume 100 surplus 100 bid trades 1",
+        ),
+        ("0,trade,1", "trade 2 3 100 at 200"),
+        ("1,status,1", "order bid 100 at 200 visible 100"),
     ];
     replies(&rt, PLAIN.as_slice(), rows.as_slice())
 }
@@ -301,4 +383,20 @@ fn refusals(rt: HostRuntime) -> Result<(), Fail> {
         ("1,ask", "refused 7 DayOver"),
     ];
     replies(&rt, PLAIN.as_slice(), rows.as_slice())
+}
+
+#[test]
+fn book_full(rt: HostRuntime) -> Result<(), Fail> {
+    let rows = [
+        ("1,enter,bid,5,200", "entered 1"),
+        ("1,enter,bid,5,200", "refused 4 BookFull"),
+        ("1,enter,bid,0,200", "refused 1 BadQuantity"),
+        ("1,delete,1", "deleted"),
+        ("1,enter,bid,5,200", "entered 2"),
+    ];
+    replies(
+        &rt,
+        ["callboard", "--open", "1"].as_slice(),
+        rows.as_slice(),
+    )
 }

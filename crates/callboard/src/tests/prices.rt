@@ -40,30 +40,6 @@ fn the_limit_with_the_most_volume_is_the_price(rt: HostRuntime) -> Result<(), Fa
 }
 
 #[test]
-fn the_reference_decides_between_two_sides(rt: HostRuntime) -> Result<(), Fail> {
-    let shown = [
-        ("185", "price 190 volume 100 surplus 50 bid"),
-        ("200", "price 200 volume 100 surplus 0 none"),
-        ("215", "price 210 volume 100 surplus 50 ask"),
-    ];
-    for (reference, price) in shown {
-        let rows = [
-            ("1,enter,bid,100,market", "entered 1"),
-            ("2,enter,ask,100,market", "entered 2"),
-            ("1,enter,bid,50,190", "entered 3"),
-            ("2,enter,ask,50,210", "entered 4"),
-            ("0,ask", price),
-        ];
-        replies(
-            &rt,
-            ["callboard", "--reference", reference].as_slice(),
-            rows.as_slice(),
-        )?;
-    }
-    Ok(())
-}
-
-#[test]
 fn the_reference_decides_without_a_surplus(rt: HostRuntime) -> Result<(), Fail> {
     let shown = [
         ("190", "price 190 volume 100 surplus 0 none"),
@@ -87,20 +63,13 @@ fn the_reference_decides_without_a_surplus(rt: HostRuntime) -> Result<(), Fail> 
 
 #[test]
 fn one_limit_beside_market_orders_is_the_price(rt: HostRuntime) -> Result<(), Fail> {
-    let bid = [
-        ("1,enter,bid,100,market", "entered 1"),
-        ("2,enter,ask,60,market", "entered 2"),
-        ("1,enter,bid,40,150", "entered 3"),
-        ("0,ask", "price 150 volume 60 surplus 80 bid"),
-    ];
-    let ask = [
+    let rows = [
         ("1,enter,ask,100,market", "entered 1"),
         ("2,enter,bid,60,market", "entered 2"),
         ("1,enter,ask,40,250", "entered 3"),
         ("0,ask", "price 250 volume 60 surplus 80 ask"),
     ];
-    replies(&rt, PLAIN.as_slice(), bid.as_slice())?;
-    replies(&rt, PLAIN.as_slice(), ask.as_slice())
+    replies(&rt, PLAIN.as_slice(), rows.as_slice())
 }
 
 #[test]

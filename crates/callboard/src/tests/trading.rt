@@ -24,36 +24,8 @@ fn orders_are_changed_and_deleted(rt: HostRuntime) -> Result<(), Fail> {
 }
 
 #[test]
-fn a_full_book_takes_no_more_orders(rt: HostRuntime) -> Result<(), Fail> {
-    let rows = [
-        ("1,enter,bid,5,200", "entered 1"),
-        ("1,enter,bid,5,200", "refused 4 BookFull"),
-        ("1,enter,bid,0,200", "refused 1 BadQuantity"),
-        ("1,delete,1", "deleted"),
-        ("1,enter,bid,5,200", "entered 2"),
-    ];
-    replies(
-        &rt,
-        ["callboard", "--open", "1"].as_slice(),
-        rows.as_slice(),
-    )
-}
-
-#[test]
 fn an_order_for_the_closing_auction_waits(rt: HostRuntime) -> Result<(), Fail> {
-    let alone = [
-        ("1,enter,bid,100,200,,closing", "entered 1"),
-        ("2,enter,ask,100,200", "entered 2"),
-        ("0,ask", "no price bid - ask 200"),
-        ("0,uncross", "opening no price"),
-        ("0,uncross", "intraday no price"),
-        ("0,ask", "price 200 volume 100 surplus 0 none"),
-        (
-            "0,uncross",
-            "closing price 200 volume 100 surplus 0 none trades 1",
-        ),
-    ];
-    let among = [
+    let rows = [
         ("1,enter,bid,150,200,,closing", "entered 1"),
         ("0,uncross", "opening no price"),
         ("0,uncross", "intraday no price"),
@@ -67,8 +39,7 @@ fn an_order_for_the_closing_auction_waits(rt: HostRuntime) -> Result<(), Fail> {
         ("1,status,1", "refused 5 UnknownOrder"),
         ("2,status,2", "order bid 100 at 200 visible 100"),
     ];
-    replies(&rt, PLAIN.as_slice(), alone.as_slice())?;
-    replies(&rt, PLAIN.as_slice(), among.as_slice())
+    replies(&rt, PLAIN.as_slice(), rows.as_slice())
 }
 
 #[test]
