@@ -1,2 +1,4 @@
 pub mod Openings
 pub mod Replies
+pub mod Splits
+pub mod Closings

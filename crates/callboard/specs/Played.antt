@@ -42,9 +42,9 @@ lacks_room (Some run.NoThread) = false
 
 -- why the day isn't to be closed after a run, if there is a reason: what keeps it open comes before want of memory
 abbrev pub fault_after : Option RunFault → List PlayedScript → Option FloorFault
-fault_after fault played =
-    if list_any (λ (p : PlayedScript). keeps_open p.fault) played || lacks_thread fault then Some fault.NotClosed
-    else if list_any (λ (p : PlayedScript). wants_memory p.fault) played || lacks_room fault then Some fault.NoMemory
+fault_after refused played =
+    if list_any (λ (p : PlayedScript). keeps_open p.fault) played || lacks_thread refused then Some fault.NotClosed
+    else if list_any (λ (p : PlayedScript). wants_memory p.fault) played || lacks_room refused then Some fault.NoMemory
     else None
 
 -- Each script was played from its first command to its last: the history is legal and has no other calls, and of each

@@ -1,24 +1,21 @@
 //! The run of an order file on a board, all members at once.
 
-ghost use Rattle.std.specs.Prelude.{◌≡◌, ◌<◌, ◌≤◌, ◌++◌, ◌↔◌, All, length, IfErr, IfOk, IfSome, IsErrOf, MatchOption};
+ghost use Rattle.std.specs.Prelude.{◌≡◌, ◌<◌, ◌≤◌, ◌↔◌, All, length, IfErr, IfOk, IfSome, IsErrOf, MatchOption};
 ghost use Rattle.auction.specs.Audits.{IsFirstBad};
 ghost use Rattle.auction_terms.specs.Day.{IsLegal};
-ghost use Rattle.order_file.specs.Ends.{TellsFailure, Writes};
 ghost use Rattle.order_file.specs.File.{IsBelow, file};
-ghost use Rattle.printed_lines.specs.Floor.{tally};
-ghost use Rattle.printed_lines.specs.Printing.{Prints};
-ghost use Rattle.callboard.specs.Floor.{IsDayOf, KeepsFloorOut, OpensBoard, RunsFloor, story_if};
+ghost use Rattle.callboard.specs.Floor.{IsDayOf, KeepsFloorOut, OpensBoard, RunsFloor};
 ghost use Rattle.callboard.specs.Played.{IsOfDay};
 
 use crate::day::day;
 use crate::floor_fault::FloorFault;
+use crate::printing::write_closing;
 use crate::scripts::split;
 use auction::{Verdict, audit};
 use auction_terms::{Command, Config, Entry};
 use call_board::{Closing, Fresh};
 use member_floor::Gate;
 use order_file::{FileFault, Sink, Source, read_orders};
-use printed_lines::{Page, WriteFailed, print_story, print_tally};
 use std::alloc::Global;
 use std::marker::Brand;
 use std::sync::Wait;
@@ -63,42 +60,6 @@ fn first_bad(
         Ok(Verdict::BadAt(place)) => Ok(Some(place)),
         Err(_) => Err(FloorFault::NoMemory),
     }
-}
-
-/// Prints what a closed day comes to, and its history where that is wanted.
-fn print_closing<S: Sink>(
-    writer: &mut S,
-    page: &mut Page,
-    closing: &Closing,
-    first_bad: Option<usize>,
-    history: bool,
-) -> Result<(), WriteFailed>
-    ensures text { Prints (S.written writer.old) (S.written writer.new) page.old page.new result (tally (length closing.now.history.items) closing.now.calls.items first_bad ++ story_if history closing.now.history.items) }
-    ensures failed { TellsFailure (S.failures writer.old) (S.failures writer.new) result }
-{
-    let entries = closing.history.as_slice();
-    let calls = closing.calls.as_slice();
-    let place = first_bad.map(|place| place as u64);
-    print_tally(writer, page, entries.len() as u64, calls, place)?;
-    if !history {
-        return Ok(());
-    }
-    print_story(writer, page, entries)
-}
-
-/// Writes what a closed day comes to. It takes no memory.
-fn write_closing<S: Sink>(
-    writer: &mut S,
-    closing: &Closing,
-    first_bad: Option<usize>,
-    history: bool,
-) -> Result<(), WriteFailed>
-    ensures text { Writes (S.written writer.old) (S.written writer.new) result (tally (length closing.now.history.items) closing.now.calls.items first_bad ++ story_if history closing.now.history.items) }
-    ensures failed { TellsFailure (S.failures writer.old) (S.failures writer.new) result }
-{
-    let mut page = Page::new();
-    print_closing(writer, &mut page, closing, first_bad, history)?;
-    page.write_to(writer)
 }
 
 /// Reads and checks a whole order file, has each member call its commands on a board at once with the

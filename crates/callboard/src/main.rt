@@ -9,6 +9,7 @@ mod day;
 mod fault;
 mod floor;
 mod floor_fault;
+mod printing;
 mod run;
 mod scripts;
 mod serve;
