@@ -111,6 +111,17 @@ range_push : (a n k : ℕ) → a + n ≡ k → range_with_len a (suc n) ≡ rang
 range_push a zero k e = let same : a ≡ k = omega arith in ap (λ (j : ℕ). j ∷ []) same
 range_push a (suc n) k e = ap (λ t. a ∷ t) (range_push (a + 1) n k (omega arith))
 
+pub split_next : (n k : ℕ) (calls : List Call) (old new : List Script) (s : Script) → IsSplit n calls old → s.member ≡ n → s.commands.items ≡ commands_of n calls → new ≡ old ++ s ∷ [] → suc n ≡ k → IsSplit k calls new
+split_next n k calls old new s split number commands more next =
+    let HasCommands : Script → Type 0 = λ x. x.commands.items ≡ commands_of x.member calls in
+    let these : HasCommands s = commands ∙ ap (λ (j : ℕ). commands_of j calls) (sym number) in
+    record {
+      numbers =
+          ap (map (λ (x : Script). x.member)) more ∙ map-append (λ (x : Script). x.member) old (s ∷ [])
+          ∙ (λ i. split.numbers i ++ number i ∷ []) ∙ sym (range_push 0 n n (omega arith)) ∙ ap (range_with_len 0) next;
+      commands = subst (All HasCommands) (sym more) (All-append HasCommands old (s ∷ []) split.commands (All-cons HasCommands s [] these (All-nil HasCommands)));
+    }
+
 newcomer_numbers : (n : ℕ) → map (λ (m : Standing). m.number) (newcomers n) ≡ range_with_len 0 n
 newcomer_numbers zero = refl
 newcomer_numbers (suc n) =

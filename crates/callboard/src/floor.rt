@@ -51,13 +51,13 @@ fn first_bad(
     alloc: Global,
     config: Config,
     history: &[Entry],
-) -> Result<Option<usize>, FloorFault>
+) -> Result<Option<u64>, FloorFault>
     ensures finding { IfOk result (λ place. MatchOption place (IsLegal config history.now) (IsFirstBad config history.now)) }
     ensures fault { IfErr result (λ f. f ≡ FloorFault.NoMemory) }
 {
     match audit(alloc, config, history) {
         Ok(Verdict::Legal) => Ok(None),
-        Ok(Verdict::BadAt(place)) => Ok(Some(place)),
+        Ok(Verdict::BadAt(place)) => Ok(Some(place as u64)),
         Err(_) => Err(FloorFault::NoMemory),
     }
 }

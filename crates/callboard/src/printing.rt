@@ -15,7 +15,7 @@ fn print_closing<S: Sink>(
     writer: &mut S,
     page: &mut Page,
     closing: &Closing,
-    first_bad: Option<usize>,
+    first_bad: Option<u64>,
     history: bool,
 ) -> Result<(), WriteFailed>
     ensures text { Prints (S.written writer.old) (S.written writer.new) page.old page.new result (tally (length closing.now.history.items) closing.now.calls.items first_bad ++ story_if history closing.now.history.items) }
@@ -23,8 +23,7 @@ fn print_closing<S: Sink>(
 {
     let entries = closing.history.as_slice();
     let calls = closing.calls.as_slice();
-    let place = first_bad.map(|place| place as u64);
-    print_tally(writer, page, entries.len() as u64, calls, place)?;
+    print_tally(writer, page, entries.len() as u64, calls, first_bad)?;
     if !history {
         return Ok(());
     }
@@ -35,7 +34,7 @@ fn print_closing<S: Sink>(
 pub fn write_closing<S: Sink>(
     writer: &mut S,
     closing: &Closing,
-    first_bad: Option<usize>,
+    first_bad: Option<u64>,
     history: bool,
 ) -> Result<(), WriteFailed>
     ensures text { Writes (S.written writer.old) (S.written writer.new) result (tally (length closing.now.history.items) closing.now.calls.items first_bad ++ story_if history closing.now.history.items) }
