@@ -32,9 +32,11 @@ refused_beside {X} config members answer fault is bad = go (has_bad_bounds confi
   where
     told : (f : OpenFault) → fault_before (result_err answer) ≡ f → ◌≡◌ {A = Result X OpenFault} (Err fault) (Err f)
     told f e = let same : fault ≡ f = is ∙ e in cc
+
     last : (a : Result X OpenFault) → IfErr a (λ f. f ≡ NoMemory) → fault_before (result_err a) ≡ BadLimits
     last (Ok x) h = refl
     last (Err f) h = ap (λ x. fault_before (Some x)) h
+
     go : (b r l m : Bool) → false ≡ not m → IfSome (first_that_holds ((b, BadBounds) ∷ (r, BadReference) ∷ (l, BadLimits) ∷ [])) (λ f. answer ≡ Err f) → (first_that_holds ((b, BadBounds) ∷ (r, BadReference) ∷ (l, BadLimits) ∷ []) ≡ None → IfErr answer (λ f. f ≡ NoMemory)) → IfSome (first_that_holds ((b, BadBounds) ∷ (r, BadReference) ∷ (l || m, BadLimits) ∷ [])) (λ f. ◌≡◌ {A = Result X OpenFault} (Err fault) (Err f))
     go true r l m e k n = told BadBounds (ap (λ a. fault_before (result_err a)) k)
     go false true l m e k n = told BadReference (ap (λ a. fault_before (result_err a)) k)

@@ -4,3 +4,4 @@ pub mod Histories
 pub mod Closings
 pub mod Faults
 pub mod Recording
+pub mod Beginnings

@@ -1,7 +1,6 @@
 //! Opening a board, and beginning its day.
-ghost use Rattle.std.specs.Prelude.{◌≡◌, ◌≤◌, not, [], IfOk, IfErr, IfSome, Err, None};
+ghost use Rattle.std.specs.Prelude.{◌≡◌, ◌≤◌, not, [], replicate, vec_capacity, IfOk, IfErr, IfSome, Err, None};
 ghost use Rattle.auction_terms.specs.Running.{opened};
-ghost use Rattle.auction.specs.Opening.{open_fault};
 ghost use Rattle.call_board.specs.Told.{ShowsAfter};
 ghost use Rattle.call_board.specs.Opening.{Opening, board_fault, fault_before, has_bad_members, newcomers};
 
@@ -14,7 +13,7 @@ use crate::versions::{Copies, Slot, Version};
 use auction::{Auction, OpenFault};
 use auction_terms::{Config, Entry};
 use left_right::Absorb;
-use std::alloc::Global;
+use std::alloc::{AllocError, Global};
 use std::marker::Model;
 use std::sync::ledger::Share;
 use std::sync::{Mutex, ledger};
@@ -71,7 +70,7 @@ fn first_auction(alloc: Global, config: Config, members: u8) -> Result<Auction, 
     ensures opening { IfOk result (λ a. a ≡ opened config) }
     ensures refused { IfSome (board_fault config members) (λ fault. result ≡ Err fault) }
     ensures memory { board_fault config members ≡ None → IfErr result (λ fault. fault ≡ OpenFault.NoMemory) }
-    ensures good { IfOk result (λ a. (open_fault config ≡ None) × (board_fault config members ≡ None)) }
+    ensures good { IfOk result (λ a. board_fault config members ≡ None) }
     ensures within { IfOk result (λ a. (config.max_calls ≤ 1048576) × (1 ≤ members) × (members ≤ 64)) }
 {
     let answer = Auction::open(alloc, config);
@@ -119,19 +118,51 @@ where
     Ok(members)
 }
 
-// A board around the floor's own auction, with the rest of its room.
-fn board_around(alloc: Global, config: Config, members: u8, auction: Auction) -> Result<Fresh, OpenFault>
+// The room of a day beside its auctions: the history, and two counts for each member.
+#[derive(Drop)]
+struct Room {
+    history: Vec<Entry>,
+    counts: Vec<u32>,
+    counted: Vec<u32>,
+}
+
+fn take_room(alloc: Global, config: Config, members: u8) -> Result<Room, AllocError>
+    ensures history { IfOk result (λ r. (r.history.items ≡ []) × (config.max_calls ≤ vec_capacity r.history)) }
+    ensures counts { IfOk result (λ r. (r.counts.items ≡ replicate members 0) × (r.counted.items ≡ replicate members 0)) }
+{
+    Ok(Room {
+        history: Vec::with_capacity(alloc, config.max_calls as usize)?,
+        counts: vec![in alloc; 0u32; usize::from(members)]?,
+        counted: vec![in alloc; 0u32; usize::from(members)]?,
+    })
+}
+
+// A board around the floor's own auction, with the two copies that looks read.
+fn board_around(
+    alloc: Global,
+    config: Config,
+    members: u8,
+    auction: Auction,
+    room: Room,
+) -> Result<Fresh, OpenFault>
     requires auction { auction ≡ opened config }
-    requires good { open_fault config ≡ None }
     requires within { (config.max_calls ≤ 1048576) × (1 ≤ members) × (members ≤ 64) }
+    requires history { (room.history.items ≡ []) × (config.max_calls ≤ vec_capacity room.history) }
+    requires counts { (room.counts.items ≡ replicate members 0) × (room.counted.items ≡ replicate members 0) }
     ensures opening { IfOk result (λ f. (f.config ≡ config) × (f.members ≡ members)) }
     ensures fault { IfErr result (λ fault. fault ≡ OpenFault.NoMemory) }
 {
-    let shown = Auction::open(alloc, config)?;
-    let spare = Auction::open(alloc, config)?;
-    let history = Vec::with_capacity(alloc, config.max_calls as usize).map_err(|_| OpenFault::NoMemory)?;
-    let counts = vec![in alloc; 0u32; usize::from(members)].map_err(|_| OpenFault::NoMemory)?;
-    let counted = vec![in alloc; 0u32; usize::from(members)].map_err(|_| OpenFault::NoMemory)?;
+    let Ok(shown) = Auction::open(alloc, config) else {
+        return Err(OpenFault::NoMemory);
+    };
+    let Ok(spare) = Auction::open(alloc, config) else {
+        return Err(OpenFault::NoMemory);
+    };
+    let Room {
+        history,
+        counts,
+        counted,
+    } = room;
     Ok(Fresh {
         alloc,
         auction,
@@ -160,7 +191,10 @@ impl Fresh {
         ensures memory { board_fault config members ≡ None → IfErr result (λ fault. fault ≡ OpenFault.NoMemory) }
     {
         let auction = first_auction(alloc, config, members)?;
-        board_around(alloc, config, members, auction)
+        let Ok(room) = take_room(alloc, config, members) else {
+            return Err(OpenFault::NoMemory);
+        };
+        board_around(alloc, config, members, auction, room)
     }
 
     /// Begins the day that `K` names. The members come in the order of their numbers, from 0, each with no calls and
