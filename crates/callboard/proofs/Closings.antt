@@ -1,5 +1,5 @@
 -- A day that was closed.
-use Rattle.std.proofs.Common.{◌≡◌, ◌==◌, ℕ, ◌+◌, ◌<◌, ◌≤◌, Bool, true, false, ◌||◌, List, [], ◌∷◌, ◌++◌, All, get_or, length, map, slice_index, sum, take, drop, length-append, inl, inr, ◌⊎◌, Option, None, Some, MatchOption, refl, ap, sym, subst, ◌∙◌, arith}
+use Rattle.std.proofs.Common.{◌≡◌, ◌==◌, ℕ, ◌+◌, ◌<◌, ◌≤◌, Bool, true, false, ◌||◌, List, [], ◌∷◌, ◌++◌, All, get_or, length, map, slice_index, sum, take, drop, length-append, inl, inr, ◌⊎◌, Option, None, Some, MatchOption, Result, Ok, Err, IfOk, refl, ap, sym, subst, ◌∙◌, arith}
 use Rattle.std.specs.Prelude.{if◌then◌else◌}
 use Rattle.std.specs.List.{list_any}
 use Rattle.std.proofs.lemmas.Bool.{cases_lt, or_parts}
@@ -25,7 +25,7 @@ use Rattle.member_floor.specs.Plays.{AllPlay, Fits, PlayedScript, Plays, SameNum
 use Rattle.callboard.specs.declared.floor_fault.FloorFault.{FloorFault}
 use Rattle.callboard.specs.declared.floor_fault.FloorFault.TheVariants as fault
 use Rattle.callboard.specs.Floor.{IsDayOf, IsHistoryOf, IsSplit, commands_of, counts_of}
-use Rattle.callboard.specs.Played.{IsPlayedOut, fault_after, keeps_open, lacks_room, lacks_thread, wants_memory}
+use Rattle.callboard.specs.Played.{IsOfBoard, IsPlayedOut, fault_after, is_in_want, is_kept_open, keeps_open, lacks_room, lacks_thread, wants_memory}
 use Rattle.callboard.proofs.Splits.{IsNew, all_new, at_each, from, none_beyond, none_from, own_commands, recorded_commands, sum_counts}
 
 -- ---- a run without a fault
@@ -59,12 +59,18 @@ neither false false e = (refl, refl)
 
 pub no_fault_after : (f : Option RunFault) (rs : List PlayedScript) → fault_after f rs ≡ None → (f ≡ None) × All IsWhole rs
 no_fault_after f rs e =
-    let any_open : Bool = list_any (λ (p : PlayedScript). keeps_open p.fault) rs in
-    let any_want : Bool = list_any (λ (p : PlayedScript). wants_memory p.fault) rs in
-    let none = neither (any_open || lacks_thread f) (any_want || lacks_room f) e in
-    let o = or_parts any_open (lacks_thread f) none.0 in
-    let w = or_parts any_want (lacks_room f) none.1 in
-    (no_run_fault f o.1 w.1, all_whole rs o.0 w.0)
+    let none = neither (is_kept_open f rs) (is_in_want f rs) e in
+    let o = or_parts (lacks_thread f) (list_any (λ (p : PlayedScript). keeps_open p.fault) rs) none.0 in
+    let w = or_parts (lacks_room f) (list_any (λ (p : PlayedScript). wants_memory p.fault) rs) none.1 in
+    (no_run_fault f o.0 w.0, all_whole rs o.1 w.1)
+
+of_board : (a b : Bool) (x : FloorFault) → (if a then Some fault.NotClosed else if b then Some fault.NoMemory else None) ≡ Some x → IsOfBoard x
+of_board true b x e = let same : fault.NotClosed ≡ x = cc in subst IsOfBoard same tt
+of_board false true x e = let same : fault.NoMemory ≡ x = cc in subst IsOfBoard same tt
+of_board false false x e = absurd cc
+
+pub fault_of_board : (f : Option RunFault) (rs : List PlayedScript) (x : FloorFault) → fault_after f rs ≡ Some x → IsOfBoard x
+fault_of_board f rs x e = of_board (is_kept_open f rs) (is_in_want f rs) x e
 
 -- ---- what the closing has of each script
 
@@ -122,6 +128,12 @@ played_out c n ms back ss rs closing is_new fit plays whole is_back closed accou
       commands = λ j d lt. (all j d lt).1;
     }
 
+pub closed_out : (c : Config) (n : ℕ) (ms back : List Standing) (ss : List Script) (rs : List PlayedScript) (r : Result Closing FloorFault)
+    → ms ≡ newcomers n → Fits ms ss → AllPlay c ms ss rs → All IsWhole rs → back ≡ map (λ (p : PlayedScript). p.member) rs → IfOk r (IsClosing c n back) → IfOk r (λ closing. All (Accounts (calls_of closing.history.items)) back)
+    → IfOk r (IsPlayedOut c n ss)
+closed_out c n ms back ss rs (Ok closing) is_new fit plays whole is_back closed accounts = played_out c n ms back ss rs closing is_new fit plays whole is_back closed accounts
+closed_out c n ms back ss rs (Err f) is_new fit plays whole is_back closed accounts = tt
+
 -- ---- the closing of a day of a file's calls
 
 abbrev count_in : List Call → ℕ → ℕ
@@ -159,6 +171,10 @@ day_of c n calls ss closing split below out =
       entries = omega (arith, out.whole, all);
       counts = is_counts;
     }
+
+pub days_of : (c c' : Config) (n n' : ℕ) (calls : List Call) (ss : List Script) (r : Result Closing FloorFault) → c' ≡ c → n' ≡ n → IsSplit n calls ss → All (IsBelow n) calls → IfOk r (IsPlayedOut c' n' ss) → IfOk r (IsDayOf c n calls)
+days_of c c' n n' calls ss (Ok closing) same many split below out = day_of c n calls ss closing split below (subst (λ (m : ℕ). IsPlayedOut c m ss closing) many (subst (λ (d : Config). IsPlayedOut d n' ss closing) same out))
+days_of c c' n n' calls ss (Err f) same many split below out = tt
 
 -- ---- the audit
 

@@ -2,3 +2,4 @@ pub mod Openings
 pub mod Replies
 pub mod Splits
 pub mod Closings
+pub mod Written

@@ -3,6 +3,7 @@ use Rattle.std.specs.Prelude.{◌≡◌, ℕ, List, All, length, slice_index, su
 use Rattle.std.specs.List.{list_any}
 use Rattle.auction_terms.specs.declared.Config.{Config}
 use Rattle.auction_terms.specs.Day.{IsLegal, calls_of}
+use Rattle.auction.specs.declared.OpenFault.TheVariants.{NoMemory}
 use Rattle.call_board.specs.declared.closing.Closing.{Closing}
 use Rattle.call_board.specs.declared.floor.CallFault.{CallFault}
 use Rattle.call_board.specs.declared.floor.CallFault.TheVariants as call
@@ -40,11 +41,19 @@ lacks_room None = false
 lacks_room (Some run.NoMemory) = true
 lacks_room (Some run.NoThread) = false
 
+-- a thread couldn't be started, or a call found the history full or its member behind
+abbrev pub is_kept_open : Option RunFault → List PlayedScript → Bool
+is_kept_open refused played = lacks_thread refused || list_any (λ (p : PlayedScript). keeps_open p.fault) played
+
+-- the run or one of its calls was refused memory
+abbrev pub is_in_want : Option RunFault → List PlayedScript → Bool
+is_in_want refused played = lacks_room refused || list_any (λ (p : PlayedScript). wants_memory p.fault) played
+
 -- why the day isn't to be closed after a run, if there is a reason: what keeps it open comes before want of memory
 abbrev pub fault_after : Option RunFault → List PlayedScript → Option FloorFault
 fault_after refused played =
-    if list_any (λ (p : PlayedScript). keeps_open p.fault) played || lacks_thread refused then Some fault.NotClosed
-    else if list_any (λ (p : PlayedScript). wants_memory p.fault) played || lacks_room refused then Some fault.NoMemory
+    if is_kept_open refused played then Some fault.NotClosed
+    else if is_in_want refused played then Some fault.NoMemory
     else None
 
 -- Each script was played from its first command to its last: the history is legal and has no other calls, and of each
@@ -62,9 +71,15 @@ IsOfBoard fault.NoMemory = Unit {0}
 IsOfBoard fault.NotClosed = Unit {0}
 IsOfBoard f = ⊥
 
--- a fault of a day, from its opening to its closing
+-- a fault of a day, from its beginning to its closing
 abbrev pub IsOfDay : FloorFault → Type 0
-IsOfDay (fault.Open f) = Unit {0}
+IsOfDay (fault.Open f) = f ≡ NoMemory
 IsOfDay fault.NoMemory = Unit {0}
 IsOfDay fault.NotClosed = Unit {0}
 IsOfDay f = ⊥
+
+-- a fault neither of the file nor of a write
+abbrev pub IsBetween : FloorFault → Type 0
+IsBetween (fault.File f) = ⊥
+IsBetween fault.WriteFailed = ⊥
+IsBetween f = Unit {0}

@@ -1,11 +1,11 @@
 //! A day on a board, on which each member calls the commands of its script at once with the others.
 
-ghost use Rattle.std.specs.Prelude.{◌≡◌, ◌≤◌, [], length, map, vec_capacity, IfOk, IfErr};
+ghost use Rattle.std.specs.Prelude.{◌≡◌, ◌≤◌, [], All, length, map, vec_capacity, IfOk, IfErr};
 ghost use Rattle.auction_terms.specs.Day.{calls_of};
 ghost use Rattle.call_board.specs.Closed.{Accounts, IsClosing};
 ghost use Rattle.call_board.specs.Opening.{newcomers};
 ghost use Rattle.member_floor.specs.Plays.{Fits};
-ghost use Rattle.callboard.specs.Played.{IsOfBoard, IsOfDay, IsPlayedOut, fault_after, keeps_open, wants_memory};
+ghost use Rattle.callboard.specs.Played.{IsOfBoard, IsOfDay, IsPlayedOut, fault_after, is_in_want, is_kept_open, keeps_open, lacks_room, lacks_thread, wants_memory};
 
 use crate::floor_fault::FloorFault;
 use call_board::{Board, CallFault, CloseFault, Closing, Day, Fresh, Member, Slot, Version, close};
@@ -35,15 +35,48 @@ fn wants_memory(fault: Option<CallFault>) -> bool
     }
 }
 
+/// Whether a thread couldn't be started.
+fn lacks_thread(fault: Option<RunFault>) -> bool
+    ensures { result ≡ lacks_thread fault }
+{
+    match fault {
+        Some(RunFault::NoThread) => true,
+        Some(RunFault::NoMemory) | None => false,
+    }
+}
+
+/// Whether a run was refused room.
+fn lacks_room(fault: Option<RunFault>) -> bool
+    ensures { result ≡ lacks_room fault }
+{
+    match fault {
+        Some(RunFault::NoMemory) => true,
+        Some(RunFault::NoThread) | None => false,
+    }
+}
+
+/// Whether something kept the day open: a thread that couldn't be started, or a call that found the
+/// history full or its member behind.
+fn is_kept_open<K: Day>(fault: Option<RunFault>, played: &[Played<K>]) -> bool
+    ensures { result ≡ is_kept_open fault played.now }
+{
+    lacks_thread(fault) || played.iter().any(|one| keeps_open(one.fault))
+}
+
+/// Whether the run or one of its calls was refused memory.
+fn is_in_want<K: Day>(fault: Option<RunFault>, played: &[Played<K>]) -> bool
+    ensures { result ≡ is_in_want fault played.now }
+{
+    lacks_room(fault) || played.iter().any(|one| wants_memory(one.fault))
+}
+
 /// Why the day isn't to be closed after this run, if there is a reason.
 fn fault_after<K: Day>(fault: Option<RunFault>, played: &[Played<K>]) -> Option<FloorFault>
     ensures { result ≡ fault_after fault played.now }
 {
-    let is_kept_open = played.iter().any(|one| keeps_open(one.fault));
-    let is_in_want = played.iter().any(|one| wants_memory(one.fault));
-    if is_kept_open || fault == Some(RunFault::NoThread) {
+    if is_kept_open(fault, played) {
         Some(FloorFault::NotClosed)
-    } else if is_in_want || fault == Some(RunFault::NoMemory) {
+    } else if is_in_want(fault, played) {
         Some(FloorFault::NoMemory)
     } else {
         None
@@ -55,13 +88,15 @@ fn members_of<K: Day>(played: Vec<Played<K>>, room: Vec<Member<K>>) -> Vec<Membe
     requires room { (room.items ≡ []) × (length played.items ≤ vec_capacity room) }
     ensures { result.items ≡ map (λ p. p.member) played.items }
 {
+    let n = played.len();
+    let mut played = played.into_iter();
     let mut members = room;
-    for one in played {
+    for _ in 0..n {
         let Played {
             member,
             receipts: _receipts,
             fault: _,
-        } = one;
+        } = played.next().unwrap();
         members.push_reserved(member);
     }
     members

@@ -5,7 +5,7 @@ ghost use Rattle.auction.specs.Audits.{IsFirstBad};
 ghost use Rattle.auction_terms.specs.Day.{IsLegal};
 ghost use Rattle.order_file.specs.File.{IsBelow, file};
 ghost use Rattle.callboard.specs.Floor.{IsDayOf, KeepsFloorOut, OpensBoard, RunsFloor};
-ghost use Rattle.callboard.specs.Played.{IsOfDay};
+ghost use Rattle.callboard.specs.Played.{IsBetween};
 
 use crate::day::day;
 use crate::floor_fault::FloorFault;
@@ -34,7 +34,7 @@ fn closing_of<G: Gate + Sync, T: Wait + Threads + Sync>(
     requires few { length calls.now ≤ config.max_calls }
     ensures opening { OpensBoard config members result }
     ensures closing { IfOk result (IsDayOf config members calls.now) }
-    ensures fault { IfErr result IsOfDay }
+    ensures fault { IfErr result IsBetween }
 {
     let fresh = match Fresh::open(alloc, config, members) {
         Ok(fresh) => fresh,
