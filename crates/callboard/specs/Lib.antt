@@ -1,2 +1,4 @@
 pub mod Run
 pub mod Status
+pub mod Floor
+pub mod Played

@@ -30,7 +30,7 @@ impl Display for Fault {
     }
 }
 
-fn open_text(fault: OpenFault) -> &'static str {
+pub(crate) fn open_text(fault: OpenFault) -> &'static str {
     match fault {
         OpenFault::BadBounds => "bad bounds",
         OpenFault::BadReference => "bad reference",
@@ -39,7 +39,7 @@ fn open_text(fault: OpenFault) -> &'static str {
     }
 }
 
-fn file_status(fault: FileFault) -> u8
+pub(crate) fn file_status(fault: FileFault) -> u8
     ensures { result ≡ file_status fault }
 {
     match fault {
@@ -48,7 +48,7 @@ fn file_status(fault: FileFault) -> u8
     }
 }
 
-fn open_status(fault: OpenFault) -> u8
+pub(crate) fn open_status(fault: OpenFault) -> u8
     ensures { result ≡ open_status fault }
 {
     match fault {

@@ -1,26 +1,37 @@
 //! A call auction board for one instrument: reads an order file on standard input, runs it on an
-//! auction, and prints a line for each command on standard output.
+//! auction, and prints a line for each command on standard output; or has its members call their
+//! commands at once on a board, and prints what the day came to.
 #![tactic(auto)]
 
 ghost use Rattle.std.specs.Prelude.{◌≡◌, ◌<◌};
 
+mod day;
 mod fault;
+mod floor;
+mod floor_fault;
+mod printing;
 mod run;
+mod scripts;
 mod serve;
 
 pub use fault::Fault;
+pub use floor::run_floor;
+pub use floor_fault::FloorFault;
 use order_file::{Failures, FromRead, ToWrite};
 pub use run::run_file;
 pub use serve::serve;
 use std::marker::Brand;
 use std::process::ExitCode;
+use std::sync::Wait;
 use std::sync::ledger::{Blank, Ledger};
+use std::thread::Threads;
 use std::{env, io};
 
 /// Runs the program on the process's words and its ends, each of which counts its failures in a
-/// ledger of its own.
-fn run_program<I: Ledger, O: Ledger, E: Ledger>(
-    rt: &HostRuntime,
+/// ledger of its own. `rt` stands for the same runtime where the program waits and starts threads.
+fn run_program<I: Ledger, O: Ledger, E: Ledger, T: Wait + Threads + Sync>(
+    host: &HostRuntime,
+    rt: &T,
     input: Blank,
     output: Blank,
     errors: Blank,
@@ -35,25 +46,25 @@ fn run_program<I: Ledger, O: Ledger, E: Ledger>(
     requires errors_parts { errors.parts ≡ E.parts }
     requires errors_backed { 0 < E.parts }
 {
-    let alloc = rt.alloc();
+    let alloc = host.alloc();
     let mut reader = FromRead {
-        reader: rt.stdin(),
+        reader: host.stdin(),
         failures: Failures::<I>::new(input),
     };
     let mut out = ToWrite {
-        writer: rt.stdout(),
+        writer: host.stdout(),
         failures: Failures::<O>::new(output),
     };
     let mut err = ToWrite {
-        writer: rt.stderr(),
+        writer: host.stderr(),
         failures: Failures::<E>::new(errors),
     };
-    let texts: Vec<String> = env::args(rt)?.collect(alloc)?;
+    let texts: Vec<String> = env::args(host)?.collect(alloc)?;
     let mut words = Vec::new(alloc);
     for text in &texts {
         words.push(text.as_str())?;
     }
-    Ok(serve(alloc, words.as_slice(), &mut reader, &mut out, &mut err))
+    Ok(serve(alloc, words.as_slice(), &mut reader, &mut out, &mut err, rt))
 }
 
 /// Says why the process's words could not be had: memory was refused, or one is not UTF-8.
@@ -67,7 +78,8 @@ fn refuse_words(rt: &HostRuntime, error: &io::Error) -> u8 {
 }
 
 fn main(rt: HostRuntime) -> ExitCode {
-    match run_program::<Brand, Brand, Brand>(&rt, Blank::new(1), Blank::new(1), Blank::new(1)) {
+    let blanks = (Blank::new(1), Blank::new(1), Blank::new(1));
+    match run_program::<Brand, Brand, Brand, HostRuntime>(&rt, &rt, blanks.0, blanks.1, blanks.2) {
         Ok(status) => ExitCode::from(status),
         Err(error) => ExitCode::from(refuse_words(&rt, &error)),
     }

@@ -1,17 +1,22 @@
 //! The whole program, but for the process's own ends.
 
 ghost use Rattle.std.specs.Prelude.{◌≡◌, ◌≤◌, ◌⊎◌};
-ghost use Rattle.callboard.specs.Status.{status_of};
+ghost use Rattle.callboard.specs.Status.{floor_status, status_of};
 
 use crate::fault::Fault;
+use crate::floor::run_floor;
+use crate::floor_fault::FloorFault;
 use crate::run::run_file;
 use clap::Error;
 use clap::error::ErrorKind;
+use member_floor::OpenGate;
 use order_file::{FileFault, Sink, Source};
 use printed_lines::write_all;
-use settings::settings;
+use settings::{Settings, settings};
 use std::alloc::Global;
 use std::fmt::InlineText;
+use std::sync::Wait;
+use std::thread::Threads;
 
 /// Writes one line on standard error. Where that fails too there is nobody left to tell.
 fn tell<E: Sink>(err: &mut E, text: &str) {
@@ -22,6 +27,13 @@ fn tell<E: Sink>(err: &mut E, text: &str) {
 
 fn tell_fault<E: Sink>(err: &mut E, fault: Fault) -> u8
     ensures { result ≡ status_of fault }
+{
+    tell(err, InlineText::<64>::of(fault).as_str());
+    fault.status()
+}
+
+fn tell_floor_fault<E: Sink>(err: &mut E, fault: FloorFault) -> u8
+    ensures { result ≡ floor_status fault }
 {
     tell(err, InlineText::<64>::of(fault).as_str());
     fault.status()
@@ -46,18 +58,43 @@ fn answer_words<O: Sink, E: Sink>(alloc: Global, out: &mut O, err: &mut E, error
     0
 }
 
+/// Runs the members of the file at once on a board, and answers the status.
+fn serve_floor<R: Source, O: Sink, E: Sink, T: Wait + Threads + Sync>(
+    alloc: Global,
+    settings: Settings,
+    reader: &mut R,
+    out: &mut O,
+    err: &mut E,
+    rt: &T,
+) -> u8
+    ensures status { result ≤ 3 }
+    ensures quiet { (result ≡ 1) ⊎ (result ≡ 2) → O.written out.new ≡ O.written out.old }
+{
+    let Settings {
+        config,
+        members,
+        floor: _,
+        history,
+    } = settings;
+    match run_floor(alloc, reader, out, config, members, history, &OpenGate, rt) {
+        Ok(()) => 0,
+        Err(fault) => tell_floor_fault(err, fault),
+    }
+}
+
 /// Runs the program on these words, the first being its name, and answers its status: 0 done, 1 a
 /// bad order file, 2 a bad command line or bounds, a reference or limits that no auction has, 3 want
-/// of memory or a read or a write that failed.
+/// of memory, a read or a write that failed, or a floor that couldn't be closed.
 ///
 /// What it prints goes to `out`; a fault is one line on `err`. Where the file or the command line is
 /// bad, nothing goes to `out`.
-pub fn serve<'a, R: Source, O: Sink, E: Sink>(
+pub fn serve<'a, R: Source, O: Sink, E: Sink, T: Wait + Threads + Sync>(
     alloc: Global,
     words: &'a [&'a str],
     reader: &mut R,
     out: &mut O,
     err: &mut E,
+    rt: &T,
 ) -> u8
     ensures status { result ≤ 3 }
     ensures quiet { (result ≡ 1) ⊎ (result ≡ 2) → O.written out.new ≡ O.written out.old }
@@ -66,6 +103,9 @@ pub fn serve<'a, R: Source, O: Sink, E: Sink>(
         Ok(settings) => settings,
         Err(error) => return answer_words(alloc, out, err, &error),
     };
+    if settings.floor {
+        return serve_floor(alloc, settings, reader, out, err, rt);
+    }
     match run_file(alloc, reader, out, settings.config, settings.members) {
         Ok(()) => 0,
         Err(fault) => tell_fault(err, fault),

@@ -4,16 +4,18 @@ ghost use Rattle.std.specs.Prelude.{◌≡◌, ◌<◌};
 
 use crate::serve;
 use order_file::{Failures, FromMemory, ToMemory};
-use std::alloc::Global;
 use std::marker::Brand;
 use std::process::Abort;
 use std::str::from_utf8;
+use std::sync::Wait;
 use std::sync::ledger::{Blank, Ledger};
 use std::test::Fail;
+use std::thread::Threads;
 
 mod devices;
 mod examples;
 mod files;
+mod floor;
 mod prices;
 mod trading;
 
@@ -28,8 +30,8 @@ struct Printed {
     err: Vec<u8>,
 }
 
-fn served<O: Ledger, E: Ledger>(
-    alloc: Global,
+fn served<O: Ledger, E: Ledger, T: AllocGlobal + Wait + Threads + Sync>(
+    rt: &T,
     output: Blank,
     errors: Blank,
     words: &[&str],
@@ -42,6 +44,7 @@ fn served<O: Ledger, E: Ledger>(
     requires errors_parts { errors.parts ≡ E.parts }
     requires errors_backed { 0 < E.parts }
 {
+    let alloc = rt.alloc();
     let mut reader = FromMemory { rest: input };
     let mut out = ToMemory {
         bytes: Vec::new(alloc),
@@ -51,7 +54,7 @@ fn served<O: Ledger, E: Ledger>(
         bytes: Vec::new(alloc),
         failures: Failures::<E>::new(errors),
     };
-    let status = serve(alloc, words, &mut reader, &mut out, &mut err);
+    let status = serve(alloc, words, &mut reader, &mut out, &mut err, rt);
     let ToMemory {
         bytes: out,
         failures: _,
@@ -64,12 +67,12 @@ fn served<O: Ledger, E: Ledger>(
 }
 
 /// What a file of these bytes, run with these words, comes to.
-fn run<T: AllocGlobal>(rt: &T, words: &[&str], input: &[u8]) -> Printed {
-    served::<Brand, Brand>(rt.alloc(), Blank::new(1), Blank::new(1), words, input)
+fn run<T: AllocGlobal + Wait + Threads + Sync>(rt: &T, words: &[&str], input: &[u8]) -> Printed {
+    served::<Brand, Brand, T>(rt, Blank::new(1), Blank::new(1), words, input)
 }
 
 /// A file of these bytes, run with these words, gives this output, this error and this status.
-fn gives<T: Abort + AllocGlobal>(
+fn gives<T: Abort + AllocGlobal + Wait + Threads + Sync>(
     rt: &T,
     words: &[&str],
     input: &[u8],
@@ -84,7 +87,7 @@ fn gives<T: Abort + AllocGlobal>(
 }
 
 /// A file of these records gives these texts of replies, record by record.
-fn replies<T: Abort + AllocGlobal>(
+fn replies<T: Abort + AllocGlobal + Wait + Threads + Sync>(
     rt: &T,
     words: &[&str],
     rows: &[(&str, &str)],

@@ -2,10 +2,10 @@ use Rattle.callboard.proofs.main.Given as goal
 
 -- each end counts its failures in the ledger of its blank
 abbrev pub ghosts-run_program-I-Ledger : goal.ghosts-run_program-I-Ledger
-ghosts-run_program-I-Ledger a = record { name = a.input.name; parts = a.input.parts }
+ghosts-run_program-I-Ledger g a = record { name = a.input.name; parts = a.input.parts }
 
 abbrev pub ghosts-run_program-O-Ledger : goal.ghosts-run_program-O-Ledger
-ghosts-run_program-O-Ledger a = record { name = a.output.name; parts = a.output.parts }
+ghosts-run_program-O-Ledger g a = record { name = a.output.name; parts = a.output.parts }
 
 abbrev pub ghosts-run_program-E-Ledger : goal.ghosts-run_program-E-Ledger
-ghosts-run_program-E-Ledger a = record { name = a.errors.name; parts = a.errors.parts }
+ghosts-run_program-E-Ledger g a = record { name = a.errors.name; parts = a.errors.parts }

@@ -5,12 +5,13 @@ ghost use Rattle.std.specs.Prelude.{◌≡◌, ◌<◌};
 use super::PLAIN;
 use crate::serve;
 use order_file::{Failures, FromRead, ToMemory, ToWrite};
-use std::alloc::Global;
 use std::io;
 use std::io::{ErrorKind, Read, Write};
 use std::marker::Brand;
 use std::str::from_utf8;
+use std::sync::Wait;
 use std::sync::ledger::{Blank, Ledger};
+use std::thread::Threads;
 
 const INPUT: &str = "1,enter,bid,100,200\n2,enter,ask,60,200\n0,uncross\n1,status,1\n";
 
@@ -76,9 +77,15 @@ struct Written {
     err: Vec<u8>,
 }
 
-fn serve_devices<I: Ledger, O: Ledger, E: Ledger>(
-    alloc: Global,
+fn serve_devices<
+    I: Ledger,
+    O: Ledger,
+    E: Ledger,
+    T: AllocGlobal + Wait + Threads + Sync,
+>(
+    rt: &T,
     blanks: (Blank, Blank, Blank),
+    words: &[&str],
     giver: Giver<'_>,
     taker: Taker,
 ) -> Written
@@ -92,6 +99,7 @@ fn serve_devices<I: Ledger, O: Ledger, E: Ledger>(
     requires errors_parts { blanks.2.parts ≡ E.parts }
     requires errors_backed { 0 < E.parts }
 {
+    let alloc = rt.alloc();
     let mut reader = FromRead {
         reader: giver,
         failures: Failures::<I>::new(blanks.0),
@@ -104,7 +112,7 @@ fn serve_devices<I: Ledger, O: Ledger, E: Ledger>(
         bytes: Vec::new(alloc),
         failures: Failures::<E>::new(blanks.2),
     };
-    let status = serve(alloc, PLAIN.as_slice(), &mut reader, &mut out, &mut err);
+    let status = serve(alloc, words, &mut reader, &mut out, &mut err, rt);
     let ToWrite {
         writer,
         failures: _,
@@ -121,8 +129,9 @@ fn serve_devices<I: Ledger, O: Ledger, E: Ledger>(
 }
 
 /// A run that reads and writes `step` bytes at a time, so many times.
-fn run_devices<T: AllocGlobal>(
+fn run_devices<T: AllocGlobal + Wait + Threads + Sync>(
     rt: &T,
+    words: &[&str],
     step: usize,
     reads: usize,
     writes: usize,
@@ -140,12 +149,15 @@ fn run_devices<T: AllocGlobal>(
         fails,
     };
     let blanks = (Blank::new(1), Blank::new(1), Blank::new(1));
-    serve_devices::<Brand, Brand, Brand>(rt.alloc(), blanks, giver, taker)
+    serve_devices::<Brand, Brand, Brand, T>(rt, blanks, words, giver, taker)
 }
+
+const FLOOR_OUTPUT: &str =
+    "entries 4\nmember 0 calls 1\nmember 1 calls 2\nmember 2 calls 1\nmember 3 calls 0\naudit legal\n";
 
 #[test]
 fn one_byte_at_a_time_is_enough(rt: HostRuntime) {
-    let written = run_devices(&rt, 1, 10_000, 10_000, true);
+    let written = run_devices(&rt, PLAIN.as_slice(), 1, 10_000, 10_000, true);
     assert_eq!(rt; written.status, 0);
     assert_eq!(rt; from_utf8(written.out.as_slice()).unwrap_or("?"), OUTPUT);
     assert!(rt; written.err.is_empty());
@@ -154,7 +166,7 @@ fn one_byte_at_a_time_is_enough(rt: HostRuntime) {
 #[test]
 fn a_read_that_fails_stops_the_run(rt: HostRuntime) {
     for reads in 0..9usize {
-        let written = run_devices(&rt, 8, reads, 10_000, true);
+        let written = run_devices(&rt, PLAIN.as_slice(), 8, reads, 10_000, true);
         assert_eq!(rt; written.status, 3);
         assert!(rt; written.out.is_empty());
         assert_eq!(rt;
@@ -168,9 +180,37 @@ fn a_read_that_fails_stops_the_run(rt: HostRuntime) {
 fn a_write_that_fails_leaves_a_beginning(rt: HostRuntime) {
     for writes in 0..15usize {
         for fails in [true, false] {
-            let written = run_devices(&rt, 8, 10_000, writes, fails);
+            let written = run_devices(&rt, PLAIN.as_slice(), 8, 10_000, writes, fails);
             assert_eq!(rt; written.status, 3);
             assert!(rt; written.out.as_slice() == &OUTPUT.as_bytes()[..8 * writes]);
+            assert_eq!(rt;
+                from_utf8(written.err.as_slice()).unwrap_or("?"),
+                "write failed\n"
+            );
+        }
+    }
+}
+
+#[test]
+fn a_board_is_told_by_a_byte_at_a_time(rt: HostRuntime) {
+    let words = ["callboard", "--floor"];
+    let written = run_devices(&rt, words.as_slice(), 1, 10_000, 10_000, true);
+    assert_eq!(rt; written.status, 0);
+    assert_eq!(rt;
+        from_utf8(written.out.as_slice()).unwrap_or("?"),
+        FLOOR_OUTPUT
+    );
+    assert!(rt; written.err.is_empty());
+}
+
+#[test]
+fn a_board_that_is_not_told_whole(rt: HostRuntime) {
+    let words = ["callboard", "--floor"];
+    for writes in 0..12usize {
+        for fails in [true, false] {
+            let written = run_devices(&rt, words.as_slice(), 8, 10_000, writes, fails);
+            assert_eq!(rt; written.status, 3);
+            assert!(rt; written.out.as_slice() == &FLOOR_OUTPUT.as_bytes()[..8 * writes]);
             assert_eq!(rt;
                 from_utf8(written.err.as_slice()).unwrap_or("?"),
                 "write failed\n"
