@@ -57,20 +57,25 @@ neither true b e = absurd cc
 neither false true e = absurd cc
 neither false false e = (refl, refl)
 
-pub no_fault_after : (f : Option RunFault) (rs : List PlayedScript) → fault_after f rs ≡ None → (f ≡ None) × All IsWhole rs
+no_fault_after : (f : Option RunFault) (rs : List PlayedScript) → fault_after f rs ≡ None → (f ≡ None) × All IsWhole rs
 no_fault_after f rs e =
     let none = neither (is_kept_open f rs) (is_in_want f rs) e in
     let o = or_parts (lacks_thread f) (list_any (λ (p : PlayedScript). keeps_open p.fault) rs) none.0 in
     let w = or_parts (lacks_room f) (list_any (λ (p : PlayedScript). wants_memory p.fault) rs) none.1 in
     (no_run_fault f o.0 w.0, all_whole rs o.1 w.1)
 
+-- each script was played, and to its end
+pub whole_run : {U : Type 0} (c : Config) (ms : List Standing) (ss : List Script) (f : Option RunFault) (rs : List PlayedScript) (answer : Option FloorFault) → answer ≡ fault_after f rs → answer ≡ None → (f ≡ None → U × AllPlay c ms ss rs)
+    → AllPlay c ms ss rs × All IsWhole rs
+whole_run c ms ss f rs answer is none all = let whole = no_fault_after f rs (sym is ∙ none) in ((all whole.0).1, whole.1)
+
 of_board : (a b : Bool) (x : FloorFault) → (if a then Some fault.NotClosed else if b then Some fault.NoMemory else None) ≡ Some x → IsOfBoard x
 of_board true b x e = let same : fault.NotClosed ≡ x = cc in subst IsOfBoard same tt
 of_board false true x e = let same : fault.NoMemory ≡ x = cc in subst IsOfBoard same tt
 of_board false false x e = absurd cc
 
-pub fault_of_board : (f : Option RunFault) (rs : List PlayedScript) (x : FloorFault) → fault_after f rs ≡ Some x → IsOfBoard x
-fault_of_board f rs x e = of_board (is_kept_open f rs) (is_in_want f rs) x e
+pub fault_of_board : (f : Option RunFault) (rs : List PlayedScript) (answer : Option FloorFault) (x : FloorFault) → answer ≡ fault_after f rs → answer ≡ Some x → IsOfBoard x
+fault_of_board f rs answer x is some = of_board (is_kept_open f rs) (is_in_want f rs) x (sym is ∙ some)
 
 -- ---- what the closing has of each script
 
@@ -89,7 +94,7 @@ tells c counts story m s r plays same new whole told =
     let count : slice_index counts r.member.number ≡ length s.commands.items = omega (arith, told.0, plays.calls, new.0, many) in
     let mine : r.member.mine ≡ recorded r.receipts s.commands.items = plays.mine ∙ ap (λ t. t ++ recorded r.receipts s.commands.items) new.1 in
     let commands : commands_of r.member.number story ≡ s.commands.items =
-        sym (own_commands 1 story r.member.number) ∙ ap (map (λ (y : Call). y.1)) (told.1.own_calls ∙ mine) ∙ recorded_commands r.receipts s.commands.items many in
+    sym (own_commands 1 story r.member.number) ∙ ap (map (λ (y : Call). y.1)) (told.1.own_calls ∙ mine) ∙ recorded_commands r.receipts s.commands.items many in
     (subst (λ (k : ℕ). slice_index counts k ≡ length s.commands.items) number count, subst (λ (k : ℕ). commands_of k story ≡ s.commands.items) number commands)
 
 all_tell : (c : Config) (counts : List ℕ) (story : List Call) (ms : List Standing) (ss : List Script) (rs : List PlayedScript)
@@ -101,8 +106,8 @@ all_tell c counts story (m ∷ ms) (s ∷ ss) [] plays same new whole told = abs
 all_tell c counts story (m ∷ ms) (s ∷ ss) (r ∷ rs) plays same new whole told =
     let members : List Standing = map (λ (p : PlayedScript). p.member) rs in
     All-cons (Tells counts story) s ss
-        (tells c counts story m s r plays.0 same.0 (All-head IsNew m ms new) (All-head IsWhole r rs whole) (All-head (Told counts story) r.member members told))
-        (all_tell c counts story ms ss rs plays.1 same.1 (All-tail IsNew m ms new) (All-tail IsWhole r rs whole) (All-tail (Told counts story) r.member members told))
+    (tells c counts story m s r plays.0 same.0 (All-head IsNew m ms new) (All-head IsWhole r rs whole) (All-head (Told counts story) r.member members told))
+    (all_tell c counts story ms ss rs plays.1 same.1 (All-tail IsNew m ms new) (All-tail IsWhole r rs whole) (All-tail (Told counts story) r.member members told))
 
 pub as_many : (c : Config) (ms : List Standing) (ss : List Script) (rs : List PlayedScript) → AllPlay c ms ss rs → length rs ≡ length ms
 as_many c [] [] [] plays = refl
@@ -143,7 +148,7 @@ count_in calls k = length (commands_of k calls)
 same_counts : (n : ℕ) (xs ys : List Call) → ((k : ℕ) → k < n → commands_of k ys ≡ commands_of k xs) → counts_of n ys ≡ counts_of n xs
 same_counts n xs ys same =
     fill_by_all (count_in xs) (counts_of n ys) n 0 (length-map-range_with_len (count_in ys) 0 n)
-        (λ k lt. get_or-map-range_with_len (count_in ys) 0 n k k 0 lt (omega arith) ∙ ap length (same k lt))
+    (λ k lt. get_or-map-range_with_len (count_in ys) 0 n k k 0 lt (omega arith) ∙ ap length (same k lt))
 
 same_commands : (n k : ℕ) (xs ys : List Call) → ((j : ℕ) → j < n → commands_of j ys ≡ commands_of j xs) → length (from n xs) ≡ 0 → length (from n ys) ≡ 0 → (k < n) ⊎ (n ≤ k) → commands_of k ys ≡ commands_of k xs
 same_commands n k xs ys same none_x none_y (inl lt) = same k lt
@@ -155,9 +160,9 @@ day_of c n calls ss closing split below out =
     let entries : List Entry = closing.history.items in
     let story : List Call = calls_of entries in
     let count : (k : ℕ) → k < n → get_or counts k 0 ≡ count_in calls k =
-        at_each (λ k. get_or counts k 0 ≡ count_in calls k) n ss split.numbers (λ j d lt. out.counts j d lt ∙ ap length (split.commands j d lt)) in
+    at_each (λ k. get_or counts k 0 ≡ count_in calls k) n ss split.numbers (λ j d lt. out.counts j d lt ∙ ap length (split.commands j d lt)) in
     let same : (k : ℕ) → k < n → commands_of k story ≡ commands_of k calls =
-        at_each (λ k. commands_of k story ≡ commands_of k calls) n ss split.numbers (λ j d lt. out.commands j d lt ∙ split.commands j d lt) in
+    at_each (λ k. commands_of k story ≡ commands_of k calls) n ss split.numbers (λ j d lt. out.commands j d lt ∙ split.commands j d lt) in
     let is_counts : counts ≡ counts_of n calls = fill_by_all (count_in calls) counts n 0 out.wide count in
     let none : length (from n calls) ≡ 0 = none_from n calls below in
     let all : sum counts ≡ length calls = omega (arith, ap sum is_counts, sum_counts n calls, none) in

@@ -116,10 +116,12 @@ where
 {
     match close(board, members, rt) {
         Ok(closing) => Ok(closing),
-        Err(CloseFault::MissingMember {
-            board,
-            members: _members,
-        }) => {
+        Err(
+            CloseFault::MissingMember {
+                board,
+                members: _members,
+            },
+        ) => {
             board.abandon(rt);
             Err(FloorFault::NotClosed)
         }

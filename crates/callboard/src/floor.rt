@@ -21,7 +21,7 @@ use std::marker::Brand;
 use std::sync::Wait;
 use std::thread::Threads;
 
-/// The closing of a day on which each member calls its commands, and what the audit says of it.
+/// The closing of a day on which the members of these calls call them, all at once.
 fn closing_of<G: Gate + Sync, T: Wait + Threads + Sync>(
     alloc: Global,
     config: Config,
@@ -47,11 +47,7 @@ fn closing_of<G: Gate + Sync, T: Wait + Threads + Sync>(
 }
 
 /// The place from 0 of the first entry that isn't the auction's own, if there is one.
-fn first_bad(
-    alloc: Global,
-    config: Config,
-    history: &[Entry],
-) -> Result<Option<u64>, FloorFault>
+fn first_bad(alloc: Global, config: Config, history: &[Entry]) -> Result<Option<u64>, FloorFault>
     ensures finding { IfOk result (λ place. MatchOption place (IsLegal config history.now) (IsFirstBad config history.now)) }
     ensures fault { IfErr result (λ f. f ≡ FloorFault.NoMemory) }
 {
@@ -91,14 +87,8 @@ pub fn run_floor<R: Source, S: Sink, G: Gate + Sync, T: Wait + Threads + Sync>(
         Ok(calls) => calls,
         Err(fault) => return Err(FloorFault::File(fault)),
     };
-    let closing = match closing_of(alloc, config, members, calls.as_slice(), gate, rt) {
-        Ok(closing) => closing,
-        Err(fault) => return Err(fault),
-    };
-    let place = match first_bad(alloc, config, closing.history.as_slice()) {
-        Ok(place) => place,
-        Err(fault) => return Err(fault),
-    };
+    let closing = closing_of(alloc, config, members, calls.as_slice(), gate, rt)?;
+    let place = first_bad(alloc, config, closing.history.as_slice())?;
     let Ok(()) = write_closing(writer, &closing, place, history) else {
         return Err(FloorFault::WriteFailed);
     };

@@ -23,11 +23,7 @@ fn commands_of(
 }
 
 /// A script for each member, by rising numbers, with its commands in the order of the calls.
-pub fn split(
-    alloc: Global,
-    members: u8,
-    calls: &[(u8, Command)],
-) -> Result<Vec<Script>, AllocError>
+pub fn split(alloc: Global, members: u8, calls: &[(u8, Command)]) -> Result<Vec<Script>, AllocError>
     ensures { IfOk result (λ scripts. IsSplit members calls.now scripts.items) }
 {
     let mut scripts = Vec::with_capacity(alloc, usize::from(members))?;

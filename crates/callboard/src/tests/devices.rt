@@ -77,12 +77,7 @@ struct Written {
     err: Vec<u8>,
 }
 
-fn serve_devices<
-    I: Ledger,
-    O: Ledger,
-    E: Ledger,
-    T: AllocGlobal + Wait + Threads + Sync,
->(
+fn serve_devices<I: Ledger, O: Ledger, E: Ledger, T: AllocGlobal + Wait + Threads + Sync>(
     rt: &T,
     blanks: (Blank, Blank, Blank),
     words: &[&str],

@@ -115,7 +115,16 @@ fn run_to_memory<O: Ledger, G: Gate + Sync, T: AllocGlobal + Wait + Threads + Sy
         bytes: Vec::new(alloc),
         failures: Failures::<O>::new(output),
     };
-    let answer = run_floor(alloc, &mut reader, &mut out, config, members, true, gate, rt);
+    let answer = run_floor(
+        alloc,
+        &mut reader,
+        &mut out,
+        config,
+        members,
+        true,
+        gate,
+        rt,
+    );
     let ToMemory {
         bytes: out,
         failures: _,
@@ -184,8 +193,14 @@ fn nobody_calls(rt: HostRuntime) {
 #[test]
 fn the_history_is_the_boards(rt: HostRuntime) {
     let rows = [
-        (0, "1: member 1 no price bid - ask -\n2: member 0 no price bid - ask -\n"),
-        (1, "1: member 0 no price bid - ask -\n2: member 1 no price bid - ask -\n"),
+        (
+            0,
+            "1: member 1 no price bid - ask -\n2: member 0 no price bid - ask -\n",
+        ),
+        (
+            1,
+            "1: member 0 no price bid - ask -\n2: member 1 no price bid - ask -\n",
+        ),
     ];
     let tally = "entries 2\nmember 0 calls 1\nmember 1 calls 1\naudit legal\n";
     for (waits, story) in rows {
@@ -211,10 +226,7 @@ fn what_no_board_is_opened_with(rt: HostRuntime) {
     }
     for members in [0u8, 65] {
         let ran = run_under(&rt, b"", CONFIG, members, &OpenGate);
-        assert_eq!(rt;
-            ran.answer,
-            Err(FloorFault::Open(OpenFault::BadLimits))
-        );
+        assert_eq!(rt; ran.answer, Err(FloorFault::Open(OpenFault::BadLimits)));
         assert!(rt; ran.out.is_empty());
     }
 }
