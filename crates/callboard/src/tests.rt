@@ -12,9 +12,12 @@ use std::sync::ledger::{Blank, Ledger};
 use std::test::Fail;
 
 mod devices;
+mod edges;
 mod examples;
 mod files;
+mod full;
 mod prices;
+mod refused;
 mod trading;
 
 /// The program's name alone.
