@@ -13,10 +13,13 @@ use std::test::Fail;
 use std::thread::Threads;
 
 mod devices;
+mod edges;
 mod examples;
 mod files;
 mod floor;
+mod full;
 mod prices;
+mod refused;
 mod trading;
 
 /// The program's name alone.

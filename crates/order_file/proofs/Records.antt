@@ -1,9 +1,11 @@
 -- The records of a text, one by one.
-use Rattle.std.proofs.Common.{Bor, ◌≡◌, ◌<◌, ◌+◌, ◌⊎◌, inl, inr, ℕ, zero, suc, List, [], ◌∷◌, ◌++◌, length, Option, Some, None, Bool, true, false, refl, ap, arith, add-one, ◌∙◌}
+use Rattle.std.proofs.Common.{Bor, ◌≡◌, ◌<◌, ◌+◌, ◌⊎◌, inl, inr, ℕ, zero, suc, List, [], ◌∷◌, ◌++◌, length, Option, Some, None, IsSome, Bool, true, false, refl, ap, arith, add-one, ◌∙◌}
 use Rattle.std.specs.Bool.{MatchBool}
 use Rattle.csv.specs.Machine.{Read, ends_at_end, field_after, fields_after, is_end, next_record, step}
-use Rattle.csv.specs.Reading.{ReadRecord, Reached, default_config, records, records_from, records_next, reader_state, took_first}
+use Rattle.csv.specs.Reading.{ChangesHeaders, ReadRecord, Reached, default_config, names_headers, reader_config, reader_headers, reader_trim, records, records_from, records_next, reader_state, took_first}
 use Rattle.csv.specs.declared.reader.Reader.{Reader}
+use Rattle.csv.specs.declared.reader.Headers.{Headers}
+use Rattle.csv.specs.declared.reader.Trim.TheVariants as how
 use Rattle.csv.proofs.ReadFacts.{rows-end, rows-more}
 use Rattle.csv.specs.declared.parser.Config.{Config}
 use Rattle.csv.specs.declared.parser.State.{State}
@@ -111,8 +113,23 @@ pub row-found : (found : Bool) (a b : Reader (Bor (List ℕ))) (fields : List (L
 row-found true a b fields stands first read = row-more a b fields stands first read
 row-found false a b fields stands first read = row-none a b fields stands read
 
--- a reader at the start of a text has all its records left
-pub rows-start : (r : Reader (Bor (List ℕ))) (bytes : List ℕ) → reader_state r ≡ st.StartRecord → bytes_left r ≡ Some bytes
-    → rows_left r ≡ records default_config bytes
+-- a reader at the start of a text, set up as for an order file
+pub record Starts (r : Reader (Bor (List ℕ))) (bytes : List ℕ) : Type 0 where
+  pub names : names_headers r ≡ true
+  pub trim : reader_trim r ≡ how.None
+  pub config : reader_config r ≡ default_config
+  pub state : reader_state r ≡ st.StartRecord
+  pub known : bytes_left r ≡ Some bytes
+
+-- With a row of headers given to it, its next read is of the first record, and it has all records of the text left.
+pub with-headers : (a b : Reader (Bor (List ℕ))) (bytes : List ℕ) → Starts a bytes → ChangesHeaders a b → IsSome (reader_headers b)
+    → Stands b × (rows_left b ≡ records default_config bytes)
 unfolding rows_left
-rows-start r bytes start known = rw (start, known) refl
+with-headers a b bytes start same some = with-row (reader_headers b) b same some
+  where
+    with-row : (h : Option Headers) (b : Reader (Bor (List ℕ))) → b ≡ record a { headers = h } → IsSome h
+        → Stands b × (rows_left b ≡ records default_config bytes)
+    with-row h b same some = rw same (
+      record { trim = start.trim; ready = inr (inl (start.names, some)); config = start.config; bytes = bytes; known = start.known },
+      rw (start.state, start.known) refl,
+    )

@@ -2,6 +2,7 @@
 
 ghost use Rattle.std.specs.Prelude.{◌≡◌, ◌<◌, ◌≤◌, ◌↔◌, ◌∷◌, ℕ, All, List, [], length, IfErr, IfOk, IfSome, IsErrOf, MatchBool};
 ghost use Rattle.std.specs.Io.KnownBytes.{Consumes};
+ghost use Rattle.csv.specs.Reading.{default_config, records, strip_bom};
 ghost use Rattle.csv.specs.Records.{fields_of};
 ghost use Rattle.order_file.specs.File.{Gives, IsBelow, IsOfRecord, file, calls_after, calls_of, within_limit};
 ghost use Rattle.order_file.specs.Rows.{Stands, rows_left};
@@ -90,6 +91,21 @@ fn calls_from(
     Ok(calls)
 }
 
+/// A reader of the records of a file, with none read yet. It is given a row of headers, so that it keeps no copies of the
+/// first record.
+fn reader_of<'a>(alloc: Global, bytes: &'a [u8]) -> Result<Reader<&'a [u8]>, FileFault>
+    ensures memory { IfErr result (λ e. e ≡ FileFault.NoMemory) }
+    ensures reader { IfOk result (λ r. Stands r × (rows_left r ≡ records default_config (strip_bom bytes.now))) }
+{
+    let mut reader = ReaderBuilder::new()
+        .flexible(true)
+        .from_reader(alloc, bytes);
+    let Ok(()) = reader.set_byte_headers(ByteRecord::new(alloc)) else {
+        return Err(FileFault::NoMemory);
+    };
+    Ok(reader)
+}
+
 /// The calls of a file that was read.
 fn calls_of(
     alloc: Global,
@@ -102,10 +118,7 @@ fn calls_of(
     ensures few { IfOk result (λ v. length v.items ≤ max_calls) }
     ensures below { IfOk result (λ v. All (IsBelow members) v.items) }
 {
-    let mut reader = ReaderBuilder::new()
-        .has_headers(false)
-        .flexible(true)
-        .from_reader(alloc, bytes);
+    let mut reader = reader_of(alloc, bytes)?;
     calls_from(alloc, &mut reader, members, max_calls)
 }
 

@@ -137,3 +137,32 @@ fn a_record_of_many_fields_is_refused(rt: HostRuntime) {
     let read = read_long(rt.alloc(), b"1,ask".as_slice(), b',', 1_000_000);
     assert_eq!(rt; read, (Some(FileFault::BadCount { number: 1 }), 0));
 }
+
+#[test]
+fn members_and_calls_at_their_ends(rt: HostRuntime) {
+    let too_many = |number| Some(FileFault::TooManyCommands { number });
+    let bad = Some(FileFault::BadMember { number: 1 });
+    let rows = [
+        ("0,ask", 0, 8, bad),
+        ("0,ask", 1, 8, None),
+        ("1,ask", 1, 8, bad),
+        ("254,ask", 255, 8, None),
+        ("255,ask", 255, 8, bad),
+        ("256,ask", 255, 8, bad),
+        ("", 4, 0, None),
+        ("0,ask", 4, 0, too_many(1)),
+        ("0,ask\n0,ask", 4, 1, too_many(2)),
+        ("0,ask\n0,ask", 4, 2, None),
+        ("0,ask\n0,ask", 4, u32::MAX, None),
+        // A record that is one too many isn't looked at.
+        ("0,ask\nx", 4, 1, too_many(2)),
+        ("0,ask\nx", 4, 2, Some(FileFault::BadMember { number: 2 })),
+    ];
+    for (text, members, max_calls, fault) in rows {
+        let mut source = FromMemory {
+            rest: text.as_bytes(),
+        };
+        let read = read_orders(rt.alloc(), &mut source, members, max_calls);
+        assert!(rt; read.err() == fault, "{text} {members} {max_calls}");
+    }
+}

@@ -1,0 +1,683 @@
+//! Each limit at its value, one below and one above: in files, on the command line, and in calls.
+
+use super::{PLAIN, gives, replies, run};
+use auction::{Auction, OpenFault, Verdict, audit};
+use auction_terms::{Command, Config, Limit, Only, Refused, Reply, Side};
+use std::test::Fail;
+
+/// Eleven ticks, and members 0 to 3.
+const TICKS: [&str; 7] = [
+    "callboard",
+    "--low",
+    "10",
+    "--high",
+    "20",
+    "--reference",
+    "15",
+];
+
+#[test]
+fn terms_of_an_order(rt: HostRuntime) -> Result<(), Fail> {
+    let rows = [
+        // A quantity is 1 to 1,000,000,000.
+        ("1,enter,bid,0,15", "refused 1 BadQuantity"),
+        ("1,enter,bid,1,15", "entered 1"),
+        ("1,enter,bid,2,15", "entered 2"),
+        ("1,enter,ask,999999999,15", "entered 3"),
+        ("1,enter,ask,1000000000,15", "entered 4"),
+        ("1,enter,ask,1000000001,15", "refused 1 BadQuantity"),
+        ("1,enter,ask,4294967295,15", "refused 1 BadQuantity"),
+        // A limit is 10 to 20.
+        ("1,enter,bid,5,0", "refused 2 BadLimit"),
+        ("1,enter,bid,5,1", "refused 2 BadLimit"),
+        ("1,enter,bid,5,9", "refused 2 BadLimit"),
+        ("1,enter,bid,5,10", "entered 5"),
+        ("1,enter,ask,5,11", "entered 6"),
+        ("1,enter,bid,5,19", "entered 7"),
+        ("1,enter,ask,5,20", "entered 8"),
+        ("1,enter,ask,5,21", "refused 2 BadLimit"),
+        ("1,enter,ask,5,4294967295", "refused 2 BadLimit"),
+        // A peak is 1 to the quantity.
+        ("1,enter,bid,5,15,0", "refused 3 BadPeak"),
+        ("1,enter,bid,5,15,1", "entered 9"),
+        ("1,enter,bid,5,15,4", "entered 10"),
+        ("1,enter,bid,5,15,5", "entered 11"),
+        ("1,enter,bid,5,15,6", "refused 3 BadPeak"),
+        ("1,enter,bid,5,15,4294967295", "refused 3 BadPeak"),
+        ("1,enter,bid,1,15,1", "entered 12"),
+        ("1,enter,bid,1,15,2", "refused 3 BadPeak"),
+        ("1,enter,bid,1000000000,15,1000000000", "entered 13"),
+        ("1,enter,bid,1000000000,15,1000000001", "refused 3 BadPeak"),
+        (
+            "1,status,13",
+            "order bid 1000000000 at 15 visible 1000000000",
+        ),
+        ("1,status,9", "order bid 5 at 15 visible 1"),
+        // The first check that refuses an order is the one that is named.
+        ("1,enter,bid,0,9,0", "refused 1 BadQuantity"),
+        ("1,enter,bid,5,9,0", "refused 2 BadLimit"),
+    ];
+    replies(&rt, TICKS.as_slice(), rows.as_slice())
+}
+
+#[test]
+fn terms_of_a_change(rt: HostRuntime) -> Result<(), Fail> {
+    let rows = [
+        ("1,enter,bid,5,15", "entered 1"),
+        ("1,change,1,0,15", "refused 1 BadQuantity"),
+        ("1,change,1,4,15", "changed kept"),
+        ("1,change,1,1,15", "changed kept"),
+        ("1,change,1,2,15", "changed moved"),
+        ("1,change,1,1000000001,15", "refused 1 BadQuantity"),
+        ("1,change,1,4294967295,15", "refused 1 BadQuantity"),
+        ("1,change,1,1000000000,15", "changed moved"),
+        ("1,change,1,1000000000,15", "changed kept"),
+        ("1,change,1,999999999,15", "changed kept"),
+        ("1,change,1,5,0", "refused 2 BadLimit"),
+        ("1,change,1,5,9", "refused 2 BadLimit"),
+        ("1,change,1,5,10", "changed moved"),
+        ("1,change,1,5,20", "changed moved"),
+        ("1,change,1,5,21", "refused 2 BadLimit"),
+        ("1,change,1,5,4294967295", "refused 2 BadLimit"),
+        // An order that isn't there is looked for after its terms.
+        ("1,change,0,0,15", "refused 1 BadQuantity"),
+        ("1,change,0,5,9", "refused 2 BadLimit"),
+        // The peak stays, though the quantity is smaller now.
+        ("1,enter,ask,5,15,5", "entered 2"),
+        ("1,change,2,1,15", "changed kept"),
+        ("1,status,2", "order ask 1 at 15 visible 1"),
+        ("1,change,2,6,15", "changed moved"),
+        ("1,status,2", "order ask 6 at 15 visible 5"),
+    ];
+    replies(&rt, TICKS.as_slice(), rows.as_slice())
+}
+
+#[test]
+fn numbers_of_orders(rt: HostRuntime) -> Result<(), Fail> {
+    let rows = [
+        // The first order has the number 1, and no order has the number 0.
+        ("1,status,0", "refused 5 UnknownOrder"),
+        ("1,status,1", "refused 5 UnknownOrder"),
+        ("1,enter,bid,5,15", "entered 1"),
+        ("1,enter,bid,6,15", "entered 2"),
+        ("1,enter,bid,7,15", "entered 3"),
+        ("1,status,0", "refused 5 UnknownOrder"),
+        ("1,status,1", "order bid 5 at 15 visible 5"),
+        ("1,status,3", "order bid 7 at 15 visible 7"),
+        ("1,status,4", "refused 5 UnknownOrder"),
+        ("1,status,4294967295", "refused 5 UnknownOrder"),
+        ("1,change,0,5,15", "refused 5 UnknownOrder"),
+        ("1,change,1,5,15", "changed kept"),
+        ("1,change,3,7,15", "changed kept"),
+        ("1,change,4,5,15", "refused 5 UnknownOrder"),
+        ("1,change,4294967295,5,15", "refused 5 UnknownOrder"),
+        ("1,delete,0", "refused 5 UnknownOrder"),
+        ("1,delete,4", "refused 5 UnknownOrder"),
+        ("1,delete,4294967295", "refused 5 UnknownOrder"),
+        ("1,delete,3", "deleted"),
+        ("1,delete,1", "deleted"),
+        ("1,delete,1", "refused 5 UnknownOrder"),
+        // A number isn't given twice.
+        ("1,enter,bid,8,15", "entered 4"),
+        ("1,status,3", "refused 5 UnknownOrder"),
+        ("1,status,2", "order bid 6 at 15 visible 6"),
+        ("1,status,5", "refused 5 UnknownOrder"),
+    ];
+    replies(&rt, TICKS.as_slice(), rows.as_slice())
+}
+
+#[test]
+fn numbers_of_trades(rt: HostRuntime) -> Result<(), Fail> {
+    let rows = [
+        ("1,trade,0", "refused 8 NoSuchTrade"),
+        ("1,trade,1", "refused 8 NoSuchTrade"),
+        ("1,enter,bid,5,15", "entered 1"),
+        ("2,enter,ask,2,15", "entered 2"),
+        ("3,enter,ask,3,15", "entered 3"),
+        (
+            "0,uncross",
+            "opening price 15 volume 5 surplus 0 none trades 2",
+        ),
+        ("3,trade,0", "refused 8 NoSuchTrade"),
+        ("3,trade,1", "trade 1 2 2 at 15"),
+        ("3,trade,2", "trade 1 3 3 at 15"),
+        ("3,trade,3", "refused 8 NoSuchTrade"),
+        ("3,trade,4294967295", "refused 8 NoSuchTrade"),
+        // The count goes on over the auctions of the day, and is kept after it.
+        ("1,enter,bid,1,10", "entered 4"),
+        ("2,enter,ask,1,10", "entered 5"),
+        (
+            "0,uncross",
+            "intraday price 10 volume 1 surplus 0 none trades 1",
+        ),
+        ("3,trade,3", "trade 4 5 1 at 10"),
+        ("3,trade,4", "refused 8 NoSuchTrade"),
+        ("0,uncross", "closing no price"),
+        ("3,trade,0", "refused 8 NoSuchTrade"),
+        ("3,trade,3", "trade 4 5 1 at 10"),
+        ("3,trade,4", "refused 8 NoSuchTrade"),
+    ];
+    replies(&rt, TICKS.as_slice(), rows.as_slice())
+}
+
+#[test]
+fn members_at_both_ends(rt: HostRuntime) {
+    let bad = "record 1: bad member\n";
+    let shown = "1: no price bid - ask -\n";
+    let rows = [
+        ("1", "0", true),
+        ("1", "1", false),
+        ("2", "1", true),
+        ("2", "2", false),
+        ("63", "62", true),
+        ("63", "63", false),
+        ("64", "63", true),
+        ("64", "64", false),
+        ("64", "256", false),
+        ("64", "4294967295", false),
+        ("64", "4294967296", false),
+    ];
+    for (members, member, good) in rows {
+        let words = ["callboard", "--members", members];
+        let mut input = [b' '; 16];
+        let count = member.len().min(10);
+        input[..count].copy_from_slice(&member.as_bytes()[..count]);
+        input[count..count + 4].copy_from_slice(b",ask");
+        let record = &input[..count + 4];
+        if good {
+            gives(&rt, words.as_slice(), record, shown, "", 0);
+        } else {
+            gives(&rt, words.as_slice(), record, "", bad, 1);
+        }
+    }
+}
+
+#[test]
+fn numbers_that_are_too_long(rt: HostRuntime) -> Result<(), Fail> {
+    let alloc = rt.alloc();
+    let places = [
+        ("", ",ask", "bad member"),
+        ("1,enter,bid,", ",200", "bad field 4"),
+        ("1,enter,bid,5,", "", "bad field 5"),
+        ("1,enter,bid,5,200,", "", "bad field 6"),
+        ("1,change,", ",5,200", "bad field 3"),
+        ("1,change,1,", ",200", "bad field 4"),
+        ("1,change,1,5,", "", "bad field 5"),
+        ("1,delete,", "", "bad field 3"),
+        ("1,status,", "", "bad field 3"),
+        ("1,trade,", "", "bad field 3"),
+    ];
+    let numbers = [
+        "4294967296",
+        "9999999999",
+        "00000000000",
+        "00000000001",
+        "18446744073709551617",
+        "-1",
+        "1.0",
+        "1e1",
+        "0x1",
+    ];
+    for (front, back, fault) in places {
+        for number in numbers {
+            let input = format!(in alloc; "{front}{number}{back}\n")?;
+            let err = format!(in alloc; "record 1: {fault}\n")?;
+            gives(
+                &rt,
+                PLAIN.as_slice(),
+                input.as_str().as_bytes(),
+                "",
+                err.as_str(),
+                1,
+            );
+        }
+    }
+    Ok(())
+}
+
+#[test]
+fn ten_digits_are_a_number(rt: HostRuntime) -> Result<(), Fail> {
+    let rows = [
+        ("0000000001,enter,bid,0000000005,0000000200", "entered 1"),
+        ("0000000001,enter,bid,5,200,0000000000", "refused 3 BadPeak"),
+        ("1,change,0000000001,0000000004,0000000200", "changed kept"),
+        ("1,status,0000000001", "order bid 4 at 200 visible 4"),
+        ("1,trade,0000000000", "refused 8 NoSuchTrade"),
+        ("1,delete,0000000001", "deleted"),
+    ];
+    replies(&rt, PLAIN.as_slice(), rows.as_slice())
+}
+
+#[test]
+fn bounds_and_reference(rt: HostRuntime) {
+    let bounds = "bad bounds\n";
+    let reference = "bad reference\n";
+    let rows = [
+        ("1", "1", "1", ""),
+        ("2", "1", "1", bounds),
+        ("2", "2", "1", reference),
+        ("1", "1", "2", reference),
+        // There are at most 65,536 ticks.
+        ("1", "65535", "65535", ""),
+        ("1", "65536", "65536", ""),
+        ("1", "65536", "65537", reference),
+        ("1", "65537", "65537", bounds),
+        ("2", "65537", "65537", ""),
+        ("1", "1000000", "1", bounds),
+        // They end at 1,000,000.
+        ("1000000", "1000000", "1000000", ""),
+        ("1000000", "999999", "1000000", bounds),
+        ("999999", "1000000", "999999", ""),
+        ("999999", "1000000", "999998", reference),
+        ("934466", "1000000", "1000000", ""),
+        ("934465", "1000000", "1000000", ""),
+        ("934465", "1000000", "934465", ""),
+        ("934465", "1000000", "934464", reference),
+        ("934464", "1000000", "1000000", bounds),
+        // The reference lies within them.
+        ("10", "20", "9", reference),
+        ("10", "20", "10", ""),
+        ("10", "20", "11", ""),
+        ("10", "20", "19", ""),
+        ("10", "20", "20", ""),
+        ("10", "20", "21", reference),
+        ("10", "20", "1", reference),
+        ("10", "20", "1000000", reference),
+        // Bad bounds are found before a bad reference.
+        ("20", "10", "15", bounds),
+    ];
+    for (low, high, first, err) in rows {
+        let words = [
+            "callboard",
+            "--low",
+            low,
+            "--high",
+            high,
+            "--reference",
+            first,
+        ];
+        let status = if err.is_empty() { 0 } else { 2 };
+        gives(&rt, words.as_slice(), b"", "", err, status);
+    }
+}
+
+#[test]
+fn options_at_their_ends(rt: HostRuntime) {
+    let rows = [
+        ("--members", "0", false),
+        ("--members", "1", true),
+        ("--members", "2", true),
+        ("--members", "63", true),
+        ("--members", "64", true),
+        ("--members", "65", false),
+        ("--members", "256", false),
+        ("--open", "0", false),
+        ("--open", "1", true),
+        ("--open", "2", true),
+        ("--open", "65535", true),
+        ("--open", "65536", true),
+        ("--open", "65537", false),
+        ("--calls", "0", false),
+        ("--calls", "1", true),
+        ("--calls", "2", true),
+        ("--calls", "1048575", true),
+        ("--calls", "1048576", true),
+        ("--calls", "1048577", false),
+        ("--range", "0", true),
+        ("--range", "1", true),
+        ("--range", "999999", true),
+        ("--range", "1000000", true),
+        ("--range", "1000001", false),
+        ("--low", "0", false),
+        ("--low", "1", true),
+        ("--low", "1000001", false),
+        ("--high", "0", false),
+        ("--high", "1000001", false),
+        ("--reference", "0", false),
+        ("--reference", "1", true),
+        ("--reference", "1000", true),
+        ("--reference", "1000001", false),
+    ];
+    for (option, number, good) in rows {
+        let words = ["callboard", option, number];
+        let printed = run(&rt, words.as_slice(), b"");
+        assert_eq!(rt;
+            printed.status,
+            if good { 0 } else { 2 },
+            "{option} {number}"
+        );
+        assert!(rt; printed.out.is_empty());
+        assert_eq!(rt; printed.err.is_empty(), good, "{option} {number}");
+    }
+}
+
+#[test]
+fn no_option_takes_other_words(rt: HostRuntime) {
+    let options = [
+        "--low",
+        "--high",
+        "--reference",
+        "--members",
+        "--open",
+        "--calls",
+        "--range",
+    ];
+    let numbers = [
+        "-1",
+        "",
+        " 1",
+        "1 ",
+        "1.0",
+        "x",
+        "4294967295",
+        "4294967296",
+        "4294967297",
+        "18446744073709551617",
+    ];
+    for option in options {
+        for number in numbers {
+            let printed = run(&rt, ["callboard", option, number].as_slice(), b"1,ask");
+            assert_eq!(rt; printed.status, 2, "{option} '{number}'");
+            assert!(rt; printed.out.is_empty() && !printed.err.is_empty());
+        }
+        let alone = run(&rt, ["callboard", option].as_slice(), b"1,ask");
+        assert_eq!(rt; alone.status, 2, "{option}");
+    }
+}
+
+/// A price so far from the reference as the range is no interruption; one tick more is.
+#[test]
+fn ranges_at_their_ends(rt: HostRuntime) -> Result<(), Fail> {
+    let ends = [
+        ("1", "65536", "65535", "65534"),
+        ("65536", "1", "65535", "65534"),
+        ("200", "201", "1", "0"),
+        ("201", "200", "1", "0"),
+        ("65536", "65535", "1", "0"),
+    ];
+    let alloc = rt.alloc();
+    for (reference, price, wide, narrow) in ends {
+        let bid = format!(in alloc; "1,enter,bid,1,{price}")?;
+        let ask = format!(in alloc; "2,enter,ask,1,{price}")?;
+        let shown = format!(in alloc; "price {price} volume 1 surplus 0 none")?;
+        let stopped = format!(in alloc; "interrupted {}", shown.as_str())?;
+        let done = format!(in alloc; "opening {} trades 1", shown.as_str())?;
+        for range in [wide, narrow] {
+            let words = [
+                "callboard",
+                "--high",
+                "65536",
+                "--reference",
+                reference,
+                "--range",
+                range,
+            ];
+            let first = if range == wide {
+                done.as_str()
+            } else {
+                stopped.as_str()
+            };
+            let rows = [
+                (bid.as_str(), "entered 1"),
+                (ask.as_str(), "entered 2"),
+                ("0,ask", shown.as_str()),
+                ("0,uncross", first),
+            ];
+            replies(&rt, words.as_slice(), rows.as_slice())?;
+        }
+    }
+    Ok(())
+}
+
+#[test]
+fn a_price_at_the_reference_is_in_every_range(rt: HostRuntime) -> Result<(), Fail> {
+    let rows = [
+        ("1,enter,bid,1,200", "entered 1"),
+        ("2,enter,ask,1,200", "entered 2"),
+        (
+            "0,uncross",
+            "opening price 200 volume 1 surplus 0 none trades 1",
+        ),
+    ];
+    for range in ["0", "1", "1000000"] {
+        let words = ["callboard", "--range", range];
+        replies(&rt, words.as_slice(), rows.as_slice())?;
+    }
+    Ok(())
+}
+
+const DAY: Config = Config {
+    low: 10,
+    high: 20,
+    reference: 15,
+    max_open: 8,
+    max_calls: 64,
+    range: None,
+};
+
+/// Why no auction is opened with this config, if it isn't.
+fn fault_of(alloc: std::alloc::Global, config: Config) -> Option<OpenFault> {
+    Auction::open(alloc, config).err()
+}
+
+#[test]
+fn configs_with_bounds_and_reference(rt: HostRuntime) {
+    let bounds = Some(OpenFault::BadBounds);
+    let reference = Some(OpenFault::BadReference);
+    let rows = [
+        (0, 0, 0, bounds),
+        (0, 20, 15, bounds),
+        (1, 20, 15, None),
+        (21, 20, 15, bounds),
+        (20, 20, 20, None),
+        (1, 65_536, 1, None),
+        (1, 65_537, 1, bounds),
+        (1, 1_000_000, 1, bounds),
+        (1, u32::MAX, 1, bounds),
+        (934_464, 1_000_000, 1_000_000, bounds),
+        (934_465, 1_000_000, 1_000_000, None),
+        (1_000_000, 1_000_000, 1_000_000, None),
+        (1_000_000, 1_000_001, 1_000_000, bounds),
+        (1_000_001, 1_000_001, 1_000_001, bounds),
+        (u32::MAX, u32::MAX, u32::MAX, bounds),
+        (u32::MAX, 1, 1, bounds),
+        (10, 20, 0, reference),
+        (10, 20, 9, reference),
+        (10, 20, 10, None),
+        (10, 20, 20, None),
+        (10, 20, 21, reference),
+        (10, 20, u32::MAX, reference),
+    ];
+    for (low, high, first, fault) in rows {
+        let config = Config {
+            low,
+            high,
+            reference: first,
+            ..DAY
+        };
+        assert!(rt;
+            fault_of(rt.alloc(), config) == fault,
+            "{low} {high} {first}"
+        );
+        let found = audit(rt.alloc(), config, &[]);
+        assert!(rt; found == fault.map_or(Ok(Verdict::Legal), |fault| Err(fault)));
+    }
+}
+
+#[test]
+fn configs_with_limits(rt: HostRuntime) {
+    let limits = Some(OpenFault::BadLimits);
+    let rows = [
+        (0, 64, limits),
+        (1, 64, None),
+        (65_535, 64, None),
+        (65_536, 64, None),
+        (65_537, 64, limits),
+        (u32::MAX, 64, limits),
+        (8, 0, limits),
+        (8, 1, None),
+        (8, 1_048_575, None),
+        (8, 1_048_576, None),
+        (8, 1_048_577, limits),
+        (8, u32::MAX, limits),
+        (65_536, 1_048_576, None),
+        (0, 0, limits),
+    ];
+    for (max_open, max_calls, fault) in rows {
+        let config = Config {
+            max_open,
+            max_calls,
+            ..DAY
+        };
+        assert!(rt;
+            fault_of(rt.alloc(), config) == fault,
+            "{max_open} {max_calls}"
+        );
+        // A bad reference is found before them, and bad bounds before that.
+        let reference = Config {
+            reference: 9,
+            ..config
+        };
+        assert!(rt; fault_of(rt.alloc(), reference) == Some(OpenFault::BadReference));
+        let bounds = Config {
+            low: 21,
+            ..reference
+        };
+        assert!(rt; fault_of(rt.alloc(), bounds) == Some(OpenFault::BadBounds));
+    }
+    // Any range will do.
+    for range in [None, Some(0), Some(1_000_000), Some(u32::MAX)] {
+        assert!(rt; fault_of(rt.alloc(), Config { range, ..DAY }).is_none());
+    }
+}
+
+fn entering(limit: Limit, quantity: u64, peak: Option<u64>) -> Command {
+    Command::Enter {
+        side: Side::Buy,
+        limit,
+        quantity,
+        peak,
+        only: Only::Any,
+    }
+}
+
+fn changing(id: u32, limit: Limit, quantity: u64) -> Command {
+    Command::Change {
+        id,
+        limit,
+        quantity,
+    }
+}
+
+/// The reply to a command of this member, if there is room for it.
+fn reply_to(auction: &mut Auction, member: u8, command: Command) -> Option<Reply> {
+    if auction.calls() < auction.config().max_calls {
+        Some(auction.apply(member, command))
+    } else {
+        None
+    }
+}
+
+// Quantities and peaks of a call have 64 bits: those that would be good in their last 32 bits are bad.
+#[test]
+fn numbers_that_no_file_has(rt: HostRuntime) -> Result<(), Fail> {
+    let at = Limit::At(15);
+    let past = 1u64 << 32;
+    let rows = [
+        (1, entering(at, 5, Some(5)), Reply::Entered { id: 1 }),
+        (
+            1,
+            entering(at, past + 5, None),
+            Reply::Refused(Refused::BadQuantity),
+        ),
+        (
+            1,
+            entering(at, u64::MAX, None),
+            Reply::Refused(Refused::BadQuantity),
+        ),
+        (
+            1,
+            entering(at, 5, Some(past + 5)),
+            Reply::Refused(Refused::BadPeak),
+        ),
+        (
+            1,
+            entering(at, 5, Some(past)),
+            Reply::Refused(Refused::BadPeak),
+        ),
+        (
+            1,
+            entering(at, 5, Some(u64::MAX)),
+            Reply::Refused(Refused::BadPeak),
+        ),
+        (
+            1,
+            entering(Limit::At(0), 5, None),
+            Reply::Refused(Refused::BadLimit),
+        ),
+        (
+            1,
+            entering(Limit::At(u32::MAX), 5, None),
+            Reply::Refused(Refused::BadLimit),
+        ),
+        (
+            1,
+            changing(1, at, past + 5),
+            Reply::Refused(Refused::BadQuantity),
+        ),
+        (
+            1,
+            changing(1, Limit::At(u32::MAX), 5),
+            Reply::Refused(Refused::BadLimit),
+        ),
+        (
+            1,
+            changing(u32::MAX, at, 5),
+            Reply::Refused(Refused::UnknownOrder),
+        ),
+        (
+            1,
+            Command::Delete { id: u32::MAX },
+            Reply::Refused(Refused::UnknownOrder),
+        ),
+        (
+            1,
+            Command::Status { id: 0 },
+            Reply::Refused(Refused::UnknownOrder),
+        ),
+        (
+            1,
+            Command::Trade { number: u32::MAX },
+            Reply::Refused(Refused::NoSuchTrade),
+        ),
+        // Any member may call, the last number of all too, but only member 0 may uncross.
+        (255, entering(at, 5, None), Reply::Entered { id: 2 }),
+        (
+            255,
+            Command::Delete { id: 1 },
+            Reply::Refused(Refused::UnknownOrder),
+        ),
+        (255, Command::Uncross, Reply::Refused(Refused::NotOperator)),
+        (255, Command::Delete { id: 2 }, Reply::Deleted),
+    ];
+    let mut auction = Auction::open(rt.alloc(), DAY)?;
+    for (member, command, reply) in rows {
+        assert!(rt; reply_to(&mut auction, member, command) == Some(reply));
+    }
+    assert_eq!(rt; auction.calls(), 18);
+    Ok(())
+}
+
+#[test]
+fn the_last_call(rt: HostRuntime) -> Result<(), Fail> {
+    for max_calls in [1, 2, 3] {
+        let mut auction = Auction::open(rt.alloc(), Config { max_calls, ..DAY })?;
+        for before in 0..max_calls {
+            assert!(rt; auction.calls() == before && !auction.is_full());
+            // A refused call is counted too.
+            assert!(rt; reply_to(&mut auction, 1, Command::Uncross).is_some());
+        }
+        assert!(rt; auction.calls() == max_calls && auction.is_full());
+    }
+    Ok(())
+}
