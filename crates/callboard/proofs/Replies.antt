@@ -1,5 +1,5 @@
 -- The lines of replies, one by one.
-use Rattle.std.proofs.Common.{◌≡◌, ◌<◌, ◌≤◌, ◌+◌, ℕ, List, [], ◌∷◌, ◌++◌, length, drop, add-one, drop-cons, get_or, append_assoc, ◌∙◌, refl, sym}
+use Rattle.std.proofs.Common.{◌≡◌, ◌<◌, ◌≤◌, ◌+◌, ℕ, List, ◌∷◌, ◌++◌, length, drop, add-one, drop-cons, get_or, append_assoc, ◌∙◌, refl, sym}
 use Rattle.std.proofs.lemmas.List.{append-nil, drop_all}
 use Rattle.auction_terms.specs.declared.Config.{Config}
 use Rattle.auction_terms.specs.declared.Command.{Command}
