@@ -1,10 +1,9 @@
 -- The faults of a board beside those of its auction.
-use Rattle.std.proofs.Common.{◌≡◌, ℕ, Bool, true, false, ◌||◌, not, List, [], ◌∷◌, Option, Some, None, Result, Ok, Err, IfSome, IfErr, refl, sym, ap, subst, ◌∙◌}
+use Rattle.std.proofs.Common.{◌≡◌, ℕ, Bool, true, false, ◌||◌, not, [], ◌∷◌, Option, Some, None, Result, Ok, Err, IfSome, IfErr, refl, ap, ◌∙◌}
 use Rattle.std.specs.Prelude.{if◌then◌else◌}
 use Rattle.std.specs.Result.{result_err}
 use Rattle.auction_terms.specs.declared.Config.{Config}
 use Rattle.auction_terms.specs.Day.{first_that_holds}
-use Rattle.auction_terms.specs.Running.{Running}
 use Rattle.auction.specs.declared.OpenFault.{OpenFault}
 use Rattle.auction.specs.declared.OpenFault.TheVariants.{BadBounds, BadReference, BadLimits, NoMemory}
 use Rattle.auction.specs.Opening.{open_fault, has_bad_bounds, has_bad_reference, has_bad_limits}

@@ -1,5 +1,5 @@
 -- What a contract sees of an opening, and which boards can't be opened.
-use Rattle.std.specs.Prelude.{ℕ, zero, suc, ◌+◌, List, [], ◌∷◌, ◌++◌, Bool, ◌||◌, ◌==◌, nat_lt, Option, Some, None}
+use Rattle.std.specs.Prelude.{ℕ, zero, suc, List, [], ◌∷◌, ◌++◌, Bool, ◌||◌, ◌==◌, nat_lt, Option, Some, None}
 use Rattle.logbook.specs.Pages.{Book}
 use Rattle.auction_terms.specs.declared.Config.{Config}
 use Rattle.auction_terms.specs.Day.{first_that_holds}

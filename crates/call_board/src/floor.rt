@@ -4,7 +4,7 @@ ghost use mathlib.Core.List.{IsPrefix};
 ghost use Rattle.auction_terms.specs.Day.{IsLegal, calls_of};
 ghost use Rattle.call_board.specs.declared.member.Shown.{Shown};
 ghost use Rattle.call_board.specs.Standing.{own};
-ghost use Rattle.call_board.specs.Told.{entry, CallsOnce, IsBehind, Looks};
+ghost use Rattle.call_board.specs.Told.{entry, CallsOnce, IsBehind, Looks, ShowsAfter};
 
 use crate::day::Day;
 use crate::member::{Member, Shown};
@@ -116,16 +116,23 @@ where
         Ok(self.enter(by, rt, command, slot, front))
     }
 
+    /// How many calls were recorded, and the display of the book after them. A member's look shows the same without the
+    /// lock.
+    pub fn shown(&self) -> Shown
+        ensures { ShowsAfter K.config (calls_of self.now) result }
+    {
+        Shown {
+            calls: self.auction.calls(),
+            display: self.auction.display(),
+        }
+    }
+
     // A member that finds the history full is shown all of it.
     pub(crate) fn hand_on(&self, by: &mut Member<K>)
         ensures look { (s : Shown) × Looks K.config by.old by.new s }
         ensures all_calls { length self.now ≤ length by.new.seen }
     {
-        let shown = Shown {
-            calls: self.auction.calls(),
-            display: self.auction.display(),
-        };
-        by.meet(self.front.again(), shown);
+        by.meet(self.front.again(), self.shown());
     }
 
     // Gives back the copies.

@@ -3,6 +3,7 @@ ghost use Rattle.std.specs.Prelude.{◌≡◌};
 
 use super::{CONFIG, check, shows};
 use crate::{Board, Closing, Day, Fresh, Member, Receipt, Slot, Version, close};
+use auction::{Verdict, audit};
 use auction_terms::{Command, Display, Entry, Limit, Only, Price, Side};
 use left_right::Absorb;
 use std::alloc::{AllocError, Global};
@@ -105,9 +106,10 @@ where
     })
 }
 
-// Whether a member's entries are its receipts, in order, each at its place.
+// Whether a member's entries are its commands and receipts, in order, each at its place.
 fn accounts(history: &[Entry], number: u8, receipts: &[Receipt]) -> bool {
     let mut receipts = receipts.iter();
+    let mut calls = 0;
     for i in 0..history.len() {
         let entry = history[i];
         if entry.member != number {
@@ -116,9 +118,11 @@ fn accounts(history: &[Entry], number: u8, receipts: &[Receipt]) -> bool {
         let Some(receipt) = receipts.next() else {
             return false;
         };
-        if receipt.number as usize != i + 1 || receipt.reply != entry.reply {
+        let is_next = entry.command == command(number, calls);
+        if !is_next || receipt.number as usize != i + 1 || receipt.reply != entry.reply {
             return false;
         }
+        calls = calls.wrapping_add(1);
     }
     receipts.next().is_none()
 }
@@ -186,6 +190,8 @@ fn one_day<R: Wait + Threads + Sync>(rt: &R, alloc: Global) -> Result<(), Fail> 
         closing.calls.as_slice() == [250, 250, 250, 250].as_slice(),
         "wrong counts",
     )?;
+    let verdict = audit(alloc, CONFIG, closing.history.as_slice()).map_err(|_| "not audited")?;
+    check(verdict == Verdict::Legal, "not legal")?;
     let mut number = 0u8;
     for own in receipts.iter() {
         check(
@@ -199,7 +205,7 @@ fn one_day<R: Wait + Threads + Sync>(rt: &R, alloc: Global) -> Result<(), Fail> 
 
 #[test]
 fn four_at_once(rt: HostRuntime) -> Result<(), Fail> {
-    for _ in 0..10 {
+    for _ in 0..200 {
         one_day(&rt, rt.alloc())?;
     }
     Ok(())

@@ -1,6 +1,6 @@
-use Rattle.std.proofs.Common.{rules, arith, ◌≡◌, ◌≤◌, ◌∷◌, [], ◌++◌, length, get_or}
+use Rattle.std.proofs.Common.{rules, ◌≡◌, ◌≤◌, ◌∷◌, [], ◌++◌, length, get_or}
 use Rattle.member_floor.specs.declared.script.Script.{Script}
-use Rattle.member_floor.proofs.Playings.{Fits-next}
+use Rattle.member_floor.proofs.Playings.{fits_next}
 use Rattle.member_floor.proofs.tests.scripts.Goals as goal
 
 pub loop-member-preserved : goal.loop-member-preserved
@@ -11,4 +11,4 @@ loop-member-preserved g c =
     let number : (get_or ms i c.member-item.result).number ≡ c.number.result = search rules in
     let few : length c.in_ok-commands.commands.items ≤ 1048576 = search rules in
     let more : c.push.new.self.items ≡ c.loop-member.scripts.items ++ s ∷ [] = search rules in
-    Fits-next ms c.loop-member.scripts.items c.push.new.self.items i c.member-item.result s c.loop-member-test.true c.loop-member.invariant number few more
+    fits_next ms c.loop-member.scripts.items c.push.new.self.items i c.member-item.result s c.loop-member-test.true c.loop-member.invariant number few more

@@ -1,4 +1,4 @@
-use Rattle.std.proofs.Common.{◌≡◌, ◌<◌, ◌∙◌, ℕ, length, inl, inr, sym, arith}
+use Rattle.std.proofs.Common.{◌≡◌, ◌∙◌, length, inl, inr, sym, arith}
 use Rattle.auction_terms.specs.Day.{calls_of}
 use Rattle.call_board.specs.Standing.{own}
 use Rattle.call_board.proofs.Recording.{count_is, full_means, length_is, open_means}
