@@ -1,5 +1,5 @@
 -- A day that was closed.
-use Rattle.std.proofs.Common.{◌≡◌, ◌==◌, ℕ, ◌+◌, ◌<◌, ◌≤◌, Bool, true, false, ◌||◌, List, [], ◌∷◌, ◌++◌, All, get_or, length, map, slice_index, sum, take, drop, length-append, inl, inr, ◌⊎◌, Option, None, Some, MatchOption, Result, Ok, Err, IfOk, refl, ap, sym, subst, ◌∙◌, arith}
+use Rattle.std.proofs.Common.{◌≡◌, ℕ, ◌+◌, ◌<◌, ◌≤◌, Bool, true, false, List, [], ◌∷◌, ◌++◌, All, get_or, length, map, slice_index, sum, take, drop, length-append, inl, inr, ◌⊎◌, Option, None, Some, MatchOption, Result, Ok, Err, IfOk, refl, ap, sym, subst, ◌∙◌, arith}
 use Rattle.std.specs.Prelude.{if◌then◌else◌}
 use Rattle.std.specs.List.{list_any}
 use Rattle.std.proofs.lemmas.Bool.{cases_lt, or_parts}
@@ -7,14 +7,13 @@ use Rattle.std.proofs.lemmas.List.{length-map, take-append-drop}
 use Rattle.std.proofs.lemmas.List.Elements.{All-cons, All-head, All-nil, All-tail}
 use Rattle.std.proofs.lemmas.List.FromFn.{fill_by_all, get_or-map-range_with_len, length-map-range_with_len}
 use Rattle.order_file.specs.File.{Call, IsBelow}
-use Rattle.auction_terms.specs.declared.Command.{Command}
 use Rattle.auction_terms.specs.declared.Config.{Config}
 use Rattle.auction_terms.specs.declared.Entry.{Entry}
 use Rattle.auction_terms.specs.Day.{State, IsLegal, calls_of, opening_state, replies_from, step}
 use Rattle.auction.specs.Audits.{IsFirstBad}
 use Rattle.call_board.specs.Closed.{Accounts, IsClosing}
 use Rattle.call_board.specs.Opening.{newcomers}
-use Rattle.call_board.specs.Standing.{Standing, own}
+use Rattle.call_board.specs.Standing.{Standing}
 use Rattle.call_board.specs.declared.closing.Closing.{Closing}
 use Rattle.call_board.specs.declared.floor.CallFault.{CallFault}
 use Rattle.call_board.specs.declared.floor.CallFault.TheVariants as call
@@ -24,7 +23,7 @@ use Rattle.member_floor.specs.declared.threads.RunFault.TheVariants as run
 use Rattle.member_floor.specs.Plays.{AllPlay, Fits, PlayedScript, Plays, SameNumbers, recorded}
 use Rattle.callboard.specs.declared.floor_fault.FloorFault.{FloorFault}
 use Rattle.callboard.specs.declared.floor_fault.FloorFault.TheVariants as fault
-use Rattle.callboard.specs.Floor.{IsDayOf, IsHistoryOf, IsSplit, commands_of, counts_of}
+use Rattle.callboard.specs.Floor.{IsDayOf, IsSplit, commands_of, counts_of}
 use Rattle.callboard.specs.Played.{IsOfBoard, IsPlayedOut, fault_after, is_in_want, is_kept_open, keeps_open, lacks_room, lacks_thread, wants_memory}
 use Rattle.callboard.proofs.Splits.{IsNew, all_new, at_each, from, none_beyond, none_from, own_commands, recorded_commands, sum_counts}
 
@@ -80,11 +79,11 @@ fault_of_board f rs answer x is some = of_board (is_kept_open f rs) (is_in_want 
 -- ---- what the closing has of each script
 
 -- the count is the member's, and its calls in the story are its own
-abbrev pub Told : List ℕ → List Call → Standing → Type 0
+abbrev Told : List ℕ → List Call → Standing → Type 0
 Told counts story m = (slice_index counts m.number ≡ m.calls) × Accounts story m
 
 -- the count and the calls of the script's member are those of the script
-abbrev pub Tells : List ℕ → List Call → Script → Type 0
+abbrev Tells : List ℕ → List Call → Script → Type 0
 Tells counts story s = (slice_index counts s.member ≡ length s.commands.items) × (commands_of s.member story ≡ s.commands.items)
 
 tells : (c : Config) (counts : List ℕ) (story : List Call) (m : Standing) (s : Script) (r : PlayedScript) → Plays c m s.commands.items r → m.number ≡ s.member → IsNew m → IsWhole r → Told counts story r.member → Tells counts story s
@@ -117,7 +116,7 @@ as_many c (m ∷ ms) [] rs plays = absurd plays
 as_many c (m ∷ ms) (s ∷ ss) [] plays = absurd plays
 as_many c (m ∷ ms) (s ∷ ss) (r ∷ rs) plays = omega (arith, as_many c ms ss rs plays.1)
 
-pub played_out : (c : Config) (n : ℕ) (ms back : List Standing) (ss : List Script) (rs : List PlayedScript) (closing : Closing)
+played_out : (c : Config) (n : ℕ) (ms back : List Standing) (ss : List Script) (rs : List PlayedScript) (closing : Closing)
     → ms ≡ newcomers n → Fits ms ss → AllPlay c ms ss rs → All IsWhole rs → back ≡ map (λ (p : PlayedScript). p.member) rs → IsClosing c n back closing → All (Accounts (calls_of closing.history.items)) back
     → IsPlayedOut c n ss closing
 played_out c n ms back ss rs closing is_new fit plays whole is_back closed accounts =
@@ -154,7 +153,7 @@ same_commands : (n k : ℕ) (xs ys : List Call) → ((j : ℕ) → j < n → com
 same_commands n k xs ys same none_x none_y (inl lt) = same k lt
 same_commands n k xs ys same none_x none_y (inr le) = none_beyond n k ys le none_y ∙ sym (none_beyond n k xs le none_x)
 
-pub day_of : (c : Config) (n : ℕ) (calls : List Call) (ss : List Script) (closing : Closing) → IsSplit n calls ss → All (IsBelow n) calls → IsPlayedOut c n ss closing → IsDayOf c n calls closing
+day_of : (c : Config) (n : ℕ) (calls : List Call) (ss : List Script) (closing : Closing) → IsSplit n calls ss → All (IsBelow n) calls → IsPlayedOut c n ss closing → IsDayOf c n calls closing
 day_of c n calls ss closing split below out =
     let counts : List ℕ = closing.calls.items in
     let entries : List Entry = closing.history.items in

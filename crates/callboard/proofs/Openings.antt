@@ -1,5 +1,5 @@
 -- An auction or a board that was opened, or refused.
-use Rattle.std.proofs.Common.{◌≡◌, ◌≤◌, ◌||◌, ◌==◌, ℕ, nat_lt, Bool, true, false, [], ◌∷◌, Option, Some, None, Result, Ok, Err, IfErr, IfSome, refl, ap, sym, ◌∙◌, unwrap_or, arith}
+use Rattle.std.proofs.Common.{◌≡◌, ◌≤◌, ◌||◌, ◌==◌, ℕ, nat_lt, Bool, true, false, [], ◌∷◌, Option, Some, None, Result, Ok, Err, IfErr, IfSome, refl, ap, sym, ◌∙◌, unwrap_or}
 use Rattle.std.proofs.lemmas.Bool.{ltb-false, or_parts}
 use Rattle.auction.specs.declared.OpenFault.{OpenFault}
 use Rattle.auction.specs.declared.OpenFault.TheVariants.{BadBounds, BadReference, BadLimits, NoMemory}
