@@ -18,7 +18,7 @@ use left_right::writer::Writer;
 use std::alloc::{AllocError, Global};
 use std::marker::Model;
 use std::mem::ManuallyDrop;
-use std::sync::{Arc, OnceLock, Wait};
+use std::sync::{Arc, Mutex, Wait};
 
 /// A call with the story up to it, which a copy needs to follow. Contracts see the story.
 #[derive(Drop)]
@@ -44,7 +44,7 @@ impl<K: Day> Model for Stamp<K> {
 /// refused, and its stamp is written when the call stands in the story.
 #[derive(Drop)]
 pub struct Slot<K: Day> {
-    pub(crate) stamp: Arc<OnceLock<Stamp<K>>>,
+    pub(crate) stamp: Arc<Mutex<Option<Stamp<K>>>>,
 }
 
 /// A copy of the auction that looks read. Contracts see the calls that it has applied.
@@ -113,7 +113,11 @@ impl<K: Day> Absorb<Slot<K>> for Version<K> {
     ghost never_fails = { Unit {0} };
 
     fn absorb_first(&mut self, operation: &Slot<K>, _other: &Version<K>) -> Result<(), AllocError> {
-        if let Some(stamp) = operation.stamp.get() {
+        // The floor alone writes a slot, before it is published, so the slot's lock is always free here.
+        let Some(stamp) = operation.stamp.try_lock() else {
+            return Ok(());
+        };
+        if let Some(stamp) = &*stamp {
             self.follow(stamp);
         }
         Ok(())
@@ -190,7 +194,7 @@ where
 
     // Makes room for one more call.
     pub(crate) fn reserve(&mut self) -> Result<Slot<K>, AllocError> {
-        let stamp = Arc::new(self.alloc, OnceLock::new())?;
+        let stamp = Arc::new(self.alloc, Mutex::new(None))?;
         let ours = Arc::try_clone(&stamp)?;
         match self.writer.append(Slot { stamp }) {
             Ok(()) => Ok(Slot { stamp: ours }),
@@ -200,7 +204,7 @@ where
 
     // Shows the call to readers. It waits for those that still read the copy that is next.
     pub(crate) fn publish<R: Wait>(&mut self, rt: &R, slot: Slot<K>, stamp: Stamp<K>) {
-        let _ = slot.stamp.try_set(stamp);
+        *slot.stamp.lock(rt) = Some(stamp);
         let _ = replace_with(&mut self.writer, rt, show::<K, R>);
     }
 }
