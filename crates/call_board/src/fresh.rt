@@ -80,9 +80,9 @@ fn first_auction(alloc: Global, config: Config, members: u8) -> Result<Auction, 
     Err(fault_beside(answer.err()))
 }
 
-// One member for each number from 0, each with a part of the ledger and a reader's place.
+// One member for each number from 0, each with a part of the ledger and a reader's place. The room is there.
 fn seated<K: Day>(
-    alloc: Global,
+    room: Vec<Member<K>>,
     count: u8,
     joined: &mut Share<K>,
     front: &Front<K>,
@@ -92,15 +92,14 @@ fn seated<K: Day>(
 where
     Version<K>: Absorb<Slot<K>, State = ()>,
     requires parts { (joined.old.parts ≡ count) × (joined.old.amount ≡ 0) × (count ≡ K.parts) }
+    requires room { (room.items ≡ []) × (count ≤ vec_capacity room) }
     requires front { front.now ≡ [] }
     requires shown { ShowsAfter K.config [] shown }
     ensures members { IfOk result (λ members. members.items ≡ newcomers K.parts) }
     ensures joined { IfOk result (λ members. (joined.new.parts ≡ 0) × (joined.new.amount ≡ 0)) }
     ensures fault { IfErr result (λ e. e ≡ OpenFault.NoMemory) }
 {
-    let Ok(mut members) = Vec::with_capacity(alloc, usize::from(count)) else {
-        return Err(OpenFault::NoMemory);
-    };
+    let mut members = room;
     for number in 0..count {
         let Ok(reader) = copies.reader() else {
             return Err(OpenFault::NoMemory);
@@ -221,6 +220,9 @@ impl Fresh {
             story,
             members: count,
         } = self;
+        let Ok(room) = Vec::with_capacity(alloc, usize::from(count)) else {
+            return Err(OpenFault::NoMemory);
+        };
         let (head, front) = story.named::<K>();
         let first = Version::opened(shown, &front);
         let second = Version::opened(spare, &front);
@@ -232,7 +234,7 @@ impl Fresh {
             display: auction.display(),
         };
         let (book, mut joined) = ledger.open::<K>();
-        let members = seated(alloc, count, &mut joined, &front, opening, &copies)?;
+        let members = seated(room, count, &mut joined, &front, opening, &copies)?;
         let floor = Mutex::new(Floor {
             auction,
             history,
