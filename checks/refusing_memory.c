@@ -2,7 +2,8 @@
  *
  * Loaded before the C library (LD_PRELOAD), it numbers the program's requests from 1 and refuses the one that the
  * environment's REFUSED names. At the end it writes to the descriptor TALLY how many requests there were, how many blocks
- * were taken and how many were given back. What the C library asks for itself is passed on uncounted.
+ * were taken and how many were given back. What the C library asks for itself is passed on uncounted. A program that may
+ * start threads ends by _exit, with no destructor, so that the tally is written there.
  */
 #define _GNU_SOURCE
 #include <link.h>
@@ -10,6 +11,7 @@
 #include <stdint.h>
 #include <stdio.h>
 #include <stdlib.h>
+#include <sys/syscall.h>
 #include <unistd.h>
 
 extern void *__libc_malloc(size_t size);
@@ -41,10 +43,20 @@ __attribute__((constructor)) static void begin(void) {
     dl_iterate_phdr(note_code, NULL);
 }
 
+static void leave(int status) {
+    for (;;) syscall(SYS_exit_group, status);
+}
+
 __attribute__((destructor)) static void end(void) {
     char line[96];
     int length = snprintf(line, sizeof line, "%ld %ld %ld\n", (long)requests, (long)taken, (long)given);
-    if (tally >= 0 && write(tally, line, length) != length) _exit(120);
+    if (tally >= 0 && write(tally, line, length) != length) leave(120);
+}
+
+void _exit(int status) {
+    end();
+    leave(status);
+    __builtin_unreachable();
 }
 
 static int is_program(const void *caller) {

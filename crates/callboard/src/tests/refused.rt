@@ -23,6 +23,8 @@ use std::str::from_utf8;
 use std::sync::ledger::{Blank, Ledger};
 use tick_ladder::Ladder;
 
+mod board;
+
 const DAY: Config = Config {
     low: 1,
     high: 1000,
