@@ -121,8 +121,9 @@ where
     pub fn shown(&self) -> Shown
         ensures { ShowsAfter K.config (calls_of self.now) result }
     {
+        let calls = self.auction.calls();
         Shown {
-            calls: self.auction.calls(),
+            calls,
             display: self.auction.display(),
         }
     }
