@@ -31,10 +31,10 @@ unfoldable pub answers_at : ℕ → List (ℕ × Command) → List Reply
 answers_at reference calls = (replay (config_with None reference) calls).1
 
 abbrev pub enter : ℕ → Side → ℕ → Limit → ℕ × Command
-enter member side quantity limit = (member, Enter side limit quantity None Any)
+enter member side quantity limit = (member, Enter side Any limit quantity None)
 
 abbrev pub enter_only : Only → ℕ → Side → ℕ → Limit → ℕ × Command
-enter_only only member side quantity limit = (member, Enter side limit quantity None only)
+enter_only only member side quantity limit = (member, Enter side only limit quantity None)
 
 abbrev pub shows : ℕ → ℕ → ℕ → Option Side → Reply
 shows tick volume surplus side = Indicated (Priced (record { tick = tick; volume = volume; surplus = surplus; side = side }))
@@ -52,7 +52,7 @@ pub empty_book : answers_at 200 (
     ∷ (1, Ask)
     ∷ [])
     ≡ Indicated (Unpriced None None)
-    ∷ Uncrossed Opening None 0
+    ∷ Uncrossed Opening 0 None
     ∷ Indicated (Unpriced None None)
     ∷ []
 unfolding demand supply volume surplus has_bid_surplus has_ask_surplus surplus_side limits price price_tick priced best_limits is_best is_no_better lower_kept upper_kept fills_of trades rest_in display refusal accepted step answers_at answers_with
@@ -79,7 +79,7 @@ pub the_stored_example : answers_at 200 (
     ∷ Entered 5
     ∷ Entered 6
     ∷ shows 200 500 200 (Some Buy)
-    ∷ Uncrossed Opening (at_price 200 500 200 (Some Buy)) 3
+    ∷ Uncrossed Opening 3 (at_price 200 500 200 (Some Buy))
     ∷ traded 1 6 200 200
     ∷ traded 2 5 200 200
     ∷ traded 3 4 100 200
@@ -235,7 +235,7 @@ pub no_cross : answers_at 200 (
     ≡ Entered 1
     ∷ Entered 2
     ∷ Indicated (Unpriced (Some 199) (Some 201))
-    ∷ Uncrossed Opening None 0
+    ∷ Uncrossed Opening 0 None
     ∷ Indicated (Unpriced (Some 199) (Some 201))
     ∷ []
 unfolding demand supply volume surplus has_bid_surplus has_ask_surplus surplus_side limits price price_tick priced best_limits is_best is_no_better lower_kept upper_kept fills_of trades rest_in display refusal accepted step answers_at answers_with
@@ -256,7 +256,7 @@ pub market_before_limit : answers_at 200 (
     ≡ Entered 1
     ∷ Entered 2
     ∷ Entered 3
-    ∷ Uncrossed Opening (at_price 200 150 50 (Some Buy)) 2
+    ∷ Uncrossed Opening 2 (at_price 200 150 50 (Some Buy))
     ∷ traded 2 3 100 200
     ∷ traded 1 3 50 200
     ∷ IsRefused NoSuchTrade
@@ -279,7 +279,7 @@ pub raised_quantity_moves : answers_at 200 (
     ∷ Entered 2
     ∷ Changed false
     ∷ Entered 3
-    ∷ Uncrossed Opening (at_price 200 100 120 (Some Buy)) 1
+    ∷ Uncrossed Opening 1 (at_price 200 100 120 (Some Buy))
     ∷ traded 2 3 100 200
     ∷ []
 unfolding demand supply volume surplus has_bid_surplus has_ask_surplus surplus_side limits price price_tick priced best_limits is_best is_no_better lower_kept upper_kept fills_of trades rest_in display refusal accepted step answers_at answers_with
@@ -299,7 +299,7 @@ pub lowered_quantity_keeps : answers_at 200 (
     ∷ Entered 2
     ∷ Changed true
     ∷ Entered 3
-    ∷ Uncrossed Opening (at_price 200 100 60 (Some Buy)) 2
+    ∷ Uncrossed Opening 2 (at_price 200 100 60 (Some Buy))
     ∷ traded 1 3 60 200
     ∷ traded 2 3 40 200
     ∷ []
@@ -308,14 +308,14 @@ lowered_quantity_keeps = refl
 
 -- An iceberg order takes part with its overall quantity, and shows at most its peak.
 pub iceberg : answers_at 200 (
-    (1, Enter Buy (At 200) 500 (Some 100) Any)
+    (1, Enter Buy Any (At 200) 500 (Some 100))
     ∷ enter 2 Sell 300 (At 200)
     ∷ (0, Uncross)
     ∷ (1, Status 1)
     ∷ [])
     ≡ Entered 1
     ∷ Entered 2
-    ∷ Uncrossed Opening (at_price 200 300 200 (Some Buy)) 1
+    ∷ Uncrossed Opening 1 (at_price 200 300 200 (Some Buy))
     ∷ Standing Buy (At 200) 200 100
     ∷ []
 unfolding demand supply volume surplus has_bid_surplus has_ask_surplus surplus_side limits price price_tick priced best_limits is_best is_no_better lower_kept upper_kept fills_of trades rest_in display refusal accepted step answers_at answers_with
@@ -323,10 +323,10 @@ iceberg = refl
 
 -- Each refusal, in the order of the checks, to the end of the day.
 pub refusals : answers_at 200 (
-    (1, Enter Buy (At 200) 0 None Any)
-    ∷ (1, Enter Buy (At 1001) 5 None Any)
-    ∷ (1, Enter Buy (At 200) 5 (Some 6) Any)
-    ∷ (1, Enter Buy Market 5 (Some 5) Any)
+    (1, Enter Buy Any (At 200) 0 None)
+    ∷ (1, Enter Buy Any (At 1001) 5 None)
+    ∷ (1, Enter Buy Any (At 200) 5 (Some 6))
+    ∷ (1, Enter Buy Any Market 5 (Some 5))
     ∷ enter 1 Buy 5 (At 200)
     ∷ (2, Delete 1)
     ∷ (1, Uncross)
@@ -334,7 +334,7 @@ pub refusals : answers_at 200 (
     ∷ (0, Uncross)
     ∷ (0, Uncross)
     ∷ (0, Uncross)
-    ∷ (1, Enter Buy (At 200) 0 None Any)
+    ∷ (1, Enter Buy Any (At 200) 0 None)
     ∷ (1, Status 1)
     ∷ (1, Ask)
     ∷ [])
@@ -346,9 +346,9 @@ pub refusals : answers_at 200 (
     ∷ IsRefused UnknownOrder
     ∷ IsRefused NotOperator
     ∷ IsRefused NoSuchTrade
-    ∷ Uncrossed Opening None 0
-    ∷ Uncrossed Intraday None 0
-    ∷ Uncrossed Closing None 0
+    ∷ Uncrossed Opening 0 None
+    ∷ Uncrossed Intraday 0 None
+    ∷ Uncrossed Closing 0 None
     ∷ IsRefused DayOver
     ∷ Standing Buy (At 200) 5 5
     ∷ IsRefused DayOver
@@ -358,7 +358,7 @@ refusals = refl
 
 -- Changes, and what Status says after each.
 pub changes : answers_at 200 (
-    (1, Enter Buy (At 200) 500 (Some 100) Any)
+    (1, Enter Buy Any (At 200) 500 (Some 100))
     ∷ (1, Status 1)
     ∷ (1, Change 1 (At 200) 60)
     ∷ (1, Status 1)
@@ -452,13 +452,13 @@ pub three_auctions : answers_at 200 (
     ∷ [])
     ≡ Entered 1
     ∷ Entered 2
-    ∷ Uncrossed Opening (at_price 206 100 0 None) 1
+    ∷ Uncrossed Opening 1 (at_price 206 100 0 None)
     ∷ Entered 3
     ∷ Entered 4
-    ∷ Uncrossed Intraday (at_price 206 20 10 (Some Buy)) 1
+    ∷ Uncrossed Intraday 1 (at_price 206 20 10 (Some Buy))
     ∷ traded 3 4 20 206
     ∷ Standing Buy Market 10 10
-    ∷ Uncrossed Closing None 0
+    ∷ Uncrossed Closing 0 None
     ∷ traded 1 2 100 206
     ∷ IsRefused DayOver
     ∷ []
@@ -478,10 +478,10 @@ pub closing_order_waits : answers_at 200 (
     ≡ Entered 1
     ∷ Entered 2
     ∷ Indicated (Unpriced None (Some 200))
-    ∷ Uncrossed Opening None 0
-    ∷ Uncrossed Intraday None 0
+    ∷ Uncrossed Opening 0 None
+    ∷ Uncrossed Intraday 0 None
     ∷ shows 200 100 0 None
-    ∷ Uncrossed Closing (at_price 200 100 0 None) 1
+    ∷ Uncrossed Closing 1 (at_price 200 100 0 None)
     ∷ []
 unfolding demand supply volume surplus has_bid_surplus has_ask_surplus surplus_side limits price price_tick priced best_limits is_best is_no_better lower_kept upper_kept fills_of trades rest_in display refusal accepted step answers_at answers_with
 closing_order_waits = refl
@@ -494,7 +494,7 @@ pub opening_order_leaves : answers_at 200 (
     ∷ enter_only OnlyOpening 1 Buy 5 (At 200)
     ∷ [])
     ≡ Entered 1
-    ∷ Uncrossed Opening None 0
+    ∷ Uncrossed Opening 0 None
     ∷ IsRefused UnknownOrder
     ∷ IsRefused PastAuction
     ∷ []
@@ -513,7 +513,7 @@ pub interruption : answers_with (Some 5) 200 (
     ∷ Entered 2
     ∷ shows 206 100 0 None
     ∷ Interrupted (record { tick = 206; volume = 100; surplus = 0; side = None })
-    ∷ Uncrossed Opening (at_price 206 100 0 None) 1
+    ∷ Uncrossed Opening 1 (at_price 206 100 0 None)
     ∷ []
 unfolding demand supply volume surplus has_bid_surplus has_ask_surplus surplus_side limits price price_tick priced best_limits is_best is_no_better lower_kept upper_kept fills_of trades rest_in display refusal accepted step answers_at answers_with
 interruption = refl
@@ -528,7 +528,7 @@ pub no_interruption : answers_with (Some 6) 200 (
     ≡ Entered 1
     ∷ Entered 2
     ∷ shows 206 100 0 None
-    ∷ Uncrossed Opening (at_price 206 100 0 None) 1
+    ∷ Uncrossed Opening 1 (at_price 206 100 0 None)
     ∷ []
 unfolding demand supply volume surplus has_bid_surplus has_ask_surplus surplus_side limits price price_tick priced best_limits is_best is_no_better lower_kept upper_kept fills_of trades rest_in display refusal accepted step answers_at answers_with
 no_interruption = refl
@@ -546,11 +546,11 @@ pub closing_order_keeps_its_time : answers_at 200 (
     ∷ (2, Status 2)
     ∷ [])
     ≡ Entered 1
-    ∷ Uncrossed Opening None 0
-    ∷ Uncrossed Intraday None 0
+    ∷ Uncrossed Opening 0 None
+    ∷ Uncrossed Intraday 0 None
     ∷ Entered 2
     ∷ Entered 3
-    ∷ Uncrossed Closing (at_price 200 100 150 (Some Buy)) 1
+    ∷ Uncrossed Closing 1 (at_price 200 100 150 (Some Buy))
     ∷ traded 1 3 100 200
     ∷ IsRefused UnknownOrder
     ∷ Standing Buy (At 200) 100 100
@@ -573,10 +573,10 @@ pub interruption_of_two_auctions : answers_with (Some 5) 200 (
     ∷ Entered 2
     ∷ Interrupted (record { tick = 206; volume = 100; surplus = 0; side = None })
     ∷ Deleted
-    ∷ Uncrossed Opening None 0
+    ∷ Uncrossed Opening 0 None
     ∷ Entered 3
     ∷ Interrupted (record { tick = 206; volume = 100; surplus = 0; side = None })
-    ∷ Uncrossed Intraday (at_price 206 100 0 None) 1
+    ∷ Uncrossed Intraday 1 (at_price 206 100 0 None)
     ∷ []
 unfolding demand supply volume surplus has_bid_surplus has_ask_surplus surplus_side limits price price_tick priced best_limits is_best is_no_better lower_kept upper_kept fills_of trades rest_in display refusal accepted step answers_at answers_with
 interruption_of_two_auctions = refl

@@ -101,7 +101,7 @@ first_that_holds (check ∷ checks) = if check.0 then Some check.1 else first_th
 
 -- the first check of the command that refuses it
 unfoldable pub refusal : Config → State → ℕ → Command → Option Refused
-refusal config state member (Enter side limit quantity peak only) = first_that_holds (
+refusal config state member (Enter side only limit quantity peak) = first_that_holds (
     (is_none state.auction, DayOver)
     ∷ (is_bad_quantity quantity, BadQuantity)
     ∷ (is_bad_limit config limit, BadLimit)
@@ -171,7 +171,7 @@ is_interrupted config state tick = not state.extended && is_outside config.range
 abbrev pub ended : State → Kind → State × Reply
 ended state kind = (
   record state { book = staying kind state.book; auction = next_auction kind; extended = false },
-  Uncrossed kind None 0,
+  Uncrossed kind 0 None,
 )
 
 -- the auction has ended at this price
@@ -184,7 +184,7 @@ executed state kind priced = (
     auction = next_auction kind;
     extended = false;
   },
-  Uncrossed kind (Some priced) (length (trades (counted state.book kind) priced.tick)),
+  Uncrossed kind (length (trades (counted state.book kind) priced.tick)) (Some priced),
 )
 
 abbrev pub uncross_at : Config → State → Kind → Option Price → State × Reply
@@ -202,7 +202,7 @@ abbrev pub enter_order : State → Order → State × Reply
 enter_order state order = (record state { book = state.book ++ order ∷ []; next_id = state.next_id + 1 }, Entered order.id)
 
 unfoldable pub accepted : Config → State → ℕ → Command → State × Reply
-accepted config state member (Enter side limit quantity peak only) =
+accepted config state member (Enter side only limit quantity peak) =
     enter_order state (record { id = state.next_id; member = member; side = side; limit = limit; quantity = quantity; peak = peak; only = only })
 accepted config state member (Change id limit quantity) = change_order state limit quantity (own_order state member id)
 accepted config state member (Delete id) = (record state { book = without id state.book }, Deleted)

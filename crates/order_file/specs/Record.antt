@@ -61,7 +61,7 @@ enter_of fields = do
   limit ← field_as limit_of 4 fields
   peak ← peak_at 5 fields
   only ← only_at 6 fields
-  Ok (command.Enter side limit quantity peak only)
+  Ok (command.Enter side only limit quantity peak)
 
 unfoldable pub change_of : List (List ℕ) → Result Command RecordFault
 change_of fields = do

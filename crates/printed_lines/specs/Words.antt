@@ -75,7 +75,7 @@ reply_words (reply.Indicated (Unpriced best_buy best_sell)) =
     codes "no price bid " ∷ number_word best_buy ∷ codes " ask " ∷ number_word best_sell ∷ []
 reply_words (reply.Traded t) =
     codes "trade " ∷ decimal t.buy ∷ codes " " ∷ decimal t.sell ∷ codes " " ∷ decimal t.quantity ∷ codes " at " ∷ decimal t.tick ∷ []
-reply_words (reply.Uncrossed kind price trades) = kind_word kind ∷ uncross_words price trades
+reply_words (reply.Uncrossed kind trades price) = kind_word kind ∷ uncross_words price trades
 reply_words (reply.Interrupted p) = codes "interrupted " ∷ price_words p
 reply_words (reply.Refused r) = codes "refused " ∷ refusal_word r ∷ []
 

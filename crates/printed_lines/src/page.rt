@@ -73,6 +73,7 @@ impl Page {
     }
 
     /// Puts text on the page, and writes what stands there before it where there is no room.
+    #[inline(always)]
     pub(crate) fn print<S: Sink>(&mut self, sink: &mut S, text: &[u8]) -> Result<(), WriteFailed>
         ensures text { Prints (S.written sink.old) (S.written sink.new) self.old self.new result text.now }
         ensures failed { TellsFailure (S.failures sink.old) (S.failures sink.new) result }
@@ -81,6 +82,15 @@ impl Page {
             self.append(text);
             return Ok(());
         }
+        self.turn_over(sink, text)
+    }
+
+    // Writes what stands on the page, and puts text on it after that. It is kept apart, as most text finds room.
+    #[inline(never)]
+    fn turn_over<S: Sink>(&mut self, sink: &mut S, text: &[u8]) -> Result<(), WriteFailed>
+        ensures text { Prints (S.written sink.old) (S.written sink.new) self.old self.new result text.now }
+        ensures failed { TellsFailure (S.failures sink.old) (S.failures sink.new) result }
+    {
         self.write_to(sink)?;
         if !self.has_room(text.len()) {
             return write_all(sink, text);

@@ -118,7 +118,7 @@ fn print_uncrossed<S: Sink>(
     price: Option<Price>,
     trades: u32,
 ) -> Result<(), WriteFailed>
-    ensures text { Prints (S.written sink.old) (S.written sink.new) page.old page.new result (reply_text (reply.Uncrossed kind price trades)) }
+    ensures text { Prints (S.written sink.old) (S.written sink.new) page.old page.new result (reply_text (reply.Uncrossed kind trades price)) }
     ensures failed { TellsFailure (S.failures sink.old) (S.failures sink.new) result }
 {
     match price {

@@ -12,7 +12,7 @@ use Rattle.auction.proofs.AuditLaws.{IsAudited, audited_more, bad_reply, full_at
 use Rattle.auction.proofs.history.audit.Goals as goal
 
 no_entry : Entry
-no_entry = record { member = 0; command = Enter Buy Market 0 None Any; reply = Entered 0 }
+no_entry = record { member = 0; command = Enter Buy Any Market 0 None; reply = Entered 0 }
 
 pub returns-then-not-is_same-clause-finding : goal.returns-then-not-is_same-clause-finding
 unfolding no_entry

@@ -1,6 +1,6 @@
 use Rattle.std.proofs.lemmas.Result.{err_from_is_err_and}
 use Rattle.printed_lines.proofs.Written.{begun-before, prints-past}
-use Rattle.printed_lines.proofs.page.Page.print.Goals as goal
+use Rattle.printed_lines.proofs.page.Page.turn_over.Goals as goal
 
 pub returns-in_err-write_to-clause-text : goal.returns-in_err-write_to-clause-text
 returns-in_err-write_to-clause-text g c =
