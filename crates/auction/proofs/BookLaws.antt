@@ -1,5 +1,5 @@
 -- The book of an auction, after each command.
-use Rattle.std.proofs.Common.{◌≡◌, ℕ, ◌+◌, ◌-◌, ◌*◌, ◌<◌, ◌≤◌, List, All, Some, None, length, refl, sym, ap, subst, ◌∙◌, arith}
+use Rattle.std.proofs.Common.{◌≡◌, ℕ, ◌+◌, ◌-◌, ◌*◌, ◌<◌, ◌≤◌, Bool, true, false, cond, List, All, Some, None, IfSome, length, refl, sym, ap, subst, ◌∙◌, arith}
 use Rattle.auction_terms.specs.declared.Order.{Order}
 use Rattle.auction_terms.specs.declared.Kind.{Kind}
 use Rattle.auction_terms.specs.declared.Kind.TheVariants.{Opening, Intraday, Closing}
@@ -40,10 +40,12 @@ book_ended config kind calls old new is e = record {
   stamps = omega (arith, ap (λ (b : OpenOrders). b.stamps) e, is.stamps);
 }
 
--- where the same orders count, the same is shown
-pub still_shown : (old new : OpenOrders) (reference : ℕ) (shown : Display) → shown ≡ display_of_book old reference → new.kind ≡ old.kind → counted new.orders old.kind ≡ counted old.orders old.kind → shown ≡ display_of_book new reference
-still_shown old new reference shown is kind same =
-    is ∙ ap (λ (book : List Order). display_at book reference) (sym same ∙ ap (λ k. counted new.orders k) (sym kind))
+-- where the same orders count, the same is shown; else it is forgotten
+pub still_shown : (is_changed : Bool) (shown : Option Display) (old new : OpenOrders) (reference : ℕ) → IfSome shown (λ d. d ≡ display_of_book old reference) → new.kind ≡ old.kind → (is_changed ≡ false → counted new.orders old.kind ≡ counted old.orders old.kind) → IfSome (cond is_changed None shown) (λ d. d ≡ display_of_book new reference)
+still_shown true shown old new reference is kind same = tt
+still_shown false None old new reference is kind same = tt
+still_shown false (Some d) old new reference is kind same =
+    is ∙ ap (λ (book : List Order). display_at book reference) (sym (same refl) ∙ ap (λ k. counted new.orders k) (sym kind))
 
 -- there is room for the trades of each auction of the day
 pub ended_more : (kind : Kind) (trades more most : ℕ) → trades ≤ auctions_ended (Some kind) * most → more ≤ most → trades + more ≤ auctions_ended (next_auction kind) * most

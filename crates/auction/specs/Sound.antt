@@ -1,5 +1,5 @@
 -- The fields of an auction, the state of the day that they are, and what they keep.
-use Rattle.std.specs.Prelude.{◌≡◌, ℕ, ◌+◌, ◌-◌, ◌*◌, ◌≤◌, Option, Some, None, length, vec_capacity}
+use Rattle.std.specs.Prelude.{◌≡◌, ℕ, ◌+◌, ◌-◌, ◌*◌, ◌≤◌, Option, Some, None, IfSome, length, vec_capacity}
 use Rattle.auction_terms.specs.declared.Kind.{Kind}
 use Rattle.auction_terms.specs.declared.Kind.TheVariants.{Opening, Intraday, Closing}
 use Rattle.auction_terms.specs.declared.Config.{Config}
@@ -55,4 +55,4 @@ pub record IsSound (a : Inside) : Type 0 where
   -- no auction makes more trades than there were open orders
   pub trades : length a.tape.items ≤ auctions_ended a.auction * a.config.max_open
   pub room : 3 * a.config.max_open ≤ vec_capacity a.tape
-  pub shown : a.shown ≡ display_of_book a.book a.reference
+  pub shown : IfSome a.shown (λ display. display ≡ display_of_book a.book a.reference)

@@ -1,27 +1,18 @@
 //! What each accepted command does. Each counts its call.
-ghost use Rattle.std.specs.Prelude.{◌≡◌, ◌<◌, ◌≤◌, ◌+◌, ◌-◌, Some, None, false, length, IsSome, slice_get};
+ghost use Rattle.std.specs.Prelude.{◌≡◌, ◌<◌, ◌+◌, ◌-◌, None, false, length, IsSome, slice_get, if◌then◌else◌};
 ghost use Rattle.auction_terms.specs.Book.{kind_now};
 ghost use Rattle.auction_terms.specs.Edits.{without, IdsDiffer};
 ghost use Rattle.auction_terms.specs.Day.{own_order as own, accepted as after, refusal as refusal_of, change_order, enter_order, trade_reply, is_bad_quantity as bad_quantity, is_bad_limit as bad_limit};
-ghost use Rattle.auction.specs.Sound.{display_of_book};
 
 use crate::Auction;
-use crate::book::Book;
 use crate::checks::{is_counted, is_seen_change, status_of};
 use auction_terms::{Command, Display, Kind, Limit, Only, Order, Refused, Reply, Side};
 
-/// What is to be shown of the book: found anew where what it is made of has changed, else what is shown already.
-pub(crate) fn shown_after(book: &Book, reference: u32, shown: Display, is_changed: bool) -> Display
-    requires low { book.now.low ≤ reference }
-    requires high { reference < book.now.low + book.now.ticks }
-    requires kept { is_changed ≡ false → shown ≡ display_of_book book.now reference }
-    ensures { result ≡ display_of_book book.now reference }
+/// What was shown, as long as what it is made of hasn't changed.
+fn shown_after(shown: Option<Display>, is_changed: bool) -> Option<Display>
+    ensures { result ≡ (if is_changed then None else shown) }
 {
-    if is_changed {
-        book.display(reference)
-    } else {
-        shown
-    }
+    if is_changed { None } else { shown }
 }
 
 impl Auction {
@@ -70,7 +61,7 @@ impl Auction {
         let counts = is_counted(only, self.kind());
         let id = self.book.enter(member, side, limit, quantity, peak, only);
         self.calls += 1;
-        self.shown = shown_after(&self.book, self.reference, self.shown, counts);
+        self.shown = shown_after(self.shown, counts);
         Reply::Entered { id }
     }
 
@@ -88,7 +79,7 @@ impl Auction {
         let is_seen = is_seen_change(order, self.kind(), limit, quantity);
         let kept = self.book.change(id, limit, quantity);
         self.calls += 1;
-        self.shown = shown_after(&self.book, self.reference, self.shown, is_seen);
+        self.shown = shown_after(self.shown, is_seen);
         Reply::Changed { kept }
     }
 
@@ -105,7 +96,7 @@ impl Auction {
         let counts = order.counts(self.kind());
         self.book.delete(id);
         self.calls += 1;
-        self.shown = shown_after(&self.book, self.reference, self.shown, counts);
+        self.shown = shown_after(self.shown, counts);
         Reply::Deleted
     }
 
@@ -147,7 +138,7 @@ impl Auction {
                 self.answer(reply)
             }
             Command::Ask => {
-                let reply = Reply::Indicated(self.display());
+                let reply = Reply::Indicated(self.show());
                 self.answer(reply)
             }
             Command::Trade { number } => {

@@ -63,7 +63,8 @@ pub struct Auction {
     auction: Option<Kind>,
     // Whether this call phase was extended by an interruption.
     extended: bool,
-    shown: Display,
+    // What is shown, once it was asked for. It is forgotten where the orders that count, the reference or the auction change.
+    shown: Option<Display>,
     calls: u32,
 }
 
@@ -128,10 +129,7 @@ impl Auction {
             reference: config.reference,
             auction: Some(Kind::Opening),
             extended: false,
-            shown: Display::Unpriced {
-                best_buy: None,
-                best_sell: None,
-            },
+            shown: None,
             calls: 0,
         })
     }
@@ -165,7 +163,20 @@ impl Auction {
     pub fn display(&self) -> Display
         ensures { result ≡ display self.now.state }
     {
-        self.shown
+        match self.shown {
+            Some(display) => display,
+            None => self.book.display(self.reference),
+        }
+    }
+
+    /// The same as [`Auction::display`], which is then kept for the next question.
+    pub fn show(&mut self) -> Display
+        ensures state { self.new ≡ self.old }
+        ensures display { result ≡ display self.old.state }
+    {
+        let display = self.display();
+        self.shown = Some(display);
+        display
     }
 
     /// The quantities of the orders that count in the current auction, tick by tick over the bounds.

@@ -48,7 +48,7 @@ impl Auction {
         self.book.end_auction();
         self.auction = next_auction(kind);
         self.extended = false;
-        self.shown = self.book.display(self.reference);
+        self.shown = None;
         Reply::Uncrossed {
             kind,
             price: None,
@@ -70,7 +70,7 @@ impl Auction {
         self.reference = price.tick;
         self.auction = next_auction(kind);
         self.extended = false;
-        self.shown = self.book.display(self.reference);
+        self.shown = None;
         Reply::Uncrossed {
             kind,
             price: Some(price),
@@ -78,7 +78,8 @@ impl Auction {
         }
     }
 
-    /// An accepted uncross. What is shown has the auction price already.
+    /// An accepted uncross. What is shown has the auction price.
+    #[tactic(auto, unfolding(auction_terms::specs::Day::display))]
     pub(crate) fn uncross(&mut self) -> Reply
         requires { self.old.calls < self.old.config.max_calls }
         ensures state { self.new ≡ record self.old { state = (uncrossed self.old.config self.old.state self.old.state.auction).0; calls = self.old.calls + 1 } }
@@ -87,7 +88,7 @@ impl Auction {
         let Some(kind) = self.auction else {
             return self.answer(Reply::Refused(Refused::DayOver));
         };
-        match self.shown {
+        match self.show() {
             Display::Unpriced { .. } => self.end(kind),
             Display::Priced(price) if self.is_interrupted(price.tick) => self.extend(price),
             Display::Priced(price) => self.execute(kind, price),

@@ -12,27 +12,6 @@ use Rattle.auction.proofs.BookLaws.{book_edited, book_ended, ended_more, price_w
 use Rattle.auction.proofs.LengthLaws.{length-rest_in}
 use Rattle.auction.proofs.Auction.execute.Goals as goal
 
-pub display-self-inside-requires-clause-low : goal.display-self-inside-requires-clause-low
-display-self-inside-requires-clause-low c =
-    let inside = c.self.invariant in
-    let fields = c.self.inside in
-    let current = ap (λ (r : Running). r.state.auction) c.self.view_is ∙ c.requires.current in
-    let found = ap (λ k. price (counted fields.book.orders k) fields.reference) (inside.book.kind ∙ ap kind_now current) ∙ ap (λ (r : Running). price (counted r.state.book c.args.kind) r.state.reference) c.self.view_is ∙ c.requires.price in
-    let within = price_within fields.config fields.auction fields.calls fields.book fields.reference c.args.price inside.book inside.low inside.high c.uncross-trades.ensures.limits found in
-    let low = ap (λ (b : OpenOrders). b.low) c.end_auction.ensures ∙ ap (λ (b : OpenOrders). b.low) c.uncross-trades.ensures.book ∙ inside.book.low in
-    omega (arith, low, within.0)
-
-pub display-self-inside-requires-clause-high : goal.display-self-inside-requires-clause-high
-display-self-inside-requires-clause-high c =
-    let inside = c.self.invariant in
-    let fields = c.self.inside in
-    let current = ap (λ (r : Running). r.state.auction) c.self.view_is ∙ c.requires.current in
-    let found = ap (λ k. price (counted fields.book.orders k) fields.reference) (inside.book.kind ∙ ap kind_now current) ∙ ap (λ (r : Running). price (counted r.state.book c.args.kind) r.state.reference) c.self.view_is ∙ c.requires.price in
-    let within = price_within fields.config fields.auction fields.calls fields.book fields.reference c.args.price inside.book inside.low inside.high c.uncross-trades.ensures.limits found in
-    let low = ap (λ (b : OpenOrders). b.low) c.end_auction.ensures ∙ ap (λ (b : OpenOrders). b.low) c.uncross-trades.ensures.book ∙ inside.book.low in
-    let ticks = ap (λ (b : OpenOrders). b.ticks) c.end_auction.ensures ∙ ap (λ (b : OpenOrders). b.ticks) c.uncross-trades.ensures.book ∙ inside.book.ticks in
-    omega (arith, low, ticks, within.0, within.1)
-
 pub invariant_of-self : goal.invariant_of-self
 invariant_of-self c =
     let inside = c.self.invariant in
@@ -57,5 +36,5 @@ invariant_of-self c =
       high = within.1;
       trades = subst (λ a. length c.uncross-trades.new.tape.items ≤ auctions_ended a * most) next (omega (arith, after, tape));
       room = omega (arith, inside.room, c.uncross-trades.ensures.capacity);
-      shown = c.display-self-inside.ensures;
+      shown = tt;
     }
