@@ -7,34 +7,29 @@ use Rattle.std.proofs.lemmas.Bool.{eqb-true, eqb-false, eq-eqb}
 use Rattle.call_board.specs.declared.floor.Receipt.{Receipt}
 use Rattle.call_board.proofs.Prefixes.{prefix_whole, prefix_trans, prefix_length}
 use Rattle.call_board.specs.declared.member.Shown.{Shown}
-use Rattle.call_board.specs.Told.{EndsWith, Looks, ShowsAfter, CallsOnce, entry}
+use Rattle.call_board.specs.Told.{Looks, ShowsAfter, CallsOnce, entry}
 use Rattle.call_board.specs.Standing.{Standing, own, own_from}
 use Rattle.std.proofs.lemmas.List.Elements.{All-append, All-cons, All-nil}
-use Rattle.std.proofs.lemmas.List.{map_push, same_from_push, take-append-drop, take-append-le}
+use Rattle.std.proofs.lemmas.List.{map_push, take-append-drop, take-append-le}
 use Rattle.std.proofs.Math.Seq.{take-length}
 use Rattle.auction_terms.specs.declared.Config.{Config}
 use Rattle.auction_terms.specs.declared.Command.{Command}
 use Rattle.auction_terms.specs.declared.Reply.{Reply}
 use Rattle.auction_terms.specs.declared.Entry.{Entry}
-use Rattle.auction_terms.specs.Day.{IsLegal, step, replay, calls_of}
+use Rattle.auction_terms.specs.Day.{IsLegal, step, replay, calls_of, display}
 use Rattle.auction_terms.specs.Running.{Running, called, running}
 use Rattle.auction_terms.proofs.RunLaws.{IsLegal-push, running-push}
 use Rattle.call_board.specs.Kept.{Kept}
 
--- a story one longer that ends with a call is the one before and that call
-last_of : (v rest before : List (ℕ × Command)) (x : ℕ × Command) → v ++ rest ≡ before ++ x ∷ [] → length rest ≡ 1 → v ≡ before
-last_of v [] before x e one = absurd (omega arith)
-last_of v (y ∷ []) before x e one = (same_from_push v before y x e).0
-last_of v (y ∷ z ∷ rest) before x e one = absurd (omega arith)
-
-pub one_more : (v s : List (ℕ × Command)) (x : ℕ × Command) → IsPrefix v s → length s ≡ length v + 1 → EndsWith s x → s ≡ v ++ x ∷ []
-one_more v s x pre len ends =
-    let one : length pre.0 ≡ 1 = omega (arith, len, ap length pre.1, length-append v pre.0) in
-    ends.1 ∙ ap (λ t. t ++ x ∷ []) (sym (last_of v pre.0 ends.0 x (pre.1 ∙ ends.1) one))
-
 -- the auction that follows the story by one call
 pub follows : (c : Config) (a a' : Running) (v s : List (ℕ × Command)) (member : ℕ) (command : Command) → a ≡ running c v → a' ≡ called a member command → s ≡ v ++ (member, command) ∷ [] → a' ≡ running c s
 follows c a a' v s member command was is more = is ∙ ap (λ (r : Running). called r member command) was ∙ running-push c v member command ∙ ap (running c) (sym more)
+
+-- what is shown after one call more
+pub shows_more : (c : Config) (a a' : Running) (v s : List (ℕ × Command)) (member : ℕ) (command : Command) (shown : Shown) → a ≡ running c v → a' ≡ called a member command → s ≡ v ++ (member, command) ∷ [] → shown.calls ≡ a'.calls → shown.display ≡ display a'.state → ShowsAfter c s shown
+shows_more c a a' v s member command shown was is more calls display_is =
+    let whole = follows c a a' v s member command was is more in
+    record { calls_are = sym (calls ∙ ap (λ (r : Running). r.calls) whole); display = display_is ∙ ap (λ (r : Running). display r.state) whole }
 
 -- the own calls of a beginning
 own_by : (k : ℕ) (x : ℕ × Command) (xs ys : List (ℕ × Command)) (m : ℕ) (b : Bool) → own_from (k + 1) (xs ++ ys) m ≡ own_from (k + 1) xs m ++ own_from (k + length (x ∷ xs)) ys m

@@ -20,9 +20,6 @@ pub record ToldCall (c : Config) (history : List Entry) (member : ℕ) (command 
   pub before : List Entry
   pub last : history ≡ before ++ entry member command r.reply ∷ []
 
-abbrev pub EndsWith : List (ℕ × Command) → ℕ × Command → Type 0
-EndsWith xs x = (before : List (ℕ × Command)) × (xs ≡ before ++ x ∷ [])
-
 -- what is shown is the display after these calls
 pub record ShowsAfter (c : Config) (calls : List (ℕ × Command)) (s : Shown) : Type 0 where
   pub calls_are : length calls ≡ s.calls

@@ -3,9 +3,13 @@
 use crate::day::Day;
 use crate::floor::Floor;
 use crate::versions::{Slot, Version};
+use crossbeam_utils::Backoff;
 use left_right::Absorb;
 use std::marker::Model;
-use std::sync::{Mutex, Wait};
+use std::sync::{Mutex, MutexGuard, Wait};
+
+/// How often a call tries a lock that another call has before its thread sleeps.
+const TRIES: u32 = 40;
 
 /// A board whose day has begun. Threads share it, each calling with members of its own. What the lock keeps is a
 /// legal history of the day, whatever was called. Contracts see the number of its members.
@@ -40,6 +44,19 @@ where
     /// The floor under its lock.
     pub fn floor(&self) -> &Mutex<Floor<K>> {
         &self.floor
+    }
+
+    // The floor, once its lock is free. A call is shorter than the sleep of a thread, so the lock is tried for a while, with
+    // longer and longer pauses, in which the one that has it may call again.
+    pub(crate) fn enter<R: Wait>(&self, rt: &R) -> MutexGuard<'_, Floor<K>> {
+        let backoff = Backoff::new();
+        for _ in 0..TRIES {
+            if let Some(floor) = self.floor.try_lock() {
+                return floor;
+            }
+            backoff.spin();
+        }
+        self.floor.lock(rt)
     }
 
     /// Ends a board whose day can't be closed, as where a member was lost. It waits for the looks that still read, and

@@ -9,7 +9,7 @@ ghost use Rattle.call_board.specs.Told.{entry, CallsOnce, IsBehind, Looks, Shows
 use crate::day::Day;
 use crate::member::{Member, Shown};
 use crate::story::{Front, Head};
-use crate::versions::{Copies, Slot, Stamp, Version};
+use crate::versions::{Copies, Slot, Version};
 use auction::Auction;
 use auction_terms::{Command, Entry, Reply};
 use left_right::Absorb;
@@ -161,12 +161,6 @@ where
         ensures legal { IsLegal K.config self.new }
     {
         let member = by.number();
-        let stamp = Stamp {
-            member,
-            command,
-            front: front.again(),
-        };
-        self.copies.publish(rt, slot, stamp);
         self.book.audit(&mut by.share);
         let reply = self.auction.apply(member, command);
         self.history.push_reserved(Entry {
@@ -180,9 +174,10 @@ where
         by.last = self.auction.calls();
         by.shown = Shown {
             calls: self.auction.calls(),
-            display: self.auction.display(),
+            display: self.auction.show(),
         };
         by.front = front.again();
+        self.copies.publish(rt, slot, Version::of(&front, by.shown));
         self.front = front;
         Receipt {
             number: self.auction.calls(),

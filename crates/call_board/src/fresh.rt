@@ -24,8 +24,6 @@ use std::sync::{Mutex, ledger};
 pub struct Fresh {
     alloc: Global,
     auction: Auction,
-    shown: Auction,
-    spare: Auction,
     history: Vec<Entry>,
     counts: Vec<u32>,
     counted: Vec<u32>,
@@ -43,7 +41,7 @@ impl Model for Fresh {
 
     ghost view = { λ f. record { config = f.auction.config; members = f.members; ledger = f.ledger.name; story = f.story.seen.book } };
 
-    ghost invariant = { λ f. (f.auction ≡ opened f.auction.config) × (f.shown ≡ opened f.auction.config) × (f.spare ≡ opened f.auction.config) × (f.history.items ≡ []) × (f.auction.config.max_calls ≤ vec_capacity f.history) × (f.counts.items ≡ replicate f.members 0) × (f.counted.items ≡ replicate f.members 0) × (f.ledger.parts ≡ f.members) × (f.auction.config.max_calls ≤ 1048576) × (1 ≤ f.members) × (f.members ≤ 64) };
+    ghost invariant = { λ f. (f.auction ≡ opened f.auction.config) × (f.history.items ≡ []) × (f.auction.config.max_calls ≤ vec_capacity f.history) × (f.counts.items ≡ replicate f.members 0) × (f.counted.items ≡ replicate f.members 0) × (f.ledger.parts ≡ f.members) × (f.auction.config.max_calls ≤ 1048576) × (1 ≤ f.members) × (f.members ≤ 64) };
 }
 
 // Whether a board may have so many members.
@@ -136,49 +134,34 @@ fn take_room(alloc: Global, config: Config, members: u8) -> Result<Room, AllocEr
     })
 }
 
-// A board around the floor's own auction, with the two copies that looks read.
-fn board_around(
-    alloc: Global,
-    config: Config,
-    members: u8,
-    auction: Auction,
-    room: Room,
-) -> Result<Fresh, OpenFault>
+// A board around the floor's own auction.
+fn board_around(alloc: Global, config: Config, members: u8, auction: Auction, room: Room) -> Fresh
     requires auction { auction ≡ opened config }
     requires within { (config.max_calls ≤ 1048576) × (1 ≤ members) × (members ≤ 64) }
     requires history { (room.history.items ≡ []) × (config.max_calls ≤ vec_capacity room.history) }
     requires counts { (room.counts.items ≡ replicate members 0) × (room.counted.items ≡ replicate members 0) }
-    ensures opening { IfOk result (λ f. (f.config ≡ config) × (f.members ≡ members)) }
-    ensures fault { IfErr result (λ fault. fault ≡ OpenFault.NoMemory) }
+    ensures { (result.config ≡ config) × (result.members ≡ members) }
 {
-    let Ok(shown) = Auction::open(alloc, config) else {
-        return Err(OpenFault::NoMemory);
-    };
-    let Ok(spare) = Auction::open(alloc, config) else {
-        return Err(OpenFault::NoMemory);
-    };
     let Room {
         history,
         counts,
         counted,
     } = room;
-    Ok(Fresh {
+    Fresh {
         alloc,
         auction,
-        shown,
-        spare,
         history,
         counts,
         counted,
         ledger: ledger::Blank::new(u64::from(members)),
         story: Blank::new(),
         members,
-    })
+    }
 }
 
 impl Fresh {
-    /// Opens a board for `members` members, and reserves the room that its day needs: three auctions (the floor's own
-    /// and the two copies that looks read), a history of `max_calls` entries, and the counts.
+    /// Opens a board for `members` members, and reserves the room that its day needs: an auction, a history of
+    /// `max_calls` entries, and the counts.
     ///
     /// The answer is `BadBounds`, `BadReference` or `BadLimits`, the first of these that holds, exactly where the
     /// config or the number of members is out of its limits: bounds from 1 to 1,000,000 with at most 65,536 ticks, the
@@ -193,7 +176,7 @@ impl Fresh {
         let Ok(room) = take_room(alloc, config, members) else {
             return Err(OpenFault::NoMemory);
         };
-        board_around(alloc, config, members, auction, room)
+        Ok(board_around(alloc, config, members, auction, room))
     }
 
     /// Begins the day that `K` names. The members come in the order of their numbers, from 0, each with no calls and
@@ -211,8 +194,6 @@ impl Fresh {
         let Fresh {
             alloc,
             auction,
-            shown,
-            spare,
             history,
             counts,
             counted,
@@ -224,14 +205,14 @@ impl Fresh {
             return Err(OpenFault::NoMemory);
         };
         let (head, front) = story.named::<K>();
-        let first = Version::opened(shown, &front);
-        let second = Version::opened(spare, &front);
-        let Ok(copies) = Copies::open(alloc, first, second, usize::from(count)) else {
-            return Err(OpenFault::NoMemory);
-        };
         let opening = Shown {
             calls: 0,
             display: auction.display(),
+        };
+        let first = Version::of(&front, opening);
+        let second = Version::of(&front, opening);
+        let Ok(copies) = Copies::open(alloc, first, second, usize::from(count)) else {
+            return Err(OpenFault::NoMemory);
         };
         let (book, mut joined) = ledger.open::<K>();
         let members = seated(room, count, &mut joined, &front, opening, &copies)?;

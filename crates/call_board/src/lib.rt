@@ -8,7 +8,7 @@
 //! - `member`: a member's calls and looks.
 //! - `floor`: what the lock keeps, and the one event of the day, `Floor::record`.
 //! - `story`: the list of all calls so far as evidence, which members and copies hold beginnings of.
-//! - `versions`: the two copies of the auction that looks read.
+//! - `versions`: the two copies of what the board shows, which looks read.
 //! - `board`: the board and its lock.
 //! - `closing`: the end of the day.
 #![tactic(auto)]

@@ -89,7 +89,7 @@ impl<K: Day> Member<K> {
         ensures fault { IfErr result (λ e. e ≢ CallFault.HistoryFull → self.new ≡ self.old) }
         ensures behind { (h k : ℕ) → result ≡ Err (CallFault.Behind h k) → (h < length self.old.seen) ⊎ (self.old.calls ≢ k) }
     {
-        let mut floor = board.floor.lock(rt);
+        let mut floor = board.enter(rt);
         let result = floor.record(self, rt, command);
         if result == Err(CallFault::HistoryFull) {
             floor.hand_on(self);

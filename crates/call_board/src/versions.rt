@@ -1,15 +1,12 @@
-//! The two copies of the auction that looks read, kept by `left_right`: readers take one with no lock while the floor
-//! changes the other, and then the two are swapped. Each copy is an auction with the beginning of the story that it
-//! stands for: it is in the state of that story's replay.
-ghost use Rattle.std.specs.Prelude.{◌≡◌, ◌+◌, ◌^◌, ◌<◌, ◌≤◌, ◌++◌, ◌∷◌, [], List, length, IfOk, IfSome};
-ghost use Rattle.auction_terms.specs.Running.{running};
+//! The two copies of what the board shows, which looks read, kept by `left_right`: readers take one with no lock while
+//! the floor changes the other, and then the two are swapped. Each copy is a beginning of the story with what is shown
+//! after it.
+ghost use Rattle.std.specs.Prelude.{◌≡◌, ◌^◌, ◌<◌, [], IfSome};
 ghost use Rattle.call_board.specs.Told.{ShowsAfter};
 
 use crate::day::Day;
 use crate::member::Shown;
 use crate::story::Front;
-use auction::Auction;
-use auction_terms::Command;
 use core::mem::replace_with;
 use crossbeam_utils::rule::Unruled;
 use left_right::Absorb;
@@ -20,87 +17,63 @@ use std::marker::Model;
 use std::mem::ManuallyDrop;
 use std::sync::{Arc, Mutex, Wait};
 
-/// A call with the story up to it, which a copy needs to follow. Contracts see the story.
-#[derive(Drop)]
-pub(crate) struct Stamp<K: Day> {
-    pub(crate) member: u8,
-    pub(crate) command: Command,
-    pub(crate) front: Front<K>,
-}
-
-impl<K: Day> Model for Stamp<K> {
-    ghost use Rattle.std.specs.Prelude.{◌≡◌, ◌++◌, ◌∷◌, [], List, ℕ};
-    ghost use Rattle.auction_terms.specs.declared.Command.{Command};
-    ghost use Rattle.call_board.specs.Told.{EndsWith};
-
-    ghost Value = { List (ℕ × Command) };
-
-    ghost view = { λ s. s.front };
-
-    ghost invariant = { λ s. EndsWith s.front (s.member, s.command) };
-}
-
-/// A place in the line of calls that the copies are to follow. It is taken before a call is recorded, as room may be
-/// refused, and its stamp is written when the call stands in the story.
-#[derive(Drop)]
-pub struct Slot<K: Day> {
-    pub(crate) stamp: Arc<Mutex<Option<Stamp<K>>>>,
-}
-
-/// A copy of the auction that looks read. Contracts see the calls that it has applied.
+/// A copy of what the board shows, which looks read: a beginning of the story, and what is shown after it. Contracts see
+/// the calls of that beginning.
 #[derive(Drop)]
 pub struct Version<K: Day> {
-    pub(crate) auction: Auction,
-    pub(crate) front: Front<K>,
+    front: Front<K>,
+    shown: Shown,
 }
 
 impl<K: Day> Model for Version<K> {
-    ghost use Rattle.std.specs.Prelude.{◌≡◌, List, ℕ};
+    ghost use Rattle.std.specs.Prelude.{List, ℕ};
     ghost use Rattle.auction_terms.specs.declared.Command.{Command};
-    ghost use Rattle.auction_terms.specs.Running.{running};
+    ghost use Rattle.call_board.specs.Told.{ShowsAfter};
 
     ghost Value = { List (ℕ × Command) };
 
     ghost view = { λ v. v.front };
 
-    ghost invariant = { λ v. v.auction ≡ running K.config v.front };
+    ghost invariant = { λ v. ShowsAfter K.config v.front v.shown };
 }
 
 impl<K: Day> Version<K> {
-    // A copy at the opening.
-    pub(crate) fn opened(auction: Auction, front: &Front<K>) -> Version<K>
-        requires { (auction ≡ running K.config []) × (front.now ≡ []) }
+    // What is shown after a beginning of the story.
+    pub(crate) fn of(front: &Front<K>, shown: Shown) -> Version<K>
+        requires { ShowsAfter K.config front.now shown }
+        ensures { result ≡ front.now }
     {
         Version {
-            auction,
             front: front.again(),
+            shown,
         }
     }
 
-    // Applies the call, where it is the next one and the auction isn't full. It takes no memory.
-    pub(crate) fn follow(&mut self, stamp: &Stamp<K>) {
-        if self.auction.is_full() || stamp.front.len() != u64::from(self.auction.calls()) + 1 {
-            return;
-        }
-        let Version { auction, front } = self;
-        *front = front.longer(&stamp.front);
-        auction.apply(stamp.member, stamp.command);
+    // Shows what a newer one does. It takes no memory.
+    fn follow(&mut self, newer: &Version<K>)
+        ensures { self.new ≡ newer.now }
+    {
+        *self = Version::of(newer.front(), newer.shown());
     }
 
-    pub(crate) fn shown(&self) -> Shown
+    fn shown(&self) -> Shown
         ensures { ShowsAfter K.config self.now result }
     {
-        Shown {
-            calls: self.auction.calls(),
-            display: self.auction.display(),
-        }
+        self.shown
     }
 
-    pub(crate) fn front(&self) -> &Front<K>
+    fn front(&self) -> &Front<K>
         ensures { result.now ≡ self.now }
     {
         &self.front
     }
+}
+
+/// A place in the line of calls that the copies are to follow. It is taken before a call is recorded, as room may be
+/// refused, and what is shown after the call is written into it when the call stands in the story.
+#[derive(Drop)]
+pub struct Slot<K: Day> {
+    newer: Arc<Mutex<Option<Version<K>>>>,
 }
 
 impl<K: Day> Absorb<Slot<K>> for Version<K> {
@@ -114,11 +87,11 @@ impl<K: Day> Absorb<Slot<K>> for Version<K> {
 
     fn absorb_first(&mut self, operation: &Slot<K>, _other: &Version<K>) -> Result<(), AllocError> {
         // The floor alone writes a slot, before it is published, so the slot's lock is always free here.
-        let Some(stamp) = operation.stamp.try_lock() else {
+        let Some(newer) = operation.newer.try_lock() else {
             return Ok(());
         };
-        if let Some(stamp) = &*stamp {
-            self.follow(stamp);
+        if let Some(newer) = &*newer {
+            self.follow(newer);
         }
         Ok(())
     }
@@ -194,17 +167,17 @@ where
 
     // Makes room for one more call.
     pub(crate) fn reserve(&mut self) -> Result<Slot<K>, AllocError> {
-        let stamp = Arc::new(self.alloc, Mutex::new(None))?;
-        let ours = Arc::try_clone(&stamp)?;
-        match self.writer.append(Slot { stamp }) {
-            Ok(()) => Ok(Slot { stamp: ours }),
+        let newer = Arc::new(self.alloc, Mutex::new(None))?;
+        let ours = Arc::try_clone(&newer)?;
+        match self.writer.append(Slot { newer }) {
+            Ok(()) => Ok(Slot { newer: ours }),
             Err(_) => Err(AllocError),
         }
     }
 
     // Shows the call to readers. It waits for those that still read the copy that is next.
-    pub(crate) fn publish<R: Wait>(&mut self, rt: &R, slot: Slot<K>, stamp: Stamp<K>) {
-        *slot.stamp.lock(rt) = Some(stamp);
+    pub(crate) fn publish<R: Wait>(&mut self, rt: &R, slot: Slot<K>, newer: Version<K>) {
+        *slot.newer.lock(rt) = Some(newer);
         let _ = replace_with(&mut self.writer, rt, show::<K, R>);
     }
 }

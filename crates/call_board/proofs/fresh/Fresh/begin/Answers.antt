@@ -6,7 +6,7 @@ use Rattle.call_board.proofs.fresh.Fresh.begin.Goals as goal
 
 pub invariant_of-new : goal.invariant_of-new
 invariant_of-new g c =
-    let (auction, shown, spare, history, room, counts, counted, parts, small, least, most) = c.self.invariant in
+    let (auction, history, room, counts, counted, parts, small, least, most) = c.self.invariant in
     let config : c.self.inside.auction.config ≡ g.K.Day.config = ap (λ (o : Opening). o.config) c.self.view_is ∙ sym c.requires.config in
     let members : c.self.inside.members ≡ g.K.Ledger.parts = ap (λ (o : Opening). o.members) c.self.view_is ∙ sym c.requires.members in
     let (no_parts, no_amount) = c.in_ok-members.ensures.joined in (
