@@ -89,19 +89,50 @@ fn gives<T: Abort + AllocGlobal + Wait + Threads + Sync>(
     assert_eq!(rt; printed.status, status);
 }
 
-/// A file of these records gives these texts of replies, record by record.
-fn replies<T: Abort + AllocGlobal + Wait + Threads + Sync>(
+/// A file and what it should print: what it shows, the words that the program is run with, and a
+/// line for each of the file's records, with an arrow between record and reply, or for a remark.
+struct Example {
+    name: &'static str,
+    words: &'static [&'static str],
+    text: &'static str,
+}
+
+/// The file of this example gives its texts of replies, record by record.
+fn gives_its_lines<T: Abort + AllocGlobal + Wait + Threads + Sync>(
     rt: &T,
-    words: &[&str],
-    rows: &[(&str, &str)],
+    example: &Example,
 ) -> Result<(), Fail> {
     let alloc = rt.alloc();
     let mut input = String::new(alloc);
     let mut lines = String::new(alloc);
-    for (index, (record, text)) in rows.iter().enumerate() {
+    let mut number = 0u64;
+    for line in example.text.lines() {
+        let Some((record, reply)) = line.split_once(" -> ") else {
+            assert!(rt; line.starts_with("# "), "{}", example.name);
+            continue;
+        };
+        number = number.saturating_add(1);
         input.push_str(format!(in alloc; "{record}\n")?.as_str())?;
-        lines.push_str(format!(in alloc; "{}: {text}\n", index as u64 + 1)?.as_str())?;
+        lines.push_str(format!(in alloc; "{number}: {reply}\n")?.as_str())?;
     }
-    gives(rt, words, input.as_str().as_bytes(), lines.as_str(), "", 0);
+    let printed = run(rt, example.words, input.as_str().as_bytes());
+    let out = from_utf8(printed.out.as_slice()).unwrap_or("?");
+    assert_eq!(rt; out, lines.as_str(), "{}", example.name);
+    assert!(rt;
+        printed.err.is_empty() && printed.status == 0,
+        "{}",
+        example.name
+    );
+    Ok(())
+}
+
+/// Each of these files gives its lines.
+fn each_gives_its_lines<T: Abort + AllocGlobal + Wait + Threads + Sync>(
+    rt: &T,
+    examples: &[Example],
+) -> Result<(), Fail> {
+    for example in examples {
+        gives_its_lines(rt, example)?;
+    }
     Ok(())
 }

@@ -1,225 +1,456 @@
 //! Each limit at its value, one below and one above: in files, on the command line, and in calls.
 
-use super::{PLAIN, gives, replies, run};
+use super::{Example, PLAIN, each_gives_its_lines, gives, run};
 use auction::{Auction, OpenFault, Verdict, audit};
 use auction_terms::{Command, Config, Limit, Only, Refused, Reply, Side};
 use std::test::Fail;
 
-/// Eleven ticks, and members 0 to 3.
-const TICKS: [&str; 7] = [
-    "callboard",
-    "--low",
-    "10",
-    "--high",
-    "20",
-    "--reference",
-    "15",
+// From 10 to 20 there are eleven ticks, and without --members there are members 0 to 3.
+static EXAMPLES: [Example; 18] = [
+    Example {
+        name: "terms of an order",
+        words: &[
+            "callboard",
+            "--low",
+            "10",
+            "--high",
+            "20",
+            "--reference",
+            "15",
+        ],
+        text: "\
+# A quantity is 1 to 1,000,000,000.
+1,enter,bid,0,15 -> refused 1 BadQuantity
+1,enter,bid,1,15 -> entered 1
+1,enter,bid,2,15 -> entered 2
+1,enter,ask,999999999,15 -> entered 3
+1,enter,ask,1000000000,15 -> entered 4
+1,enter,ask,1000000001,15 -> refused 1 BadQuantity
+1,enter,ask,4294967295,15 -> refused 1 BadQuantity
+# A limit is 10 to 20.
+1,enter,bid,5,0 -> refused 2 BadLimit
+1,enter,bid,5,1 -> refused 2 BadLimit
+1,enter,bid,5,9 -> refused 2 BadLimit
+1,enter,bid,5,10 -> entered 5
+1,enter,ask,5,11 -> entered 6
+1,enter,bid,5,19 -> entered 7
+1,enter,ask,5,20 -> entered 8
+1,enter,ask,5,21 -> refused 2 BadLimit
+1,enter,ask,5,4294967295 -> refused 2 BadLimit
+# A peak is 1 to the quantity.
+1,enter,bid,5,15,0 -> refused 3 BadPeak
+1,enter,bid,5,15,1 -> entered 9
+1,enter,bid,5,15,4 -> entered 10
+1,enter,bid,5,15,5 -> entered 11
+1,enter,bid,5,15,6 -> refused 3 BadPeak
+1,enter,bid,5,15,4294967295 -> refused 3 BadPeak
+1,enter,bid,1,15,1 -> entered 12
+1,enter,bid,1,15,2 -> refused 3 BadPeak
+1,enter,bid,1000000000,15,1000000000 -> entered 13
+1,enter,bid,1000000000,15,1000000001 -> refused 3 BadPeak
+1,status,13 -> order bid 1000000000 at 15 visible 1000000000
+1,status,9 -> order bid 5 at 15 visible 1
+# The first check that refuses an order is the one that is named.
+1,enter,bid,0,9,0 -> refused 1 BadQuantity
+1,enter,bid,5,9,0 -> refused 2 BadLimit
+",
+    },
+    Example {
+        name: "terms of a change",
+        words: &[
+            "callboard",
+            "--low",
+            "10",
+            "--high",
+            "20",
+            "--reference",
+            "15",
+        ],
+        text: "\
+1,enter,bid,5,15 -> entered 1
+1,change,1,0,15 -> refused 1 BadQuantity
+1,change,1,4,15 -> changed kept
+1,change,1,1,15 -> changed kept
+1,change,1,2,15 -> changed moved
+1,change,1,1000000001,15 -> refused 1 BadQuantity
+1,change,1,4294967295,15 -> refused 1 BadQuantity
+1,change,1,1000000000,15 -> changed moved
+1,change,1,1000000000,15 -> changed kept
+1,change,1,999999999,15 -> changed kept
+1,change,1,5,0 -> refused 2 BadLimit
+1,change,1,5,9 -> refused 2 BadLimit
+1,change,1,5,10 -> changed moved
+1,change,1,5,20 -> changed moved
+1,change,1,5,21 -> refused 2 BadLimit
+1,change,1,5,4294967295 -> refused 2 BadLimit
+# An order that isn't there is looked for after its terms.
+1,change,0,0,15 -> refused 1 BadQuantity
+1,change,0,5,9 -> refused 2 BadLimit
+# The peak stays, though the quantity is smaller now.
+1,enter,ask,5,15,5 -> entered 2
+1,change,2,1,15 -> changed kept
+1,status,2 -> order ask 1 at 15 visible 1
+1,change,2,6,15 -> changed moved
+1,status,2 -> order ask 6 at 15 visible 5
+",
+    },
+    Example {
+        name: "numbers of orders",
+        words: &[
+            "callboard",
+            "--low",
+            "10",
+            "--high",
+            "20",
+            "--reference",
+            "15",
+        ],
+        text: "\
+# The first order has the number 1, and no order has the number 0.
+1,status,0 -> refused 5 UnknownOrder
+1,status,1 -> refused 5 UnknownOrder
+1,enter,bid,5,15 -> entered 1
+1,enter,bid,6,15 -> entered 2
+1,enter,bid,7,15 -> entered 3
+1,status,0 -> refused 5 UnknownOrder
+1,status,1 -> order bid 5 at 15 visible 5
+1,status,3 -> order bid 7 at 15 visible 7
+1,status,4 -> refused 5 UnknownOrder
+1,status,4294967295 -> refused 5 UnknownOrder
+1,change,0,5,15 -> refused 5 UnknownOrder
+1,change,1,5,15 -> changed kept
+1,change,3,7,15 -> changed kept
+1,change,4,5,15 -> refused 5 UnknownOrder
+1,change,4294967295,5,15 -> refused 5 UnknownOrder
+1,delete,0 -> refused 5 UnknownOrder
+1,delete,4 -> refused 5 UnknownOrder
+1,delete,4294967295 -> refused 5 UnknownOrder
+1,delete,3 -> deleted
+1,delete,1 -> deleted
+1,delete,1 -> refused 5 UnknownOrder
+# A number isn't given twice.
+1,enter,bid,8,15 -> entered 4
+1,status,3 -> refused 5 UnknownOrder
+1,status,2 -> order bid 6 at 15 visible 6
+1,status,5 -> refused 5 UnknownOrder
+",
+    },
+    Example {
+        name: "numbers of trades",
+        words: &[
+            "callboard",
+            "--low",
+            "10",
+            "--high",
+            "20",
+            "--reference",
+            "15",
+        ],
+        text: "\
+1,trade,0 -> refused 8 NoSuchTrade
+1,trade,1 -> refused 8 NoSuchTrade
+1,enter,bid,5,15 -> entered 1
+2,enter,ask,2,15 -> entered 2
+3,enter,ask,3,15 -> entered 3
+0,uncross -> opening price 15 volume 5 surplus 0 none trades 2
+3,trade,0 -> refused 8 NoSuchTrade
+3,trade,1 -> trade 1 2 2 at 15
+3,trade,2 -> trade 1 3 3 at 15
+3,trade,3 -> refused 8 NoSuchTrade
+3,trade,4294967295 -> refused 8 NoSuchTrade
+# The count goes on over the auctions of the day, and is kept after it.
+1,enter,bid,1,10 -> entered 4
+2,enter,ask,1,10 -> entered 5
+0,uncross -> intraday price 10 volume 1 surplus 0 none trades 1
+3,trade,3 -> trade 4 5 1 at 10
+3,trade,4 -> refused 8 NoSuchTrade
+0,uncross -> closing no price
+3,trade,0 -> refused 8 NoSuchTrade
+3,trade,3 -> trade 4 5 1 at 10
+3,trade,4 -> refused 8 NoSuchTrade
+",
+    },
+    Example {
+        name: "ten digits are a number",
+        words: &["callboard"],
+        text: "\
+0000000001,enter,bid,0000000005,0000000200 -> entered 1
+0000000001,enter,bid,5,200,0000000000 -> refused 3 BadPeak
+1,change,0000000001,0000000004,0000000200 -> changed kept
+1,status,0000000001 -> order bid 4 at 200 visible 4
+1,trade,0000000000 -> refused 8 NoSuchTrade
+1,delete,0000000001 -> deleted
+",
+    },
+    Example {
+        name: "as far as the range from the reference",
+        words: &[
+            "callboard",
+            "--high",
+            "65536",
+            "--reference",
+            "1",
+            "--range",
+            "65535",
+        ],
+        text: "\
+1,enter,bid,1,65536 -> entered 1
+2,enter,ask,1,65536 -> entered 2
+0,ask -> price 65536 volume 1 surplus 0 none
+0,uncross -> opening price 65536 volume 1 surplus 0 none trades 1
+",
+    },
+    Example {
+        name: "one tick past the range from the reference",
+        words: &[
+            "callboard",
+            "--high",
+            "65536",
+            "--reference",
+            "1",
+            "--range",
+            "65534",
+        ],
+        text: "\
+1,enter,bid,1,65536 -> entered 1
+2,enter,ask,1,65536 -> entered 2
+0,ask -> price 65536 volume 1 surplus 0 none
+0,uncross -> interrupted price 65536 volume 1 surplus 0 none
+",
+    },
+    Example {
+        name: "as far as the range from the reference",
+        words: &[
+            "callboard",
+            "--high",
+            "65536",
+            "--reference",
+            "65536",
+            "--range",
+            "65535",
+        ],
+        text: "\
+1,enter,bid,1,1 -> entered 1
+2,enter,ask,1,1 -> entered 2
+0,ask -> price 1 volume 1 surplus 0 none
+0,uncross -> opening price 1 volume 1 surplus 0 none trades 1
+",
+    },
+    Example {
+        name: "one tick past the range from the reference",
+        words: &[
+            "callboard",
+            "--high",
+            "65536",
+            "--reference",
+            "65536",
+            "--range",
+            "65534",
+        ],
+        text: "\
+1,enter,bid,1,1 -> entered 1
+2,enter,ask,1,1 -> entered 2
+0,ask -> price 1 volume 1 surplus 0 none
+0,uncross -> interrupted price 1 volume 1 surplus 0 none
+",
+    },
+    Example {
+        name: "as far as the range from the reference",
+        words: &[
+            "callboard",
+            "--high",
+            "65536",
+            "--reference",
+            "200",
+            "--range",
+            "1",
+        ],
+        text: "\
+1,enter,bid,1,201 -> entered 1
+2,enter,ask,1,201 -> entered 2
+0,ask -> price 201 volume 1 surplus 0 none
+0,uncross -> opening price 201 volume 1 surplus 0 none trades 1
+",
+    },
+    Example {
+        name: "one tick past the range from the reference",
+        words: &[
+            "callboard",
+            "--high",
+            "65536",
+            "--reference",
+            "200",
+            "--range",
+            "0",
+        ],
+        text: "\
+1,enter,bid,1,201 -> entered 1
+2,enter,ask,1,201 -> entered 2
+0,ask -> price 201 volume 1 surplus 0 none
+0,uncross -> interrupted price 201 volume 1 surplus 0 none
+",
+    },
+    Example {
+        name: "as far as the range from the reference",
+        words: &[
+            "callboard",
+            "--high",
+            "65536",
+            "--reference",
+            "201",
+            "--range",
+            "1",
+        ],
+        text: "\
+1,enter,bid,1,200 -> entered 1
+2,enter,ask,1,200 -> entered 2
+0,ask -> price 200 volume 1 surplus 0 none
+0,uncross -> opening price 200 volume 1 surplus 0 none trades 1
+",
+    },
+    Example {
+        name: "one tick past the range from the reference",
+        words: &[
+            "callboard",
+            "--high",
+            "65536",
+            "--reference",
+            "201",
+            "--range",
+            "0",
+        ],
+        text: "\
+1,enter,bid,1,200 -> entered 1
+2,enter,ask,1,200 -> entered 2
+0,ask -> price 200 volume 1 surplus 0 none
+0,uncross -> interrupted price 200 volume 1 surplus 0 none
+",
+    },
+    Example {
+        name: "as far as the range from the reference",
+        words: &[
+            "callboard",
+            "--high",
+            "65536",
+            "--reference",
+            "65536",
+            "--range",
+            "1",
+        ],
+        text: "\
+1,enter,bid,1,65535 -> entered 1
+2,enter,ask,1,65535 -> entered 2
+0,ask -> price 65535 volume 1 surplus 0 none
+0,uncross -> opening price 65535 volume 1 surplus 0 none trades 1
+",
+    },
+    Example {
+        name: "one tick past the range from the reference",
+        words: &[
+            "callboard",
+            "--high",
+            "65536",
+            "--reference",
+            "65536",
+            "--range",
+            "0",
+        ],
+        text: "\
+1,enter,bid,1,65535 -> entered 1
+2,enter,ask,1,65535 -> entered 2
+0,ask -> price 65535 volume 1 surplus 0 none
+0,uncross -> interrupted price 65535 volume 1 surplus 0 none
+",
+    },
+    Example {
+        name: "a price at the reference is in every range",
+        words: &["callboard", "--range", "0"],
+        text: "\
+1,enter,bid,1,200 -> entered 1
+2,enter,ask,1,200 -> entered 2
+0,uncross -> opening price 200 volume 1 surplus 0 none trades 1
+",
+    },
+    Example {
+        name: "a price at the reference is in every range",
+        words: &["callboard", "--range", "1"],
+        text: "\
+1,enter,bid,1,200 -> entered 1
+2,enter,ask,1,200 -> entered 2
+0,uncross -> opening price 200 volume 1 surplus 0 none trades 1
+",
+    },
+    Example {
+        name: "a price at the reference is in every range",
+        words: &["callboard", "--range", "1000000"],
+        text: "\
+1,enter,bid,1,200 -> entered 1
+2,enter,ask,1,200 -> entered 2
+0,uncross -> opening price 200 volume 1 surplus 0 none trades 1
+",
+    },
 ];
 
 #[test]
-fn terms_of_an_order(rt: HostRuntime) -> Result<(), Fail> {
-    let rows = [
-        // A quantity is 1 to 1,000,000,000.
-        ("1,enter,bid,0,15", "refused 1 BadQuantity"),
-        ("1,enter,bid,1,15", "entered 1"),
-        ("1,enter,bid,2,15", "entered 2"),
-        ("1,enter,ask,999999999,15", "entered 3"),
-        ("1,enter,ask,1000000000,15", "entered 4"),
-        ("1,enter,ask,1000000001,15", "refused 1 BadQuantity"),
-        ("1,enter,ask,4294967295,15", "refused 1 BadQuantity"),
-        // A limit is 10 to 20.
-        ("1,enter,bid,5,0", "refused 2 BadLimit"),
-        ("1,enter,bid,5,1", "refused 2 BadLimit"),
-        ("1,enter,bid,5,9", "refused 2 BadLimit"),
-        ("1,enter,bid,5,10", "entered 5"),
-        ("1,enter,ask,5,11", "entered 6"),
-        ("1,enter,bid,5,19", "entered 7"),
-        ("1,enter,ask,5,20", "entered 8"),
-        ("1,enter,ask,5,21", "refused 2 BadLimit"),
-        ("1,enter,ask,5,4294967295", "refused 2 BadLimit"),
-        // A peak is 1 to the quantity.
-        ("1,enter,bid,5,15,0", "refused 3 BadPeak"),
-        ("1,enter,bid,5,15,1", "entered 9"),
-        ("1,enter,bid,5,15,4", "entered 10"),
-        ("1,enter,bid,5,15,5", "entered 11"),
-        ("1,enter,bid,5,15,6", "refused 3 BadPeak"),
-        ("1,enter,bid,5,15,4294967295", "refused 3 BadPeak"),
-        ("1,enter,bid,1,15,1", "entered 12"),
-        ("1,enter,bid,1,15,2", "refused 3 BadPeak"),
-        ("1,enter,bid,1000000000,15,1000000000", "entered 13"),
-        ("1,enter,bid,1000000000,15,1000000001", "refused 3 BadPeak"),
-        (
-            "1,status,13",
-            "order bid 1000000000 at 15 visible 1000000000",
-        ),
-        ("1,status,9", "order bid 5 at 15 visible 1"),
-        // The first check that refuses an order is the one that is named.
-        ("1,enter,bid,0,9,0", "refused 1 BadQuantity"),
-        ("1,enter,bid,5,9,0", "refused 2 BadLimit"),
-    ];
-    replies(&rt, TICKS.as_slice(), rows.as_slice())
+fn each_limit_at_its_ends(rt: HostRuntime) -> Result<(), Fail> {
+    each_gives_its_lines(&rt, EXAMPLES.as_slice())
 }
 
-#[test]
-fn terms_of_a_change(rt: HostRuntime) -> Result<(), Fail> {
-    let rows = [
-        ("1,enter,bid,5,15", "entered 1"),
-        ("1,change,1,0,15", "refused 1 BadQuantity"),
-        ("1,change,1,4,15", "changed kept"),
-        ("1,change,1,1,15", "changed kept"),
-        ("1,change,1,2,15", "changed moved"),
-        ("1,change,1,1000000001,15", "refused 1 BadQuantity"),
-        ("1,change,1,4294967295,15", "refused 1 BadQuantity"),
-        ("1,change,1,1000000000,15", "changed moved"),
-        ("1,change,1,1000000000,15", "changed kept"),
-        ("1,change,1,999999999,15", "changed kept"),
-        ("1,change,1,5,0", "refused 2 BadLimit"),
-        ("1,change,1,5,9", "refused 2 BadLimit"),
-        ("1,change,1,5,10", "changed moved"),
-        ("1,change,1,5,20", "changed moved"),
-        ("1,change,1,5,21", "refused 2 BadLimit"),
-        ("1,change,1,5,4294967295", "refused 2 BadLimit"),
-        // An order that isn't there is looked for after its terms.
-        ("1,change,0,0,15", "refused 1 BadQuantity"),
-        ("1,change,0,5,9", "refused 2 BadLimit"),
-        // The peak stays, though the quantity is smaller now.
-        ("1,enter,ask,5,15,5", "entered 2"),
-        ("1,change,2,1,15", "changed kept"),
-        ("1,status,2", "order ask 1 at 15 visible 1"),
-        ("1,change,2,6,15", "changed moved"),
-        ("1,status,2", "order ask 6 at 15 visible 5"),
-    ];
-    replies(&rt, TICKS.as_slice(), rows.as_slice())
-}
-
-#[test]
-fn numbers_of_orders(rt: HostRuntime) -> Result<(), Fail> {
-    let rows = [
-        // The first order has the number 1, and no order has the number 0.
-        ("1,status,0", "refused 5 UnknownOrder"),
-        ("1,status,1", "refused 5 UnknownOrder"),
-        ("1,enter,bid,5,15", "entered 1"),
-        ("1,enter,bid,6,15", "entered 2"),
-        ("1,enter,bid,7,15", "entered 3"),
-        ("1,status,0", "refused 5 UnknownOrder"),
-        ("1,status,1", "order bid 5 at 15 visible 5"),
-        ("1,status,3", "order bid 7 at 15 visible 7"),
-        ("1,status,4", "refused 5 UnknownOrder"),
-        ("1,status,4294967295", "refused 5 UnknownOrder"),
-        ("1,change,0,5,15", "refused 5 UnknownOrder"),
-        ("1,change,1,5,15", "changed kept"),
-        ("1,change,3,7,15", "changed kept"),
-        ("1,change,4,5,15", "refused 5 UnknownOrder"),
-        ("1,change,4294967295,5,15", "refused 5 UnknownOrder"),
-        ("1,delete,0", "refused 5 UnknownOrder"),
-        ("1,delete,4", "refused 5 UnknownOrder"),
-        ("1,delete,4294967295", "refused 5 UnknownOrder"),
-        ("1,delete,3", "deleted"),
-        ("1,delete,1", "deleted"),
-        ("1,delete,1", "refused 5 UnknownOrder"),
-        // A number isn't given twice.
-        ("1,enter,bid,8,15", "entered 4"),
-        ("1,status,3", "refused 5 UnknownOrder"),
-        ("1,status,2", "order bid 6 at 15 visible 6"),
-        ("1,status,5", "refused 5 UnknownOrder"),
-    ];
-    replies(&rt, TICKS.as_slice(), rows.as_slice())
-}
-
-#[test]
-fn numbers_of_trades(rt: HostRuntime) -> Result<(), Fail> {
-    let rows = [
-        ("1,trade,0", "refused 8 NoSuchTrade"),
-        ("1,trade,1", "refused 8 NoSuchTrade"),
-        ("1,enter,bid,5,15", "entered 1"),
-        ("2,enter,ask,2,15", "entered 2"),
-        ("3,enter,ask,3,15", "entered 3"),
-        (
-            "0,uncross",
-            "opening price 15 volume 5 surplus 0 none trades 2",
-        ),
-        ("3,trade,0", "refused 8 NoSuchTrade"),
-        ("3,trade,1", "trade 1 2 2 at 15"),
-        ("3,trade,2", "trade 1 3 3 at 15"),
-        ("3,trade,3", "refused 8 NoSuchTrade"),
-        ("3,trade,4294967295", "refused 8 NoSuchTrade"),
-        // The count goes on over the auctions of the day, and is kept after it.
-        ("1,enter,bid,1,10", "entered 4"),
-        ("2,enter,ask,1,10", "entered 5"),
-        (
-            "0,uncross",
-            "intraday price 10 volume 1 surplus 0 none trades 1",
-        ),
-        ("3,trade,3", "trade 4 5 1 at 10"),
-        ("3,trade,4", "refused 8 NoSuchTrade"),
-        ("0,uncross", "closing no price"),
-        ("3,trade,0", "refused 8 NoSuchTrade"),
-        ("3,trade,3", "trade 4 5 1 at 10"),
-        ("3,trade,4", "refused 8 NoSuchTrade"),
-    ];
-    replies(&rt, TICKS.as_slice(), rows.as_slice())
-}
+static MEMBERS: [(&str, &str, bool); 11] = [
+    ("1", "0,ask", true),
+    ("1", "1,ask", false),
+    ("2", "1,ask", true),
+    ("2", "2,ask", false),
+    ("63", "62,ask", true),
+    ("63", "63,ask", false),
+    ("64", "63,ask", true),
+    ("64", "64,ask", false),
+    ("64", "256,ask", false),
+    ("64", "4294967295,ask", false),
+    ("64", "4294967296,ask", false),
+];
 
 #[test]
 fn members_at_both_ends(rt: HostRuntime) {
     let bad = "record 1: bad member\n";
     let shown = "1: no price bid - ask -\n";
-    let rows = [
-        ("1", "0", true),
-        ("1", "1", false),
-        ("2", "1", true),
-        ("2", "2", false),
-        ("63", "62", true),
-        ("63", "63", false),
-        ("64", "63", true),
-        ("64", "64", false),
-        ("64", "256", false),
-        ("64", "4294967295", false),
-        ("64", "4294967296", false),
-    ];
-    for (members, member, good) in rows {
+    for &(members, record, good) in MEMBERS.as_slice() {
         let words = ["callboard", "--members", members];
-        let mut input = [b' '; 16];
-        let count = member.len().min(10);
-        input[..count].copy_from_slice(&member.as_bytes()[..count]);
-        input[count..count + 4].copy_from_slice(b",ask");
-        let record = &input[..count + 4];
-        if good {
-            gives(&rt, words.as_slice(), record, shown, "", 0);
-        } else {
-            gives(&rt, words.as_slice(), record, "", bad, 1);
-        }
+        let (out, err, status) = if good { (shown, "", 0) } else { ("", bad, 1) };
+        gives(&rt, words.as_slice(), record.as_bytes(), out, err, status);
     }
 }
+
+static PLACES: [(&str, &str, &str); 10] = [
+    ("", ",ask", "bad member"),
+    ("1,enter,bid,", ",200", "bad field 4"),
+    ("1,enter,bid,5,", "", "bad field 5"),
+    ("1,enter,bid,5,200,", "", "bad field 6"),
+    ("1,change,", ",5,200", "bad field 3"),
+    ("1,change,1,", ",200", "bad field 4"),
+    ("1,change,1,5,", "", "bad field 5"),
+    ("1,delete,", "", "bad field 3"),
+    ("1,status,", "", "bad field 3"),
+    ("1,trade,", "", "bad field 3"),
+];
+
+static LONG_NUMBERS: [&str; 9] = [
+    "4294967296",
+    "9999999999",
+    "00000000000",
+    "00000000001",
+    "18446744073709551617",
+    "-1",
+    "1.0",
+    "1e1",
+    "0x1",
+];
 
 #[test]
 fn numbers_that_are_too_long(rt: HostRuntime) -> Result<(), Fail> {
     let alloc = rt.alloc();
-    let places = [
-        ("", ",ask", "bad member"),
-        ("1,enter,bid,", ",200", "bad field 4"),
-        ("1,enter,bid,5,", "", "bad field 5"),
-        ("1,enter,bid,5,200,", "", "bad field 6"),
-        ("1,change,", ",5,200", "bad field 3"),
-        ("1,change,1,", ",200", "bad field 4"),
-        ("1,change,1,5,", "", "bad field 5"),
-        ("1,delete,", "", "bad field 3"),
-        ("1,status,", "", "bad field 3"),
-        ("1,trade,", "", "bad field 3"),
-    ];
-    let numbers = [
-        "4294967296",
-        "9999999999",
-        "00000000000",
-        "00000000001",
-        "18446744073709551617",
-        "-1",
-        "1.0",
-        "1e1",
-        "0x1",
-    ];
-    for (front, back, fault) in places {
-        for number in numbers {
+    for &(front, back, fault) in PLACES.as_slice() {
+        for &number in LONG_NUMBERS.as_slice() {
             let input = format!(in alloc; "{front}{number}{back}\n")?;
             let err = format!(in alloc; "record 1: {fault}\n")?;
             gives(
@@ -235,58 +466,48 @@ fn numbers_that_are_too_long(rt: HostRuntime) -> Result<(), Fail> {
     Ok(())
 }
 
-#[test]
-fn ten_digits_are_a_number(rt: HostRuntime) -> Result<(), Fail> {
-    let rows = [
-        ("0000000001,enter,bid,0000000005,0000000200", "entered 1"),
-        ("0000000001,enter,bid,5,200,0000000000", "refused 3 BadPeak"),
-        ("1,change,0000000001,0000000004,0000000200", "changed kept"),
-        ("1,status,0000000001", "order bid 4 at 200 visible 4"),
-        ("1,trade,0000000000", "refused 8 NoSuchTrade"),
-        ("1,delete,0000000001", "deleted"),
-    ];
-    replies(&rt, PLAIN.as_slice(), rows.as_slice())
-}
+const BAD_BOUNDS: &str = "bad bounds\n";
+
+const BAD_REFERENCE: &str = "bad reference\n";
+
+static BOUNDS: [(&str, &str, &str, &str); 28] = [
+    ("1", "1", "1", ""),
+    ("2", "1", "1", BAD_BOUNDS),
+    ("2", "2", "1", BAD_REFERENCE),
+    ("1", "1", "2", BAD_REFERENCE),
+    // There are at most 65,536 ticks.
+    ("1", "65535", "65535", ""),
+    ("1", "65536", "65536", ""),
+    ("1", "65536", "65537", BAD_REFERENCE),
+    ("1", "65537", "65537", BAD_BOUNDS),
+    ("2", "65537", "65537", ""),
+    ("1", "1000000", "1", BAD_BOUNDS),
+    // They end at 1,000,000.
+    ("1000000", "1000000", "1000000", ""),
+    ("1000000", "999999", "1000000", BAD_BOUNDS),
+    ("999999", "1000000", "999999", ""),
+    ("999999", "1000000", "999998", BAD_REFERENCE),
+    ("934466", "1000000", "1000000", ""),
+    ("934465", "1000000", "1000000", ""),
+    ("934465", "1000000", "934465", ""),
+    ("934465", "1000000", "934464", BAD_REFERENCE),
+    ("934464", "1000000", "1000000", BAD_BOUNDS),
+    // The reference lies within them.
+    ("10", "20", "9", BAD_REFERENCE),
+    ("10", "20", "10", ""),
+    ("10", "20", "11", ""),
+    ("10", "20", "19", ""),
+    ("10", "20", "20", ""),
+    ("10", "20", "21", BAD_REFERENCE),
+    ("10", "20", "1", BAD_REFERENCE),
+    ("10", "20", "1000000", BAD_REFERENCE),
+    // Bad bounds are found before a bad reference.
+    ("20", "10", "15", BAD_BOUNDS),
+];
 
 #[test]
 fn bounds_and_reference(rt: HostRuntime) {
-    let bounds = "bad bounds\n";
-    let reference = "bad reference\n";
-    let rows = [
-        ("1", "1", "1", ""),
-        ("2", "1", "1", bounds),
-        ("2", "2", "1", reference),
-        ("1", "1", "2", reference),
-        // There are at most 65,536 ticks.
-        ("1", "65535", "65535", ""),
-        ("1", "65536", "65536", ""),
-        ("1", "65536", "65537", reference),
-        ("1", "65537", "65537", bounds),
-        ("2", "65537", "65537", ""),
-        ("1", "1000000", "1", bounds),
-        // They end at 1,000,000.
-        ("1000000", "1000000", "1000000", ""),
-        ("1000000", "999999", "1000000", bounds),
-        ("999999", "1000000", "999999", ""),
-        ("999999", "1000000", "999998", reference),
-        ("934466", "1000000", "1000000", ""),
-        ("934465", "1000000", "1000000", ""),
-        ("934465", "1000000", "934465", ""),
-        ("934465", "1000000", "934464", reference),
-        ("934464", "1000000", "1000000", bounds),
-        // The reference lies within them.
-        ("10", "20", "9", reference),
-        ("10", "20", "10", ""),
-        ("10", "20", "11", ""),
-        ("10", "20", "19", ""),
-        ("10", "20", "20", ""),
-        ("10", "20", "21", reference),
-        ("10", "20", "1", reference),
-        ("10", "20", "1000000", reference),
-        // Bad bounds are found before a bad reference.
-        ("20", "10", "15", bounds),
-    ];
-    for (low, high, first, err) in rows {
+    for &(low, high, first, err) in BOUNDS.as_slice() {
         let words = [
             "callboard",
             "--low",
@@ -301,44 +522,45 @@ fn bounds_and_reference(rt: HostRuntime) {
     }
 }
 
+static OPTIONS: [(&str, &str, bool); 33] = [
+    ("--members", "0", false),
+    ("--members", "1", true),
+    ("--members", "2", true),
+    ("--members", "63", true),
+    ("--members", "64", true),
+    ("--members", "65", false),
+    ("--members", "256", false),
+    ("--open", "0", false),
+    ("--open", "1", true),
+    ("--open", "2", true),
+    ("--open", "65535", true),
+    ("--open", "65536", true),
+    ("--open", "65537", false),
+    ("--calls", "0", false),
+    ("--calls", "1", true),
+    ("--calls", "2", true),
+    ("--calls", "1048575", true),
+    ("--calls", "1048576", true),
+    ("--calls", "1048577", false),
+    ("--range", "0", true),
+    ("--range", "1", true),
+    ("--range", "999999", true),
+    ("--range", "1000000", true),
+    ("--range", "1000001", false),
+    ("--low", "0", false),
+    ("--low", "1", true),
+    ("--low", "1000001", false),
+    ("--high", "0", false),
+    ("--high", "1000001", false),
+    ("--reference", "0", false),
+    ("--reference", "1", true),
+    ("--reference", "1000", true),
+    ("--reference", "1000001", false),
+];
+
 #[test]
 fn options_at_their_ends(rt: HostRuntime) {
-    let rows = [
-        ("--members", "0", false),
-        ("--members", "1", true),
-        ("--members", "2", true),
-        ("--members", "63", true),
-        ("--members", "64", true),
-        ("--members", "65", false),
-        ("--members", "256", false),
-        ("--open", "0", false),
-        ("--open", "1", true),
-        ("--open", "2", true),
-        ("--open", "65535", true),
-        ("--open", "65536", true),
-        ("--open", "65537", false),
-        ("--calls", "0", false),
-        ("--calls", "1", true),
-        ("--calls", "2", true),
-        ("--calls", "1048575", true),
-        ("--calls", "1048576", true),
-        ("--calls", "1048577", false),
-        ("--range", "0", true),
-        ("--range", "1", true),
-        ("--range", "999999", true),
-        ("--range", "1000000", true),
-        ("--range", "1000001", false),
-        ("--low", "0", false),
-        ("--low", "1", true),
-        ("--low", "1000001", false),
-        ("--high", "0", false),
-        ("--high", "1000001", false),
-        ("--reference", "0", false),
-        ("--reference", "1", true),
-        ("--reference", "1000", true),
-        ("--reference", "1000001", false),
-    ];
-    for (option, number, good) in rows {
+    for &(option, number, good) in OPTIONS.as_slice() {
         let words = ["callboard", option, number];
         let printed = run(&rt, words.as_slice(), b"");
         assert_eq!(rt;
@@ -351,31 +573,33 @@ fn options_at_their_ends(rt: HostRuntime) {
     }
 }
 
+static NAMES: [&str; 7] = [
+    "--low",
+    "--high",
+    "--reference",
+    "--members",
+    "--open",
+    "--calls",
+    "--range",
+];
+
+static OTHER_WORDS: [&str; 10] = [
+    "-1",
+    "",
+    " 1",
+    "1 ",
+    "1.0",
+    "x",
+    "4294967295",
+    "4294967296",
+    "4294967297",
+    "18446744073709551617",
+];
+
 #[test]
 fn no_option_takes_other_words(rt: HostRuntime) {
-    let options = [
-        "--low",
-        "--high",
-        "--reference",
-        "--members",
-        "--open",
-        "--calls",
-        "--range",
-    ];
-    let numbers = [
-        "-1",
-        "",
-        " 1",
-        "1 ",
-        "1.0",
-        "x",
-        "4294967295",
-        "4294967296",
-        "4294967297",
-        "18446744073709551617",
-    ];
-    for option in options {
-        for number in numbers {
+    for &option in NAMES.as_slice() {
+        for &number in OTHER_WORDS.as_slice() {
             let printed = run(&rt, ["callboard", option, number].as_slice(), b"1,ask");
             assert_eq!(rt; printed.status, 2, "{option} '{number}'");
             assert!(rt; printed.out.is_empty() && !printed.err.is_empty());
@@ -383,67 +607,6 @@ fn no_option_takes_other_words(rt: HostRuntime) {
         let alone = run(&rt, ["callboard", option].as_slice(), b"1,ask");
         assert_eq!(rt; alone.status, 2, "{option}");
     }
-}
-
-/// A price so far from the reference as the range is no interruption; one tick more is.
-#[test]
-fn ranges_at_their_ends(rt: HostRuntime) -> Result<(), Fail> {
-    let ends = [
-        ("1", "65536", "65535", "65534"),
-        ("65536", "1", "65535", "65534"),
-        ("200", "201", "1", "0"),
-        ("201", "200", "1", "0"),
-        ("65536", "65535", "1", "0"),
-    ];
-    let alloc = rt.alloc();
-    for (reference, price, wide, narrow) in ends {
-        let bid = format!(in alloc; "1,enter,bid,1,{price}")?;
-        let ask = format!(in alloc; "2,enter,ask,1,{price}")?;
-        let shown = format!(in alloc; "price {price} volume 1 surplus 0 none")?;
-        let stopped = format!(in alloc; "interrupted {}", shown.as_str())?;
-        let done = format!(in alloc; "opening {} trades 1", shown.as_str())?;
-        for range in [wide, narrow] {
-            let words = [
-                "callboard",
-                "--high",
-                "65536",
-                "--reference",
-                reference,
-                "--range",
-                range,
-            ];
-            let first = if range == wide {
-                done.as_str()
-            } else {
-                stopped.as_str()
-            };
-            let rows = [
-                (bid.as_str(), "entered 1"),
-                (ask.as_str(), "entered 2"),
-                ("0,ask", shown.as_str()),
-                ("0,uncross", first),
-            ];
-            replies(&rt, words.as_slice(), rows.as_slice())?;
-        }
-    }
-    Ok(())
-}
-
-#[test]
-fn a_price_at_the_reference_is_in_every_range(rt: HostRuntime) -> Result<(), Fail> {
-    let rows = [
-        ("1,enter,bid,1,200", "entered 1"),
-        ("2,enter,ask,1,200", "entered 2"),
-        (
-            "0,uncross",
-            "opening price 200 volume 1 surplus 0 none trades 1",
-        ),
-    ];
-    for range in ["0", "1", "1000000"] {
-        let words = ["callboard", "--range", range];
-        replies(&rt, words.as_slice(), rows.as_slice())?;
-    }
-    Ok(())
 }
 
 const DAY: Config = Config {

@@ -7,54 +7,57 @@ use order_file::FileFault;
 use std::fmt::InlineText;
 use std::str::from_utf8;
 
+const SHOWN: &str = "1: no price bid - ask -\n";
+
+static GOOD: [(&str, &str); 12] = [
+    ("", ""),
+    ("\n\r\n", ""),
+    ("1,ask", SHOWN),
+    ("1,ask\r\n", SHOWN),
+    ("\u{feff}1,ask\n", SHOWN),
+    ("\n1,ask\n\n", SHOWN),
+    ("1,\"ask\"\n", SHOWN),
+    ("01,enter,bid,007,200", "1: entered 1\n"),
+    ("1,enter,bid,5,200,", "1: entered 1\n"),
+    ("1,enter,bid,5,200,,", "1: entered 1\n"),
+    ("1,enter,bid,200,20", "1: entered 1\n"),
+    ("1,enter,bid,4294967295,200", "1: refused 1 BadQuantity\n"),
+];
+
 #[test]
 fn files_that_are_good(rt: HostRuntime) {
-    let first = "1: no price bid - ask -\n";
-    let rows = [
-        ("", ""),
-        ("\n\r\n", ""),
-        ("1,ask", first),
-        ("1,ask\r\n", first),
-        ("\u{feff}1,ask\n", first),
-        ("\n1,ask\n\n", first),
-        ("1,\"ask\"\n", first),
-        ("01,enter,bid,007,200", "1: entered 1\n"),
-        ("1,enter,bid,5,200,", "1: entered 1\n"),
-        ("1,enter,bid,5,200,,", "1: entered 1\n"),
-        ("1,enter,bid,200,20", "1: entered 1\n"),
-        ("1,enter,bid,4294967295,200", "1: refused 1 BadQuantity\n"),
-    ];
-    for (input, out) in rows {
+    for &(input, out) in GOOD.as_slice() {
         gives(&rt, PLAIN.as_slice(), input.as_bytes(), out, "", 0);
     }
 }
 
+static BAD: [(&str, &str); 21] = [
+    ("1,ask\n1,enter,bid,abc,200", "record 2: bad field 4\n"),
+    ("7,ask", "record 1: bad member\n"),
+    ("4,ask", "record 1: bad member\n"),
+    ("\"\"", "record 1: bad member\n"),
+    ("1,enter,bid", "record 1: wrong number of fields\n"),
+    ("1,enter,bid,5,200,,,", "record 1: wrong number of fields\n"),
+    ("1,enter,bid,4294967296,200", "record 1: bad field 4\n"),
+    ("1,enter,bid,00000000005,200", "record 1: bad field 4\n"),
+    ("1,enter,bid,,200", "record 1: bad field 4\n"),
+    ("1,enter,bid,+5,200", "record 1: bad field 4\n"),
+    ("1,enter,bid,5, 200", "record 1: bad field 5\n"),
+    ("1,enter,buy,x,200", "record 1: bad field 3\n"),
+    ("1,enter,bid,5,200,x", "record 1: bad field 6\n"),
+    ("1,enter,bid,5,200,,intraday", "record 1: bad field 7\n"),
+    ("1,change,1,5", "record 1: wrong number of fields\n"),
+    ("1,change,x,5,200", "record 1: bad field 3\n"),
+    ("1,delete,", "record 1: bad field 3\n"),
+    ("1,ASK", "record 1: bad command\n"),
+    ("1", "record 1: bad command\n"),
+    ("1,ask,", "record 1: wrong number of fields\n"),
+    ("9,nonsense", "record 1: bad member\n"),
+];
+
 #[test]
 fn files_that_are_bad(rt: HostRuntime) {
-    let rows = [
-        ("1,ask\n1,enter,bid,abc,200", "record 2: bad field 4\n"),
-        ("7,ask", "record 1: bad member\n"),
-        ("4,ask", "record 1: bad member\n"),
-        ("\"\"", "record 1: bad member\n"),
-        ("1,enter,bid", "record 1: wrong number of fields\n"),
-        ("1,enter,bid,5,200,,,", "record 1: wrong number of fields\n"),
-        ("1,enter,bid,4294967296,200", "record 1: bad field 4\n"),
-        ("1,enter,bid,00000000005,200", "record 1: bad field 4\n"),
-        ("1,enter,bid,,200", "record 1: bad field 4\n"),
-        ("1,enter,bid,+5,200", "record 1: bad field 4\n"),
-        ("1,enter,bid,5, 200", "record 1: bad field 5\n"),
-        ("1,enter,buy,x,200", "record 1: bad field 3\n"),
-        ("1,enter,bid,5,200,x", "record 1: bad field 6\n"),
-        ("1,enter,bid,5,200,,intraday", "record 1: bad field 7\n"),
-        ("1,change,1,5", "record 1: wrong number of fields\n"),
-        ("1,change,x,5,200", "record 1: bad field 3\n"),
-        ("1,delete,", "record 1: bad field 3\n"),
-        ("1,ASK", "record 1: bad command\n"),
-        ("1", "record 1: bad command\n"),
-        ("1,ask,", "record 1: wrong number of fields\n"),
-        ("9,nonsense", "record 1: bad member\n"),
-    ];
-    for (input, err) in rows {
+    for &(input, err) in BAD.as_slice() {
         gives(&rt, PLAIN.as_slice(), input.as_bytes(), "", err, 1);
     }
 }
@@ -107,15 +110,16 @@ fn more_records_than_calls(rt: HostRuntime) {
     );
 }
 
+static BAD_WORDS: [(&str, &str, &str, &str, &str); 4] = [
+    ("--low", "5", "--high", "4", "bad bounds\n"),
+    ("--high", "70000", "--low", "1", "bad bounds\n"),
+    ("--reference", "2000", "--low", "1", "bad reference\n"),
+    ("--low", "300", "--high", "1000", "bad reference\n"),
+];
+
 #[test]
 fn words_that_are_bad_together(rt: HostRuntime) {
-    let rows = [
-        ("--low", "5", "--high", "4", "bad bounds\n"),
-        ("--high", "70000", "--low", "1", "bad bounds\n"),
-        ("--reference", "2000", "--low", "1", "bad reference\n"),
-        ("--low", "300", "--high", "1000", "bad reference\n"),
-    ];
-    for (first, one, second, other, err) in rows {
+    for &(first, one, second, other, err) in BAD_WORDS.as_slice() {
         let words = ["callboard", first, one, second, other];
         gives(&rt, words.as_slice(), b"", "", err, 2);
         gives(&rt, words.as_slice(), b"x", "", "record 1: bad member\n", 1);

@@ -1,6 +1,6 @@
 //! Books, tapes and days that are full.
 
-use super::{gives, replies};
+use super::{Example, each_gives_its_lines, gives};
 use auction::Auction;
 use auction_terms::{
     Command, Config, Display, Kind, Limit, Only, Price, Refused, Reply, Side, Trade,
@@ -36,34 +36,35 @@ const WIDEST: Config = Config {
     range: None,
 };
 
+static ONE_ORDER: [Example; 1] = [Example {
+    name: "a book for one order",
+    words: &["callboard", "--open", "1"],
+    text: "\
+1,enter,bid,5,200 -> entered 1
+2,enter,ask,5,200 -> refused 4 BookFull
+0,ask -> no price bid 200 ask -
+1,change,1,6,201 -> changed moved
+0,ask -> no price bid 201 ask -
+0,uncross -> opening no price
+# A full book is the last check of an order.
+2,enter,ask,5,200,,opening -> refused 9 PastAuction
+2,enter,ask,5,200,6,closing -> refused 3 BadPeak
+2,enter,ask,5,200,5,closing -> refused 4 BookFull
+1,delete,1 -> deleted
+2,enter,ask,5,market -> entered 2
+0,ask -> no price bid - ask -
+0,uncross -> intraday no price
+2,delete,2 -> deleted
+1,enter,bid,5,200,,closing -> entered 3
+1,enter,bid,5,200 -> refused 4 BookFull
+0,uncross -> closing no price
+1,status,3 -> refused 5 UnknownOrder
+",
+}];
+
 #[test]
 fn a_book_for_one_order(rt: HostRuntime) -> Result<(), Fail> {
-    let rows = [
-        ("1,enter,bid,5,200", "entered 1"),
-        ("2,enter,ask,5,200", "refused 4 BookFull"),
-        ("0,ask", "no price bid 200 ask -"),
-        ("1,change,1,6,201", "changed moved"),
-        ("0,ask", "no price bid 201 ask -"),
-        ("0,uncross", "opening no price"),
-        // A full book is the last check of an order.
-        ("2,enter,ask,5,200,,opening", "refused 9 PastAuction"),
-        ("2,enter,ask,5,200,6,closing", "refused 3 BadPeak"),
-        ("2,enter,ask,5,200,5,closing", "refused 4 BookFull"),
-        ("1,delete,1", "deleted"),
-        ("2,enter,ask,5,market", "entered 2"),
-        ("0,ask", "no price bid - ask -"),
-        ("0,uncross", "intraday no price"),
-        ("2,delete,2", "deleted"),
-        ("1,enter,bid,5,200,,closing", "entered 3"),
-        ("1,enter,bid,5,200", "refused 4 BookFull"),
-        ("0,uncross", "closing no price"),
-        ("1,status,3", "refused 5 UnknownOrder"),
-    ];
-    replies(
-        &rt,
-        ["callboard", "--open", "1"].as_slice(),
-        rows.as_slice(),
-    )
+    each_gives_its_lines(&rt, ONE_ORDER.as_slice())
 }
 
 /// An order file, and the lines that it should print.
