@@ -13,6 +13,7 @@ for _ in 1 2 3 4 5 6 7; do out/board_clock measure; done | awk '
         printf "%-32s %8s %14s\n", "", "ns", "a second"
         for (i = 1; i <= n; i++) printf "%-32s %8d %14d\n", order[i], least[order[i]], 1e9 / least[order[i]]
         printf "a call of one member against apply alone: %.2f times\n", least["calls-of-1-member"] / least["apply-alone"]
+        printf "a call of one member against apply with what is shown after it: %.2f times\n", least["calls-of-1-member"] / least["apply-and-show-alone"]
         printf "calls a second of 4 members against 1: %.2f times\n", least["calls-of-1-member"] / least["calls-of-4-members"]
         printf "looks a second of 4 members against 1: %.2f times\n", least["look"] / least["look-of-4-members"]
         printf "a look beside calls against an idle one: %.2f times\n", least["look-beside-calls"] / least["look"]

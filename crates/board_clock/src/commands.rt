@@ -62,11 +62,14 @@ pub fn fill(auction: &mut Auction) {
     }
 }
 
-/// Applies so many commands.
-pub fn apply_many(auction: &mut Auction, count: u32) -> u32 {
+/// Applies so many commands, and after each finds what is shown where that is wanted, as a board does.
+pub fn apply_many(auction: &mut Auction, count: u32, is_shown: bool) -> u32 {
     let mut id = 0;
     for k in 0..count {
         id = apply(auction, command(k, id), id);
+        if is_shown {
+            let _ = auction.show();
+        }
     }
     id
 }

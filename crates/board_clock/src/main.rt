@@ -116,19 +116,24 @@ fn measure<R: Wait + Threads + Sync + Clock + Print + AllocGlobal>(
     Ok(())
 }
 
-/// Measures the same commands on an auction alone.
-fn measure_alone<R: Clock + Print + AllocGlobal>(rt: &R) -> io::Result<()> {
+/// Measures the same commands on an auction alone, with or without what is shown after each.
+fn measure_alone<R: Clock + Print + AllocGlobal>(
+    rt: &R,
+    name: &str,
+    is_shown: bool,
+) -> io::Result<()> {
     let mut auction = Auction::open(rt.alloc(), CONFIG).map_err(|_| AllocError)?;
     commands::fill(&mut auction);
     let start = Instant::now(rt)?;
-    let last = commands::apply_many(&mut auction, CALLS);
+    let last = commands::apply_many(&mut auction, CALLS, is_shown);
     let each = start.elapsed(rt)?.as_nanos() / u128::from(CALLS);
-    println!(rt; "apply-alone {each} {last}")?;
+    println!(rt; "{name} {each} {last}")?;
     Ok(())
 }
 
 fn measure_all<R: Wait + Threads + Sync + Clock + Print + AllocGlobal>(rt: &R) -> io::Result<()> {
-    measure_alone(rt)?;
+    measure_alone(rt, "apply-alone", false)?;
+    measure_alone(rt, "apply-and-show-alone", true)?;
     let one = [Task::Call(CALLS)];
     let two = [Task::Call(CALLS / 2); 2];
     let four = [Task::Call(CALLS / 4); 4];
