@@ -12,6 +12,7 @@ use std::sync::ledger::{Blank, Ledger};
 use std::test::Fail;
 use std::thread::Threads;
 
+mod calls;
 mod devices;
 mod edges;
 mod examples;
@@ -119,7 +120,7 @@ fn gives_its_lines<T: Abort + AllocGlobal + Wait + Threads + Sync>(
     let out = from_utf8(printed.out.as_slice()).unwrap_or("?");
     assert_eq!(rt; out, lines.as_str(), "{}", example.name);
     assert!(rt;
-        printed.err.is_empty() && printed.status == 0,
+        number > 0 && printed.err.is_empty() && printed.status == 0,
         "{}",
         example.name
     );
