@@ -9,7 +9,7 @@ mod tasks;
 
 use auction::Auction;
 use auction_terms::Config;
-use call_board::{Board, Day, Fresh, Member, Slot, Version, close};
+use call_board::{Board, Day, Follow, Fresh, Member, Version, close};
 use left_right::Absorb;
 use std::alloc::{AllocError, AllocGlobal, Global};
 use std::io::Print;
@@ -45,7 +45,7 @@ fn all_at_once<K: Day + Send + Sync, R: Wait + Threads + Sync>(
     tasks: &[Task],
 ) -> Result<Vec<Member<K>>, AllocError>
 where
-    Version<K>: Absorb<Slot<K>, State = ()> + Send + Sync,
+    Version<K>: Absorb<Follow, State = ()> + Send + Sync,
 {
     let is_done = AtomicBool::new(false);
     let is_done = &is_done;
@@ -74,7 +74,7 @@ fn board_time<K: Day + Send + Sync, R: Wait + Threads + Sync + Clock>(
     tasks: &[Task],
 ) -> io::Result<u128>
 where
-    Version<K>: Absorb<Slot<K>, State = ()> + Send + Sync,
+    Version<K>: Absorb<Follow, State = ()> + Send + Sync,
 {
     let mut members = members;
     if let Some(first) = members.last_mut() {

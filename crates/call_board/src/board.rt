@@ -2,21 +2,36 @@
 
 use crate::day::Day;
 use crate::floor::Floor;
-use crate::versions::{Slot, Version};
+use crate::versions::{Follow, Version};
 use crossbeam_utils::Backoff;
 use left_right::Absorb;
 use std::marker::Model;
 use std::sync::{Mutex, MutexGuard, Wait};
+use std::thread;
 
 /// How often a call tries a lock that another call has before its thread sleeps.
-const TRIES: u32 = 40;
+const TRIES: u32 = 100;
+
+/// The longest pause between two tries, in turns of `Backoff::spin`. Where it is reached the thread also lets others
+/// have the processor.
+const LONGEST_PAUSE: u32 = 16;
+
+// A pause after this many tries, each a little longer than the one before.
+fn pause(backoff: &Backoff, tries: u32) {
+    for _ in 0..tries.min(LONGEST_PAUSE) {
+        backoff.spin();
+    }
+    if tries >= LONGEST_PAUSE {
+        thread::yield_now();
+    }
+}
 
 /// A board whose day has begun. Threads share it, each calling with members of its own. What the lock keeps is a
 /// legal history of the day, whatever was called. Contracts see the number of its members.
 #[derive(Drop)]
 pub struct Board<K: Day>
 where
-    Version<K>: Absorb<Slot<K>, State = ()>,
+    Version<K>: Absorb<Follow, State = ()>,
 {
     pub(crate) floor: Mutex<Floor<K>>,
     /// A count for each member, which the closing writes.
@@ -26,7 +41,7 @@ where
 
 impl<K: Day> Model for Board<K>
 where
-    Version<K>: Absorb<Slot<K>, State = ()>,
+    Version<K>: Absorb<Follow, State = ()>,
 {
     ghost use Rattle.std.specs.Prelude.{◌≡◌, ℕ, replicate};
 
@@ -39,22 +54,22 @@ where
 
 impl<K: Day> Board<K>
 where
-    Version<K>: Absorb<Slot<K>, State = ()>,
+    Version<K>: Absorb<Follow, State = ()>,
 {
     /// The floor under its lock.
     pub fn floor(&self) -> &Mutex<Floor<K>> {
         &self.floor
     }
 
-    // The floor, once its lock is free. A call is shorter than the sleep of a thread, so the lock is tried for a while, with
-    // longer and longer pauses, in which the one that has it may call again.
+    // The floor, once its lock is free. A call is far shorter than the sleep of a thread, so the lock is tried for a while,
+    // with longer and longer pauses, in which the one that has it may call again: what a call touches stays where it is.
     pub(crate) fn enter<R: Wait>(&self, rt: &R) -> MutexGuard<'_, Floor<K>> {
         let backoff = Backoff::new();
-        for _ in 0..TRIES {
+        for tries in 1..=TRIES {
             if let Some(floor) = self.floor.try_lock() {
                 return floor;
             }
-            backoff.spin();
+            pause(&backoff, tries);
         }
         self.floor.lock(rt)
     }

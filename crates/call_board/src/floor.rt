@@ -9,7 +9,7 @@ ghost use Rattle.call_board.specs.Told.{entry, CallsOnce, IsBehind, Looks, Shows
 use crate::day::Day;
 use crate::member::{Member, Shown};
 use crate::story::{Front, Head};
-use crate::versions::{Copies, Slot, Version};
+use crate::versions::{Copies, Follow, Version, View};
 use auction::Auction;
 use auction_terms::{Command, Entry, Reply};
 use left_right::Absorb;
@@ -43,7 +43,7 @@ pub enum CallFault {
 #[derive(Drop)]
 pub struct Floor<K: Day>
 where
-    Version<K>: Absorb<Slot<K>, State = ()>,
+    Version<K>: Absorb<Follow, State = ()>,
 {
     pub(crate) auction: Auction,
     pub(crate) history: Vec<Entry>,
@@ -59,7 +59,7 @@ where
 
 impl<K: Day> Model for Floor<K>
 where
-    Version<K>: Absorb<Slot<K>, State = ()>,
+    Version<K>: Absorb<Follow, State = ()>,
 {
     ghost use Rattle.std.specs.Prelude.{◌≡◌, List, vec_capacity};
     ghost use Rattle.auction_terms.specs.declared.Entry.{Entry};
@@ -74,7 +74,7 @@ where
 
 impl<K: Day> Floor<K>
 where
-    Version<K>: Absorb<Slot<K>, State = ()>,
+    Version<K>: Absorb<Follow, State = ()>,
 {
     /// Applies a member's command to the auction, shows the call to readers, writes it with its reply at the end of the
     /// history, and counts it once in the member's share and in the ledger's book. A command that the auction refuses
@@ -104,16 +104,16 @@ where
         if by.seen_len() > history || by.calls() != counted {
             return Err(CallFault::Behind { history, counted });
         }
-        let Ok(slot) = self.copies.reserve() else {
+        if self.copies.reserve().is_err() {
             return Err(CallFault::NoMemory);
-        };
+        }
         let mut front = self.front.again();
         // The floor alone adds to the story, under its lock, so this adds always.
         if !front.add(&self.head, (number, command)) {
             return Err(CallFault::NoMemory);
         }
         by.compare(&self.front);
-        Ok(self.enter(by, rt, command, slot, front))
+        Ok(self.enter(by, rt, command, front))
     }
 
     /// How many calls were recorded, and the display of the book after them. A member's look shows the same without the
@@ -148,7 +148,6 @@ where
         by: &mut Member<K>,
         rt: &R,
         command: Command,
-        slot: Slot<K>,
         front: Front<K>,
     ) -> Receipt
         requires room { length self.old < K.config.max_calls }
@@ -177,7 +176,7 @@ where
             display: self.auction.show(),
         };
         by.front = front.again();
-        self.copies.publish(rt, slot, Version::of(&front, by.shown));
+        self.copies.publish(rt, View::of(&front, by.shown));
         self.front = front;
         Receipt {
             number: self.auction.calls(),

@@ -9,7 +9,7 @@ use crate::day::Day;
 use crate::floor::Floor;
 use crate::member::{Member, Shown};
 use crate::story::{Blank, Front};
-use crate::versions::{Copies, Slot, Version};
+use crate::versions::{Copies, Follow, Version};
 use auction::{Auction, OpenFault};
 use auction_terms::{Config, Entry};
 use left_right::Absorb;
@@ -88,7 +88,7 @@ fn seated<K: Day>(
     copies: &Copies<K>,
 ) -> Result<Vec<Member<K>>, OpenFault>
 where
-    Version<K>: Absorb<Slot<K>, State = ()>,
+    Version<K>: Absorb<Follow, State = ()>,
     requires parts { (joined.old.parts ≡ count) × (joined.old.amount ≡ 0) × (count ≡ K.parts) }
     requires room { (room.items ≡ []) × (count ≤ vec_capacity room) }
     requires front { front.now ≡ [] }
@@ -183,7 +183,7 @@ impl Fresh {
     /// nothing seen; a member can't be copied. The answer is `NoMemory` where room or a reader's place was refused.
     pub fn begin<K: Day>(self) -> Result<(Board<K>, Vec<Member<K>>), OpenFault>
     where
-        Version<K>: Absorb<Slot<K>, State = ()>,
+        Version<K>: Absorb<Follow, State = ()>,
         requires config { K.config ≡ self.config }
         requires members { K.parts ≡ self.members }
         requires ledger { K.name ≡ self.ledger }
@@ -209,9 +209,7 @@ impl Fresh {
             calls: 0,
             display: auction.display(),
         };
-        let first = Version::of(&front, opening);
-        let second = Version::of(&front, opening);
-        let Ok(copies) = Copies::open(alloc, first, second, usize::from(count)) else {
+        let Ok(copies) = Copies::open(alloc, &front, opening, usize::from(count)) else {
             return Err(OpenFault::NoMemory);
         };
         let (book, mut joined) = ledger.open::<K>();

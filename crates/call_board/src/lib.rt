@@ -28,7 +28,7 @@ pub use day::Day;
 pub use floor::{CallFault, Floor, Receipt};
 pub use fresh::Fresh;
 pub use member::{Member, Shown};
-pub use versions::{Slot, Version};
+pub use versions::{Follow, Version};
 
 #[cfg(test)]
 mod tests;

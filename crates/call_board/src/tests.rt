@@ -67,7 +67,7 @@ fn pair_of<K: Day>(members: Vec<Member<K>>) -> Option<Pair<K>> {
 
 fn closed<K: Day, R: Wait>(rt: &R, board: Board<K>, two: Pair<K>) -> Result<Closing, Fail>
 where
-    Version<K>: Absorb<Slot<K>, State = ()>,
+    Version<K>: Absorb<Follow, State = ()>,
 {
     let Pair {
         operator,
@@ -92,7 +92,7 @@ impl Scene {
     // Whether all of it is answered as it should be.
     fn goes_well<K: Day, R: Wait>(self, rt: &R, board: &Board<K>, two: &mut Pair<K>) -> bool
     where
-        Version<K>: Absorb<Slot<K>, State = ()>,
+        Version<K>: Absorb<Follow, State = ()>,
     {
         match self {
             Scene::ThreeCalls => three_calls(rt, board, two),
@@ -126,7 +126,7 @@ fn closing_of<R: Wait>(
 // The operator uncrosses an auction with one bid, and member 1 may not.
 fn three_calls<K: Day, R: Wait>(rt: &R, board: &Board<K>, two: &mut Pair<K>) -> bool
 where
-    Version<K>: Absorb<Slot<K>, State = ()>,
+    Version<K>: Absorb<Follow, State = ()>,
 {
     let no_price = Reply::Uncrossed {
         kind: Kind::Opening,
@@ -200,7 +200,7 @@ fn boards_that_cannot_be_opened(rt: HostRuntime) {
 // A member sees its own bid, and another the same.
 fn a_bid_is_seen<K: Day, R: Wait>(rt: &R, board: &Board<K>, two: &mut Pair<K>) -> bool
 where
-    Version<K>: Absorb<Slot<K>, State = ()>,
+    Version<K>: Absorb<Follow, State = ()>,
 {
     let empty = Display::Unpriced {
         best_buy: None,
@@ -225,7 +225,7 @@ fn a_look_shows_finished_calls(rt: HostRuntime) -> Result<(), Fail> {
 // The third call finds the history full; its member has then seen all of it.
 fn too_many_calls<K: Day, R: Wait>(rt: &R, board: &Board<K>, two: &mut Pair<K>) -> bool
 where
-    Version<K>: Absorb<Slot<K>, State = ()>,
+    Version<K>: Absorb<Follow, State = ()>,
 {
     let full = Err(CallFault::HistoryFull);
     told(two.second.call(board, rt, BID), 1, Reply::Entered { id: 1 })
@@ -262,7 +262,7 @@ fn call_again<K: Day, R: Wait>(
     member: &mut Member<K>,
 ) -> Result<Receipt, CallFault>
 where
-    Version<K>: Absorb<Slot<K>, State = ()>,
+    Version<K>: Absorb<Follow, State = ()>,
 {
     let calls = member.calls();
     let answer = member.call(board, rt, BID);
@@ -277,7 +277,7 @@ where
 
 fn two_bids<K: Day, R: Wait>(rt: &R, board: &Board<K>, member: &mut Member<K>) -> bool
 where
-    Version<K>: Absorb<Slot<K>, State = ()>,
+    Version<K>: Absorb<Follow, State = ()>,
 {
     told(call_again(rt, board, member), 1, Reply::Entered { id: 1 })
         && told(call_again(rt, board, member), 2, Reply::Entered { id: 2 })
@@ -308,7 +308,7 @@ fn one_is_missing<K: Day, R: Wait>(rt: &R, fresh: Fresh) -> Option<Closing>
 
 fn missing<K: Day>(answer: Result<Closing, CloseFault<K>>) -> Option<(Board<K>, Vec<Member<K>>)>
 where
-    Version<K>: Absorb<Slot<K>, State = ()>,
+    Version<K>: Absorb<Follow, State = ()>,
 {
     match answer {
         Err(CloseFault::MissingMember { board, members }) => Some((board, members)),

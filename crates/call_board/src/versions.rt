@@ -17,15 +17,14 @@ use std::marker::Model;
 use std::mem::ManuallyDrop;
 use std::sync::{Arc, Mutex, Wait};
 
-/// A copy of what the board shows, which looks read: a beginning of the story, and what is shown after it. Contracts see
-/// the calls of that beginning.
+/// What the board shows: a beginning of the story, and what is shown after it. Contracts see the calls of that beginning.
 #[derive(Drop)]
-pub struct Version<K: Day> {
+pub(crate) struct View<K: Day> {
     front: Front<K>,
     shown: Shown,
 }
 
-impl<K: Day> Model for Version<K> {
+impl<K: Day> Model for View<K> {
     ghost use Rattle.std.specs.Prelude.{List, ℕ};
     ghost use Rattle.auction_terms.specs.declared.Command.{Command};
     ghost use Rattle.call_board.specs.Told.{ShowsAfter};
@@ -37,23 +36,22 @@ impl<K: Day> Model for Version<K> {
     ghost invariant = { λ v. ShowsAfter K.config v.front v.shown };
 }
 
-impl<K: Day> Version<K> {
+impl<K: Day> View<K> {
     // What is shown after a beginning of the story.
-    pub(crate) fn of(front: &Front<K>, shown: Shown) -> Version<K>
+    pub(crate) fn of(front: &Front<K>, shown: Shown) -> View<K>
         requires { ShowsAfter K.config front.now shown }
         ensures { result ≡ front.now }
     {
-        Version {
+        View {
             front: front.again(),
             shown,
         }
     }
 
-    // Shows what a newer one does. It takes no memory.
-    fn follow(&mut self, newer: &Version<K>)
-        ensures { self.new ≡ newer.now }
+    fn again(&self) -> View<K>
+        ensures { result ≡ self.now }
     {
-        *self = Version::of(newer.front(), newer.shown());
+        View::of(self.front(), self.shown())
     }
 
     fn shown(&self) -> Shown
@@ -69,14 +67,19 @@ impl<K: Day> Version<K> {
     }
 }
 
-/// A place in the line of calls that the copies are to follow. It is taken before a call is recorded, as room may be
-/// refused, and what is shown after the call is written into it when the call stands in the story.
+/// A copy of what the board shows, which looks read. Both copies know where the floor writes down what is newest.
 #[derive(Drop)]
-pub struct Slot<K: Day> {
-    newer: Arc<Mutex<Option<Version<K>>>>,
+pub struct Version<K: Day> {
+    view: View<K>,
+    newest: Arc<Mutex<View<K>>>,
 }
 
-impl<K: Day> Absorb<Slot<K>> for Version<K> {
+/// A call that the copies are to follow: each then shows what is newest. Room for it is taken before a call is recorded,
+/// as room may be refused; what is newest is written down when the call stands in the story.
+#[derive(Drop)]
+pub struct Follow;
+
+impl<K: Day> Absorb<Follow> for Version<K> {
     type State = ();
 
     ghost state = { λ v. tt };
@@ -85,19 +88,22 @@ impl<K: Day> Absorb<Slot<K>> for Version<K> {
 
     ghost never_fails = { Unit {0} };
 
-    fn absorb_first(&mut self, operation: &Slot<K>, _other: &Version<K>) -> Result<(), AllocError> {
-        // The floor alone writes a slot, before it is published, so the slot's lock is always free here.
-        let Some(newer) = operation.newer.try_lock() else {
-            return Ok(());
-        };
-        if let Some(newer) = &*newer {
-            self.follow(newer);
+    fn absorb_first(&mut self, _call: &Follow, _other: &Version<K>) -> Result<(), AllocError> {
+        // The floor alone writes what is newest, and not while the copies follow, so this lock is always free here.
+        if let Some(newest) = self.newest.try_lock() {
+            self.view = newest.again();
         }
+        Ok(())
+    }
+
+    // The other copy has followed this call by now.
+    fn absorb_second(&mut self, _call: Follow, other: &Version<K>) -> Result<(), Follow> {
+        self.view = other.view.again();
         Ok(())
     }
 }
 
-pub(crate) type CopyWriter<K> = Writer<Version<K>, Slot<K>, (), Unruled>;
+pub(crate) type CopyWriter<K> = Writer<Version<K>, Follow, (), Unruled>;
 
 pub(crate) type CopyReader<K> = Reader<Version<K>, (), Unruled>;
 
@@ -110,49 +116,62 @@ pub(crate) fn read<K: Day>(
 {
     match reader.enter_as::<Unruled>() {
         Ok(reading) => {
-            let version = reading.get();
-            let found = (version.front().again(), version.shown());
+            let view = &reading.get().view;
+            let found = (view.front().again(), view.shown());
             (reading.leave(), Some(found))
         }
         Err(reader) => (reader, None),
     }
 }
 
-/// The writer of the copies.
+/// The writer of the copies, and where it writes down what is newest.
 pub(crate) struct Copies<K: Day>
 where
-    Version<K>: Absorb<Slot<K>, State = ()>,
+    Version<K>: Absorb<Follow, State = ()>,
 {
-    alloc: Global,
+    newest: Arc<Mutex<View<K>>>,
     writer: CopyWriter<K>,
 }
 
 impl<K: Day> Drop for Copies<K>
 where
-    Version<K>: Absorb<Slot<K>, State = ()>,
+    Version<K>: Absorb<Follow, State = ()>,
 {
     // Only a writer that may wait for the readers can give the copies back, and a drop may not wait. So they are leaked.
     fn drop(self) {
-        let Self { alloc: _, writer } = self;
+        let Self {
+            newest: _newest,
+            writer,
+        } = self;
         let _left = unsafe { ManuallyDrop::new_unchecked(writer) };
     }
 }
 
 impl<K: Day> Copies<K>
 where
-    Version<K>: Absorb<Slot<K>, State = ()>,
+    Version<K>: Absorb<Follow, State = ()>,
 {
-    // Makes room for so many readers.
+    // Two copies of what is shown at first, and room for so many readers.
     pub(crate) fn open(
         alloc: Global,
-        first: Version<K>,
-        second: Version<K>,
+        front: &Front<K>,
+        shown: Shown,
         readers: usize,
     ) -> Result<Copies<K>, AllocError>
-        requires { (0 < readers) × (readers < 2 ^ 32) }
+        requires shown { ShowsAfter K.config front.now shown }
+        requires readers { (0 < readers) × (readers < 2 ^ 32) }
     {
+        let newest = Arc::new(alloc, Mutex::new(View::of(front, shown)))?;
+        let first = Version {
+            view: View::of(front, shown),
+            newest: Arc::try_clone(&newest)?,
+        };
+        let second = Version {
+            view: View::of(front, shown),
+            newest: Arc::try_clone(&newest)?,
+        };
         let writer = Writer::new(alloc, first, second, readers)?;
-        Ok(Copies { alloc, writer })
+        Ok(Copies { newest, writer })
     }
 
     pub(crate) fn reader(&self) -> Result<CopyReader<K>, AllocError> {
@@ -161,30 +180,28 @@ where
 
     // Waits for the readers, and gives the copies back.
     pub(crate) fn end<R: Wait>(self, rt: &R) {
-        let Self { alloc: _, writer } = self;
+        let Self {
+            newest: _newest,
+            writer,
+        } = self;
         drop(writer.take(rt));
     }
 
     // Makes room for one more call.
-    pub(crate) fn reserve(&mut self) -> Result<Slot<K>, AllocError> {
-        let newer = Arc::new(self.alloc, Mutex::new(None))?;
-        let ours = Arc::try_clone(&newer)?;
-        match self.writer.append(Slot { newer }) {
-            Ok(()) => Ok(Slot { newer: ours }),
-            Err(_) => Err(AllocError),
-        }
+    pub(crate) fn reserve(&mut self) -> Result<(), AllocError> {
+        self.writer.append(Follow).map_err(|_| AllocError)
     }
 
     // Shows the call to readers. It waits for those that still read the copy that is next.
-    pub(crate) fn publish<R: Wait>(&mut self, rt: &R, slot: Slot<K>, newer: Version<K>) {
-        *slot.newer.lock(rt) = Some(newer);
+    pub(crate) fn publish<R: Wait>(&mut self, rt: &R, newest: View<K>) {
+        *self.newest.lock(rt) = newest;
         let _ = replace_with(&mut self.writer, rt, show::<K, R>);
     }
 }
 
 fn show<K: Day, R: Wait>(writer: CopyWriter<K>, rt: &R) -> (CopyWriter<K>, Result<(), AllocError>)
 where
-    Version<K>: Absorb<Slot<K>, State = ()>,
+    Version<K>: Absorb<Follow, State = ()>,
 {
     writer.publish_as::<Unruled, R>(rt)
 }

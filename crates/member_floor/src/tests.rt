@@ -4,7 +4,7 @@ ghost use Rattle.member_floor.specs.Plays.{Fits};
 
 use super::*;
 use auction_terms::{Command, Config};
-use call_board::{Board, CallFault, Closing, Day, Fresh, Member, Slot, Version, close};
+use call_board::{Board, CallFault, Closing, Day, Follow, Fresh, Member, Version, close};
 use left_right::Absorb;
 use std::alloc::{AllocError, Global};
 use std::marker::Brand;
@@ -136,7 +136,7 @@ fn played_and_closed<K: Day + Send + Sync, G: Gate + Sync, R: Wait + Threads + S
     times: usize,
 ) -> Result<Closing, Fail>
 where
-    Version<K>: Absorb<Slot<K>, State = ()> + Send + Sync,
+    Version<K>: Absorb<Follow, State = ()> + Send + Sync,
     requires few { times ≤ 1048576 }
 {
     let scripts = scripts(alloc, members.as_slice(), times)?;

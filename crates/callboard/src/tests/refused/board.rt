@@ -12,7 +12,7 @@ use crate::{FloorFault, run_floor};
 use auction::OpenFault;
 use auction_terms::{Command, Entry, Limit, Only, Reply, Side};
 use call_board::{
-    Board, CallFault, CloseFault, Closing, Day, Fresh, Member, Receipt, Slot, Version, close,
+    Board, CallFault, CloseFault, Closing, Day, Follow, Fresh, Member, Receipt, Version, close,
 };
 use left_right::Absorb;
 use member_floor::{OpenGate, Outcome, Played, RunFault, Script, run};
@@ -43,7 +43,7 @@ const OUTPUT: &str =
 /// Closes the board with these members, or gives it up.
 fn closed<K: Day, R: Wait>(rt: &R, board: Board<K>, members: Vec<Member<K>>) -> Option<Closing>
 where
-    Version<K>: Absorb<Slot<K>, State = ()>,
+    Version<K>: Absorb<Follow, State = ()>,
 {
     match close(board, members, rt) {
         Ok(closing) => Some(closing),
@@ -82,7 +82,7 @@ fn bid<K: Day, R: Wait>(
     member: &mut Member<K>,
 ) -> Result<Receipt, CallFault>
 where
-    Version<K>: Absorb<Slot<K>, State = ()>,
+    Version<K>: Absorb<Follow, State = ()>,
 {
     let calls = member.calls();
     let shown = member.look();
@@ -100,7 +100,7 @@ where
 /// Whether the first two calls on the board are this member's bids.
 fn bids_twice<K: Day, R: Wait>(rt: &R, board: &Board<K>, member: &mut Member<K>) -> bool
 where
-    Version<K>: Absorb<Slot<K>, State = ()>,
+    Version<K>: Absorb<Follow, State = ()>,
 {
     for number in 1..3 {
         let reply = Reply::Entered { id: number };
@@ -169,7 +169,7 @@ fn ended<K: Day, R: Wait>(
     outcome: Outcome<K>,
 ) -> Result<Option<Closing>, FloorFault>
 where
-    Version<K>: Absorb<Slot<K>, State = ()>,
+    Version<K>: Absorb<Follow, State = ()>,
 {
     let Outcome {
         played,
