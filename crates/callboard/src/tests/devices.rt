@@ -2,21 +2,35 @@
 
 ghost use Rattle.std.specs.Prelude.{◌≡◌, ◌<◌};
 
-use super::PLAIN;
 use crate::serve;
 use order_file::{Failures, FromRead, ToMemory, ToWrite};
 use std::io;
 use std::io::{ErrorKind, Read, Write};
 use std::marker::Brand;
+use std::process::Abort;
 use std::str::from_utf8;
 use std::sync::Wait;
 use std::sync::ledger::{Blank, Ledger};
 use std::thread::Threads;
 
-const INPUT: &str = "1,enter,bid,100,200\n2,enter,ask,60,200\n0,uncross\n1,status,1\n";
+const INPUT: &str = "0,enter,bid,100,200\n0,enter,ask,60,200\n0,uncross\n0,status,1\n";
 
-const OUTPUT: &str =
+const LINES: &str =
     "1: entered 1\n2: entered 2\n3: opening price 200 volume 60 surplus 40 bid trades 1\n4: order bid 40 at 200 visible 40\n";
+
+const TALLY: &str =
+    "entries 4\nmember 0 calls 4\nmember 1 calls 0\nmember 2 calls 0\nmember 3 calls 0\naudit legal\n";
+
+const TALLY_AND_HISTORY: &str =
+    "entries 4\nmember 0 calls 4\nmember 1 calls 0\nmember 2 calls 0\nmember 3 calls 0\naudit legal\n1: member 0 entered 1\n2: member 0 entered 2\n3: member 0 opening price 200 volume 60 surplus 40 bid trades 1\n4: member 0 order bid 40 at 200 visible 40\n";
+
+/// The words of each kind of run, and what it writes where no device fails.
+const RUNS: [(&[&str], &str); 4] = [
+    (&["callboard"], LINES),
+    (&["callboard", "--history"], LINES),
+    (&["callboard", "--floor"], TALLY),
+    (&["callboard", "--floor", "--history"], TALLY_AND_HISTORY),
+];
 
 /// Gives at most `step` bytes at a time, and fails from the read on that comes after `reads`.
 #[derive(Drop)]
@@ -147,69 +161,42 @@ fn run_devices<T: AllocGlobal + Wait + Threads + Sync>(
     serve_devices::<Brand, Brand, Brand, T>(rt, blanks, words, giver, taker)
 }
 
-const FLOOR_OUTPUT: &str =
-    "entries 4\nmember 0 calls 1\nmember 1 calls 2\nmember 2 calls 1\nmember 3 calls 0\naudit legal\n";
-
-#[test]
-fn one_byte_at_a_time_is_enough(rt: HostRuntime) {
-    let written = run_devices(&rt, PLAIN.as_slice(), 1, 10_000, 10_000, true);
-    assert_eq!(rt; written.status, 0);
-    assert_eq!(rt; from_utf8(written.out.as_slice()).unwrap_or("?"), OUTPUT);
-    assert!(rt; written.err.is_empty());
+/// What a failing device ends with: status 3, this line, and so much of the output as was taken.
+fn ends_with<T: Abort>(rt: &T, written: &Written, line: &str, taken: Option<&[u8]>) {
+    assert_eq!(rt; written.status, 3);
+    assert_eq!(rt; from_utf8(written.err.as_slice()).unwrap_or("?"), line);
+    assert!(rt; Some(written.out.as_slice()) == taken);
 }
 
 #[test]
-fn a_read_that_fails_stops_the_run(rt: HostRuntime) {
-    for reads in 0..9usize {
-        let written = run_devices(&rt, PLAIN.as_slice(), 8, reads, 10_000, true);
-        assert_eq!(rt; written.status, 3);
-        assert!(rt; written.out.is_empty());
-        assert_eq!(rt;
-            from_utf8(written.err.as_slice()).unwrap_or("?"),
-            "read failed\n"
-        );
+fn one_byte_at_a_time_is_enough(rt: HostRuntime) {
+    for (words, out) in RUNS {
+        let written = run_devices(&rt, words, 1, 10_000, 10_000, true);
+        assert_eq!(rt; written.status, 0);
+        assert_eq!(rt; from_utf8(written.out.as_slice()).unwrap_or("?"), out);
+        assert!(rt; written.err.is_empty());
     }
 }
 
 #[test]
-fn a_write_that_fails_leaves_a_beginning(rt: HostRuntime) {
-    for writes in 0..15usize {
-        for fails in [true, false] {
-            let written = run_devices(&rt, PLAIN.as_slice(), 8, 10_000, writes, fails);
-            assert_eq!(rt; written.status, 3);
-            assert!(rt; written.out.as_slice() == &OUTPUT.as_bytes()[..8 * writes]);
-            assert_eq!(rt;
-                from_utf8(written.err.as_slice()).unwrap_or("?"),
-                "write failed\n"
-            );
+fn a_read_that_fails_stops_the_run(rt: HostRuntime) {
+    for (words, _) in RUNS {
+        for reads in 0..=INPUT.len().div_ceil(8) {
+            let written = run_devices(&rt, words, 8, reads, 10_000, true);
+            ends_with(&rt, &written, "read failed\n", Some(&[]));
         }
     }
 }
 
 #[test]
-fn a_board_is_told_by_a_byte_at_a_time(rt: HostRuntime) {
-    let words = ["callboard", "--floor"];
-    let written = run_devices(&rt, words.as_slice(), 1, 10_000, 10_000, true);
-    assert_eq!(rt; written.status, 0);
-    assert_eq!(rt;
-        from_utf8(written.out.as_slice()).unwrap_or("?"),
-        FLOOR_OUTPUT
-    );
-    assert!(rt; written.err.is_empty());
-}
-
-#[test]
-fn a_board_that_is_not_told_whole(rt: HostRuntime) {
-    let words = ["callboard", "--floor"];
-    for writes in 0..12usize {
-        for fails in [true, false] {
-            let written = run_devices(&rt, words.as_slice(), 8, 10_000, writes, fails);
-            assert_eq!(rt; written.status, 3);
-            assert!(rt; written.out.as_slice() == &FLOOR_OUTPUT.as_bytes()[..8 * writes]);
-            assert_eq!(rt;
-                from_utf8(written.err.as_slice()).unwrap_or("?"),
-                "write failed\n"
-            );
+fn a_write_that_fails_leaves_a_beginning(rt: HostRuntime) {
+    for (words, out) in RUNS {
+        for writes in 0..out.len().div_ceil(8) {
+            let taken = out.as_bytes().get(..writes.saturating_mul(8));
+            for fails in [true, false] {
+                let written = run_devices(&rt, words, 8, 10_000, writes, fails);
+                ends_with(&rt, &written, "write failed\n", taken);
+            }
         }
     }
 }

@@ -7,7 +7,10 @@ use auction_terms::{
 };
 use std::alloc::Global;
 use std::fmt;
+use std::process::Abort;
+use std::sync::Wait;
 use std::test::Fail;
+use std::thread::Threads;
 
 /// The most orders that may be open, and half of them.
 const OPEN: u32 = 65_536;
@@ -95,55 +98,73 @@ impl Story {
         self.lines.push_str(line.as_str())?;
         Ok(())
     }
+
+    /// As many entries of the same terms, which get ids from the first to the last.
+    fn enter_all(&mut self, record: &str, first: u32, last: u32) -> Result<(), Fail> {
+        for id in first..=last {
+            self.add(record, format_args!("entered {id}"))?;
+        }
+        Ok(())
+    }
+
+    /// A record for each line, with an arrow between record and reply.
+    fn add_all(&mut self, rows: &str) -> Result<(), Fail> {
+        for (record, reply) in rows.lines().filter_map(|line| line.split_once(" -> ")) {
+            self.add(record, reply)?;
+        }
+        Ok(())
+    }
 }
+
+/// A book as large as may be gives the story's lines.
+fn gives_the_story<T: Abort + AllocGlobal + Wait + Threads + Sync>(rt: &T, story: &Story) {
+    let input = story.input.as_str().as_bytes();
+    gives(rt, LARGEST.as_slice(), input, story.lines.as_str(), "", 0);
+}
+
+const AFTER_ONE_AGAINST_ALL: &str = "\
+3,enter,ask,1,200 -> refused 4 BookFull
+0,ask -> price 200 volume 65535 surplus 0 none
+0,uncross -> opening price 200 volume 65535 surplus 0 none trades 65535
+3,trade,1 -> trade 1 2 1 at 200
+3,trade,2 -> trade 1 3 1 at 200
+3,trade,65534 -> trade 1 65535 1 at 200
+3,trade,65535 -> trade 1 65536 1 at 200
+3,trade,65536 -> refused 8 NoSuchTrade
+2,status,65536 -> refused 5 UnknownOrder
+3,enter,ask,1,200 -> entered 65537
+";
 
 #[test]
 fn one_order_against_all_others(rt: HostRuntime) -> Result<(), Fail> {
     let mut story = Story::new(rt.alloc());
-    story.add("1,enter,bid,65535,200", "entered 1")?;
-    for id in 2..=OPEN {
-        story.add("2,enter,ask,1,200", format_args!("entered {id}"))?;
-    }
-    story.add("3,enter,ask,1,200", "refused 4 BookFull")?;
-    story.add("0,ask", "price 200 volume 65535 surplus 0 none")?;
-    story.add(
-        "0,uncross",
-        "opening price 200 volume 65535 surplus 0 none trades 65535",
-    )?;
-    story.add("3,trade,1", "trade 1 2 1 at 200")?;
-    story.add("3,trade,2", "trade 1 3 1 at 200")?;
-    story.add("3,trade,65534", "trade 1 65535 1 at 200")?;
-    story.add("3,trade,65535", "trade 1 65536 1 at 200")?;
-    story.add("3,trade,65536", "refused 8 NoSuchTrade")?;
-    story.add("2,status,65536", "refused 5 UnknownOrder")?;
-    story.add("3,enter,ask,1,200", "entered 65537")?;
-    let input = story.input.as_str().as_bytes();
-    gives(&rt, LARGEST.as_slice(), input, story.lines.as_str(), "", 0);
+    story.enter_all("1,enter,bid,65535,200", 1, 1)?;
+    story.enter_all("2,enter,ask,1,200", 2, OPEN)?;
+    story.add_all(AFTER_ONE_AGAINST_ALL)?;
+    assert_eq!(rt; story.records, 65_546);
+    gives_the_story(&rt, &story);
     Ok(())
 }
+
+const AFTER_HALF_AGAINST_HALF: &str = "\
+0,ask -> price 200 volume 32768000000000 surplus 0 none
+0,uncross -> opening price 200 volume 32768000000000 surplus 0 none trades 32768
+3,trade,1 -> trade 1 32769 1000000000 at 200
+3,trade,2 -> trade 2 32770 1000000000 at 200
+3,trade,32768 -> trade 32768 65536 1000000000 at 200
+3,trade,32769 -> refused 8 NoSuchTrade
+0,ask -> no price bid - ask -
+";
 
 // All orders have the largest size, and each bid meets the ask of its place in time.
 #[test]
 fn as_many_orders_on_each_side(rt: HostRuntime) -> Result<(), Fail> {
     let mut story = Story::new(rt.alloc());
-    for id in 1..=HALF {
-        story.add("1,enter,bid,1000000000,200", format_args!("entered {id}"))?;
-    }
-    for id in HALF + 1..=OPEN {
-        story.add("2,enter,ask,1000000000,200", format_args!("entered {id}"))?;
-    }
-    story.add("0,ask", "price 200 volume 32768000000000 surplus 0 none")?;
-    story.add(
-        "0,uncross",
-        "opening price 200 volume 32768000000000 surplus 0 none trades 32768",
-    )?;
-    story.add("3,trade,1", "trade 1 32769 1000000000 at 200")?;
-    story.add("3,trade,2", "trade 2 32770 1000000000 at 200")?;
-    story.add("3,trade,32768", "trade 32768 65536 1000000000 at 200")?;
-    story.add("3,trade,32769", "refused 8 NoSuchTrade")?;
-    story.add("0,ask", "no price bid - ask -")?;
-    let input = story.input.as_str().as_bytes();
-    gives(&rt, LARGEST.as_slice(), input, story.lines.as_str(), "", 0);
+    story.enter_all("1,enter,bid,1000000000,200", 1, HALF)?;
+    story.enter_all("2,enter,ask,1000000000,200", HALF + 1, OPEN)?;
+    story.add_all(AFTER_HALF_AGAINST_HALF)?;
+    assert_eq!(rt; story.records, 65_543);
+    gives_the_story(&rt, &story);
     Ok(())
 }
 
