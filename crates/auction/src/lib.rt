@@ -213,6 +213,3 @@ impl Auction {
         }
     }
 }
-
-#[cfg(test)]
-mod tests;

@@ -29,6 +29,3 @@ pub use floor::{CallFault, Floor, Receipt};
 pub use fresh::Fresh;
 pub use member::{Member, Shown};
 pub use versions::{Follow, Version};
-
-#[cfg(test)]
-mod tests;

@@ -1,13 +1,12 @@
 -- Lists of what was played.
-use Rattle.std.proofs.Common.{◌≡◌, ℕ, ◌+◌, List, [], ◌∷◌, ◌++◌, map, ◌<◌, ◌≤◌, take, drop, length, get_or, refl, ap, sym, subst, ◌∙◌, append_assoc, arith, add-one}
+use Rattle.std.proofs.Common.{◌≡◌, ℕ, ◌+◌, List, [], ◌∷◌, ◌++◌, map, take, drop, length, refl, ap, sym, subst, ◌∙◌, append_assoc, arith}
 use Rattle.std.proofs.lemmas.List.{append-nil}
-use Rattle.std.proofs.lemmas.List.Elements.{All-append, All-cons, All-nil}
-use Rattle.std.proofs.Math.Seq.{take-append_seam, take-suc, drop-append-add}
+use Rattle.std.proofs.Math.Seq.{take-append_seam, drop-append-add}
 use Rattle.auction_terms.specs.declared.Config.{Config}
 use Rattle.auction_terms.specs.declared.Command.{Command}
 use Rattle.call_board.specs.Standing.{Standing}
 use Rattle.member_floor.specs.declared.script.Script.{Script}
-use Rattle.member_floor.specs.Plays.{Task, PlayedScript, Plays, EachPlays, AllPlay, SameNumbers, Fits}
+use Rattle.member_floor.specs.Plays.{Task, PlayedScript, Plays, EachPlays, AllPlay, SameNumbers}
 
 pub EachPlays-push : (c : Config) (ts : List Task) (rs : List PlayedScript) (t : Task) (r : PlayedScript) → EachPlays c ts rs → Plays c t.member t.commands r → EachPlays c (ts ++ t ∷ []) (rs ++ r ∷ [])
 EachPlays-push c [] [] t r h p = (p, tt)
@@ -66,20 +65,3 @@ none_left (y ∷ ys) rest none left = absurd (omega arith)
 pub whole_play : (c : Config) (xs ys all : List Task) (rs : List PlayedScript) → length ys ≡ 0 → xs ++ ys ≡ all → EachPlays c xs rs → EachPlays c all rs
 whole_play c xs [] all rs none is each = subst (λ (ts : List Task). EachPlays c ts rs) (sym (append-nil xs) ∙ is) each
 whole_play c xs (y ∷ ys) all rs none is each = absurd (omega arith)
-
-same_next : (ms : List Standing) (ss : List Script) (m : Standing) (s : Script) → SameNumbers ms ss → m.number ≡ s.member → SameNumbers (ms ++ m ∷ []) (ss ++ s ∷ [])
-same_next [] [] m s h is = (is, tt)
-same_next [] (y ∷ ss) m s h is = absurd h
-same_next (x ∷ ms) [] m s h is = absurd h
-same_next (x ∷ ms) (y ∷ ss) m s h is = (h.0, same_next ms ss m s h.1 is)
-
--- the scripts of the first members, and one for the next
-pub fits_next : (ms : List Standing) (ss all : List Script) (i : ℕ) (d : Standing) (s : Script) → i < length ms
-    → Fits (take i ms) ss → (get_or ms i d).number ≡ s.member → length s.commands.items ≤ 1048576 → all ≡ ss ++ s ∷ []
-    → Fits (take (i + 1) ms) all
-fits_next ms ss all i d s within fits is few more =
-    let Few : Script → Type 0 = λ (s : Script). length s.commands.items ≤ 1048576 in
-    rw (more, add-one i, take-suc ms i d within) record {
-      numbers = same_next (take i ms) ss (get_or ms i d) s fits.numbers is;
-      few = All-append Few ss (s ∷ []) fits.few (All-cons Few s [] few (All-nil Few));
-    }

@@ -20,6 +20,3 @@ pub use gate::{Gate, OpenGate};
 pub use played::Played;
 pub use script::Script;
 pub use threads::{Outcome, RunFault, run};
-
-#[cfg(test)]
-mod tests;

@@ -23,6 +23,3 @@ pub use memory::{FromMemory, ToMemory};
 pub use reading::{MAX_BYTES, read_orders};
 pub use sink::{Sink, SinkFailed};
 pub use source::{Source, SourceFailed};
-
-#[cfg(test)]
-mod tests;

@@ -12,8 +12,6 @@ ghost use Rattle.price_rules.specs.InLanes.{lead_of};
 mod candidates;
 mod choice;
 mod surroundings;
-#[cfg(test)]
-mod tests;
 
 use auction_terms::{Price, Side};
 use candidates::limits_around;

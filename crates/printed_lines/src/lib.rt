@@ -18,6 +18,3 @@ pub use floor::{print_story, print_tally};
 pub use line::print_line;
 pub use page::Page;
 pub use writing::{WriteFailed, write_all};
-
-#[cfg(test)]
-mod tests;

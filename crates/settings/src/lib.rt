@@ -75,6 +75,3 @@ pub fn settings<'a>(alloc: Global, words: &'a [&'a str]) -> Result<Settings, Err
         )?),
     }
 }
-
-#[cfg(test)]
-mod tests;

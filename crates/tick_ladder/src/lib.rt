@@ -9,8 +9,6 @@ ghost use Rattle.tick_ladder.specs.Ladder.{standing_at, all_standing, best_tick,
 ghost use Rattle.tick_ladder.specs.Standing.{IsClear, IsLast, IsFirst, IsCrossing};
 
 mod tally;
-#[cfg(test)]
-mod tests;
 mod walks;
 
 use auction_terms::{Limit, Side};

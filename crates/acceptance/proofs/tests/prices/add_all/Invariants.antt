@@ -1,0 +1,15 @@
+use Rattle.std.proofs.Common.{◌≡◌, ◌≤◌, ◌-◌, ℕ, length}
+use Rattle.auction_terms.specs.Ladder.{LadderView}
+use Rattle.tick_ladder.specs.Ladder.{all_standing}
+use Rattle.acceptance.proofs.tests.prices.add_all.Given as goal
+
+pub record Going (v w : LadderView) (most : ℕ) : Type 0 where
+  pub total : all_standing v ≤ most
+  pub low : v.low ≡ w.low
+  pub len : length v.bids ≡ length w.bids
+
+abbrev pub invariant-orders : goal.invariant-orders
+invariant-orders l = Going l.ladder l.fn.ladder l.total
+
+abbrev pub decreases-orders : goal.decreases-orders
+decreases-orders l = length l.orders - l.order

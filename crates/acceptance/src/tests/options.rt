@@ -1,0 +1,81 @@
+//! The words of the command line.
+
+use super::DAY;
+use auction_terms::Config;
+use clap::error::ErrorKind;
+use settings::{Settings, settings};
+use std::test::Fail;
+
+#[test]
+fn without_words_each_option_has_its_default(rt: HostRuntime) -> Result<(), Fail> {
+    let wanted = Settings {
+        config: DAY,
+        members: 4,
+        floor: false,
+        history: false,
+    };
+    assert_eq!(rt; settings(rt.alloc(), &["callboard"])?, wanted);
+    Ok(())
+}
+
+#[test]
+fn each_option_is_read(rt: HostRuntime) -> Result<(), Fail> {
+    let words = [
+        "callboard",
+        "--low",
+        "5",
+        "--high=6",
+        "--reference",
+        "1000000",
+        "--members=64",
+        "--open",
+        "65536",
+        "--calls",
+        "1048576",
+        "--range=0",
+        "--floor",
+        "--history",
+    ];
+    let wanted = Settings {
+        config: Config {
+            low: 5,
+            high: 6,
+            reference: 1_000_000,
+            max_open: 65_536,
+            max_calls: 1_048_576,
+            range: Some(0),
+        },
+        members: 64,
+        floor: true,
+        history: true,
+    };
+    assert_eq!(rt; settings(rt.alloc(), words.as_slice())?, wanted);
+    Ok(())
+}
+
+#[test]
+fn other_words_are_refused(rt: HostRuntime) {
+    let bad = [
+        ["--low", "0"],
+        ["--high", "1000001"],
+        ["--reference", "x"],
+        ["--members", "65"],
+        ["--open", "65537"],
+        ["--calls", "1048577"],
+        ["--range", "1000001"],
+        ["--floor", "x"],
+        ["--nothing", "1"],
+    ];
+    for words in bad.as_slice() {
+        assert!(rt; settings(rt.alloc(), &["callboard", words[0], words[1]]).is_err());
+    }
+}
+
+#[test]
+fn help_is_an_error_of_its_own(rt: HostRuntime) {
+    let Err(error) = settings(rt.alloc(), &["callboard", "--help"]) else {
+        assert!(rt; false);
+        return;
+    };
+    assert!(rt; error.kind() == ErrorKind::DisplayHelp);
+}

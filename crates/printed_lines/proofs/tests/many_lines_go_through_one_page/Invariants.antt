@@ -1,5 +1,0 @@
-use Rattle.printed_lines.proofs.tests.many_lines_go_through_one_page.Given as goal
-
--- the sink counts its failures in the ledger of the blank
-abbrev pub ghosts-many_lines : goal.ghosts-many_lines
-ghosts-many_lines g a = record { name = a.blank.name; parts = a.blank.parts }
