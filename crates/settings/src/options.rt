@@ -3,20 +3,81 @@
 use clap::{Arg, ArgAction, Command, Error, value_parser};
 use std::alloc::Global;
 
-/// An option with a number from `least` on.
-fn number_option<'a>(
-    alloc: Global,
-    name: &'a str,
-    help: &'a str,
+/// An option with a number.
+#[derive(Clone, Copy)]
+struct Number {
+    name: &'static str,
+    help: &'static str,
     least: i64,
     most: i64,
-) -> Arg<'a> {
-    Arg::new(alloc, name)
-        .long(name)
+    /// What it is where it is left out.
+    default: Option<&'static str>,
+}
+
+const NUMBERS: [Number; 7] = [
+    Number {
+        name: "low",
+        help: "The lowest tick",
+        least: 1,
+        most: 1_000_000,
+        default: Some("1"),
+    },
+    Number {
+        name: "high",
+        help: "The highest tick",
+        least: 1,
+        most: 1_000_000,
+        default: Some("1000"),
+    },
+    Number {
+        name: "reference",
+        help: "The first reference price",
+        least: 1,
+        most: 1_000_000,
+        default: Some("200"),
+    },
+    Number {
+        name: "open",
+        help: "How many orders may be open",
+        least: 1,
+        most: 65_536,
+        default: Some("4096"),
+    },
+    Number {
+        name: "calls",
+        help: "How many commands may come",
+        least: 1,
+        most: 1_048_576,
+        default: Some("65536"),
+    },
+    Number {
+        name: "range",
+        help: "How many ticks a price may lie from the reference without an interruption",
+        least: 0,
+        most: 1_000_000,
+        default: None,
+    },
+    Number {
+        name: "members",
+        help: "How many members there are",
+        least: 1,
+        most: 64,
+        default: Some("4"),
+    },
+];
+
+fn number_option<'a>(alloc: Global, number: Number) -> Arg<'a> {
+    let parser = value_parser!(u32).range(number.least..=number.most);
+    let arg = Arg::new(alloc, number.name)
+        .long(number.name)
         .value_name("N")
-        .help(help)
+        .help(number.help)
         .action(ArgAction::Set)
-        .value_parser(value_parser!(u32).range(least..=most))
+        .value_parser(parser);
+    match number.default {
+        Some(text) => arg.default_value(text),
+        None => arg,
+    }
 }
 
 fn flag<'a>(alloc: Global, name: &'a str, help: &'a str) -> Arg<'a> {
@@ -26,64 +87,16 @@ fn flag<'a>(alloc: Global, name: &'a str, help: &'a str) -> Arg<'a> {
         .action(ArgAction::SetTrue)
 }
 
-/// The options that the auction is opened with.
-fn with_terms<'a>(alloc: Global, command: Command<'a>) -> Result<Command<'a>, Error> {
-    let low = number_option(alloc, "low", "The lowest tick", 1, 1_000_000).default_value("1");
-    let high = number_option(alloc, "high", "The highest tick", 1, 1_000_000).default_value("1000");
-    let reference = number_option(
-        alloc,
-        "reference",
-        "The first reference price",
-        1,
-        1_000_000,
-    )
-    .default_value("200");
-    let open = number_option(alloc, "open", "How many orders may be open", 1, 65_536).default_value(
-        "4096",
-    );
-    let calls = number_option(
-        alloc,
-        "calls",
-        "How many commands may come",
-        1,
-        1_048_576,
-    ).default_value("65536");
-    let range = number_option(
-        alloc,
-        "range",
-        "How many ticks a price may lie from the reference without an interruption",
-        0,
-        1_000_000,
-    );
-    Ok(
-        command
-            .arg(low)?
-            .arg(high)?
-            .arg(reference)?
-            .arg(open)?
-            .arg(calls)?
-            .arg(range)?,
-    )
-}
-
-/// The command with all its options.
+/// The command with all its options: the numbers in ticks, orders, calls and members, each with its range, and the two
+/// flags of the members' floor. The error is want of memory.
 pub fn callboard<'a>(alloc: Global) -> Result<Command<'a>, Error> {
-    let members = number_option(
-        alloc,
-        "members",
-        "How many members there are",
-        1,
-        64,
-    ).default_value("4");
-    let floor = flag(alloc, "floor", "Run the members at once on a board");
-    let history = flag(alloc, "history", "With --floor, print the history too");
-    let command = Command::new(alloc, "callboard").about(
+    let mut command = Command::new(alloc, "callboard").about(
         "A call auction board: reads an order file, prints a line for each command",
     );
-    Ok(
-        with_terms(alloc, command)?
-            .arg(members)?
-            .arg(floor)?
-            .arg(history)?,
-    )
+    for number in NUMBERS {
+        command = command.arg(number_option(alloc, number))?;
+    }
+    let floor = flag(alloc, "floor", "Run the members at once on a board");
+    let history = flag(alloc, "history", "With --floor, print the history too");
+    Ok(command.arg(floor)?.arg(history)?)
 }
