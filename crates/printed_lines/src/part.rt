@@ -17,6 +17,7 @@ pub enum Part {
     Number(u64),
 }
 
+#[inline(always)]
 pub fn print_part<S: Sink>(sink: &mut S, page: &mut Page, part: Part) -> Result<(), WriteFailed>
     ensures text { Prints (S.written sink.old) (S.written sink.new) page.old page.new result (part_text part) }
     ensures failed { TellsFailure (S.failures sink.old) (S.failures sink.new) result }
@@ -30,6 +31,7 @@ pub fn print_part<S: Sink>(sink: &mut S, page: &mut Page, part: Part) -> Result<
     }
 }
 
+#[inline(always)]
 pub fn print_parts<S: Sink>(
     sink: &mut S,
     page: &mut Page,
