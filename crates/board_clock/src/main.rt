@@ -9,7 +9,7 @@ mod tasks;
 
 use auction::Auction;
 use auction_terms::Config;
-use call_board::{Board, Day, Follow, Fresh, Member, Version, close};
+use call_board::{Board, Day, Fresh, Member, Update, Version, close};
 use left_right::Absorb;
 use std::alloc::{AllocError, AllocGlobal, Global};
 use std::io::Print;
@@ -31,7 +31,7 @@ const CONFIG: Config = Config {
 };
 
 /// How many calls are measured, of all members together.
-const CALLS: u32 = 400_000;
+const CALLS: u32 = 100_000;
 
 /// How many looks of one member are measured.
 const LOOKS: u32 = 1_000_000;
@@ -45,7 +45,7 @@ fn all_at_once<K: Day + Send + Sync, R: Wait + Threads + Sync>(
     tasks: &[Task],
 ) -> Result<Vec<Member<K>>, AllocError>
 where
-    Version<K>: Absorb<Follow, State = ()> + Send + Sync,
+    Version<K>: Absorb<Update<K>, State = ()> + Send + Sync,
 {
     let is_done = AtomicBool::new(false);
     let is_done = &is_done;
@@ -65,16 +65,33 @@ where
     })
 }
 
-/// The nanoseconds that the tasks take together, on a board with open orders.
+/// How many calls these members made.
+fn calls_of<K: Day>(members: &[Member<K>]) -> u64 {
+    let mut calls: u64 = 0;
+    for member in members {
+        calls = calls.saturating_add(u64::from(member.calls()));
+    }
+    calls
+}
+
+/// What a run of tasks took.
+#[derive(Clone, Copy, Debug)]
+struct Taken {
+    nanoseconds: u128,
+    /// How many calls the members made, with those that enter the open orders.
+    calls: u64,
+}
+
+/// What the tasks take together, on a board with open orders.
 fn board_time<K: Day + Send + Sync, R: Wait + Threads + Sync + Clock>(
     rt: &R,
     alloc: Global,
     board: Board<K>,
     members: Vec<Member<K>>,
     tasks: &[Task],
-) -> io::Result<u128>
+) -> io::Result<Taken>
 where
-    Version<K>: Absorb<Follow, State = ()> + Send + Sync,
+    Version<K>: Absorb<Update<K>, State = ()> + Send + Sync,
 {
     let mut members = members;
     if let Some(first) = members.last_mut() {
@@ -83,8 +100,9 @@ where
     let start = Instant::now(rt)?;
     let back = all_at_once(rt, alloc, &board, members, tasks)?;
     let nanoseconds = start.elapsed(rt)?.as_nanos();
+    let calls = calls_of(back.as_slice());
     let _ = close(board, back, rt);
-    Ok(nanoseconds)
+    Ok(Taken { nanoseconds, calls })
 }
 
 // The day that K names. It has no bound but K's, so that its caller can name the day.
@@ -93,14 +111,15 @@ fn day<K: Day + Send + Sync, R: Wait + Threads + Sync + Clock>(
     alloc: Global,
     fresh: Fresh,
     tasks: &[Task],
-) -> io::Result<u128>
+) -> io::Result<Taken>
     requires names { (K.config ≡ fresh.config) × (K.parts ≡ fresh.members) × (K.name ≡ fresh.ledger) × (K.story ≡ fresh.story) }
 {
     let (board, members) = fresh.begin::<K>().map_err(|_| AllocError)?;
     board_time(rt, alloc, board, members, tasks)
 }
 
-/// Measures members at their tasks, of which each does so many, and prints nanoseconds for one.
+/// Measures members at their tasks, of which each does so many, and prints nanoseconds for one, and how many calls were
+/// made.
 fn measure<R: Wait + Threads + Sync + Clock + Print + AllocGlobal>(
     rt: &R,
     name: &str,
@@ -110,9 +129,9 @@ fn measure<R: Wait + Threads + Sync + Clock + Print + AllocGlobal>(
     let fresh = Fresh::open(rt.alloc(), CONFIG, u8::try_from(tasks.len()).unwrap_or(0)).map_err(
         |_| AllocError,
     )?;
-    let nanoseconds = day::<Brand, R>(rt, rt.alloc(), fresh, tasks)?;
+    let Taken { nanoseconds, calls } = day::<Brand, R>(rt, rt.alloc(), fresh, tasks)?;
     let each = nanoseconds / u128::from(count.max(1));
-    println!(rt; "{name} {each}")?;
+    println!(rt; "{name} {each} {calls}")?;
     Ok(())
 }
 

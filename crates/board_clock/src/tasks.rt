@@ -1,7 +1,7 @@
 //! What a member does while it is measured.
 
 use crate::commands::{STANDING, command, last_id, standing};
-use call_board::{Board, Day, Follow, Member, Version};
+use call_board::{Board, Day, Member, Update, Version};
 use left_right::Absorb;
 use std::sync::Wait;
 use std::sync::atomic::AtomicBool;
@@ -23,7 +23,7 @@ pub enum Task {
 /// Enters the orders that are open before the measuring.
 pub fn fill<K: Day, R: Wait>(rt: &R, board: &Board<K>, member: &mut Member<K>)
 where
-    Version<K>: Absorb<Follow, State = ()>,
+    Version<K>: Absorb<Update<K>, State = ()>,
 {
     for k in 0..STANDING {
         let _ = member.call(board, rt, standing(k));
@@ -38,7 +38,7 @@ fn call_many<K: Day, R: Wait>(
     is_done: &AtomicBool,
 )
 where
-    Version<K>: Absorb<Follow, State = ()>,
+    Version<K>: Absorb<Update<K>, State = ()>,
 {
     let mut id = 0;
     for k in 0..count {
@@ -62,7 +62,7 @@ fn look_many<K: Day>(member: &mut Member<K>, count: u32) -> u32 {
 
 fn look_under_lock<K: Day, R: Wait>(rt: &R, board: &Board<K>, count: u32) -> u32
 where
-    Version<K>: Absorb<Follow, State = ()>,
+    Version<K>: Absorb<Update<K>, State = ()>,
 {
     let mut seen: u32 = 0;
     for _ in 0..count {
@@ -80,7 +80,7 @@ pub fn perform<K: Day, R: Wait>(
     is_done: &AtomicBool,
 ) -> (Member<K>, u32)
 where
-    Version<K>: Absorb<Follow, State = ()>,
+    Version<K>: Absorb<Update<K>, State = ()>,
 {
     let mut member = member;
     let mut seen = 0;
