@@ -2,7 +2,7 @@
 
 use crate::day::Day;
 use crate::floor::Floor;
-use crate::versions::{Follow, Version};
+use crate::versions::{Update, Version};
 use crossbeam_utils::Backoff;
 use left_right::Absorb;
 use std::marker::Model;
@@ -31,7 +31,7 @@ fn pause(backoff: &Backoff, tries: u32) {
 #[derive(Drop)]
 pub struct Board<K: Day>
 where
-    Version<K>: Absorb<Follow, State = ()>,
+    Version<K>: Absorb<Update<K>, State = ()>,
 {
     pub(crate) floor: Mutex<Floor<K>>,
     /// A count for each member, which the closing writes.
@@ -41,7 +41,7 @@ where
 
 impl<K: Day> Model for Board<K>
 where
-    Version<K>: Absorb<Follow, State = ()>,
+    Version<K>: Absorb<Update<K>, State = ()>,
 {
     ghost use Rattle.std.specs.Prelude.{◌≡◌, ℕ, replicate};
 
@@ -54,7 +54,7 @@ where
 
 impl<K: Day> Board<K>
 where
-    Version<K>: Absorb<Follow, State = ()>,
+    Version<K>: Absorb<Update<K>, State = ()>,
 {
     /// The floor under its lock.
     pub fn floor(&self) -> &Mutex<Floor<K>> {

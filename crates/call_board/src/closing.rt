@@ -9,7 +9,7 @@ use crate::day::Day;
 use crate::floor::Floor;
 use crate::member::Member;
 use crate::story::Front;
-use crate::versions::{Follow, Version};
+use crate::versions::{Update, Version};
 use auction_terms::Entry;
 use left_right::Absorb;
 use std::sync::Wait;
@@ -26,7 +26,7 @@ pub struct Closing {
 #[derive(Drop)]
 pub enum CloseFault<K: Day>
 where
-    Version<K>: Absorb<Follow, State = ()>,
+    Version<K>: Absorb<Update<K>, State = ()>,
 {
     /// The numbers of the members handed in aren't all of the board's, each once. Board and members come back.
     MissingMember {
@@ -177,7 +177,7 @@ pub fn close<K: Day, R: Wait>(
     rt: &R,
 ) -> Result<Closing, CloseFault<K>>
 where
-    Version<K>: Absorb<Follow, State = ()>,
+    Version<K>: Absorb<Update<K>, State = ()>,
     ensures closing { IfOk result (IsClosing K.config K.parts members.items) }
     ensures accounts { IfOk result (λ closing. All (Accounts (calls_of closing.history.items)) members.items) }
     ensures missing { (result ≡ Err (CloseFault.MissingMember board members)) ↔ ¬ EachOnce K.parts members.items }

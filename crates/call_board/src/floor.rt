@@ -9,7 +9,7 @@ ghost use Rattle.call_board.specs.Told.{entry, CallsOnce, IsBehind, Looks, Shows
 use crate::day::Day;
 use crate::member::{Member, Shown};
 use crate::story::{Front, Head};
-use crate::versions::{Copies, Follow, Version, View};
+use crate::versions::{Copies, Update, Version, View};
 use auction::Auction;
 use auction_terms::{Command, Entry, Reply};
 use left_right::Absorb;
@@ -30,7 +30,7 @@ pub struct Receipt {
 pub enum CallFault {
     /// The history has `max_calls` entries.
     HistoryFull,
-    /// Room to show the call to readers was refused.
+    /// Room for the call was refused. All of it is taken when the day begins, so no call comes to this.
     NoMemory,
     /// The member has seen more than the `history` calls that are recorded, or has counted other than the `counted`
     /// entries with its number.
@@ -43,7 +43,7 @@ pub enum CallFault {
 #[derive(Drop)]
 pub struct Floor<K: Day>
 where
-    Version<K>: Absorb<Follow, State = ()>,
+    Version<K>: Absorb<Update<K>, State = ()>,
 {
     pub(crate) auction: Auction,
     pub(crate) history: Vec<Entry>,
@@ -59,7 +59,7 @@ where
 
 impl<K: Day> Model for Floor<K>
 where
-    Version<K>: Absorb<Follow, State = ()>,
+    Version<K>: Absorb<Update<K>, State = ()>,
 {
     ghost use Rattle.std.specs.Prelude.{◌≡◌, List, vec_capacity};
     ghost use Rattle.auction_terms.specs.declared.Entry.{Entry};
@@ -74,7 +74,7 @@ where
 
 impl<K: Day> Floor<K>
 where
-    Version<K>: Absorb<Follow, State = ()>,
+    Version<K>: Absorb<Update<K>, State = ()>,
 {
     /// Applies a member's command to the auction, shows the call to readers, writes it with its reply at the end of the
     /// history, and counts it once in the member's share and in the ledger's book. A command that the auction refuses
@@ -103,9 +103,6 @@ where
         let counted = self.counted[usize::from(number)];
         if by.seen_len() > history || by.calls() != counted {
             return Err(CallFault::Behind { history, counted });
-        }
-        if self.copies.reserve().is_err() {
-            return Err(CallFault::NoMemory);
         }
         let mut front = self.front.again();
         // The floor alone adds to the story, under its lock, so this adds always.

@@ -9,9 +9,9 @@ use crate::day::Day;
 use crate::floor::Floor;
 use crate::member::{Member, Shown};
 use crate::story::{Blank, Front};
-use crate::versions::{Copies, Follow, Version};
+use crate::versions::{Copies, Update, Version};
 use auction::{Auction, OpenFault};
-use auction_terms::{Config, Entry};
+use auction_terms::{Command, Config, Entry, Reply};
 use left_right::Absorb;
 use std::alloc::{AllocError, Global};
 use std::marker::Model;
@@ -88,7 +88,7 @@ fn seated<K: Day>(
     copies: &Copies<K>,
 ) -> Result<Vec<Member<K>>, OpenFault>
 where
-    Version<K>: Absorb<Follow, State = ()>,
+    Version<K>: Absorb<Update<K>, State = ()>,
     requires parts { (joined.old.parts ≡ count) × (joined.old.amount ≡ 0) × (count ≡ K.parts) }
     requires room { (room.items ≡ []) × (count ≤ vec_capacity room) }
     requires front { front.now ≡ [] }
@@ -115,6 +115,13 @@ where
     Ok(members)
 }
 
+/// What the room of the history is written with.
+const NO_ENTRY: Entry = Entry {
+    member: 0,
+    command: Command::Ask,
+    reply: Reply::Deleted,
+};
+
 // The room of a day beside its auctions: the history, and two counts for each member.
 #[derive(Drop)]
 struct Room {
@@ -123,12 +130,21 @@ struct Room {
     counted: Vec<u32>,
 }
 
+// Room for so many entries. Each is written once, so that the system has given its pages before the first call.
+fn take_history(alloc: Global, max_calls: u32) -> Result<Vec<Entry>, AllocError>
+    ensures { IfOk result (λ h. (h.items ≡ []) × (max_calls ≤ vec_capacity h)) }
+{
+    let mut history = vec![in alloc; NO_ENTRY; max_calls as usize]?;
+    history.clear();
+    Ok(history)
+}
+
 fn take_room(alloc: Global, config: Config, members: u8) -> Result<Room, AllocError>
     ensures history { IfOk result (λ r. (r.history.items ≡ []) × (config.max_calls ≤ vec_capacity r.history)) }
     ensures counts { IfOk result (λ r. (r.counts.items ≡ replicate members 0) × (r.counted.items ≡ replicate members 0)) }
 {
     Ok(Room {
-        history: Vec::with_capacity(alloc, config.max_calls as usize)?,
+        history: take_history(alloc, config.max_calls)?,
         counts: vec![in alloc; 0u32; usize::from(members)]?,
         counted: vec![in alloc; 0u32; usize::from(members)]?,
     })
@@ -183,7 +199,7 @@ impl Fresh {
     /// nothing seen; a member can't be copied. The answer is `NoMemory` where room or a reader's place was refused.
     pub fn begin<K: Day>(self) -> Result<(Board<K>, Vec<Member<K>>), OpenFault>
     where
-        Version<K>: Absorb<Follow, State = ()>,
+        Version<K>: Absorb<Update<K>, State = ()>,
         requires config { K.config ≡ self.config }
         requires members { K.parts ≡ self.members }
         requires ledger { K.name ≡ self.ledger }

@@ -28,4 +28,4 @@ pub use day::Day;
 pub use floor::{CallFault, Floor, Receipt};
 pub use fresh::Fresh;
 pub use member::{Member, Shown};
-pub use versions::{Follow, Version};
+pub use versions::{Update, Version};

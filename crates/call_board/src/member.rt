@@ -8,7 +8,7 @@ use crate::board::Board;
 use crate::day::Day;
 use crate::floor::{CallFault, Receipt};
 use crate::story::Front;
-use crate::versions::{CopyReader, Follow, Version, read};
+use crate::versions::{CopyReader, Update, Version, read};
 use auction_terms::{Command, Display};
 use core::mem::replace_with;
 use left_right::Absorb;
@@ -82,7 +82,7 @@ impl<K: Day> Member<K> {
         command: Command,
     ) -> Result<Receipt, CallFault>
     where
-        Version<K>: Absorb<Follow, State = ()>,
+        Version<K>: Absorb<Update<K>, State = ()>,
         ensures call { IfOk result (λ r. CallsOnce K.config self.old self.new command r) }
         ensures told { IfOk result (λ r. (h : List Entry) × ToldCall K.config h self.old.number command r) }
         ensures full { result ≡ Err CallFault.HistoryFull → SeesFull K.config self.old self.new }

@@ -15,7 +15,7 @@ use left_right::writer::Writer;
 use std::alloc::{AllocError, Global};
 use std::marker::Model;
 use std::mem::ManuallyDrop;
-use std::sync::{Arc, Mutex, Wait};
+use std::sync::Wait;
 
 /// What the board shows: a beginning of the story, and what is shown after it. Contracts see the calls of that beginning.
 #[derive(Drop)]
@@ -67,19 +67,36 @@ impl<K: Day> View<K> {
     }
 }
 
-/// A copy of what the board shows, which looks read. Both copies know where the floor writes down what is newest.
+/// Unused bytes on each side of a copy, so that no other value is on a cache line of 64 bytes with it: a look at one copy
+/// doesn't wait for a write to the other.
+const APART: [u64; 8] = [0; 8];
+
+/// A copy of what the board shows, which looks read.
 #[derive(Drop)]
+#[repr(C)]
 pub struct Version<K: Day> {
+    before: [u64; 8],
     view: View<K>,
-    newest: Arc<Mutex<View<K>>>,
+    after: [u64; 8],
 }
 
-/// A call that the copies are to follow: each then shows what is newest. Room for it is taken before a call is recorded,
-/// as room may be refused; what is newest is written down when the call stands in the story.
-#[derive(Drop)]
-pub struct Follow;
+impl<K: Day> Version<K> {
+    fn of(view: View<K>) -> Version<K> {
+        Version {
+            before: APART,
+            view,
+            after: APART,
+        }
+    }
+}
 
-impl<K: Day> Absorb<Follow> for Version<K> {
+/// What the copies are to show next.
+#[derive(Drop)]
+pub struct Update<K: Day> {
+    view: View<K>,
+}
+
+impl<K: Day> Absorb<Update<K>> for Version<K> {
     type State = ();
 
     ghost state = { λ v. tt };
@@ -88,22 +105,18 @@ impl<K: Day> Absorb<Follow> for Version<K> {
 
     ghost never_fails = { Unit {0} };
 
-    fn absorb_first(&mut self, _call: &Follow, _other: &Version<K>) -> Result<(), AllocError> {
-        // The floor alone writes what is newest, and not while the copies follow, so this lock is always free here.
-        if let Some(newest) = self.newest.try_lock() {
-            self.view = newest.again();
-        }
+    fn absorb_first(&mut self, update: &Update<K>, _other: &Version<K>) -> Result<(), AllocError> {
+        self.view = update.view.again();
         Ok(())
     }
 
-    // The other copy has followed this call by now.
-    fn absorb_second(&mut self, _call: Follow, other: &Version<K>) -> Result<(), Follow> {
-        self.view = other.view.again();
+    fn absorb_second(&mut self, update: Update<K>, _other: &Version<K>) -> Result<(), Update<K>> {
+        self.view = update.view;
         Ok(())
     }
 }
 
-pub(crate) type CopyWriter<K> = Writer<Version<K>, Follow, (), Unruled>;
+pub(crate) type CopyWriter<K> = Writer<Version<K>, Update<K>, (), Unruled>;
 
 pub(crate) type CopyReader<K> = Reader<Version<K>, (), Unruled>;
 
@@ -124,34 +137,31 @@ pub(crate) fn read<K: Day>(
     }
 }
 
-/// The writer of the copies, and where it writes down what is newest.
+/// The writer of the copies.
 pub(crate) struct Copies<K: Day>
 where
-    Version<K>: Absorb<Follow, State = ()>,
+    Version<K>: Absorb<Update<K>, State = ()>,
 {
-    newest: Arc<Mutex<View<K>>>,
     writer: CopyWriter<K>,
 }
 
 impl<K: Day> Drop for Copies<K>
 where
-    Version<K>: Absorb<Follow, State = ()>,
+    Version<K>: Absorb<Update<K>, State = ()>,
 {
     // Only a writer that may wait for the readers can give the copies back, and a drop may not wait. So they are leaked.
     fn drop(self) {
-        let Self {
-            newest: _newest,
-            writer,
-        } = self;
+        let Self { writer } = self;
         let _left = unsafe { ManuallyDrop::new_unchecked(writer) };
     }
 }
 
 impl<K: Day> Copies<K>
 where
-    Version<K>: Absorb<Follow, State = ()>,
+    Version<K>: Absorb<Update<K>, State = ()>,
 {
-    // Two copies of what is shown at first, and room for so many readers.
+    // Two copies of what is shown at first, and room for so many readers. The first update shows the same: it takes the
+    // room of the writer's line, which never has more than three updates, so that no later one asks for memory.
     pub(crate) fn open(
         alloc: Global,
         front: &Front<K>,
@@ -161,17 +171,13 @@ where
         requires shown { ShowsAfter K.config front.now shown }
         requires readers { (0 < readers) × (readers < 2 ^ 32) }
     {
-        let newest = Arc::new(alloc, Mutex::new(View::of(front, shown)))?;
-        let first = Version {
-            view: View::of(front, shown),
-            newest: Arc::try_clone(&newest)?,
+        let first = Version::of(View::of(front, shown));
+        let second = Version::of(View::of(front, shown));
+        let mut copies = Copies {
+            writer: Writer::new(alloc, first, second, readers)?,
         };
-        let second = Version {
-            view: View::of(front, shown),
-            newest: Arc::try_clone(&newest)?,
-        };
-        let writer = Writer::new(alloc, first, second, readers)?;
-        Ok(Copies { newest, writer })
+        copies.append(View::of(front, shown))?;
+        Ok(copies)
     }
 
     pub(crate) fn reader(&self) -> Result<CopyReader<K>, AllocError> {
@@ -180,28 +186,24 @@ where
 
     // Waits for the readers, and gives the copies back.
     pub(crate) fn end<R: Wait>(self, rt: &R) {
-        let Self {
-            newest: _newest,
-            writer,
-        } = self;
+        let Self { writer } = self;
         drop(writer.take(rt));
     }
 
-    // Makes room for one more call.
-    pub(crate) fn reserve(&mut self) -> Result<(), AllocError> {
-        self.writer.append(Follow).map_err(|_| AllocError)
+    fn append(&mut self, view: View<K>) -> Result<(), AllocError> {
+        self.writer.append(Update { view }).map_err(|_| AllocError)
     }
 
-    // Shows the call to readers. It waits for those that still read the copy that is next.
-    pub(crate) fn publish<R: Wait>(&mut self, rt: &R, newest: View<K>) {
-        *self.newest.lock(rt) = newest;
+    // Shows readers this. It waits for those that still read the copy that is next.
+    pub(crate) fn publish<R: Wait>(&mut self, rt: &R, view: View<K>) {
+        let _ = self.append(view);
         let _ = replace_with(&mut self.writer, rt, show::<K, R>);
     }
 }
 
 fn show<K: Day, R: Wait>(writer: CopyWriter<K>, rt: &R) -> (CopyWriter<K>, Result<(), AllocError>)
 where
-    Version<K>: Absorb<Follow, State = ()>,
+    Version<K>: Absorb<Update<K>, State = ()>,
 {
     writer.publish_as::<Unruled, R>(rt)
 }

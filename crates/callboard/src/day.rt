@@ -9,7 +9,7 @@ ghost use Rattle.callboard.specs.Played.{IsOfBoard, IsOfDay, IsPlayedOut, fault_
 
 use crate::floor_fault::FloorFault;
 use call_board::{
-    Board, CallFault, CloseFault, Closing, Day, Follow, Fresh, Member, Version, close,
+    Board, CallFault, CloseFault, Closing, Day, Fresh, Member, Update, Version, close,
 };
 use left_right::Absorb;
 use member_floor::{Gate, Outcome, Played, RunFault, Script, run};
@@ -111,7 +111,7 @@ fn close_or_abandon<K: Day, T: Wait>(
     rt: &T,
 ) -> Result<Closing, FloorFault>
 where
-    Version<K>: Absorb<Follow, State = ()>,
+    Version<K>: Absorb<Update<K>, State = ()>,
     ensures closing { IfOk result (IsClosing K.config K.parts members.items) }
     ensures accounts { IfOk result (λ closing. All (Accounts (calls_of closing.history.items)) members.items) }
     ensures fault { IfErr result (λ f. f ≡ FloorFault.NotClosed) }
@@ -141,7 +141,7 @@ fn play_and_close<K: Day + Send + Sync, G: Gate + Sync, T: Wait + Threads + Sync
     rt: &T,
 ) -> Result<Closing, FloorFault>
 where
-    Version<K>: Absorb<Follow, State = ()> + Send + Sync,
+    Version<K>: Absorb<Update<K>, State = ()> + Send + Sync,
     requires members { members.items ≡ newcomers K.parts }
     requires fits { Fits members.items scripts.items }
     ensures closing { IfOk result (IsPlayedOut K.config K.parts scripts.items) }

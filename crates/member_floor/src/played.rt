@@ -4,7 +4,7 @@ ghost use Rattle.member_floor.specs.Plays.{Plays};
 
 use crate::gate::Gate;
 use auction_terms::Command;
-use call_board::{Board, CallFault, Day, Follow, Member, Receipt, Version};
+use call_board::{Board, CallFault, Day, Member, Receipt, Update, Version};
 use left_right::Absorb;
 use std::marker::Model;
 use std::sync::Wait;
@@ -36,7 +36,7 @@ pub(crate) fn play<K: Day, G: Gate, R: Wait>(
     rt: &R,
 ) -> Played<K>
 where
-    Version<K>: Absorb<Follow, State = ()>,
+    Version<K>: Absorb<Update<K>, State = ()>,
     requires room { (receipts.items ≡ []) × (length commands.now ≤ vec_capacity receipts) }
     requires few { length commands.now ≤ 1048576 }
     ensures { Plays K.config member commands.now result }

@@ -8,7 +8,7 @@ use crate::gate::Gate;
 use crate::played::{Played, play};
 use crate::script::Script;
 use auction_terms::Command;
-use call_board::{Board, Day, Follow, Member, Receipt, Version};
+use call_board::{Board, Day, Member, Receipt, Update, Version};
 use left_right::Absorb;
 use std::alloc::{AllocError, Global};
 use std::marker::Model;
@@ -114,7 +114,7 @@ impl<K: Day> Part<K> {
     // Plays the script of this member.
     pub(crate) fn play<G: Gate, R: Wait>(self, board: &Board<K>, gate: &G, rt: &R) -> Played<K>
     where
-        Version<K>: Absorb<Follow, State = ()>,
+        Version<K>: Absorb<Update<K>, State = ()>,
         ensures { Plays K.config self.member self.commands result }
     {
         let Part { member, seat } = self;

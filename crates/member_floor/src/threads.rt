@@ -6,7 +6,7 @@ use crate::gate::Gate;
 use crate::played::Played;
 use crate::script::Script;
 use crate::seats::{Part, sit_down, stand_up, take_seats};
-use call_board::{Board, Day, Follow, Member, Version};
+use call_board::{Board, Day, Member, Update, Version};
 use left_right::Absorb;
 use std::alloc::{AllocError, Global};
 use std::snapshot::Snapshot;
@@ -112,7 +112,7 @@ pub fn run<K: Day + Send + Sync, G: Gate + Sync, R: Wait + Threads + Sync>(
     rt: &R,
 ) -> Outcome<K>
 where
-    Version<K>: Absorb<Follow, State = ()> + Send + Sync,
+    Version<K>: Absorb<Update<K>, State = ()> + Send + Sync,
     requires fits { Fits members.items scripts.items }
     ensures all { result.fault ≡ None → (result.unplayed.items ≡ []) × AllPlay K.config members.items scripts.items result.played.items }
     ensures room { result.fault ≡ Some RunFault.NoMemory → (result.unplayed.items ≡ members.items) × (result.played.items ≡ []) }

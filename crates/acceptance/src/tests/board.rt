@@ -5,7 +5,7 @@ use super::{BEST_BID, BID};
 use auction::OpenFault;
 use auction_terms::{Command, Config, Display, Entry, Kind, Refused, Reply};
 use call_board::{
-    Board, CallFault, CloseFault, Closing, Day, Follow, Fresh, Member, Receipt, Shown, Version,
+    Board, CallFault, CloseFault, Closing, Day, Fresh, Member, Receipt, Shown, Update, Version,
     close,
 };
 use left_right::Absorb;
@@ -58,7 +58,7 @@ fn pair_of<K: Day>(members: Vec<Member<K>>) -> Option<Pair<K>> {
 
 fn closed<K: Day, R: Wait>(rt: &R, board: Board<K>, two: Pair<K>) -> Result<Closing, Fail>
 where
-    Version<K>: Absorb<Follow, State = ()>,
+    Version<K>: Absorb<Update<K>, State = ()>,
 {
     let Pair {
         operator,
@@ -76,20 +76,18 @@ enum Scene {
     ThreeCalls,
     ABidIsSeen,
     TooManyCalls,
-    TwoBids,
 }
 
 impl Scene {
     // Whether all of it is answered as it should be.
     fn goes_well<K: Day, R: Wait>(self, rt: &R, board: &Board<K>, two: &mut Pair<K>) -> bool
     where
-        Version<K>: Absorb<Follow, State = ()>,
+        Version<K>: Absorb<Update<K>, State = ()>,
     {
         match self {
             Scene::ThreeCalls => three_calls(rt, board, two),
             Scene::ABidIsSeen => a_bid_is_seen(rt, board, two),
             Scene::TooManyCalls => too_many_calls(rt, board, two),
-            Scene::TwoBids => two_bids(rt, board, &mut two.second),
         }
     }
 }
@@ -117,7 +115,7 @@ fn closing_of<R: Wait>(
 // The operator uncrosses an auction with one bid, and member 1 may not.
 fn three_calls<K: Day, R: Wait>(rt: &R, board: &Board<K>, two: &mut Pair<K>) -> bool
 where
-    Version<K>: Absorb<Follow, State = ()>,
+    Version<K>: Absorb<Update<K>, State = ()>,
 {
     let no_price = Reply::Uncrossed {
         kind: Kind::Opening,
@@ -191,7 +189,7 @@ fn boards_that_cannot_be_opened(rt: HostRuntime) {
 // A member sees its own bid, and another the same.
 fn a_bid_is_seen<K: Day, R: Wait>(rt: &R, board: &Board<K>, two: &mut Pair<K>) -> bool
 where
-    Version<K>: Absorb<Follow, State = ()>,
+    Version<K>: Absorb<Update<K>, State = ()>,
 {
     let empty = Display::Unpriced {
         best_buy: None,
@@ -216,7 +214,7 @@ fn a_look_shows_finished_calls(rt: HostRuntime) -> Result<(), Fail> {
 // The third call finds the history full; its member has then seen all of it.
 fn too_many_calls<K: Day, R: Wait>(rt: &R, board: &Board<K>, two: &mut Pair<K>) -> bool
 where
-    Version<K>: Absorb<Follow, State = ()>,
+    Version<K>: Absorb<Update<K>, State = ()>,
 {
     let full = Err(CallFault::HistoryFull);
     told(two.second.call(board, rt, BID), 1, Reply::Entered { id: 1 })
@@ -246,43 +244,6 @@ fn a_full_history(rt: HostRuntime) -> Result<(), Fail> {
     Ok(())
 }
 
-// Calls once, and once more where room was refused. The refusal changes nothing.
-fn call_again<K: Day, R: Wait>(
-    rt: &R,
-    board: &Board<K>,
-    member: &mut Member<K>,
-) -> Result<Receipt, CallFault>
-where
-    Version<K>: Absorb<Follow, State = ()>,
-{
-    let calls = member.calls();
-    let answer = member.call(board, rt, BID);
-    if answer != Err(CallFault::NoMemory)
-        || member.calls() != calls
-        || member.look().calls != calls
-    {
-        return answer;
-    }
-    member.call(board, rt, BID)
-}
-
-fn two_bids<K: Day, R: Wait>(rt: &R, board: &Board<K>, member: &mut Member<K>) -> bool
-where
-    Version<K>: Absorb<Follow, State = ()>,
-{
-    told(call_again(rt, board, member), 1, Reply::Entered { id: 1 })
-        && told(call_again(rt, board, member), 2, Reply::Entered { id: 2 })
-}
-
-// The same with one request for memory refused, whichever it is, is a run of its own: `rt try --test --fail-alloc N`.
-#[test]
-fn a_refused_request(rt: HostRuntime) -> Result<(), Fail> {
-    let closing = closing_of(&rt, rt.alloc(), CONFIG, Scene::TwoBids)?;
-    assert_eq!(rt; closing.history.len(), 2);
-    assert_eq!(rt; closing.calls.as_slice(), [0, 2].as_slice());
-    Ok(())
-}
-
 // Three of four members, and then a board that is given up.
 fn one_is_missing<K: Day, R: Wait>(rt: &R, fresh: Fresh) -> Option<Closing>
     requires names { (K.config ≡ fresh.config) × (K.parts ≡ fresh.members) × (K.name ≡ fresh.ledger) × (K.story ≡ fresh.story) }
@@ -299,7 +260,7 @@ fn one_is_missing<K: Day, R: Wait>(rt: &R, fresh: Fresh) -> Option<Closing>
 
 fn missing<K: Day>(answer: Result<Closing, CloseFault<K>>) -> Option<(Board<K>, Vec<Member<K>>)>
 where
-    Version<K>: Absorb<Follow, State = ()>,
+    Version<K>: Absorb<Update<K>, State = ()>,
 {
     match answer {
         Err(CloseFault::MissingMember { board, members }) => Some((board, members)),

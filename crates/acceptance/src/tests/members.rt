@@ -3,7 +3,7 @@ ghost use Rattle.std.specs.Prelude.{◌≡◌, ◌≤◌, length, IfOk};
 ghost use Rattle.member_floor.specs.Plays.{Fits};
 
 use auction_terms::{Command, Config};
-use call_board::{Board, CallFault, Closing, Day, Follow, Fresh, Member, Version, close};
+use call_board::{Board, CallFault, Closing, Day, Fresh, Member, Update, Version, close};
 use left_right::Absorb;
 use member_floor::{Gate, OpenGate, Outcome, Played, Script, run};
 use std::alloc::{AllocError, Global};
@@ -136,7 +136,7 @@ fn played_and_closed<K: Day + Send + Sync, G: Gate + Sync, R: Wait + Threads + S
     times: usize,
 ) -> Result<Closing, Fail>
 where
-    Version<K>: Absorb<Follow, State = ()> + Send + Sync,
+    Version<K>: Absorb<Update<K>, State = ()> + Send + Sync,
     requires few { times ≤ 1048576 }
 {
     let scripts = scripts(alloc, members.as_slice(), times)?;

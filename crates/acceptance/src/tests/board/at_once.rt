@@ -4,7 +4,7 @@ ghost use Rattle.std.specs.Prelude.{◌≡◌};
 use super::{CONFIG, check, shows};
 use auction::{Verdict, audit};
 use auction_terms::{Command, Display, Entry, Limit, Only, Price, Side};
-use call_board::{Board, Closing, Day, Follow, Fresh, Member, Receipt, Version, close};
+use call_board::{Board, Closing, Day, Fresh, Member, Receipt, Update, Version, close};
 use left_right::Absorb;
 use std::alloc::{AllocError, Global};
 use std::marker::Brand;
@@ -48,7 +48,7 @@ fn call_and_look<K: Day, R: Wait>(
     before: u32,
 ) -> u32
 where
-    Version<K>: Absorb<Follow, State = ()>,
+    Version<K>: Absorb<Update<K>, State = ()>,
 {
     let number = told.member.number();
     let Ok(receipt) = told.member.call(board, rt, command(number, k)) else {
@@ -67,7 +67,7 @@ where
 
 fn play<K: Day, R: Wait>(rt: &R, board: &Board<K>, told: Told<K>) -> Told<K>
 where
-    Version<K>: Absorb<Follow, State = ()>,
+    Version<K>: Absorb<Update<K>, State = ()>,
 {
     let mut told = told;
     let mut seen = 0;
@@ -84,7 +84,7 @@ fn all_at_once<K: Day + Send + Sync, R: Wait + Threads + Sync>(
     members: Vec<Member<K>>,
 ) -> Result<Vec<Told<K>>, AllocError>
 where
-    Version<K>: Absorb<Follow, State = ()> + Send + Sync,
+    Version<K>: Absorb<Update<K>, State = ()> + Send + Sync,
 {
     thread::scope(thread::scope_env(), rt, |scope| {
         let mut running = Vec::new(alloc);
@@ -157,7 +157,7 @@ fn four_members<K: Day + Send + Sync, R: Wait + Threads + Sync>(
     members: Vec<Member<K>>,
 ) -> Result<(Closing, Vec<Vec<Receipt>>), Fail>
 where
-    Version<K>: Absorb<Follow, State = ()> + Send + Sync,
+    Version<K>: Absorb<Update<K>, State = ()> + Send + Sync,
 {
     let mut back = Vec::new(alloc);
     let mut receipts = Vec::new(alloc);

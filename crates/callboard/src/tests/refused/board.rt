@@ -11,9 +11,7 @@ use crate::scripts::split;
 use crate::{FloorFault, run_floor};
 use auction::OpenFault;
 use auction_terms::{Command, Entry, Limit, Only, Reply, Side};
-use call_board::{
-    Board, CallFault, CloseFault, Closing, Day, Follow, Fresh, Member, Receipt, Version, close,
-};
+use call_board::{Board, CloseFault, Closing, Day, Fresh, Member, Receipt, Update, Version, close};
 use left_right::Absorb;
 use member_floor::{OpenGate, Outcome, Played, RunFault, Script, run};
 use order_file::{Failures, FromMemory, ToWrite};
@@ -43,7 +41,7 @@ const OUTPUT: &str =
 /// Closes the board with these members, or gives it up.
 fn closed<K: Day, R: Wait>(rt: &R, board: Board<K>, members: Vec<Member<K>>) -> Option<Closing>
 where
-    Version<K>: Absorb<Follow, State = ()>,
+    Version<K>: Absorb<Update<K>, State = ()>,
 {
     match close(board, members, rt) {
         Ok(closing) => Some(closing),
@@ -75,36 +73,14 @@ fn seats<R: Wait>(rt: &R, alloc: Global) -> Result<usize, OpenFault> {
     begun::<Brand, R>(rt, fresh)
 }
 
-/// Bids, and once more where memory was refused. A refusal changes nothing.
-fn bid<K: Day, R: Wait>(
-    rt: &R,
-    board: &Board<K>,
-    member: &mut Member<K>,
-) -> Result<Receipt, CallFault>
-where
-    Version<K>: Absorb<Follow, State = ()>,
-{
-    let calls = member.calls();
-    let shown = member.look();
-    let answer = member.call(board, rt, BID);
-    if answer != Err(CallFault::NoMemory)
-        || member.calls() != calls
-        || member.look() != shown
-        || board.floor().lock(rt).shown() != shown
-    {
-        return answer;
-    }
-    member.call(board, rt, BID)
-}
-
-/// Whether the first two calls on the board are this member's bids.
+/// Whether the first two calls on the board are this member's bids. A call takes no memory.
 fn bids_twice<K: Day, R: Wait>(rt: &R, board: &Board<K>, member: &mut Member<K>) -> bool
 where
-    Version<K>: Absorb<Follow, State = ()>,
+    Version<K>: Absorb<Update<K>, State = ()>,
 {
     for number in 1..3 {
         let reply = Reply::Entered { id: number };
-        if bid(rt, board, member) != Ok(Receipt { number, reply }) {
+        if member.call(board, rt, BID) != Ok(Receipt { number, reply }) {
             return false;
         }
     }
@@ -140,25 +116,20 @@ fn is_day_of_bids(closing: &Closing) -> bool {
         && closing.calls.as_slice() == [0, 2].as_slice()
 }
 
-/// The members whose scripts were played to their ends or to a refused call, and whether a call was refused.
-fn back<K: Day>(played: Vec<Played<K>>, room: Vec<Member<K>>) -> (Vec<Member<K>>, bool) {
+/// The members whose scripts were played to their ends.
+fn back<K: Day>(played: Vec<Played<K>>, room: Vec<Member<K>>) -> Vec<Member<K>> {
     let mut members = room;
-    let mut is_refused = false;
     for one in played {
         let Played {
             member,
             receipts,
             fault,
         } = one;
-        let wanted = usize::from(member.number()) + 1;
-        let is_whole = fault.is_none() && receipts.len() == wanted;
-        let is_cut = fault == Some(CallFault::NoMemory) && receipts.len() < wanted;
-        is_refused = is_refused || is_cut;
-        if is_whole || is_cut {
+        if fault.is_none() && receipts.len() == usize::from(member.number()) + 1 {
             let _ = members.push(member);
         }
     }
-    (members, is_refused)
+    members
 }
 
 /// Closes the board after its scripts were played, or were not for want of memory; no closing stands for members
@@ -169,7 +140,7 @@ fn ended<K: Day, R: Wait>(
     outcome: Outcome<K>,
 ) -> Result<Option<Closing>, FloorFault>
 where
-    Version<K>: Absorb<Follow, State = ()>,
+    Version<K>: Absorb<Update<K>, State = ()>,
 {
     let Outcome {
         played,
@@ -182,9 +153,8 @@ where
     }
     let is_unplayed = fault.is_some();
     let is_right = !is_unplayed || played.is_empty() && unplayed.iter().all(|m| m.calls() == 0);
-    let (members, is_refused) = back(played, unplayed);
-    let closing = closed(rt, board, members);
-    if is_right && closing.is_some() && (is_unplayed || is_refused) {
+    let closing = closed(rt, board, back(played, unplayed));
+    if is_right && closing.is_some() && is_unplayed {
         return Err(FloorFault::NoMemory);
     }
     Ok(closing.filter(|_| is_right))
@@ -269,7 +239,7 @@ fn a_day_is_begun(rt: HostRuntime) -> Result<(), OpenFault> {
 }
 
 #[test]
-fn a_refused_call_is_made_again(rt: HostRuntime) -> Result<(), OpenFault> {
+fn calls_take_no_memory(rt: HostRuntime) -> Result<(), OpenFault> {
     let closing = day_of_bids(&rt, rt.alloc())?;
     assert!(rt; closing.is_some_and(|closing| is_day_of_bids(&closing)));
     Ok(())
