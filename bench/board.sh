@@ -4,11 +4,11 @@
 # ask, on a book of 1,000 orders. Of looks beside calls only runs count in which a call came for every 20 looks at least,
 # so that the thread that calls had a core. The first run proves and builds the program, which takes minutes.
 set -euo pipefail
-cd "$(dirname "$0")/../crates/board_clock"
+cd "$(dirname "$0")/../crates/clock"
 mkdir -p out
 echo 'proving and building' >&2
 rt run > out/run.log 2>&1 || { cat out/run.log >&2; exit 1; }
-for _ in $(seq 25); do out/board_clock measure; done | awk '
+for _ in $(seq 25); do out/clock board; done | awk '
     /beside/ && $3 < 50000 { next }
     { if (!($1 in least)) order[++n] = $1; if (!($1 in least) || $2 < least[$1]) least[$1] = $2 }
     END {

@@ -4,11 +4,11 @@
 # long as at 1,000, and 2,000 nanoseconds at most. The first run proves and builds the program, which takes minutes.
 set -euo pipefail
 cd "$(dirname "$0")/.."
-cd crates/price_clock
+cd crates/clock
 mkdir -p out
 echo 'proving and building' >&2
 rt run > out/run.log 2>&1 || { cat out/run.log >&2; exit 1; }
-best=$(for _ in 1 2 3 4 5 6 7; do out/price_clock measure; done | awk '
+best=$(for _ in 1 2 3 4 5 6 7; do out/clock price; done | awk '
     { key = $1 " " $2; if (!(key in least)) order[++n] = key; if (!(key in least) || $3 < least[key]) least[key] = $3 }
     END { for (i = 1; i <= n; i++) print order[i], least[order[i]] }')
 echo "$best" | awk '

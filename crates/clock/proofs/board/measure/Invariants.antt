@@ -1,4 +1,4 @@
-use Rattle.board_clock.proofs.measure.Given as goal
+use Rattle.clock.proofs.board.measure.Given as goal
 
 abbrev pub ghosts-day-K-Day : goal.ghosts-day-K-Day
 ghosts-day-K-Day g a = record { config = a.fresh.config; story = a.fresh.story }

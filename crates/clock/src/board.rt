@@ -1,12 +1,9 @@
-//! Prints what a board's calls and looks take, beside the same commands on an auction alone. It measures where a word is
-//! given, and else does nothing.
-#![tactic(auto)]
+//! Prints what a board's calls and looks take, beside the same commands on an auction alone.
 
 ghost use Rattle.std.specs.Prelude.{◌≡◌};
 
-mod commands;
-mod tasks;
-
+use crate::commands;
+use crate::tasks::{self, Task, perform};
 use auction::Auction;
 use auction_terms::Config;
 use call_board::{Board, Day, Fresh, Member, Update, Version, close};
@@ -18,8 +15,7 @@ use std::sync::Wait;
 use std::sync::atomic::AtomicBool;
 use std::thread::Threads;
 use std::time::{Clock, Instant};
-use std::{env, io, thread};
-use tasks::{Task, perform};
+use std::{io, thread};
 
 const CONFIG: Config = Config {
     low: 1,
@@ -150,7 +146,10 @@ fn measure_alone<R: Clock + Print + AllocGlobal>(
     Ok(())
 }
 
-fn measure_all<R: Wait + Threads + Sync + Clock + Print + AllocGlobal>(rt: &R) -> io::Result<()> {
+/// Measures an auction alone, then calls, then looks.
+pub fn measure_all<R: Wait + Threads + Sync + Clock + Print + AllocGlobal>(
+    rt: &R,
+) -> io::Result<()> {
     measure_alone(rt, "apply-alone", false)?;
     measure_alone(rt, "apply-and-show-alone", true)?;
     let one = [Task::Call(CALLS)];
@@ -174,12 +173,4 @@ fn measure_all<R: Wait + Threads + Sync + Clock + Print + AllocGlobal>(rt: &R) -
         locked_beside.as_slice(),
         LOOKS,
     )
-}
-
-fn main(rt: HostRuntime) -> io::Result<()> {
-    let words: Vec<String> = env::args(&rt)?.collect(rt.alloc())?;
-    if words.len() > 1 {
-        measure_all(&rt)?;
-    }
-    Ok(())
 }

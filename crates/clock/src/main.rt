@@ -1,0 +1,19 @@
+//! Prints what prices, calls and looks take. It measures where a word is given, `price` or `board`, and else does
+//! nothing.
+#![tactic(auto)]
+
+mod board;
+mod commands;
+mod price;
+mod tasks;
+
+use std::{env, io};
+
+fn main(rt: HostRuntime) -> io::Result<()> {
+    let words: Vec<String> = env::args(&rt)?.collect(rt.alloc())?;
+    match words.get(1).map(|word| word.as_str()) {
+        Some("price") => price::measure_all(&rt),
+        Some("board") => board::measure_all(&rt),
+        _ => Ok(()),
+    }
+}
