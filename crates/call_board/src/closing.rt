@@ -108,6 +108,7 @@ fn gather<K: Day>(
             number,
             calls,
             mut share,
+            watch,
             front,
             last,
             shown,
@@ -120,6 +121,7 @@ fn gather<K: Day>(
                 number,
                 calls,
                 share,
+                watch,
                 front,
                 last,
                 shown,
@@ -143,6 +145,7 @@ fn settle<K: Day>(book: &mut Book<K>, joined: Share<K>, member: Member<K>) -> Me
         number,
         calls,
         share,
+        watch,
         front,
         last,
         shown,
@@ -157,6 +160,7 @@ fn settle<K: Day>(book: &mut Book<K>, joined: Share<K>, member: Member<K>) -> Me
         number,
         calls,
         share,
+        watch,
         front,
         last,
         shown,
@@ -197,6 +201,7 @@ where
         mut book,
         joined,
         copies,
+        latest: _latest,
     } = floor.into_inner();
     copies.end(rt);
     let late = first_late(n, &front, &members);

@@ -9,13 +9,13 @@ ghost use Rattle.call_board.specs.Told.{entry, CallsOnce, IsBehind, Looks, Shows
 use crate::day::Day;
 use crate::member::{Member, Shown};
 use crate::story::{Front, Head};
-use crate::versions::{Copies, Update, Version, View};
+use crate::versions::{Copies, Latest, Update, Version, View};
 use auction::Auction;
 use auction_terms::{Command, Entry, Reply};
 use left_right::Absorb;
 use std::marker::Model;
-use std::sync::Wait;
 use std::sync::ledger::{Book, Share};
+use std::sync::{Arc, Wait};
 
 /// A recorded call: its place in the history, from 1, and the auction's reply.
 #[derive(Clone, Copy, PartialEq, Eq, Debug)]
@@ -55,6 +55,8 @@ where
     /// A share without a part, in which the closing joins those of the members.
     pub(crate) joined: Share<K>,
     pub(crate) copies: Copies<K>,
+    /// How many calls the copies show, which members know too.
+    pub(crate) latest: Arc<Latest>,
 }
 
 impl<K: Day> Model for Floor<K>
@@ -159,6 +161,7 @@ where
         let member = by.number();
         self.book.audit(&mut by.share);
         let reply = self.auction.apply(member, command);
+        let display = self.auction.show();
         self.history.push_reserved(Entry {
             member,
             command,
@@ -170,10 +173,11 @@ where
         by.last = self.auction.calls();
         by.shown = Shown {
             calls: self.auction.calls(),
-            display: self.auction.show(),
+            display,
         };
         by.front = front.again();
         self.copies.publish(rt, View::of(&front, by.shown));
+        self.latest.tell(by.last);
         self.front = front;
         Receipt {
             number: self.auction.calls(),

@@ -9,14 +9,14 @@ use crate::day::Day;
 use crate::floor::Floor;
 use crate::member::{Member, Shown};
 use crate::story::{Blank, Front};
-use crate::versions::{Copies, Update, Version};
+use crate::versions::{Copies, Latest, Update, Version, Watch};
 use auction::{Auction, OpenFault};
 use auction_terms::{Command, Config, Entry, Reply};
 use left_right::Absorb;
 use std::alloc::{AllocError, Global};
 use std::marker::Model;
 use std::sync::ledger::Share;
-use std::sync::{Mutex, ledger};
+use std::sync::{Arc, Mutex, ledger};
 
 /// A board that was opened, and whose day has not begun. Contracts see its config, its number of members, its ledger
 /// and its story.
@@ -83,6 +83,7 @@ fn seated<K: Day>(
     room: Vec<Member<K>>,
     count: u8,
     joined: &mut Share<K>,
+    latest: &Arc<Latest>,
     front: &Front<K>,
     shown: Shown,
     copies: &Copies<K>,
@@ -102,10 +103,14 @@ where
         let Ok(reader) = copies.reader() else {
             return Err(OpenFault::NoMemory);
         };
+        let Ok(watch) = Watch::new(latest) else {
+            return Err(OpenFault::NoMemory);
+        };
         members.push_reserved(Member {
             number,
             calls: 0,
             share: joined.split_off(1, 0),
+            watch,
             front: front.again(),
             last: 0,
             shown,
@@ -221,6 +226,9 @@ impl Fresh {
             return Err(OpenFault::NoMemory);
         };
         let (head, front) = story.named::<K>();
+        let Ok(latest) = Arc::new(alloc, Latest::new()) else {
+            return Err(OpenFault::NoMemory);
+        };
         let opening = Shown {
             calls: 0,
             display: auction.display(),
@@ -229,7 +237,7 @@ impl Fresh {
             return Err(OpenFault::NoMemory);
         };
         let (book, mut joined) = ledger.open::<K>();
-        let members = seated(room, count, &mut joined, &front, opening, &copies)?;
+        let members = seated(room, count, &mut joined, &latest, &front, opening, &copies)?;
         let floor = Mutex::new(Floor {
             auction,
             history,
@@ -239,6 +247,7 @@ impl Fresh {
             book,
             joined,
             copies,
+            latest,
         });
         Ok((
             Board {

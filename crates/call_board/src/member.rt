@@ -8,7 +8,7 @@ use crate::board::Board;
 use crate::day::Day;
 use crate::floor::{CallFault, Receipt};
 use crate::story::Front;
-use crate::versions::{CopyReader, Update, Version, read};
+use crate::versions::{CopyReader, Update, Version, Watch, read};
 use auction_terms::{Command, Display};
 use core::mem::replace_with;
 use left_right::Absorb;
@@ -31,6 +31,7 @@ pub struct Member<K: Day> {
     pub(crate) number: u8,
     pub(crate) calls: u32,
     pub(crate) share: Share<K>,
+    pub(crate) watch: Watch,
     pub(crate) front: Front<K>,
     /// The place of its last recorded call, or 0.
     pub(crate) last: u32,
@@ -101,10 +102,14 @@ impl<K: Day> Member<K> {
     /// memory, waits for nobody, and isn't recorded.
     ///
     /// It never goes back: what is shown is the display after a history that begins with all that this member has seen,
-    /// its own calls among them. Where there is no copy, as after the board was closed, it shows the last again.
+    /// its own calls among them. Where no call has come since, or there is no copy, as after the board was closed, it
+    /// shows the last again.
     pub fn look(&mut self) -> Shown
         ensures { Looks K.config self.old self.new result }
     {
+        if !self.watch.may_find_more(self.shown.calls) {
+            return self.again();
+        }
         match replace_with(&mut self.reader, (), read::<K>) {
             Some((front, shown)) => self.meet(front, shown),
             None => self.again(),

@@ -15,7 +15,9 @@ use left_right::writer::Writer;
 use std::alloc::{AllocError, Global};
 use std::marker::Model;
 use std::mem::ManuallyDrop;
-use std::sync::Wait;
+use std::sync::atomic::Ordering::SeqCst;
+use std::sync::atomic::{AtomicBool, AtomicU32};
+use std::sync::{Arc, Wait};
 
 /// What the board shows: a beginning of the story, and what is shown after it. Contracts see the calls of that beginning.
 #[derive(Drop)]
@@ -67,9 +69,64 @@ impl<K: Day> View<K> {
     }
 }
 
-/// Unused bytes on each side of a copy, so that no other value is on a cache line of 64 bytes with it: a look at one copy
-/// doesn't wait for a write to the other.
+/// Unused bytes on each side of a value, so that no other value is on a cache line of 64 bytes with it: who reads it
+/// doesn't wait for a write to something else.
 const APART: [u64; 8] = [0; 8];
+
+/// How many calls the copies show, for members that look again and again. Nothing rests on it.
+#[derive(Drop)]
+#[repr(C)]
+pub(crate) struct Latest {
+    before: [u64; 8],
+    is_watched: AtomicBool,
+    calls: AtomicU32,
+    after: [u64; 8],
+}
+
+impl Latest {
+    pub(crate) fn new() -> Latest {
+        Latest {
+            before: APART,
+            is_watched: AtomicBool::new(false),
+            calls: AtomicU32::new(0),
+            after: APART,
+        }
+    }
+
+    // The copies show so many calls by now. Where no member looks, nobody is told.
+    pub(crate) fn tell(&self, calls: u32) {
+        if self.is_watched.load(SeqCst) {
+            self.calls.store(calls, SeqCst);
+        }
+    }
+}
+
+/// A member's watch over what the copies show. It begins with the member's first look, which reads a copy: what that may
+/// miss is shown after it, and so is told.
+#[derive(Drop)]
+pub(crate) struct Watch {
+    latest: Arc<Latest>,
+    is_on: bool,
+}
+
+impl Watch {
+    pub(crate) fn new(latest: &Arc<Latest>) -> Result<Watch, AllocError> {
+        Ok(Watch {
+            latest: Arc::try_clone(latest)?,
+            is_on: false,
+        })
+    }
+
+    // Whether the copies may show more than so many calls.
+    pub(crate) fn may_find_more(&mut self, calls: u32) -> bool {
+        if self.is_on {
+            return self.latest.calls.load(SeqCst) > calls;
+        }
+        self.latest.is_watched.store(true, SeqCst);
+        self.is_on = true;
+        true
+    }
+}
 
 /// A copy of what the board shows, which looks read.
 #[derive(Drop)]

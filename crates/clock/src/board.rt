@@ -30,7 +30,10 @@ const CONFIG: Config = Config {
 const CALLS: u32 = 100_000;
 
 /// How many looks of one member are measured.
-const LOOKS: u32 = 1_000_000;
+const LOOKS: u32 = 10_000_000;
+
+/// How many of them are measured that take the lock.
+const LOCKED_LOOKS: u32 = 1_000_000;
 
 /// Each member does its task on a thread of its own.
 fn all_at_once<K: Day + Send + Sync, R: Wait + Threads + Sync>(
@@ -126,8 +129,9 @@ fn measure<R: Wait + Threads + Sync + Clock + Print + AllocGlobal>(
         |_| AllocError,
     )?;
     let Taken { nanoseconds, calls } = day::<Brand, R>(rt, rt.alloc(), fresh, tasks)?;
-    let each = nanoseconds / u128::from(count.max(1));
-    println!(rt; "{name} {each} {calls}")?;
+    let tenths = nanoseconds.saturating_mul(10) / u128::from(count.max(1));
+    let (each, tenth) = (tenths / 10, tenths % 10);
+    println!(rt; "{name} {each}.{tenth} {calls}")?;
     Ok(())
 }
 
@@ -161,16 +165,16 @@ pub fn measure_all<R: Wait + Threads + Sync + Clock + Print + AllocGlobal>(
     let idle = [Task::Look(LOOKS)];
     let lookers = [Task::Look(LOOKS); 4];
     let beside = [Task::CallOn, Task::Look(LOOKS)];
-    let locked = [Task::LookUnderLock(LOOKS)];
-    let locked_beside = [Task::CallOn, Task::LookUnderLock(LOOKS)];
+    let locked = [Task::LookUnderLock(LOCKED_LOOKS)];
+    let locked_beside = [Task::CallOn, Task::LookUnderLock(LOCKED_LOOKS)];
     measure(rt, "look", idle.as_slice(), LOOKS)?;
     measure(rt, "look-of-4-members", lookers.as_slice(), LOOKS * 4)?;
     measure(rt, "look-beside-calls", beside.as_slice(), LOOKS)?;
-    measure(rt, "look-under-lock", locked.as_slice(), LOOKS)?;
+    measure(rt, "look-under-lock", locked.as_slice(), LOCKED_LOOKS)?;
     measure(
         rt,
         "look-under-lock-beside-calls",
         locked_beside.as_slice(),
-        LOOKS,
+        LOCKED_LOOKS,
     )
 }

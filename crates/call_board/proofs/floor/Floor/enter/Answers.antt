@@ -22,7 +22,7 @@ of-requires g c =
     let f = c.self.inside in
     let number = c.number-member.ensures.number ∙ ap (λ (s : Standing). s.number) (sym c.by.view_is) in
     let front = c.requires.front ∙ (λ i. calls_of (sym c.self.view_is i) ++ ((sym c.by.view_is i).number, c.args.command) ∷ []) ∙ (λ i. calls_of f.history.items ++ (sym number i, c.args.command) ∷ []) in
-    shows_more g.K.Day.config f.auction c.apply-reply.new.self (calls_of f.history.items) c.args.front c.number-member.result c.args.command (record { calls = c.calls.result; display = c.show.result }) c.self.invariant.0.replayed c.apply-reply.ensures.state front c.calls.ensures.value c.show.ensures.display
+    shows_more g.K.Day.config f.auction c.apply-reply.new.self (calls_of f.history.items) c.args.front c.number-member.result c.args.command (record { calls = c.calls.result; display = c.show-display.result }) c.self.invariant.0.replayed c.apply-reply.ensures.state front (c.calls.ensures.value ∙ ap (λ (r : Running). r.calls) c.show-display.ensures.state) c.show-display.ensures.display
 
 pub invariant_of-self : goal.invariant_of-self
 invariant_of-self g c =
@@ -37,8 +37,8 @@ invariant_of-self g c =
     let at : c.from.result ≡ c.number-member.result = c.from.ensures in
     let was_at : c.index_mut.result.now ≡ slice_index f.counted.items c.number-member.result = c.index_mut.ensures.value ∙ get_or_default f.counted.items c.from.result c.index_mut.result.now 0 inside ∙ ap (λ (j : ℕ). slice_index f.counted.items j) at in
     let set_is : set f.counted.items c.from.result (c.index_mut.result.now + 1) ≡ set f.counted.items c.number-member.result (slice_index f.counted.items c.number-member.result + 1) = λ i. set f.counted.items (at i) (was_at i + 1) in (
-      Kept-push g.K.Day.config g.K.Ledger.parts f.auction c.show.new.self f.history.items c.push_reserved.new.self.items f.front c.args.front f.counted.items _ f.book.total c.add.new.self.total _ _ c.number-member.result c.args.command c.apply-reply.result
-          k room one_of c.apply-reply.ensures.reply (c.show.ensures.state ∙ c.apply-reply.ensures.state) c.push_reserved.ensures.items front set_is (c.add.ensures.total ∙ ap (λ n. n + 1) c.audit.ensures.total) c.push_reserved.ensures.capacity,
+      Kept-push g.K.Day.config g.K.Ledger.parts f.auction c.show-display.new.self f.history.items c.push_reserved.new.self.items f.front c.args.front f.counted.items _ f.book.total c.add.new.self.total _ _ c.number-member.result c.args.command c.apply-reply.result
+          k room one_of c.apply-reply.ensures.reply (c.show-display.ensures.state ∙ c.apply-reply.ensures.state) c.push_reserved.ensures.items front set_is (c.add.ensures.total ∙ ap (λ n. n + 1) c.audit.ensures.total) c.push_reserved.ensures.capacity,
       c.self.invariant.1,
       c.self.invariant.2,
     )
@@ -56,7 +56,7 @@ once g c =
     let counted : m.calls ≡ length (own xs m.number) = rw (← c.self.view_is, ← c.by.view_is) at c.requires.counted in
     let calls : c.apply-reply.new.self.calls ≡ length xs + 1 = ap (λ (r : Running). r.calls) c.apply-reply.ensures.state ∙ ap (λ (r : Running). r.calls + 1) k.replayed in
     let reply : c.apply-reply.result ≡ (step g.K.Day.config (replay g.K.Day.config xs).0 m.number c.args.command).1 = c.apply-reply.ensures.reply ∙ (λ i. (step (k.replayed i).config (k.replayed i).state (number i) c.args.command).1) in
-    called_once g.K.Day.config m.number m.calls m.last c.calls-by-inside.result m.front xs c.again.result c.args.command _ pre c.by.invariant.4 counted (c.again.ensures ∙ front_is g c) (c.calls-by-inside.ensures.value ∙ calls) (c.calls-2.ensures.value ∙ ap (λ (r : Running). r.calls) c.show.ensures.state ∙ calls) reply
+    called_once g.K.Day.config m.number m.calls m.last c.calls-by-inside.result m.front xs c.again.result c.args.command _ pre c.by.invariant.4 counted (c.again.ensures ∙ front_is g c) (c.calls-by-inside.ensures.value ∙ ap (λ (r : Running). r.calls) c.show-display.ensures.state ∙ calls) (c.calls-2.ensures.value ∙ ap (λ (r : Running). r.calls) c.show-display.ensures.state ∙ calls) reply
 
 pub returns-clause-call : goal.returns-clause-call
 returns-clause-call g c = subst (λ (s : Standing). CallsOnce g.K.Day.config s (standing c.by.inside.number (c.by.inside.calls + 1) c.calls-by-inside.result c.again.result) c.args.command (record { number = c.calls-2.result; reply = c.apply-reply.result })) c.by.view_is (once g c)
@@ -67,12 +67,12 @@ invariant_of-by g c =
     let o = once g c in
     let k = (invariant_of-self g c).0 in
     let i = c.by.invariant in
-    let whole : c.apply-reply.new.self ≡ running g.K.Day.config c.again.result = sym c.show.ensures.state ∙ k.replayed ∙ ap (running g.K.Day.config) (sym k.story ∙ sym c.again.ensures) in
-    let calls : c.apply-reply.new.self.calls ≡ length c.again.result = ap (λ (r : Running). r.calls) whole in (
+    let whole : c.apply-reply.new.self ≡ running g.K.Day.config c.again.result = sym c.show-display.ensures.state ∙ k.replayed ∙ ap (running g.K.Day.config) (sym k.story ∙ sym c.again.ensures) in
+    let calls : c.show-display.new.self.calls ≡ length c.again.result = ap (λ (r : Running). r.calls) (c.show-display.ensures.state ∙ whole) in (
       c.add.ensures.parts ∙ c.audit.ensures.parts ∙ i.0,
       omega (arith, c.add.ensures.amount, c.audit.ensures.amount, i.1),
       i.2,
       omega (arith, c.calls-by-inside.ensures.value, calls),
       omega (arith, ap length o.mine, length-append (own (take m.last m.front) m.number) ((c.calls-2.result, c.args.command) ∷ []), i.4),
-      record { calls_are = omega (arith, c.calls.ensures.value, calls); display = c.show.ensures.display ∙ ap (λ (r : Running). display r.state) whole },
+      record { calls_are = omega (arith, c.calls.ensures.value, calls); display = c.show-display.ensures.display ∙ ap (λ (r : Running). display r.state) whole },
     )
