@@ -32,6 +32,9 @@ const CALLS: u32 = 100_000;
 /// How many looks of one member are measured.
 const LOOKS: u32 = 10_000_000;
 
+/// How often a member pauses the processor between two calls that come now and then: some microseconds.
+const PAUSES: u32 = 100;
+
 /// How many of them are measured that take the lock.
 const LOCKED_LOOKS: u32 = 1_000_000;
 
@@ -164,12 +167,22 @@ pub fn measure_all<R: Wait + Threads + Sync + Clock + Print + AllocGlobal>(
     measure(rt, "calls-of-4-members", four.as_slice(), CALLS)?;
     let idle = [Task::Look(LOOKS)];
     let lookers = [Task::Look(LOOKS); 4];
-    let beside = [Task::CallOn, Task::Look(LOOKS)];
+    let beside = [Task::CallOn { pauses: 0 }, Task::Look(LOOKS)];
+    let now_and_then = [Task::CallOn { pauses: PAUSES }, Task::Look(LOOKS)];
     let locked = [Task::LookUnderLock(LOCKED_LOOKS)];
-    let locked_beside = [Task::CallOn, Task::LookUnderLock(LOCKED_LOOKS)];
+    let locked_beside = [
+        Task::CallOn { pauses: 0 },
+        Task::LookUnderLock(LOCKED_LOOKS),
+    ];
     measure(rt, "look", idle.as_slice(), LOOKS)?;
     measure(rt, "look-of-4-members", lookers.as_slice(), LOOKS * 4)?;
     measure(rt, "look-beside-calls", beside.as_slice(), LOOKS)?;
+    measure(
+        rt,
+        "look-beside-calls-now-and-then",
+        now_and_then.as_slice(),
+        LOOKS,
+    )?;
     measure(rt, "look-under-lock", locked.as_slice(), LOCKED_LOOKS)?;
     measure(
         rt,

@@ -2,6 +2,7 @@
 
 use crate::commands::{STANDING, command, last_id, standing};
 use call_board::{Board, Day, Member, Update, Version};
+use core::hint::spin_loop;
 use left_right::Absorb;
 use std::sync::Wait;
 use std::sync::atomic::AtomicBool;
@@ -12,8 +13,8 @@ use std::sync::atomic::Ordering::SeqCst;
 pub enum Task {
     /// So many calls.
     Call(u32),
-    /// Calls until a member that looks is done.
-    CallOn,
+    /// Calls until a member that looks is done, with so many pauses of the processor after each.
+    CallOn { pauses: u32 },
     /// So many looks.
     Look(u32),
     /// So many looks at what the lock keeps.
@@ -30,11 +31,18 @@ where
     }
 }
 
+fn pause(pauses: u32) {
+    for _ in 0..pauses {
+        spin_loop();
+    }
+}
+
 fn call_many<K: Day, R: Wait>(
     rt: &R,
     board: &Board<K>,
     member: &mut Member<K>,
     count: u32,
+    pauses: u32,
     is_done: &AtomicBool,
 )
 where
@@ -49,6 +57,7 @@ where
         if is_done.load(SeqCst) {
             return;
         }
+        pause(pauses);
     }
 }
 
@@ -85,8 +94,8 @@ where
     let mut member = member;
     let mut seen = 0;
     match task {
-        Task::Call(count) => call_many(rt, board, &mut member, count, &AtomicBool::new(false)),
-        Task::CallOn => call_many(rt, board, &mut member, 1_000_000, is_done),
+        Task::Call(count) => call_many(rt, board, &mut member, count, 0, &AtomicBool::new(false)),
+        Task::CallOn { pauses } => call_many(rt, board, &mut member, 1_000_000, pauses, is_done),
         Task::Look(count) => seen = look_many(&mut member, count),
         Task::LookUnderLock(count) => seen = look_under_lock(rt, board, count),
     }
