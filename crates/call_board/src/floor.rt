@@ -30,7 +30,7 @@ pub struct Receipt {
 pub enum CallFault {
     /// The history has `max_calls` entries.
     HistoryFull,
-    /// Room for the call was refused. All of it is taken when the day begins, so no call comes to this.
+    /// Room to show calls to readers was refused. The board's first call asks for it.
     NoMemory,
     /// The member has seen more than the `history` calls that are recorded, or has counted other than the `counted`
     /// entries with its number.
@@ -105,6 +105,9 @@ where
         let counted = self.counted[usize::from(number)];
         if by.seen_len() > history || by.calls() != counted {
             return Err(CallFault::Behind { history, counted });
+        }
+        if self.copies.reserve().is_err() {
+            return Err(CallFault::NoMemory);
         }
         let mut front = self.front.again();
         // The floor alone adds to the story, under its lock, so this adds always.

@@ -147,10 +147,10 @@ impl<K: Day> Version<K> {
     }
 }
 
-/// What the copies are to show next.
+/// What the copies are to show next; without a view, what they show.
 #[derive(Drop)]
 pub struct Update<K: Day> {
-    view: View<K>,
+    view: Option<View<K>>,
 }
 
 impl<K: Day> Absorb<Update<K>> for Version<K> {
@@ -163,12 +163,17 @@ impl<K: Day> Absorb<Update<K>> for Version<K> {
     ghost never_fails = { Unit {0} };
 
     fn absorb_first(&mut self, update: &Update<K>, _other: &Version<K>) -> Result<(), AllocError> {
-        self.view = update.view.again();
+        if let Some(view) = &update.view {
+            self.view = view.again();
+        }
         Ok(())
     }
 
     fn absorb_second(&mut self, update: Update<K>, _other: &Version<K>) -> Result<(), Update<K>> {
-        self.view = update.view;
+        let Update { view } = update;
+        if let Some(view) = view {
+            self.view = view;
+        }
         Ok(())
     }
 }
@@ -200,6 +205,8 @@ where
     Version<K>: Absorb<Update<K>, State = ()>,
 {
     writer: CopyWriter<K>,
+    /// Whether the writer's line has room for an update, as it has once it had one.
+    has_room: bool,
 }
 
 impl<K: Day> Drop for Copies<K>
@@ -208,7 +215,10 @@ where
 {
     // Only a writer that may wait for the readers can give the copies back, and a drop may not wait. So they are leaked.
     fn drop(self) {
-        let Self { writer } = self;
+        let Self {
+            writer,
+            has_room: _,
+        } = self;
         let _left = unsafe { ManuallyDrop::new_unchecked(writer) };
     }
 }
@@ -217,8 +227,7 @@ impl<K: Day> Copies<K>
 where
     Version<K>: Absorb<Update<K>, State = ()>,
 {
-    // Two copies of what is shown at first, and room for so many readers. The first update shows the same: it takes the
-    // room of the writer's line, which never has more than three updates, so that no later one asks for memory.
+    // Two copies of what is shown at first, and room for so many readers.
     pub(crate) fn open(
         alloc: Global,
         front: &Front<K>,
@@ -230,11 +239,10 @@ where
     {
         let first = Version::of(View::of(front, shown));
         let second = Version::of(View::of(front, shown));
-        let mut copies = Copies {
+        Ok(Copies {
             writer: Writer::new(alloc, first, second, readers)?,
-        };
-        copies.append(View::of(front, shown))?;
-        Ok(copies)
+            has_room: false,
+        })
     }
 
     pub(crate) fn reader(&self) -> Result<CopyReader<K>, AllocError> {
@@ -243,17 +251,30 @@ where
 
     // Waits for the readers, and gives the copies back.
     pub(crate) fn end<R: Wait>(self, rt: &R) {
-        let Self { writer } = self;
+        let Self {
+            writer,
+            has_room: _,
+        } = self;
         drop(writer.take(rt));
     }
 
-    fn append(&mut self, view: View<K>) -> Result<(), AllocError> {
+    fn append(&mut self, view: Option<View<K>>) -> Result<(), AllocError> {
         self.writer.append(Update { view }).map_err(|_| AllocError)
+    }
+
+    // Makes room for the next call. The first update takes room for four, and the line never has more than three: those
+    // of a call or two that the spare copy still lacks, and the next. So the first call alone asks for memory.
+    pub(crate) fn reserve(&mut self) -> Result<(), AllocError> {
+        if !self.has_room {
+            self.append(None)?;
+            self.has_room = true;
+        }
+        Ok(())
     }
 
     // Shows readers this. It waits for those that still read the copy that is next.
     pub(crate) fn publish<R: Wait>(&mut self, rt: &R, view: View<K>) {
-        let _ = self.append(view);
+        let _ = self.append(Some(view));
         let _ = replace_with(&mut self.writer, rt, show::<K, R>);
     }
 }

@@ -11,7 +11,9 @@ use crate::scripts::split;
 use crate::{FloorFault, run_floor};
 use auction::OpenFault;
 use auction_terms::{Command, Entry, Limit, Only, Reply, Side};
-use call_board::{Board, CloseFault, Closing, Day, Fresh, Member, Receipt, Update, Version, close};
+use call_board::{
+    Board, CallFault, CloseFault, Closing, Day, Update, Fresh, Member, Receipt, Version, close,
+};
 use left_right::Absorb;
 use member_floor::{OpenGate, Outcome, Played, RunFault, Script, run};
 use order_file::{Failures, FromMemory, ToWrite};
@@ -73,14 +75,36 @@ fn seats<R: Wait>(rt: &R, alloc: Global) -> Result<usize, OpenFault> {
     begun::<Brand, R>(rt, fresh)
 }
 
-/// Whether the first two calls on the board are this member's bids. A call takes no memory.
+/// Bids, and once more where memory was refused. A refusal changes nothing.
+fn bid<K: Day, R: Wait>(
+    rt: &R,
+    board: &Board<K>,
+    member: &mut Member<K>,
+) -> Result<Receipt, CallFault>
+where
+    Version<K>: Absorb<Update<K>, State = ()>,
+{
+    let calls = member.calls();
+    let shown = member.look();
+    let answer = member.call(board, rt, BID);
+    if answer != Err(CallFault::NoMemory)
+        || member.calls() != calls
+        || member.look() != shown
+        || board.floor().lock(rt).shown() != shown
+    {
+        return answer;
+    }
+    member.call(board, rt, BID)
+}
+
+/// Whether the first two calls on the board are this member's bids.
 fn bids_twice<K: Day, R: Wait>(rt: &R, board: &Board<K>, member: &mut Member<K>) -> bool
 where
     Version<K>: Absorb<Update<K>, State = ()>,
 {
     for number in 1..3 {
         let reply = Reply::Entered { id: number };
-        if member.call(board, rt, BID) != Ok(Receipt { number, reply }) {
+        if bid(rt, board, member) != Ok(Receipt { number, reply }) {
             return false;
         }
     }
@@ -116,20 +140,25 @@ fn is_day_of_bids(closing: &Closing) -> bool {
         && closing.calls.as_slice() == [0, 2].as_slice()
 }
 
-/// The members whose scripts were played to their ends.
-fn back<K: Day>(played: Vec<Played<K>>, room: Vec<Member<K>>) -> Vec<Member<K>> {
+/// The members whose scripts were played to their ends or to a refused call, and whether a call was refused.
+fn back<K: Day>(played: Vec<Played<K>>, room: Vec<Member<K>>) -> (Vec<Member<K>>, bool) {
     let mut members = room;
+    let mut is_refused = false;
     for one in played {
         let Played {
             member,
             receipts,
             fault,
         } = one;
-        if fault.is_none() && receipts.len() == usize::from(member.number()) + 1 {
+        let wanted = usize::from(member.number()) + 1;
+        let is_whole = fault.is_none() && receipts.len() == wanted;
+        let is_cut = fault == Some(CallFault::NoMemory) && receipts.len() < wanted;
+        is_refused = is_refused || is_cut;
+        if is_whole || is_cut {
             let _ = members.push(member);
         }
     }
-    members
+    (members, is_refused)
 }
 
 /// Closes the board after its scripts were played, or were not for want of memory; no closing stands for members
@@ -153,8 +182,9 @@ where
     }
     let is_unplayed = fault.is_some();
     let is_right = !is_unplayed || played.is_empty() && unplayed.iter().all(|m| m.calls() == 0);
-    let closing = closed(rt, board, back(played, unplayed));
-    if is_right && closing.is_some() && is_unplayed {
+    let (members, is_refused) = back(played, unplayed);
+    let closing = closed(rt, board, members);
+    if is_right && closing.is_some() && (is_unplayed || is_refused) {
         return Err(FloorFault::NoMemory);
     }
     Ok(closing.filter(|_| is_right))
@@ -239,7 +269,7 @@ fn a_day_is_begun(rt: HostRuntime) -> Result<(), OpenFault> {
 }
 
 #[test]
-fn calls_take_no_memory(rt: HostRuntime) -> Result<(), OpenFault> {
+fn a_refused_call_is_made_again(rt: HostRuntime) -> Result<(), OpenFault> {
     let closing = day_of_bids(&rt, rt.alloc())?;
     assert!(rt; closing.is_some_and(|closing| is_day_of_bids(&closing)));
     Ok(())

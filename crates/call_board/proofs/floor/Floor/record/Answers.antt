@@ -30,6 +30,16 @@ returns-then-seen_len-history-clause-behind_only g c h k e =
       sym k_is ∙ counted,
     )
 
+pub returns-then-is_err-clause-behind : goal.returns-then-is_err-clause-behind
+returns-then-is_err-clause-behind g c = λ behind differs.
+    let f = c.self.inside in
+    let history : c.calls-history.result ≡ length c.args.self.now = c.calls-history.ensures.value ∙ length_is g.K.Day.config f.auction f.history.items c.args.self.now c.self.invariant.0.replayed c.self.view_is in
+    let counted : c.index-counted.result.now ≡ length (own (calls_of c.args.self.now) c.args.by.now.number) = count_is f.counted.items c.from.result c.number-number.result c.args.by.now.number c.index-counted.result.now g.K.Ledger.parts f.history.items c.args.self.now c.index-counted.ensures c.from.ensures c.number-number.ensures.number c.number-number.ensures.one_of c.self.invariant.0.wide c.self.invariant.0.counts c.self.view_is in
+    elim behind [
+      | inl more ↦ absurd (omega (arith, c.if-seen_len-history.false, history, c.seen_len.ensures, more))
+      | inr other ↦ absurd (other (sym c.calls.ensures ∙ c.if-calls-counted.false ∙ counted))
+    ]
+
 pub returns-then-not-add-clause-behind : goal.returns-then-not-add-clause-behind
 returns-then-not-add-clause-behind g c = λ behind differs.
     let f = c.self.inside in
