@@ -12,7 +12,7 @@ use crate::{FloorFault, run_floor};
 use auction::OpenFault;
 use auction_terms::{Command, Entry, Limit, Only, Reply, Side};
 use call_board::{
-    Board, CallFault, CloseFault, Closing, Day, Update, Fresh, Member, Receipt, Version, close,
+    Board, CallFault, CloseFault, Closing, Day, Fresh, Member, Receipt, Update, Version, close,
 };
 use left_right::Absorb;
 use member_floor::{OpenGate, Outcome, Played, RunFault, Script, run};
