@@ -1,6 +1,6 @@
 -- Texts that are written piece by piece, and by way of a page.
-use Rattle.std.proofs.Common.{◌≡◌, ℕ, List, [], ◌++◌, take, drop, Option, Some, None, Result, Ok, Err, refl, ap, ◌∙◌, append_assoc}
-use Rattle.std.proofs.lemmas.List.{append-nil, take-append-drop}
+use Rattle.std.proofs.Common.{◌≡◌, ℕ, List, ◌++◌, take, drop, Option, Some, None, Result, Ok, Err, OnErr, refl, ap, ◌∙◌, append_assoc}
+use Rattle.std.proofs.lemmas.List.{take-append-drop}
 use Rattle.std.specs.Io.KnownBytes.{Appends}
 use Rattle.order_file.specs.Ends.{AppendsBeginning, Writes}
 use Rattle.printed_lines.specs.Printing.{Keeps, Prints}
@@ -19,6 +19,11 @@ done-more done rest all n h = rw (append_assoc done (take n rest) (drop n rest),
 -- a text was begun that others were to follow
 pub begun-before : (a b : Option (List ℕ)) (x y : List ℕ) → AppendsBeginning a b x → AppendsBeginning a b (x ++ y)
 begun-before a b x y (done, rest, is, wrote) = (done, rest ++ y, rw (← append_assoc done rest y, is) refl, wrote)
+
+-- the page was begun, whatever was to follow it
+pub begun-page : {E : Type 0} (a b : Option (List ℕ)) (page : List ℕ) (r : Result (Unit {0}) E) → Writes a b r page → OnErr r ((more : List ℕ) → AppendsBeginning a b (page ++ more))
+begun-page a b page (Ok u) h = tt
+begun-page a b page (Err e) h = λ more. begun-before a b page more h
 
 -- a text was written, or begun, after another
 pub writes-after : {E : Type 0} (a b c : Option (List ℕ)) (r : Result (Unit {0}) E) (x y : List ℕ) → Appends a b x → Writes b c r y → Writes a c r (x ++ y)
@@ -58,10 +63,3 @@ pub begun-among : (a b c : Option (List ℕ)) (before page front piece more all 
     → Keeps a b page (before ++ front) → AppendsBeginning b c (page ++ piece) → AppendsBeginning a c (before ++ all)
 begun-among a b c before page front piece more all h kept begun =
     rw (← h, ← append_assoc front piece more, ← append_assoc before (front ++ piece) more) (begun-before a c (before ++ (front ++ piece)) more (begun-after a b c before page front piece kept begun))
-
--- the page was written, and then the text, for which there is no room
-pub prints-past : {E : Type 0} (a b c : Option (List ℕ)) (page : List ℕ) (r : Result (Unit {0}) E) (text : List ℕ)
-    → Appends a b page → Writes b c r text → Prints a c page [] r text
-prints-past a b c page (Ok u) text h k = (page ++ text, append-nil (page ++ text), appends-more a b c page text h k)
-prints-past a b c page (Err e) text h (done, rest, is, wrote) =
-    (page ++ done, rest, rw (append_assoc page done rest, is) refl, appends-more a b c page done h wrote)

@@ -1,13 +1,12 @@
 //! What is printed of a closed floor.
 
-ghost use Rattle.std.specs.Prelude.{◌≡◌, ◌<◌};
+ghost use Rattle.std.specs.Prelude.{◌≡◌, ◌<◌, ◌≤◌, ◌+◌, ◌++◌, length};
 ghost use Rattle.order_file.specs.Ends.{TellsFailure};
 ghost use Rattle.printed_lines.specs.Printing.{Prints};
 ghost use Rattle.printed_lines.specs.Floor.{audit_line, entries_line, entry_line, member_line, member_lines, story, tally};
 
-use crate::line::print_reply_line;
 use crate::page::Page;
-use crate::part::{Part, print_parts};
+use crate::reply::put_reply;
 use crate::writing::WriteFailed;
 use auction_terms::Entry;
 use order_file::Sink;
@@ -17,12 +16,11 @@ fn print_entries<S: Sink>(sink: &mut S, page: &mut Page, entries: u64) -> Result
     ensures text { Prints (S.written sink.old) (S.written sink.new) page.old page.new result (entries_line entries) }
     ensures failed { TellsFailure (S.failures sink.old) (S.failures sink.new) result }
 {
-    let parts = [
-        Part::Text("entries "),
-        Part::Number(entries),
-        Part::Text("\n"),
-    ];
-    print_parts(sink, page, parts.as_slice())
+    page.make_room(sink)?;
+    page.put("entries ");
+    page.put_number(entries);
+    page.put("\n");
+    Ok(())
 }
 
 #[tactic(auto, unfolding(crate::specs::Floor::member_line))]
@@ -35,14 +33,13 @@ fn print_member<S: Sink>(
     ensures text { Prints (S.written sink.old) (S.written sink.new) page.old page.new result (member_line member calls) }
     ensures failed { TellsFailure (S.failures sink.old) (S.failures sink.new) result }
 {
-    let parts = [
-        Part::Text("member "),
-        Part::Number(member),
-        Part::Text(" calls "),
-        Part::Number(calls),
-        Part::Text("\n"),
-    ];
-    print_parts(sink, page, parts.as_slice())
+    page.make_room(sink)?;
+    page.put("member ");
+    page.put_number(member);
+    page.put(" calls ");
+    page.put_number(calls);
+    page.put("\n");
+    Ok(())
 }
 
 fn print_members<S: Sink>(sink: &mut S, page: &mut Page, calls: &[u32]) -> Result<(), WriteFailed>
@@ -56,6 +53,20 @@ fn print_members<S: Sink>(sink: &mut S, page: &mut Page, calls: &[u32]) -> Resul
 }
 
 #[tactic(auto, unfolding(crate::specs::Floor::audit_line))]
+fn put_audit(page: &mut Page, first_bad: Option<u64>)
+    requires { length page.old + 60 ≤ 16384 }
+    ensures { page.new ≡ page.old ++ audit_line first_bad }
+{
+    match first_bad {
+        None => page.put("audit legal\n"),
+        Some(place) => {
+            page.put("audit bad ");
+            page.put_number(place);
+            page.put("\n");
+        }
+    }
+}
+
 fn print_audit<S: Sink>(
     sink: &mut S,
     page: &mut Page,
@@ -64,20 +75,9 @@ fn print_audit<S: Sink>(
     ensures text { Prints (S.written sink.old) (S.written sink.new) page.old page.new result (audit_line first_bad) }
     ensures failed { TellsFailure (S.failures sink.old) (S.failures sink.new) result }
 {
-    match first_bad {
-        None => {
-            let parts = [Part::Text("audit legal\n")];
-            print_parts(sink, page, parts.as_slice())
-        }
-        Some(place) => {
-            let parts = [
-                Part::Text("audit bad "),
-                Part::Number(place),
-                Part::Text("\n"),
-            ];
-            print_parts(sink, page, parts.as_slice())
-        }
-    }
+    page.make_room(sink)?;
+    put_audit(page, first_bad);
+    Ok(())
 }
 
 /// Prints what a closed floor comes to: how many entries its history has, how many calls each member
@@ -109,13 +109,14 @@ fn print_entry<S: Sink>(
     ensures text { Prints (S.written sink.old) (S.written sink.new) page.old page.new result (entry_line number entry) }
     ensures failed { TellsFailure (S.failures sink.old) (S.failures sink.new) result }
 {
-    let front = [
-        Part::Number(number),
-        Part::Text(": member "),
-        Part::Number(u64::from(entry.member)),
-        Part::Text(" "),
-    ];
-    print_reply_line(sink, page, front.as_slice(), entry.reply)
+    page.make_room(sink)?;
+    page.put_number(number);
+    page.put(": member ");
+    page.put_number(u64::from(entry.member));
+    page.put(" ");
+    put_reply(page, entry.reply);
+    page.put("\n");
+    Ok(())
 }
 
 /// Prints a history: a line for each entry, with its number from 1, its member and its reply.

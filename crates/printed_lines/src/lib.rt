@@ -9,7 +9,6 @@
 mod floor;
 mod line;
 mod page;
-mod part;
 mod reply;
 mod words;
 mod writing;

@@ -1,15 +1,19 @@
 //! The page on which text is put together before it is written.
 
-ghost use Rattle.std.specs.Prelude.{◌≡◌, ◌≤◌, ◌+◌, ◌++◌, [], length, nat_le, MatchResult};
-ghost use Rattle.order_file.specs.Ends.{Writes, TellsFailure};
-ghost use Rattle.printed_lines.specs.Printing.{Prints};
+ghost use Rattle.std.specs.Prelude.{◌≡◌, ◌≤◌, ◌+◌, ◌++◌, ℕ, List, [], length, decimal, IfOk, OnErr, OnOk};
+ghost use Rattle.order_file.specs.Ends.{AppendsBeginning, TellsFailure, Writes};
+ghost use Rattle.printed_lines.specs.Printing.{Keeps};
 
 use crate::writing::{WriteFailed, write_all};
+use itoa::Buffer;
 use order_file::Sink;
 use std::marker::Model;
 
 /// How many bytes a page has room for.
 const ROOM: usize = 16_384;
+
+/// How many bytes a line has at most.
+const LONGEST_LINE: usize = 256;
 
 /// Text that is still to be written, up to 16,384 bytes of it. It takes no memory.
 #[derive(Drop)]
@@ -39,13 +43,7 @@ impl Page {
         }
     }
 
-    /// Whether there is room for so many bytes more.
-    fn has_room(&self, count: usize) -> bool
-        ensures { result ≡ nat_le (length self.now + count) 16384 }
-    {
-        count <= ROOM - self.len
-    }
-
+    #[inline(always)]
     fn append(&mut self, text: &[u8])
         requires { length self.old + length text.now ≤ 16384 }
         ensures { self.new ≡ self.old ++ text.now }
@@ -72,30 +70,38 @@ impl Page {
         written
     }
 
-    /// Puts text on the page, and writes what stands there before it where there is no room.
+    /// Writes what stands on the page where there is no room for one more line.
     #[inline(always)]
-    pub(crate) fn print<S: Sink>(&mut self, sink: &mut S, text: &[u8]) -> Result<(), WriteFailed>
-        ensures text { Prints (S.written sink.old) (S.written sink.new) self.old self.new result text.now }
+    pub(crate) fn make_room<S: Sink>(&mut self, sink: &mut S) -> Result<(), WriteFailed>
+        ensures kept { OnOk result (Keeps (S.written sink.old) (S.written sink.new) self.new self.old) }
+        ensures begun { OnErr result ((more : List ℕ) → AppendsBeginning (S.written sink.old) (S.written sink.new) (self.old ++ more)) }
         ensures failed { TellsFailure (S.failures sink.old) (S.failures sink.new) result }
+        ensures room { IfOk result (λ _. length self.new + 256 ≤ 16384) }
     {
-        if self.has_room(text.len()) {
-            self.append(text);
-            return Ok(());
+        if self.len > ROOM - LONGEST_LINE {
+            return self.write_to(sink);
         }
-        self.turn_over(sink, text)
+        Ok(())
     }
 
-    // Writes what stands on the page, and puts text on it after that. It is kept apart, as most text finds room.
-    #[inline(never)]
-    fn turn_over<S: Sink>(&mut self, sink: &mut S, text: &[u8]) -> Result<(), WriteFailed>
-        ensures text { Prints (S.written sink.old) (S.written sink.new) self.old self.new result text.now }
-        ensures failed { TellsFailure (S.failures sink.old) (S.failures sink.new) result }
+    /// Puts text behind what stands on the page.
+    #[inline(always)]
+    pub(crate) fn put(&mut self, text: &str)
+        requires { length self.old + length text.now ≤ 16384 }
+        ensures text { self.new ≡ self.old ++ text.now }
+        ensures longer { length self.new ≡ length self.old + length text.now }
     {
-        self.write_to(sink)?;
-        if !self.has_room(text.len()) {
-            return write_all(sink, text);
-        }
-        self.append(text);
-        Ok(())
+        self.append(text.as_bytes());
+    }
+
+    /// Puts a number behind what stands on the page, in decimal digits without leading zeros.
+    #[inline(always)]
+    pub(crate) fn put_number(&mut self, number: u64)
+        requires { length self.old + 20 ≤ 16384 }
+        ensures text { self.new ≡ self.old ++ decimal number }
+        ensures longer { length self.new ≤ length self.old + 20 }
+    {
+        let mut buffer = Buffer::new();
+        self.append(buffer.format(number).as_bytes());
     }
 }

@@ -1,205 +1,159 @@
 //! The text of a reply.
 
-ghost use Rattle.std.specs.Prelude.{◌≡◌, ◌<◌};
-ghost use Rattle.order_file.specs.Ends.{TellsFailure};
+ghost use Rattle.std.specs.Prelude.{◌≡◌, ◌≤◌, ◌+◌, ◌++◌, ◌∷◌, [], length, decimal};
 ghost use Rattle.auction_terms.specs.declared.Reply.TheVariants as reply;
-ghost use Rattle.printed_lines.specs.Printing.{Prints};
-ghost use Rattle.printed_lines.specs.Words.{joined, price_words, reply_text};
+ghost use Rattle.printed_lines.specs.Words.{joined, limit_words, number_word, price_words, reply_text};
 
 use crate::page::Page;
-use crate::part::{Part, print_part, print_parts};
-use crate::words::{kind_word, number_word, place_word, refusal_word, side_word};
-use crate::writing::WriteFailed;
+use crate::words::{kind_word, place_word, refusal_word, side_word};
 use auction_terms::{Display, Kind, Limit, Price, Reply, Side, Trade};
-use order_file::Sink;
 
-fn print_price<S: Sink>(sink: &mut S, page: &mut Page, price: Price) -> Result<(), WriteFailed>
-    ensures text { Prints (S.written sink.old) (S.written sink.new) page.old page.new result (joined (price_words price)) }
-    ensures failed { TellsFailure (S.failures sink.old) (S.failures sink.new) result }
+/// Puts a number on the page, or a dash where there is none.
+fn put_number_word(page: &mut Page, number: Option<u32>)
+    requires { length page.old + 20 ≤ 16384 }
+    ensures text { page.new ≡ page.old ++ number_word number }
+    ensures longer { length page.new ≤ length page.old + 20 }
 {
-    let parts = [
-        Part::Text("price "),
-        Part::Number(u64::from(price.tick)),
-        Part::Text(" volume "),
-        Part::Number(price.volume),
-        Part::Text(" surplus "),
-        Part::Number(price.surplus),
-        Part::Text(" "),
-        side_word(price.side),
-    ];
-    print_parts(sink, page, parts.as_slice())
+    match number {
+        Some(number) => page.put_number(u64::from(number)),
+        None => page.put("-"),
+    }
 }
 
-fn print_display<S: Sink>(
-    sink: &mut S,
-    page: &mut Page,
-    display: Display,
-) -> Result<(), WriteFailed>
-    ensures text { Prints (S.written sink.old) (S.written sink.new) page.old page.new result (reply_text (reply.Indicated display)) }
-    ensures failed { TellsFailure (S.failures sink.old) (S.failures sink.new) result }
+fn put_price(page: &mut Page, price: Price)
+    requires { length page.old + 100 ≤ 16384 }
+    ensures text { page.new ≡ page.old ++ joined (price_words price) }
+    ensures longer { length page.new ≤ length page.old + 100 }
+{
+    page.put("price ");
+    page.put_number(u64::from(price.tick));
+    page.put(" volume ");
+    page.put_number(price.volume);
+    page.put(" surplus ");
+    page.put_number(price.surplus);
+    page.put(" ");
+    page.put(side_word(price.side));
+}
+
+fn put_display(page: &mut Page, display: Display)
+    requires { length page.old + 100 ≤ 16384 }
+    ensures text { page.new ≡ page.old ++ reply_text (reply.Indicated display) }
+    ensures longer { length page.new ≤ length page.old + 100 }
 {
     match display {
-        Display::Priced(price) => print_price(sink, page, price),
+        Display::Priced(price) => put_price(page, price),
         Display::Unpriced {
             best_buy,
             best_sell,
         } => {
-            let parts = [
-                Part::Text("no price bid "),
-                number_word(best_buy),
-                Part::Text(" ask "),
-                number_word(best_sell),
-            ];
-            print_parts(sink, page, parts.as_slice())
+            page.put("no price bid ");
+            put_number_word(page, best_buy);
+            page.put(" ask ");
+            put_number_word(page, best_sell);
         }
     }
 }
 
-fn print_standing<S: Sink>(
-    sink: &mut S,
-    page: &mut Page,
-    side: Side,
-    limit: Limit,
-    quantity: u64,
-    visible: u64,
-) -> Result<(), WriteFailed>
-    ensures text { Prints (S.written sink.old) (S.written sink.new) page.old page.new result (reply_text (reply.Standing side limit quantity visible)) }
-    ensures failed { TellsFailure (S.failures sink.old) (S.failures sink.new) result }
+/// Puts what stands behind an order's open quantity on the page: its limit, and its visible quantity.
+fn put_limit(page: &mut Page, limit: Limit, visible: u64)
+    requires { length page.old + 60 ≤ 16384 }
+    ensures text { page.new ≡ page.old ++ joined (limit_words limit ++ (decimal visible ∷ [])) }
+    ensures longer { length page.new ≤ length page.old + 60 }
 {
     match limit {
         Limit::Market => {
-            let parts = [
-                Part::Text("order "),
-                side_word(Some(side)),
-                Part::Text(" "),
-                Part::Number(quantity),
-                Part::Text(" market visible "),
-                Part::Number(visible),
-            ];
-            print_parts(sink, page, parts.as_slice())
+            page.put(" market visible ");
+            page.put_number(visible);
         }
         Limit::At(tick) => {
-            let parts = [
-                Part::Text("order "),
-                side_word(Some(side)),
-                Part::Text(" "),
-                Part::Number(quantity),
-                Part::Text(" at "),
-                Part::Number(u64::from(tick)),
-                Part::Text(" visible "),
-                Part::Number(visible),
-            ];
-            print_parts(sink, page, parts.as_slice())
+            page.put(" at ");
+            page.put_number(u64::from(tick));
+            page.put(" visible ");
+            page.put_number(visible);
         }
     }
 }
 
-fn print_trade<S: Sink>(sink: &mut S, page: &mut Page, trade: Trade) -> Result<(), WriteFailed>
-    ensures text { Prints (S.written sink.old) (S.written sink.new) page.old page.new result (reply_text (reply.Traded trade)) }
-    ensures failed { TellsFailure (S.failures sink.old) (S.failures sink.new) result }
+fn put_standing(page: &mut Page, side: Side, limit: Limit, quantity: u64, visible: u64)
+    requires { length page.old + 100 ≤ 16384 }
+    ensures text { page.new ≡ page.old ++ reply_text (reply.Standing side limit quantity visible) }
+    ensures longer { length page.new ≤ length page.old + 100 }
 {
-    let parts = [
-        Part::Text("trade "),
-        Part::Number(u64::from(trade.buy)),
-        Part::Text(" "),
-        Part::Number(u64::from(trade.sell)),
-        Part::Text(" "),
-        Part::Number(trade.quantity),
-        Part::Text(" at "),
-        Part::Number(u64::from(trade.tick)),
-    ];
-    print_parts(sink, page, parts.as_slice())
+    page.put("order ");
+    page.put(side_word(Some(side)));
+    page.put(" ");
+    page.put_number(quantity);
+    put_limit(page, limit, visible);
 }
 
-fn print_uncrossed<S: Sink>(
-    sink: &mut S,
-    page: &mut Page,
-    kind: Kind,
-    price: Option<Price>,
-    trades: u32,
-) -> Result<(), WriteFailed>
-    ensures text { Prints (S.written sink.old) (S.written sink.new) page.old page.new result (reply_text (reply.Uncrossed kind trades price)) }
-    ensures failed { TellsFailure (S.failures sink.old) (S.failures sink.new) result }
+fn put_trade(page: &mut Page, trade: Trade)
+    requires { length page.old + 100 ≤ 16384 }
+    ensures text { page.new ≡ page.old ++ reply_text (reply.Traded trade) }
+    ensures longer { length page.new ≤ length page.old + 100 }
 {
+    page.put("trade ");
+    page.put_number(u64::from(trade.buy));
+    page.put(" ");
+    page.put_number(u64::from(trade.sell));
+    page.put(" ");
+    page.put_number(trade.quantity);
+    page.put(" at ");
+    page.put_number(u64::from(trade.tick));
+}
+
+fn put_uncrossed(page: &mut Page, kind: Kind, price: Option<Price>, trades: u32)
+    requires { length page.old + 150 ≤ 16384 }
+    ensures text { page.new ≡ page.old ++ reply_text (reply.Uncrossed kind trades price) }
+    ensures longer { length page.new ≤ length page.old + 150 }
+{
+    page.put(kind_word(kind));
     match price {
-        None => {
-            let parts = [kind_word(kind), Part::Text(" no price")];
-            print_parts(sink, page, parts.as_slice())
-        }
+        None => page.put(" no price"),
         Some(price) => {
-            let parts = [
-                kind_word(kind),
-                Part::Text(" "),
-                Part::Text("price "),
-                Part::Number(u64::from(price.tick)),
-                Part::Text(" volume "),
-                Part::Number(price.volume),
-                Part::Text(" surplus "),
-                Part::Number(price.surplus),
-                Part::Text(" "),
-                side_word(price.side),
-                Part::Text(" trades "),
-                Part::Number(u64::from(trades)),
-            ];
-            print_parts(sink, page, parts.as_slice())
+            page.put(" ");
+            put_price(page, price);
+            page.put(" trades ");
+            page.put_number(u64::from(trades));
         }
     }
 }
 
-fn print_interrupted<S: Sink>(
-    sink: &mut S,
-    page: &mut Page,
-    price: Price,
-) -> Result<(), WriteFailed>
-    ensures text { Prints (S.written sink.old) (S.written sink.new) page.old page.new result (reply_text (reply.Interrupted price)) }
-    ensures failed { TellsFailure (S.failures sink.old) (S.failures sink.new) result }
-{
-    let parts = [
-        Part::Text("interrupted "),
-        Part::Text("price "),
-        Part::Number(u64::from(price.tick)),
-        Part::Text(" volume "),
-        Part::Number(price.volume),
-        Part::Text(" surplus "),
-        Part::Number(price.surplus),
-        Part::Text(" "),
-        side_word(price.side),
-    ];
-    print_parts(sink, page, parts.as_slice())
-}
-
-/// The text of a reply.
-pub fn print_reply<S: Sink>(sink: &mut S, page: &mut Page, reply: Reply) -> Result<(), WriteFailed>
-    ensures text { Prints (S.written sink.old) (S.written sink.new) page.old page.new result (reply_text reply) }
-    ensures failed { TellsFailure (S.failures sink.old) (S.failures sink.new) result }
+/// Puts the text of a reply on the page.
+pub fn put_reply(page: &mut Page, reply: Reply)
+    requires { length page.old + 150 ≤ 16384 }
+    ensures text { page.new ≡ page.old ++ reply_text reply }
+    ensures longer { length page.new ≤ length page.old + 150 }
 {
     match reply {
         Reply::Entered { id } => {
-            let parts = [Part::Text("entered "), Part::Number(u64::from(id))];
-            print_parts(sink, page, parts.as_slice())
+            page.put("entered ");
+            page.put_number(u64::from(id));
         }
         Reply::Changed { kept } => {
-            let parts = [Part::Text("changed "), place_word(kept)];
-            print_parts(sink, page, parts.as_slice())
+            page.put("changed ");
+            page.put(place_word(kept));
         }
-        Reply::Deleted => print_part(sink, page, Part::Text("deleted")),
+        Reply::Deleted => page.put("deleted"),
         Reply::Standing {
             side,
             limit,
             quantity,
             visible,
-        } => print_standing(sink, page, side, limit, quantity, visible),
-        Reply::Indicated(display) => print_display(sink, page, display),
-        Reply::Traded(trade) => print_trade(sink, page, trade),
+        } => put_standing(page, side, limit, quantity, visible),
+        Reply::Indicated(display) => put_display(page, display),
+        Reply::Traded(trade) => put_trade(page, trade),
         Reply::Uncrossed {
             kind,
             price,
             trades,
-        } => print_uncrossed(sink, page, kind, price, trades),
-        Reply::Interrupted(price) => print_interrupted(sink, page, price),
+        } => put_uncrossed(page, kind, price, trades),
+        Reply::Interrupted(price) => {
+            page.put("interrupted ");
+            put_price(page, price);
+        }
         Reply::Refused(refused) => {
-            let parts = [Part::Text("refused "), refusal_word(refused)];
-            print_parts(sink, page, parts.as_slice())
+            page.put("refused ");
+            page.put(refusal_word(refused));
         }
     }
 }

@@ -1,0 +1,8 @@
+use Rattle.std.proofs.Common.{codes}
+use Rattle.printed_lines.specs.Words.{price_words}
+use Rattle.printed_lines.proofs.Texts.{put-more}
+use Rattle.printed_lines.proofs.reply.put_reply.Goals as goal
+
+pub returns-in-Interrupted-clause-text : goal.returns-in-Interrupted-clause-text
+returns-in-Interrupted-clause-text c =
+    rw c.in-Interrupted.is (put-more c.args.page.now c.put-in-Interrupted.new.self c.put_price.new.page (codes "interrupted ") (price_words c.in-Interrupted.price) c.put-in-Interrupted.ensures.text c.put_price.ensures.text)
