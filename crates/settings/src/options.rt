@@ -1,5 +1,12 @@
 //! The options of the command line.
 
+ghost use Rattle.std.specs.Prelude.{◌≡◌, IfOk, IfErr, false, map};
+ghost use Rattle.clap.specs.Walk.{rule_of};
+ghost use Rattle.clap.specs.Simple.{app_of};
+ghost use Rattle.clap.specs.Values.{kind_of};
+ghost use Rattle.settings.specs.Options.{callboard, flag, rule_for, with_rules};
+
+use clap::error::ErrorKind;
 use clap::{Arg, ArgAction, Command, Error, value_parser};
 use std::alloc::Global;
 
@@ -8,13 +15,13 @@ use std::alloc::Global;
 struct Number {
     name: &'static str,
     help: &'static str,
-    least: i64,
-    most: i64,
+    least: u32,
+    most: u32,
     /// What it is where it is left out.
     default: Option<&'static str>,
 }
 
-const NUMBERS: [Number; 7] = [
+static NUMBERS: [Number; 7] = [
     Number {
         name: "low",
         help: "The lowest tick",
@@ -66,8 +73,13 @@ const NUMBERS: [Number; 7] = [
     },
 ];
 
-fn number_option<'a>(alloc: Global, number: Number) -> Arg<'a> {
-    let parser = value_parser!(u32).range(number.least..=number.most);
+fn number_option<'a>(alloc: Global, number: Number) -> Arg<'a>
+    ensures rule { rule_of result ≡ rule_for number }
+    ensures local { result.global ≡ false }
+{
+    let least = i64::from(number.least);
+    let most = i64::from(number.most);
+    let parser = value_parser!(u32).range(least..=most);
     let arg = Arg::new(alloc, number.name)
         .long(number.name)
         .value_name("N")
@@ -80,23 +92,44 @@ fn number_option<'a>(alloc: Global, number: Number) -> Arg<'a> {
     }
 }
 
-fn flag<'a>(alloc: Global, name: &'a str, help: &'a str) -> Arg<'a> {
+fn flag_option<'a>(alloc: Global, name: &'a str, help: &'a str) -> Arg<'a>
+    ensures rule { rule_of result ≡ flag name.entry.now }
+    ensures local { result.global ≡ false }
+{
     Arg::new(alloc, name)
         .long(name)
         .help(help)
         .action(ArgAction::SetTrue)
+        .value_parser(value_parser!(bool))
+}
+
+/// The command with these options too. The error is want of memory.
+fn with_numbers<'a>(
+    alloc: Global,
+    mut command: Command<'a>,
+    numbers: &[Number],
+) -> Result<Command<'a>, Error>
+    ensures options { IfOk result (λ c.
+        app_of c ≡ with_rules (app_of command.entry) (map rule_for numbers.now)) }
+    ensures memory { IfErr result (λ e. kind_of e ≡ ErrorKind.OutOfMemory) }
+{
+    for number in numbers {
+        command = command.arg(number_option(alloc, *number))?;
+    }
+    Ok(command)
 }
 
 /// The command with all its options: the numbers in ticks, orders, calls and members, each with its range, and the two
 /// flags of the members' floor. The error is want of memory.
-pub fn callboard<'a>(alloc: Global) -> Result<Command<'a>, Error> {
-    let mut command = Command::new(alloc, "callboard").about(
+pub fn callboard<'a>(alloc: Global) -> Result<Command<'a>, Error>
+    ensures options { IfOk result (λ c. app_of c ≡ callboard) }
+    ensures memory { IfErr result (λ e. kind_of e ≡ ErrorKind.OutOfMemory) }
+{
+    let command = Command::new(alloc, "callboard").about(
         "A call auction board: reads an order file, prints a line for each command",
     );
-    for number in NUMBERS {
-        command = command.arg(number_option(alloc, number))?;
-    }
-    let floor = flag(alloc, "floor", "Run the members at once on a board");
-    let history = flag(alloc, "history", "With --floor, print the history too");
+    let command = with_numbers(alloc, command, NUMBERS.as_slice())?;
+    let floor = flag_option(alloc, "floor", "Run the members at once on a board");
+    let history = flag_option(alloc, "history", "With --floor, print the history too");
     Ok(command.arg(floor)?.arg(history)?)
 }

@@ -1,0 +1,30 @@
+-- The command as it is built up.
+use Rattle.std.proofs.Common.{◌≡◌, ◌∙◌, ◌<◌, ◌≤◌, ◌+◌, ℕ, List, [], ◌∷◌, ◌++◌, ap, ap₂, map, take, length, codes, sym, append_assoc, append-nil, slice_index_or}
+use Rattle.std.proofs.lemmas.List.{map_more, take_all}
+use Rattle.clap.specs.Walk.{Rule}
+use Rattle.clap.specs.Simple.{App, new_app, with_rule}
+use Rattle.settings.specs.Options.{callboard, flag, numbered, rule_for, with_rules}
+use Rattle.settings.specs.declared.options.Number.{Number}
+
+-- with no rule more it is the same
+pub no_rules : (a : App) → a ≡ with_rules a []
+no_rules a = ap (λ rules. record a { top = record a.top { rules = rules } }) (sym (append-nil a.top.rules))
+
+-- one option more
+pub more_rules : (a b c : App) (numbers : List Number) (i : ℕ) (n : Number) (r : Rule) → i < length numbers → b ≡ with_rules a (map rule_for (take i numbers))
+    → r ≡ rule_for (slice_index_or numbers i n) → c ≡ with_rule b r → c ≡ with_rules a (map rule_for (take (i + 1) numbers))
+more_rules a b c numbers i n r lt before rule added =
+    added ∙ ap₂ with_rule before rule
+    ∙ ap (λ rules. record a { top = record a.top { rules = rules } })
+    (append_assoc a.top.rules (map rule_for (take i numbers)) (rule_for (slice_index_or numbers i n) ∷ []) ∙ ap (λ rules. a.top.rules ++ rules) (sym (map_more rule_for numbers i n lt)))
+
+-- all of them
+pub all_rules : (a b : App) (numbers : List Number) (i : ℕ) → length numbers ≤ i → b ≡ with_rules a (map rule_for (take i numbers)) → b ≡ with_rules a (map rule_for numbers)
+all_rules a b numbers i le h = rw take_all at h
+
+-- the options in the order of the table, and then the two flags
+pub whole : (a b c d : App) (numbers : List Number) (floor history : Rule) → a ≡ new_app (codes "callboard") → b ≡ with_rules a (map rule_for numbers)
+    → map rule_for numbers ≡ numbered → floor ≡ flag (codes "floor") → c ≡ with_rule b floor → history ≡ flag (codes "history") → d ≡ with_rule c history → d ≡ callboard
+unfolding callboard
+whole a b c d numbers floor history start table rules f more-f h more-h =
+    more-h ∙ ap₂ with_rule (more-f ∙ ap₂ with_rule (table ∙ ap₂ with_rules start rules) f) h
