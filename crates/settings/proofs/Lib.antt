@@ -1,1 +1,6 @@
 mod Built
+mod Examples
+mod Numbers
+mod Parsed
+mod Places
+mod Readings

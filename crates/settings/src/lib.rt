@@ -1,77 +1,90 @@
 //! The command line of a call auction board: its options, their ranges and their defaults.
 #![tactic(auto)]
 
-ghost use Rattle.std.specs.Prelude.{◌≤◌, IfOk, IfSome};
-ghost use Rattle.settings.specs.Ranges.{InRange, Within};
+ghost use Rattle.std.specs.Prelude.{◌≡◌, IfOk, Some, codes};
+ghost use Rattle.clap.specs.Kinds.{FailsBy};
+ghost use Rattle.clap.specs.Faults.{fault_of};
+ghost use Rattle.clap.specs.Matches.{found_of};
+ghost use Rattle.clap.specs.Simple.{matches_of};
+ghost use Rattle.clap.specs.Walk.{rows_of, texts};
+ghost use Rattle.settings.specs.Options.{callboard};
+ghost use Rattle.settings.specs.Ranges.{InRange};
+ghost use Rattle.settings.specs.Words.{HasFlag, HasNumber, IsParsed, MayHaveNumber, Says, is_given};
+ghost use Rattle.settings.specs.Words.{number_at};
 
 mod options;
 mod types;
 
 use auction_terms::Config;
-use clap::error::ErrorKind;
 use clap::{ArgMatches, Error};
 use std::alloc::Global;
 pub use types::Settings;
 
 /// The number of an option that has a default.
-fn number_of(matches: &ArgMatches<'_>, name: &str, most: u32) -> Option<u32>
-    ensures { IfSome result (λ n. Within n most) }
+fn number_of(matches: &ArgMatches<'_>, name: &str) -> u32
+    requires { HasNumber 0 4294967295 name.now (rows_of (found_of matches.now)) }
+    ensures { number_at name.now (rows_of (found_of matches.now)) ≡ Some result }
 {
-    let number = matches.get_one::<u32>(name)?;
-    if number < 1 || number > most {
-        return None;
-    }
-    Some(number)
+    matches.get_one::<u32>(name).unwrap()
 }
 
 /// The range, which may be left out.
-fn range_of(matches: &ArgMatches<'_>) -> Option<Option<u32>>
-    ensures { IfSome result (λ range. IfSome range (λ n. n ≤ 1000000)) }
+fn range_of(matches: &ArgMatches<'_>) -> Option<u32>
+    requires { MayHaveNumber 0 4294967295 (codes "range") (rows_of (found_of matches.now)) }
+    ensures { number_at (codes "range") (rows_of (found_of matches.now)) ≡ result }
 {
-    let Some(range) = matches.get_one::<u32>("range") else {
-        return Some(None);
-    };
-    if range > 1_000_000 {
-        return None;
-    }
-    Some(Some(range))
+    matches.get_one::<u32>("range")
 }
 
-fn settings_of(matches: &ArgMatches<'_>) -> Option<Settings>
-    ensures { IfSome result InRange }
+fn flag_of(matches: &ArgMatches<'_>, name: &str) -> bool
+    requires { HasFlag name.now (rows_of (found_of matches.now)) }
+    ensures { is_given name.now (rows_of (found_of matches.now)) ≡ result }
 {
-    let members = number_of(matches, "members", 64)?;
-    let config = Config {
-        low: number_of(matches, "low", 1_000_000)?,
-        high: number_of(matches, "high", 1_000_000)?,
-        reference: number_of(matches, "reference", 1_000_000)?,
-        max_open: number_of(matches, "open", 65_536)?,
-        max_calls: number_of(matches, "calls", 1_048_576)?,
-        range: range_of(matches)?,
-    };
-    Some(Settings {
-        config,
+    matches.get_flag(name)
+}
+
+/// The settings in the matches of a parse of the command.
+fn settings_of(matches: &ArgMatches<'_>) -> Settings
+    requires { IsParsed matches.now }
+    ensures words { Says (rows_of (found_of matches.now)) result }
+    ensures ranges { InRange result }
+{
+    let low = number_of(matches, "low");
+    let high = number_of(matches, "high");
+    let reference = number_of(matches, "reference");
+    let max_open = number_of(matches, "open");
+    let max_calls = number_of(matches, "calls");
+    let range = range_of(matches);
+    let members = number_of(matches, "members");
+    let floor = flag_of(matches, "floor");
+    let history = flag_of(matches, "history");
+    Settings {
+        config: Config {
+            low,
+            high,
+            reference,
+            max_open,
+            max_calls,
+            range,
+        },
         members: members as u8,
-        floor: matches.get_flag("floor"),
-        history: matches.get_flag("history"),
-    })
+        floor,
+        history,
+    }
 }
 
 /// Reads the command line: `words` is the program's name and then its words.
 ///
-/// Prices are in ticks. Each number is in its option's range; what two options say together is for
-/// the auction to judge. An error is clap's own: its text for the help that was asked for, for words
-/// that are none of these options or a number out of its range, and for want of memory.
+/// Prices are in ticks. Each number is the one that its option gives, or the option's default, and
+/// is in its option's range; what two options say together is for the auction to judge. An error is
+/// clap's own: its text for the help that was asked for, for words that are none of these options or
+/// a number out of its range, and for want of memory.
 pub fn settings<'a>(alloc: Global, words: &'a [&'a str]) -> Result<Settings, Error>
-    ensures { IfOk result InRange }
+    ensures refused { FailsBy (fault_of callboard (texts words.now)) result }
+    ensures words { IfOk result (Says (matches_of callboard (texts words.now))) }
+    ensures ranges { IfOk result InRange }
 {
-    let matches = options::callboard(alloc)?.try_get_matches_from(words)?;
-    match settings_of(&matches) {
-        Some(settings) => Ok(settings),
-        // The options' parsers checked each range, so this does not come.
-        None => Err(options::callboard(alloc)?.error(
-            ErrorKind::ValueValidation,
-            "a number is out of its range",
-        )?),
-    }
+    let command = options::callboard(alloc)?;
+    let matches = command.try_get_matches_from(words)?;
+    Ok(settings_of(&matches))
 }

@@ -1,0 +1,57 @@
+-- Command lines, as the definitions read them.
+use Rattle.std.proofs.Common.{◌≡◌, true, false, refl, List, [], ◌∷◌, Some, None, codes}
+use Rattle.clap.specs.Walk.{Text}
+use Rattle.clap.specs.Faults.{fault_of}
+use Rattle.clap.specs.Kinds.{Kinds}
+use Rattle.clap.specs.declared.error.kind.ErrorKind.TheVariants as kind
+use Rattle.clap.proofs.OnLiterals.{clap_on_literals}
+use Rattle.settings.specs.Options.{callboard}
+use Rattle.settings.specs.Words.{Accepts}
+use Rattle.settings.specs.declared.types.Settings.{Settings}
+
+-- the settings where no word is given
+abbrev plain : Settings
+plain = record {
+  config = record { low = 1; high = 1000; reference = 200; max_open = 4096; max_calls = 65536; range = None };
+  members = 4;
+  floor = false;
+  history = false;
+}
+
+-- no word
+no_words : Accepts (codes "callboard" ∷ []) plain
+unfolding callboard clap_on_literals
+no_words = (refl, record { low = refl; high = refl; reference = refl; max_open = refl; max_calls = refl; range = refl; members = refl; floor = refl; history = refl })
+
+-- `--low 5 --floor`
+low_and_floor : Accepts (codes "callboard" ∷ codes "--low" ∷ codes "5" ∷ codes "--floor" ∷ []) (record plain { config = record plain.config { low = 5 }; floor = true })
+unfolding callboard clap_on_literals
+low_and_floor = (refl, record { low = refl; high = refl; reference = refl; max_open = refl; max_calls = refl; range = refl; members = refl; floor = refl; history = refl })
+
+-- `--range 0`
+range_of_zero : Accepts (codes "callboard" ∷ codes "--range" ∷ codes "0" ∷ []) (record plain { config = record plain.config { range = Some 0 } })
+unfolding callboard clap_on_literals
+range_of_zero = (refl, record { low = refl; high = refl; reference = refl; max_open = refl; max_calls = refl; range = refl; members = refl; floor = refl; history = refl })
+
+abbrev faults : List Text → Kinds
+faults words = fault_of callboard (codes "callboard" ∷ words)
+
+-- one member too many
+members_65 : faults (codes "--members" ∷ codes "65" ∷ []) ≡ kind.ValueValidation ∷ []
+unfolding callboard clap_on_literals
+members_65 = refl
+
+-- an option that there is not
+nonsense : faults (codes "--nonsense" ∷ []) ≡ kind.UnknownArgument ∷ []
+unfolding callboard clap_on_literals
+nonsense = refl
+
+-- an option twice
+low_twice : faults (codes "--low" ∷ codes "5" ∷ codes "--low" ∷ codes "6" ∷ []) ≡ kind.ArgumentConflict ∷ []
+unfolding callboard clap_on_literals
+low_twice = refl
+
+-- the help
+help : faults (codes "--help" ∷ []) ≡ kind.DisplayHelp ∷ []
+unfolding callboard clap_on_literals
+help = refl
