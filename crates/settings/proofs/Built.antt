@@ -3,7 +3,8 @@ use Rattle.std.proofs.Common.{◌≡◌, ◌∙◌, ◌<◌, ◌≤◌, ◌+◌,
 use Rattle.std.proofs.lemmas.List.{map_more, take_all}
 use Rattle.clap.specs.Walk.{Rule}
 use Rattle.clap.specs.Simple.{App, new_app, with_rule}
-use Rattle.settings.specs.Options.{callboard, flag, numbered, rule_for, with_rules}
+use Rattle.settings.specs.Options.{callboard, flag, options}
+use Rattle.settings.specs.Table.{rule_for, with_rules}
 use Rattle.settings.specs.declared.options.Number.{Number}
 
 -- with no rule more it is the same
@@ -24,7 +25,7 @@ all_rules a b numbers i le h = rw take_all at h
 
 -- the options in the order of the table, and then the two flags
 pub whole : (a b c d : App) (numbers : List Number) (floor history : Rule) → a ≡ new_app (codes "callboard") → b ≡ with_rules a (map rule_for numbers)
-    → map rule_for numbers ≡ numbered → floor ≡ flag (codes "floor") → c ≡ with_rule b floor → history ≡ flag (codes "history") → d ≡ with_rule c history → d ≡ callboard
+    → map rule_for numbers ≡ take 7 options → floor ≡ flag (codes "floor") → c ≡ with_rule b floor → history ≡ flag (codes "history") → d ≡ with_rule c history → d ≡ callboard
 unfolding callboard
 whole a b c d numbers floor history start table rules f more-f h more-h =
     more-h ∙ ap₂ with_rule (more-f ∙ ap₂ with_rule (table ∙ ap₂ with_rules start rules) f) h

@@ -33,6 +33,21 @@ range_of_zero : Accepts (codes "callboard" ∷ codes "--range" ∷ codes "0" ∷
 unfolding callboard clap_on_literals
 range_of_zero = (refl, record { low = refl; high = refl; reference = refl; max_open = refl; max_calls = refl; range = refl; members = refl; floor = refl; history = refl })
 
+-- each option
+every_option : Accepts (codes "callboard" ∷ codes "--low" ∷ codes "5" ∷ codes "--high=6" ∷ codes "--reference" ∷ codes "1000000" ∷ codes "--members=64" ∷ codes "--open" ∷ codes "65536"
+    ∷ codes "--calls" ∷ codes "1048576" ∷ codes "--range=7" ∷ codes "--floor" ∷ codes "--history" ∷ [])
+    (record {
+      config = record { low = 5; high = 6; reference = 1000000; max_open = 65536; max_calls = 1048576; range = Some 7 };
+      members = 64;
+      floor = true;
+      history = true;
+    })
+unfolding callboard clap_on_literals
+every_option = (refl, record { low = refl; high = refl; reference = refl; max_open = refl; max_calls = refl; range = refl; members = refl; floor = refl; history = refl })
+
+-- ---- words that are refused
+
+-- the kinds of fault of the words after the program's name
 abbrev faults : List Text → Kinds
 faults words = fault_of callboard (codes "callboard" ∷ words)
 
@@ -40,6 +55,21 @@ faults words = fault_of callboard (codes "callboard" ∷ words)
 members_65 : faults (codes "--members" ∷ codes "65" ∷ []) ≡ kind.ValueValidation ∷ []
 unfolding callboard clap_on_literals
 members_65 = refl
+
+-- no tick is 0
+low_0 : faults (codes "--low=0" ∷ []) ≡ kind.ValueValidation ∷ []
+unfolding callboard clap_on_literals
+low_0 = refl
+
+-- an option without its number
+low_alone : faults (codes "--low" ∷ []) ≡ kind.InvalidValue ∷ []
+unfolding callboard clap_on_literals
+low_alone = refl
+
+-- a flag takes no word
+floor_x : faults (codes "--floor" ∷ codes "x" ∷ []) ≡ kind.UnknownArgument ∷ []
+unfolding callboard clap_on_literals
+floor_x = refl
 
 -- an option that there is not
 nonsense : faults (codes "--nonsense" ∷ []) ≡ kind.UnknownArgument ∷ []

@@ -19,7 +19,8 @@ use Rattle.clap.proofs.KindLemmas.{fails_by_from}
 use Rattle.clap.proofs.WalkLemmas.{one_text-rows}
 use Rattle.settings.specs.Options.{callboard, flag, number}
 use Rattle.settings.specs.declared.types.Settings.{Settings}
-use Rattle.settings.specs.Words.{HasFlag, HasNumber, IsNumberIn, IsParsed, MayHaveNumber, Says, is_given, number_at, number_in}
+use Rattle.settings.specs.Texts.{HasFlag, HasNumber, IsNumberIn, IsParsed, MayHaveNumber}
+use Rattle.settings.specs.Words.{Says, is_given, number_at, number_in}
 use Rattle.settings.proofs.Numbers.{number_read, passed_text}
 use Rattle.settings.proofs.Parsed.{IsOption, IsReadBy, option_text, option_there}
 use Rattle.settings.proofs.Places.{stands}

@@ -1,11 +1,10 @@
 -- The options of the command line, as a parse reads them.
-use Rattle.std.specs.Prelude.{ℕ, pos, List, [], ◌∷◌, ◌++◌, Option, Some, None, codes, option_map}
+use Rattle.std.specs.Prelude.{ℕ, pos, List, [], ◌∷◌, Option, Some, None, codes}
 use Rattle.std.specs.Option.{option_map_or}
 use Rattle.clap.specs.Walk.{Rule, Text}
-use Rattle.clap.specs.Simple.{App, new_rule, new_shape, on_top}
+use Rattle.clap.specs.Simple.{App, new_rule, new_shape}
 use Rattle.clap.specs.declared.builder.action.ArgAction.TheVariants.{Set, SetTrue}
 use Rattle.clap.specs.declared.builder.value_parser.ValueParser.TheVariants as parser
-use Rattle.settings.specs.declared.options.Number.{Number}
 
 -- an option with a number: its name, its least and its most number, and what it is where it is left
 -- out
@@ -26,28 +25,19 @@ flag name = record (new_rule name) {
   parser = Some parser.Bool;
 }
 
-abbrev pub rule_for : Number → Rule
-rule_for n = number n.name.now n.least n.most (option_map (λ text. text.now) n.default)
-
--- the options with a number
-abbrev pub numbered : List Rule
-numbered = number (codes "low") 1 1000000 (Some (codes "1"))
+-- in the order of the help
+abbrev pub options : List Rule
+options = number (codes "low") 1 1000000 (Some (codes "1"))
     ∷ number (codes "high") 1 1000000 (Some (codes "1000"))
     ∷ number (codes "reference") 1 1000000 (Some (codes "200"))
     ∷ number (codes "open") 1 65536 (Some (codes "4096"))
     ∷ number (codes "calls") 1 1048576 (Some (codes "65536"))
     ∷ number (codes "range") 0 1000000 None
     ∷ number (codes "members") 1 64 (Some (codes "4"))
+    ∷ flag (codes "floor")
+    ∷ flag (codes "history")
     ∷ []
 
-abbrev pub with_rules : App → List Rule → App
-with_rules a rules = on_top (λ top. record top { rules = top.rules ++ rules }) a
-
--- the command with its options, in the order of its help
+-- the command: its name and its options, and no subcommand
 unfoldable pub callboard : App
-callboard = record {
-  top = record (new_shape (codes "callboard")) {
-    rules = numbered ++ flag (codes "floor") ∷ flag (codes "history") ∷ [];
-  };
-  subs = [];
-}
+callboard = record { top = record (new_shape (codes "callboard")) { rules = options }; subs = [] }

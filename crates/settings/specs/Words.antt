@@ -1,36 +1,17 @@
 -- What the words of the command line say.
-use Rattle.std.specs.Prelude.{◌≡◌, ◌≤◌, ◌⊎◌, ℕ, Bool, false, List, [], Option, Some, codes, option_map, IfSome, IsSomeAnd}
+use Rattle.std.specs.Prelude.{◌≡◌, ℕ, Bool, false, List, [], Option, Some, codes, option_map}
 use Rattle.std.specs.Option.{option_map_or}
 use Rattle.std.specs.Str.{bytes_eq}
-use Rattle.std.specs.Str.Parse.{IsNumeral, digits_value, without_leading_plus}
-use Rattle.clap.specs.Walk.{Row, Text, one_of}
-use Rattle.clap.specs.Simple.{app_of, matches_of}
-use Rattle.clap.specs.Built.{IsParsedFrom}
-use Rattle.clap.specs.declared.builder.command.Command.{Command}
-use Rattle.clap.specs.declared.parser.matches.ArgMatches.{ArgMatches}
+use Rattle.std.specs.Str.Parse.{digits_value, without_leading_plus}
 use Rattle.clap.specs.Faults.{fault_of}
+use Rattle.clap.specs.Simple.{matches_of}
+use Rattle.clap.specs.Walk.{Row, Text, one_of}
 use Rattle.settings.specs.Options.{callboard}
 use Rattle.settings.specs.declared.types.Settings.{Settings}
 
 -- the number that a text is read as
 abbrev pub number_in : Text → ℕ
 number_in text = digits_value 10 (without_leading_plus text)
-
--- digits, with a plus before them or not, of a number from `least` to `most`
-abbrev pub IsNumberIn : ℕ → ℕ → Text → Type 0
-IsNumberIn least most text = IsNumeral 10 (without_leading_plus text) × (least ≤ number_in text) × (number_in text ≤ most)
-
--- the option of this name has such a text
-abbrev pub HasNumber : ℕ → ℕ → Text → List Row → Type 0
-HasNumber least most name rows = IsSomeAnd (one_of name rows) (IsNumberIn least most)
-
--- the same, of an option that may be left out
-abbrev pub MayHaveNumber : ℕ → ℕ → Text → List Row → Type 0
-MayHaveNumber least most name rows = IfSome (one_of name rows) (IsNumberIn least most)
-
--- the flag of this name is `true` or `false`
-abbrev pub HasFlag : Text → List Row → Type 0
-HasFlag name rows = IfSome (one_of name rows) (λ text. (text ≡ codes "true") ⊎ (text ≡ codes "false"))
 
 -- the number of the option of this name, where it has one
 abbrev pub number_at : Text → List Row → Option ℕ
@@ -52,10 +33,6 @@ pub record Says (rows : List Row) (s : Settings) : Type 0 where
   pub floor : is_given (codes "floor") rows ≡ s.floor
   pub history : is_given (codes "history") rows ≡ s.history
 
--- the matches are those of a parse of the command
-abbrev pub IsParsed : ArgMatches → Type 0
-IsParsed m = (c : Command) × (app_of c ≡ callboard) × IsParsedFrom c m
-
--- the words are the command's own, and say these settings
+-- the words, the program's name first, have no fault and say these settings
 abbrev pub Accepts : List Text → Settings → Type 0
 Accepts words s = (fault_of callboard words ≡ []) × Says (matches_of callboard words) s

@@ -5,12 +5,11 @@ ghost use Rattle.std.specs.Prelude.{◌≡◌, IfOk, Some, codes};
 ghost use Rattle.clap.specs.Kinds.{FailsBy};
 ghost use Rattle.clap.specs.Faults.{fault_of};
 ghost use Rattle.clap.specs.Matches.{found_of};
-ghost use Rattle.clap.specs.Simple.{matches_of};
 ghost use Rattle.clap.specs.Walk.{rows_of, texts};
 ghost use Rattle.settings.specs.Options.{callboard};
 ghost use Rattle.settings.specs.Ranges.{InRange};
-ghost use Rattle.settings.specs.Words.{HasFlag, HasNumber, IsParsed, MayHaveNumber, Says, is_given};
-ghost use Rattle.settings.specs.Words.{number_at};
+ghost use Rattle.settings.specs.Texts.{HasFlag, HasNumber, IsParsed, MayHaveNumber};
+ghost use Rattle.settings.specs.Words.{Accepts, Says, is_given, number_at};
 
 mod options;
 mod types;
@@ -81,7 +80,7 @@ fn settings_of(matches: &ArgMatches<'_>) -> Settings
 /// a number out of its range, and for want of memory.
 pub fn settings<'a>(alloc: Global, words: &'a [&'a str]) -> Result<Settings, Error>
     ensures refused { FailsBy (fault_of callboard (texts words.now)) result }
-    ensures words { IfOk result (Says (matches_of callboard (texts words.now))) }
+    ensures words { IfOk result (Accepts (texts words.now)) }
     ensures ranges { IfOk result InRange }
 {
     let command = options::callboard(alloc)?;

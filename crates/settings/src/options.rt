@@ -4,7 +4,8 @@ ghost use Rattle.std.specs.Prelude.{◌≡◌, IfOk, IfErr, false, map};
 ghost use Rattle.clap.specs.Walk.{rule_of};
 ghost use Rattle.clap.specs.Simple.{app_of};
 ghost use Rattle.clap.specs.Values.{kind_of};
-ghost use Rattle.settings.specs.Options.{callboard, flag, rule_for, with_rules};
+ghost use Rattle.settings.specs.Options.{callboard, flag};
+ghost use Rattle.settings.specs.Table.{rule_for, with_rules};
 
 use clap::error::ErrorKind;
 use clap::{Arg, ArgAction, Command, Error, value_parser};

@@ -9,4 +9,7 @@ pub returns-clause-refused : goal.returns-clause-refused
 returns-clause-refused c = no_fault c.in_ok-command.command _ c.in_ok-command.ensures.options c.in_ok-matches.ensures.kinds
 
 pub returns-clause-words : goal.returns-clause-words
-returns-clause-words c = said c.in_ok-command.command c.in_ok-matches.matches _ _ c.in_ok-command.ensures.options c.in_ok-matches.ensures.matches c.settings_of.ensures.words
+returns-clause-words c = (
+  no_fault c.in_ok-command.command _ c.in_ok-command.ensures.options c.in_ok-matches.ensures.kinds,
+  said c.in_ok-command.command c.in_ok-matches.matches _ _ c.in_ok-command.ensures.options c.in_ok-matches.ensures.matches c.settings_of.ensures.words,
+)

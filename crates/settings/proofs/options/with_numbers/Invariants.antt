@@ -1,6 +1,6 @@
 use Rattle.std.proofs.Common.{◌≡◌, map, take}
 use Rattle.clap.specs.Simple.{app_of}
-use Rattle.settings.specs.Options.{rule_for, with_rules}
+use Rattle.settings.specs.Table.{rule_for, with_rules}
 use Rattle.settings.proofs.options.with_numbers.Given as goal
 
 abbrev pub invariant-loop-number : goal.invariant-loop-number
