@@ -3,5 +3,4 @@ pub mod Adding
 pub mod Histories
 pub mod Closings
 pub mod Faults
-pub mod Recording
 pub mod Beginnings

@@ -7,6 +7,8 @@ use Rattle.auction_terms.specs.declared.Reply.{Reply}
 use Rattle.auction_terms.specs.declared.Entry.{Entry}
 use Rattle.auction_terms.specs.Day.{IsLegal, step, replay, calls_of, display}
 use Rattle.call_board.specs.Standing.{Standing, own}
+use Rattle.call_board.specs.declared.floor.CallFault.{CallFault}
+use Rattle.call_board.specs.declared.floor.CallFault.TheVariants.{Behind}
 use Rattle.call_board.specs.declared.floor.Receipt.{Receipt}
 use Rattle.call_board.specs.declared.member.Shown.{Shown}
 
@@ -49,6 +51,10 @@ pub record Looks (c : Config) (old new : Standing) (s : Shown) : Type 0 where
 -- the member has seen more than the history has, or its count isn't that of its entries there
 abbrev pub IsBehind : List Entry → Standing → Type 0
 IsBehind history m = (length history < length m.seen) ⊎ (m.calls ≢ length (own (calls_of history) m.number))
+
+-- the fault of a member with this number that is behind this history
+abbrev pub behind : List Entry → ℕ → CallFault
+behind history number = Behind (length history) (length (own (calls_of history) number))
 
 -- the member has seen all of a full history, and is else as before
 pub record SeesFull (c : Config) (old new : Standing) : Type 0 where

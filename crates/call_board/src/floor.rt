@@ -1,10 +1,10 @@
 //! What the board's lock keeps, and the one event of the day: a call is recorded.
-ghost use Rattle.std.specs.Prelude.{◌≡◌, ◌+◌, ◌<◌, ◌≤◌, ◌≢◌, ◌++◌, ◌∷◌, [], ◌↔◌, ℕ, length, IfOk, OnOk, OnErr, Err};
+ghost use Rattle.std.specs.Prelude.{◌≡◌, ◌+◌, ◌<◌, ◌≤◌, ◌≢◌, ◌⊎◌, ◌++◌, ◌∷◌, [], ◌↔◌, ℕ, length, IfOk, IfSome, OnOk, OnErr, Err, Some};
 ghost use mathlib.Core.List.{IsPrefix};
 ghost use Rattle.auction_terms.specs.Day.{IsLegal, calls_of};
 ghost use Rattle.call_board.specs.declared.member.Shown.{Shown};
 ghost use Rattle.call_board.specs.Standing.{own};
-ghost use Rattle.call_board.specs.Told.{entry, CallsOnce, IsBehind, Looks, ShowsAfter};
+ghost use Rattle.call_board.specs.Told.{behind, entry, CallsOnce, IsBehind, Looks, ShowsAfter};
 
 use crate::day::Day;
 use crate::member::{Member, Shown};
@@ -97,25 +97,36 @@ where
         ensures fault { OnErr result ((self.new ≡ self.old) × (by.new ≡ by.old)) }
         ensures legal { IsLegal K.config self.new }
     {
-        if self.auction.is_full() {
-            return Err(CallFault::HistoryFull);
-        }
-        let history = self.auction.calls();
-        let number = by.number();
-        let counted = self.counted[usize::from(number)];
-        if by.seen_len() > history || by.calls() != counted {
-            return Err(CallFault::Behind { history, counted });
+        if let Some(fault) = self.refusal(by) {
+            return Err(fault);
         }
         if self.copies.reserve().is_err() {
             return Err(CallFault::NoMemory);
         }
         let mut front = self.front.again();
         // The floor alone adds to the story, under its lock, so this adds always.
-        if !front.add(&self.head, (number, command)) {
+        if !front.add(&self.head, (by.number(), command)) {
             return Err(CallFault::NoMemory);
         }
         by.compare(&self.front);
         Ok(self.enter(by, rt, command, front))
+    }
+
+    // Why a member's call can't be recorded, if it can't, want of memory aside.
+    fn refusal(&self, by: &Member<K>) -> Option<CallFault>
+        ensures full { (result ≡ Some CallFault.HistoryFull) ↔ (length self.now ≡ K.config.max_calls) }
+        ensures behind { IsBehind self.now by.now → length self.now ≢ K.config.max_calls → result ≡ Some (behind self.now by.now.number) }
+        ensures only { IfSome result (λ fault. (fault ≡ CallFault.HistoryFull) ⊎ (IsBehind self.now by.now × (fault ≡ behind self.now by.now.number))) }
+    {
+        if self.auction.is_full() {
+            return Some(CallFault::HistoryFull);
+        }
+        let history = self.auction.calls();
+        let counted = self.counted[usize::from(by.number())];
+        if by.seen_len() > history || by.calls() != counted {
+            return Some(CallFault::Behind { history, counted });
+        }
+        None
     }
 
     /// How many calls were recorded, and the display of the book after them. A member's look shows the same without the
