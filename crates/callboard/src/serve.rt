@@ -1,6 +1,9 @@
 //! The whole program, but for the process's own ends.
 
-ghost use Rattle.std.specs.Prelude.{◌≡◌, ◌≤◌, ◌⊎◌};
+ghost use Rattle.std.specs.Prelude.{◌≡◌, ◌≢◌, ◌<◌, ◌≤◌, ◌⊎◌};
+ghost use Rattle.clap.specs.Values.{kind_of};
+ghost use Rattle.clap.specs.Walk.{texts};
+ghost use Rattle.callboard.specs.Served.{Answers, RunsOnAuction, RunsOnBoard, words_status};
 ghost use Rattle.callboard.specs.Status.{floor_status, status_of};
 
 use crate::fault::Fault;
@@ -41,8 +44,9 @@ fn tell_floor_fault<E: Sink>(err: &mut E, fault: FloorFault) -> u8
 
 /// Prints the text of a command line that was refused, or the help that was asked for.
 fn answer_words<O: Sink, E: Sink>(alloc: Global, out: &mut O, err: &mut E, error: &Error) -> u8
-    ensures status { result ≤ 3 }
-    ensures quiet { (result ≡ 1) ⊎ (result ≡ 2) → O.written out.new ≡ O.written out.old }
+    ensures status { (result ≡ words_status (kind_of error.now)) ⊎ (result ≡ 3) }
+    ensures kept { words_status (kind_of error.now) ≢ 0 → O.written out.new ≡ O.written out.old }
+    ensures failed { O.failures out.old < O.failures out.new → result ≡ 3 }
 {
     let text = match format!(in alloc; "{error}") {
         Ok(text) if error.kind() != ErrorKind::OutOfMemory => text,
@@ -58,8 +62,24 @@ fn answer_words<O: Sink, E: Sink>(alloc: Global, out: &mut O, err: &mut E, error
     0
 }
 
+/// Runs the file on an auction, and answers the status.
+fn serve_auction<R: Source, O: Sink, E: Sink>(
+    alloc: Global,
+    settings: Settings,
+    reader: &mut R,
+    out: &mut O,
+    err: &mut E,
+) -> u8
+    ensures { RunsOnAuction settings (record { left = R.left reader.old; old = O.written out.old; new = O.written out.new; ReadFailed = R.failures reader.old < R.failures reader.new; WriteFailed = O.failures out.old < O.failures out.new }) result }
+{
+    match run_file(alloc, reader, out, settings.config, settings.members) {
+        Ok(()) => 0,
+        Err(fault) => tell_fault(err, fault),
+    }
+}
+
 /// Runs the members of the file at once on a board, and answers the status.
-fn serve_floor<R: Source, O: Sink, E: Sink, T: Wait + Threads + Sync>(
+fn serve_board<R: Source, O: Sink, E: Sink, T: Wait + Threads + Sync>(
     alloc: Global,
     settings: Settings,
     reader: &mut R,
@@ -67,8 +87,7 @@ fn serve_floor<R: Source, O: Sink, E: Sink, T: Wait + Threads + Sync>(
     err: &mut E,
     rt: &T,
 ) -> u8
-    ensures status { result ≤ 3 }
-    ensures quiet { (result ≡ 1) ⊎ (result ≡ 2) → O.written out.new ≡ O.written out.old }
+    ensures { RunsOnBoard settings (record { left = R.left reader.old; old = O.written out.old; new = O.written out.new; ReadFailed = R.failures reader.old < R.failures reader.new; WriteFailed = O.failures out.old < O.failures out.new }) result }
 {
     let Settings {
         config,
@@ -96,18 +115,18 @@ pub fn serve<'a, R: Source, O: Sink, E: Sink, T: Wait + Threads + Sync>(
     err: &mut E,
     rt: &T,
 ) -> u8
-    ensures status { result ≤ 3 }
+    ensures answer { Answers (texts words.now) (record { left = R.left reader.old; old = O.written out.old; new = O.written out.new; ReadFailed = R.failures reader.old < R.failures reader.new; WriteFailed = O.failures out.old < O.failures out.new }) result }
     ensures quiet { (result ≡ 1) ⊎ (result ≡ 2) → O.written out.new ≡ O.written out.old }
+    ensures read_failed { R.failures reader.old < R.failures reader.new → result ≡ 3 }
+    ensures write_failed { O.failures out.old < O.failures out.new → result ≡ 3 }
+    ensures status { result ≤ 3 }
 {
     let settings = match settings(alloc, words) {
         Ok(settings) => settings,
         Err(error) => return answer_words(alloc, out, err, &error),
     };
     if settings.floor {
-        return serve_floor(alloc, settings, reader, out, err, rt);
+        return serve_board(alloc, settings, reader, out, err, rt);
     }
-    match run_file(alloc, reader, out, settings.config, settings.members) {
-        Ok(()) => 0,
-        Err(fault) => tell_fault(err, fault),
-    }
+    serve_auction(alloc, settings, reader, out, err)
 }
