@@ -8,7 +8,7 @@ use Rattle.auction_terms.specs.declared.Kind.{Kind}
 use Rattle.auction_terms.specs.declared.Limit.{Limit}
 use Rattle.auction_terms.specs.declared.Limit.TheVariants.{Market, At}
 use Rattle.auction_terms.specs.Book.{counts, counted}
-use Rattle.auction_terms.specs.Edits.{order_with, has_id, is_same_limit, keeps_place, with_terms, changed_at, without, NoneHas, IdsDiffer}
+use Rattle.auction_terms.specs.Edits.{order_with, is_same_limit, keeps_place, with_terms, changed_at, without, NoneHas, IdsDiffer}
 use Rattle.auction_terms.specs.Day.{book_with_change, owned_by}
 use Rattle.auction_terms.proofs.CountedEdits.{counted-push, counted-without, counted-changed_at}
 use Rattle.auction_terms.proofs.EditLaws.{found_id}

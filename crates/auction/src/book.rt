@@ -1,5 +1,5 @@
 //! The open orders, and the ladder of those that count in the auction.
-ghost use Rattle.std.specs.Prelude.{All, ◌≡◌, ℕ, ◌+◌, ◌<◌, ◌≤◌, [], ◌∷◌, ◌++◌, length, false, None, IsSome, IfSome, IfOk, nat_le, vec_len, vec_capacity, if◌then◌else◌};
+ghost use Rattle.std.specs.Prelude.{All, ◌≡◌, ◌+◌, ◌<◌, ◌≤◌, [], ◌∷◌, ◌++◌, length, false, None, IsSome, IfSome, IfOk, nat_le, vec_len, vec_capacity, if◌then◌else◌};
 ghost use Rattle.auction_terms.specs.Book.{counted, kind_now, limits};
 ghost use Rattle.auction_terms.specs.Edits.{order_with, without, staying, keeps_place, IdsDiffer};
 ghost use Rattle.auction_terms.specs.Allotment.{rest_in, trades};

@@ -2,7 +2,7 @@
 ghost use Rattle.std.specs.Prelude.{◌≡◌, ◌||◌, ◌&&◌, not, nat_eq};
 ghost use Rattle.auction_terms.specs.Book.{is_any, names, counts};
 ghost use Rattle.auction_terms.specs.Edits.{is_same_limit};
-ghost use Rattle.auction_terms.specs.Day.{is_bad_quantity as bad_quantity, is_bad_limit as bad_limit, is_bad_peak as bad_peak, loses_limit as without_limit, is_past as past, visible_of as visible, status_of as status, is_outside as outside, distance};
+ghost use Rattle.auction_terms.specs.Day.{is_bad_quantity as bad_quantity, is_bad_limit as bad_limit, is_bad_peak as bad_peak, loses_limit as without_limit, is_past as past, visible_of as visible, status_of as status, is_outside as outside};
 
 use auction_terms::{Config, Kind, Limit, Only, Order, Refused, Reply};
 

@@ -1,5 +1,5 @@
 //! Members: their calls and their looks.
-ghost use Rattle.std.specs.Prelude.{◌≡◌, ◌+◌, ◌<◌, ◌≤◌, ◌++◌, ◌∷◌, [], ◌⊎◌, ◌≢◌, ℕ, List, length, IfOk, IfErr, OnOk, OnErr, Err};
+ghost use Rattle.std.specs.Prelude.{◌≡◌, ◌<◌, ◌≤◌, ◌⊎◌, ◌≢◌, ℕ, List, length, IfOk, IfErr, Err};
 ghost use mathlib.Core.List.{IsPrefix};
 ghost use Rattle.auction_terms.specs.declared.Entry.{Entry};
 ghost use Rattle.call_board.specs.Told.{CallsOnce, ToldCall, SeesFull, Looks, ShowsAfter};

@@ -3,7 +3,7 @@
 //!
 //! The floor adds to it under its lock; members and copies hold beginnings of it. Of two beginnings the shorter one
 //! begins the longer, so what a member has seen can be held against what another was told.
-ghost use Rattle.std.specs.Prelude.{◌≡◌, ◌+◌, ◌<◌, ◌≤◌, ◌^◌, ◌++◌, ◌∷◌, ◌⊎◌, [], length, MatchBool};
+ghost use Rattle.std.specs.Prelude.{◌≡◌, ◌+◌, ◌<◌, ◌≤◌, ◌^◌, ◌++◌, ◌∷◌, [], length, MatchBool};
 ghost use mathlib.Core.List.{IsPrefix};
 ghost use Rattle.call_board.specs.Stories.{head_of};
 

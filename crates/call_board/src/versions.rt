@@ -1,7 +1,7 @@
 //! The two copies of what the board shows, which looks read, kept by `left_right`: readers take one with no lock while
 //! the floor changes the other, and then the two are swapped. Each copy is a beginning of the story with what is shown
 //! after it.
-ghost use Rattle.std.specs.Prelude.{◌≡◌, ◌^◌, ◌<◌, [], IfSome};
+ghost use Rattle.std.specs.Prelude.{◌≡◌, ◌^◌, ◌<◌, IfSome};
 ghost use Rattle.call_board.specs.Told.{ShowsAfter};
 
 use crate::day::Day;

@@ -1,6 +1,6 @@
 //! The printed text of a closed day.
 
-ghost use Rattle.std.specs.Prelude.{◌≡◌, ◌<◌, ◌++◌, length};
+ghost use Rattle.std.specs.Prelude.{◌<◌, ◌++◌, length};
 ghost use Rattle.order_file.specs.Ends.{TellsFailure, Writes};
 ghost use Rattle.printed_lines.specs.Floor.{tally};
 ghost use Rattle.printed_lines.specs.Printing.{Prints};

@@ -1,6 +1,6 @@
 //! The run of an order file on an auction.
 
-ghost use Rattle.std.specs.Prelude.{◌≡◌, ◌<◌, ◌≤◌, ◌+◌, ◌↔◌, length, IfErr, IfSome, IsErrOf};
+ghost use Rattle.std.specs.Prelude.{◌<◌, ◌≤◌, ◌+◌, ◌↔◌, length, IfErr, IfSome, IsErrOf};
 ghost use Rattle.auction_terms.specs.Day.{replies_from};
 ghost use Rattle.order_file.specs.Ends.{TellsFailure, Writes};
 ghost use Rattle.order_file.specs.File.{file};

@@ -1,5 +1,5 @@
 //! One script, played.
-ghost use Rattle.std.specs.Prelude.{◌≡◌, ◌+◌, ◌<◌, ◌≤◌, ◌++◌, [], length, vec_len, vec_capacity};
+ghost use Rattle.std.specs.Prelude.{◌≡◌, ◌+◌, ◌<◌, ◌≤◌, [], length, vec_capacity};
 ghost use Rattle.member_floor.specs.Plays.{Plays};
 
 use crate::gate::Gate;

@@ -1,5 +1,5 @@
 //! Members at their seats: each with its script's commands, and room for the receipts.
-ghost use Rattle.std.specs.Prelude.{◌≡◌, ◌≤◌, [], ℕ, List, All, map, length, vec_len, vec_capacity, IfOk};
+ghost use Rattle.std.specs.Prelude.{◌≡◌, ◌≤◌, [], List, All, map, length, vec_capacity, IfOk};
 ghost use Rattle.std.specs.Vec.Iter.{into_iter_items};
 ghost use Rattle.auction_terms.specs.declared.Command.{Command};
 ghost use Rattle.member_floor.specs.Plays.{Plays, Task};

@@ -1,7 +1,5 @@
 //! Readers and writers of std as a source and as a sink.
 
-ghost use Rattle.std.specs.Prelude.{ℕ, Some};
-
 use crate::failures::Failures;
 use crate::sink::{Sink, SinkFailed};
 use crate::source::{Source, SourceFailed};

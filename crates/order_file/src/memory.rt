@@ -1,6 +1,6 @@
 //! Memory as a source and as a sink.
 
-ghost use Rattle.std.specs.Prelude.{ℕ, Some};
+ghost use Rattle.std.specs.Prelude.{Some};
 
 use crate::failures::Failures;
 use crate::sink::{Sink, SinkFailed};

@@ -1,6 +1,6 @@
 //! Bytes that are written whole.
 
-ghost use Rattle.std.specs.Prelude.{◌≡◌, ◌<◌};
+ghost use Rattle.std.specs.Prelude.{◌<◌};
 ghost use Rattle.order_file.specs.Ends.{Writes, TellsFailure};
 
 use order_file::Sink;

@@ -1,7 +1,7 @@
 //! The quantities of the open orders, tick by tick.
 #![tactic(auto)]
 
-ghost use Rattle.std.specs.Prelude.{◌≡◌, ℕ, ◌+◌, ◌-◌, ◌<◌, ◌≤◌, All, List, length, sum, replicate, slice_set, slice_index, option_map, IfOk, IfSome, MatchOption};
+ghost use Rattle.std.specs.Prelude.{◌≡◌, ◌+◌, ◌-◌, ◌<◌, ◌≤◌, All, List, length, sum, replicate, slice_set, slice_index, option_map, IfOk, IfSome, MatchOption};
 ghost use Rattle.std.specs.Simd.Lanes.{zip2};
 ghost use Rattle.auction_terms.specs.declared.Order.{Order};
 ghost use Rattle.auction_terms.specs.Ladder.{added, taken, flag_of, with_bids, with_asks};

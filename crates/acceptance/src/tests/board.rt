@@ -1,5 +1,5 @@
 //! Days on a board: what no clause says, and each public call once.
-ghost use Rattle.std.specs.Prelude.{◌≡◌, IfOk};
+ghost use Rattle.std.specs.Prelude.{◌≡◌};
 
 use super::{BEST_BID, BID};
 use auction::OpenFault;

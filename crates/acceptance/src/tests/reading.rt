@@ -88,7 +88,7 @@ struct Long {
 }
 
 impl Source for Long {
-    ghost use Rattle.std.specs.Prelude.{ℕ, List, Option, None};
+    ghost use Rattle.std.specs.Prelude.{Option, None};
 
     ghost failures = { λ _. 0 };
 

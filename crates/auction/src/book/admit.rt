@@ -1,9 +1,8 @@
 //! The closing orders, added to the ladder when their auction begins.
-ghost use Rattle.std.specs.Prelude.{◌≡◌, ℕ, ◌+◌, ◌≤◌, true, length, IfSome};
+ghost use Rattle.std.specs.Prelude.{◌≡◌, ◌+◌, ◌≤◌, true, length, IfSome};
 ghost use Rattle.auction_terms.specs.declared.Kind.TheVariants.{Intraday, Closing};
 ghost use Rattle.auction_terms.specs.Book.{names};
 ghost use Rattle.auction_terms.specs.Line.{orders_of};
-ghost use Rattle.order_book.specs.Book.{slot_at};
 ghost use Rattle.tick_ladder.specs.Ladder.{all_standing, IsInBounds};
 ghost use Rattle.auction.specs.Kept.{with_closing, IsKept};
 

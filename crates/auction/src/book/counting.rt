@@ -1,5 +1,5 @@
 //! The ladder of the orders that count, order by order.
-ghost use Rattle.std.specs.Prelude.{◌≡◌, ℕ, ◌+◌, ◌≤◌, true};
+ghost use Rattle.std.specs.Prelude.{◌≡◌, ◌+◌, ◌≤◌, true};
 ghost use Rattle.auction_terms.specs.Book.{counts};
 ghost use Rattle.tick_ladder.specs.Ladder.{standing_at, all_standing, IsInBounds};
 ghost use Rattle.auction.specs.Kept.{with_order, less_order};

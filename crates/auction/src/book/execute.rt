@@ -1,5 +1,5 @@
 //! Fills, taken from the open orders and from the ladder.
-ghost use Rattle.std.specs.Prelude.{◌≡◌, ℕ, length};
+ghost use Rattle.std.specs.Prelude.{◌≡◌, length};
 ghost use Rattle.auction_terms.specs.Line.{orders_of};
 ghost use Rattle.auction_terms.specs.Edits.{reduced, reduced_by, IsNext, AreExecutable};
 ghost use Rattle.auction.specs.Kept.{IsKept};

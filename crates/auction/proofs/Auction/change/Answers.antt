@@ -1,6 +1,4 @@
-use Rattle.std.proofs.Common.{◌≡◌, ℕ, ◌+◌, ◌≤◌, ◌&&◌, Bool, not, nat_eq, Some, IfSome, sym, ap, subst, ◌∙◌, cond, arith, true, false}
-use Rattle.auction_terms.specs.declared.Kind.{Kind}
-use Rattle.auction_terms.specs.declared.Order.{Order}
+use Rattle.std.proofs.Common.{◌≡◌, ℕ, ◌+◌, ◌≤◌, ◌&&◌, Bool, not, nat_eq, IfSome, sym, ap, subst, ◌∙◌, cond, arith, true, false}
 use Rattle.auction_terms.specs.Book.{counts, counted, kind_now}
 use Rattle.auction_terms.specs.Edits.{order_with, is_same_limit, IdsDiffer}
 use Rattle.auction_terms.specs.Day.{owned_by, book_with_change}

@@ -1,6 +1,4 @@
-use Rattle.std.proofs.Common.{◌≡◌, ◌+◌, Some, IfSome, false, sym, ap, subst, ◌∙◌, arith}
-use Rattle.auction_terms.specs.declared.Kind.{Kind}
-use Rattle.auction_terms.specs.declared.Order.{Order}
+use Rattle.std.proofs.Common.{◌≡◌, ◌+◌, IfSome, false, sym, ap, subst, ◌∙◌, arith}
 use Rattle.auction_terms.specs.Book.{counts, counted, kind_now}
 use Rattle.auction_terms.specs.Edits.{order_with, without, IdsDiffer}
 use Rattle.auction_terms.specs.Day.{owned_by}

@@ -1,7 +1,6 @@
 -- The auction has ended without a price.
-use Rattle.std.proofs.Common.{◌≡◌, ℕ, ◌+◌, ◌*◌, ◌≤◌, Some, sym, ap, subst, ◌∙◌, arith, length}
+use Rattle.std.proofs.Common.{◌+◌, ◌*◌, ◌≤◌, sym, ap, subst, ◌∙◌, arith, length}
 use Rattle.auction_terms.specs.Running.{Running}
-use Rattle.auction_terms.specs.Day.{next_auction}
 use Rattle.auction.specs.Sound.{IsBookOf, auctions_ended}
 use Rattle.auction.proofs.BookLaws.{book_ended, ended_more}
 use Rattle.auction.proofs.Auction.end.Goals as goal

@@ -1,12 +1,9 @@
 -- The auction has ended at a price within the bounds.
-use Rattle.std.proofs.Common.{◌≡◌, ℕ, ◌+◌, ◌-◌, ◌*◌, ◌<◌, ◌≤◌, All, Some, sym, ap, subst, ◌∙◌, arith, length, length-append, vec_capacity}
-use Rattle.auction_terms.specs.declared.Config.{Config}
+use Rattle.std.proofs.Common.{◌+◌, ◌*◌, ◌≤◌, sym, ap, subst, ◌∙◌, arith, length, length-append}
 use Rattle.auction_terms.specs.Book.{limits, counted, kind_now}
 use Rattle.auction_terms.specs.Running.{Running}
 use Rattle.auction_terms.specs.PriceOf.{price}
 use Rattle.auction_terms.specs.Allotment.{rest_in, trades}
-use Rattle.auction_terms.specs.Day.{next_auction}
-use Rattle.auction.specs.Open.{OpenOrders}
 use Rattle.auction.specs.Sound.{IsBookOf, auctions_ended}
 use Rattle.auction.proofs.BookLaws.{book_edited, book_ended, ended_more, price_within}
 use Rattle.auction.proofs.LengthLaws.{length-rest_in}

@@ -1,5 +1,5 @@
 -- A new auction is sound.
-use Rattle.std.proofs.Common.{◌≡◌, ◌≤◌, length, sym, ap, ◌∙◌, arith}
+use Rattle.std.proofs.Common.{length, sym, ap, ◌∙◌, arith}
 use Rattle.auction.specs.Open.{OpenOrders}
 use Rattle.auction.proofs.OpeningLaws.{terms_within}
 use Rattle.auction.proofs.Auction.open.Goals as goal

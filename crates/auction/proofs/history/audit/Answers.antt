@@ -1,5 +1,5 @@
 -- The first reply that is not the auction's own, and the next entry of a legal history.
-use Rattle.std.proofs.Common.{◌≡◌, ◌<◌, ◌≤◌, ◌∙◌, sym, ap, subst, arith, take, get_or, None, refl, IsTrue, false}
+use Rattle.std.proofs.Common.{◌∙◌, sym, subst, take, get_or, None, refl, IsTrue, false}
 use Rattle.std.proofs.lemmas.List.{take_more}
 use Rattle.auction_terms.specs.declared.Entry.{Entry}
 use Rattle.auction_terms.specs.declared.Side.TheVariants.{Buy}
@@ -7,7 +7,6 @@ use Rattle.auction_terms.specs.declared.Limit.TheVariants.{Market}
 use Rattle.auction_terms.specs.declared.Only.TheVariants.{Any}
 use Rattle.auction_terms.specs.declared.Command.TheVariants.{Enter}
 use Rattle.auction_terms.specs.declared.Reply.TheVariants.{Entered}
-use Rattle.auction_terms.specs.Running.{Running}
 use Rattle.auction.proofs.AuditLaws.{IsAudited, audited_more, bad_reply, full_at}
 use Rattle.auction.proofs.history.audit.Goals as goal
 
