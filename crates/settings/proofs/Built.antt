@@ -1,6 +1,10 @@
 -- The command as it is built up.
 use Rattle.std.proofs.Common.{◌≡◌, ◌∙◌, ◌<◌, ◌≤◌, ◌+◌, ℕ, List, [], ◌∷◌, ◌++◌, ap, ap₂, map, take, length, codes, sym, append_assoc, append-nil, slice_index_or}
 use Rattle.std.proofs.lemmas.List.{map_more, take_all}
+use Rattle.std.specs.Prelude.{Result, Ok, Err, IfErr, IsErrAnd}
+use Rattle.clap.specs.Values.{kind_of}
+use Rattle.clap.specs.declared.error.Error.{Error}
+use Rattle.clap.specs.declared.error.kind.ErrorKind.TheVariants.{OutOfMemory}
 use Rattle.clap.specs.Walk.{Rule}
 use Rattle.clap.specs.Simple.{App, new_app, with_rule}
 use Rattle.settings.specs.Options.{callboard, flag, options}
@@ -29,3 +33,8 @@ pub whole : (a b c d : App) (numbers : List Number) (floor history : Rule) → a
 unfolding callboard
 whole a b c d numbers floor history start table rules f more-f h more-h =
     more-h ∙ ap₂ with_rule (more-f ∙ ap₂ with_rule (table ∙ ap₂ with_rules start rules) f) h
+
+-- what a `?` hands on for want of memory
+pub memory_only : {T : Type 0} (r : Result T Error) → IsErrAnd r (λ e. kind_of e ≡ OutOfMemory) → IfErr r (λ e. kind_of e ≡ OutOfMemory)
+memory_only (Ok x) h = tt
+memory_only (Err e) h = h

@@ -1,12 +1,13 @@
 //! The options of the command line.
 
-ghost use Rattle.std.specs.Prelude.{◌≡◌, IfOk, IfErr, false, map};
+ghost use Rattle.std.specs.Prelude.{◌≡◌, IfOk, IfErr, false, map, pos};
 ghost use Rattle.clap.specs.Walk.{rule_of};
 ghost use Rattle.clap.specs.Simple.{app_of};
 ghost use Rattle.clap.specs.Values.{kind_of};
 ghost use Rattle.settings.specs.Options.{callboard, flag};
 ghost use Rattle.settings.specs.Table.{rule_for, with_rules};
 
+use clap::builder::ValueParser;
 use clap::error::ErrorKind;
 use clap::{Arg, ArgAction, Command, Error, value_parser};
 use std::alloc::Global;
@@ -74,13 +75,20 @@ static NUMBERS: [Number; 7] = [
     },
 ];
 
+/// Takes the numbers from `least` to `most`.
+fn numbers_between<'a>(least: u32, most: u32) -> ValueParser<'a>
+    ensures { result ≡ ValueParser.Signed (pos least) (pos most) }
+{
+    let least = i64::from(least);
+    let most = i64::from(most);
+    value_parser!(u32).range(least..=most)
+}
+
 fn number_option<'a>(alloc: Global, number: Number) -> Arg<'a>
     ensures rule { rule_of result ≡ rule_for number }
     ensures local { result.global ≡ false }
 {
-    let least = i64::from(number.least);
-    let most = i64::from(number.most);
-    let parser = value_parser!(u32).range(least..=most);
+    let parser = numbers_between(number.least, number.most);
     let arg = Arg::new(alloc, number.name)
         .long(number.name)
         .value_name("N")

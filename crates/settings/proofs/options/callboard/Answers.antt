@@ -1,11 +1,17 @@
-use Rattle.std.proofs.Common.{rules, codes, ◌≡◌}
-use Rattle.clap.specs.Simple.{app_of, new_app}
-use Rattle.settings.proofs.Built.{whole}
+use Rattle.std.proofs.Common.{◌∙◌, ap, map}
+use Rattle.clap.specs.Simple.{app_of_fields}
+use Rattle.settings.specs.Table.{rule_for}
+use Rattle.settings.proofs.Built.{memory_only, whole}
 use Rattle.settings.proofs.options.callboard.Goals as goal
 
 pub returns-clause-options : goal.returns-clause-options
 returns-clause-options c =
-    let start : app_of c.about-command.result ≡ new_app (codes "callboard") = search rules in
-    whole _ _ _ _ _ _ _ start c.in_ok-command.ensures.options (search rules)
+    whole _ _ _ _ _ _ _ (ap app_of_fields c.about-command.ensures ∙ c.new.ensures.app) c.in_ok-command.ensures.options (ap (map rule_for) c.as_slice.ensures)
     c.flag_option-floor.ensures.rule (c.in_ok-arg.ensures.shape c.flag_option-floor.ensures.local)
     c.flag_option-history.ensures.rule (c.in_ok-arg-2.ensures.shape c.flag_option-history.ensures.local)
+
+pub returns-in_err-arg-clause-memory : goal.returns-in_err-arg-clause-memory
+returns-in_err-arg-clause-memory c = memory_only _ c.from_residual-in_err-arg.ensures.1
+
+pub returns-in_err-arg-2-clause-memory : goal.returns-in_err-arg-2-clause-memory
+returns-in_err-arg-2-clause-memory c = memory_only _ c.from_residual-in_err-arg-2.ensures.1
