@@ -3,4 +3,3 @@ pub mod Adding
 pub mod Histories
 pub mod Closings
 pub mod Faults
-pub mod Beginnings
