@@ -101,12 +101,13 @@ fn serve_board<R: Source, O: Sink, E: Sink, T: Wait + Threads + Sync>(
     }
 }
 
-/// Runs the program on these words, the first being its name, and answers its status: 0 done, 1 a
-/// bad order file, 2 a bad command line or bounds, a reference or limits that no auction has, 3 want
-/// of memory, a read or a write that failed, or a floor that couldn't be closed.
+/// Runs the program on these words, the first being its name, and answers its status: 0 done, or the
+/// help that was asked for, 1 a bad order file, 2 a bad command line or bounds, a reference or limits
+/// that no auction has, 3 want of memory, a read or a write that failed, or a floor that couldn't be
+/// closed.
 ///
-/// What it prints goes to `out`; a fault is one line on `err`. Where the file or the command line is
-/// bad, nothing goes to `out`.
+/// What it prints goes to `out`, the help too; a fault is one line on `err`, and for a bad command line
+/// the text of `clap`. Where the file or the command line is bad, nothing goes to `out`.
 pub fn serve<'a, R: Source, O: Sink, E: Sink, T: Wait + Threads + Sync>(
     alloc: Global,
     words: &'a [&'a str],
