@@ -21,11 +21,11 @@ use Rattle.auction_terms.proofs.Members.{All_at}
 
 -- ---- lists by tick
 
-length-spread : (f : ℕ → ℕ) (a n : ℕ) → length (spread f a n) ≡ n
+pub length-spread : (f : ℕ → ℕ) (a n : ℕ) → length (spread f a n) ≡ n
 length-spread f a zero = refl
 length-spread f a (suc n) = omega (arith, length-spread f (a + 1) n)
 
-get_or-spread : (f : ℕ → ℕ) (a n i : ℕ) → i < n → get_or (spread f a n) i 0 ≡ f (a + i)
+pub get_or-spread : (f : ℕ → ℕ) (a n i : ℕ) → i < n → get_or (spread f a n) i 0 ≡ f (a + i)
 get_or-spread f a zero i lt = absurd (omega (arith, lt))
 get_or-spread f a (suc n) zero lt = ap f (omega arith)
 get_or-spread f a (suc n) (suc i) lt = get_or-spread f (a + 1) n i (omega (arith, lt)) ∙ ap f (omega arith)

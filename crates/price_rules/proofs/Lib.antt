@@ -2,6 +2,7 @@ pub mod Cover
 pub mod Leading
 pub mod Curves
 pub mod Nearby
+pub mod Deciding
 pub mod Points
 pub mod Marks
 pub mod Selected

@@ -1,3 +1,4 @@
 pub mod Held
 pub mod Around
 pub mod InLanes
+pub mod Deciding

@@ -5,9 +5,13 @@ ghost use Rattle.std.specs.Prelude.{◌≡◌, ℕ, ◌+◌, ◌≤◌, ◌<◌,
 ghost use Rattle.auction_terms.specs.declared.Order.{Order};
 ghost use Rattle.auction_terms.specs.Book.{volume, surplus};
 ghost use Rattle.auction_terms.specs.PriceOf.{price, lower_kept, upper_kept};
+ghost use Rattle.auction_terms.specs.Ladder.{LadderView, flag_of};
 ghost use Rattle.tick_ladder.specs.Ladder.{IsLadderOf};
 ghost use Rattle.price_rules.specs.Held.{sided, price_from, priced_by, market_priced};
 ghost use Rattle.price_rules.specs.InLanes.{lead_of};
+ghost use Rattle.price_rules.specs.Around.{IsAround};
+ghost use Rattle.price_rules.specs.Deciding.{IsBookOver, IsSameWithin, IsNear, from_place, to_place};
+ghost use Rattle.std.specs.Simd.Lanes.{zip2};
 
 mod candidates;
 mod choice;
@@ -16,7 +20,8 @@ mod surroundings;
 use auction_terms::{Price, Side};
 use candidates::limits_around;
 use choice::{Leaders, best_of};
-use surroundings::look_around;
+use lane_select::first;
+use surroundings::{Around, look_around};
 use tick_ladder::Ladder;
 
 /// A tick with this demand and supply as a price.
@@ -88,19 +93,74 @@ fn market_price(ladder: &Ladder, reference: u32) -> Option<Price>
     if price.volume > 0 { Some(price) } else { None }
 }
 
-/// The price of the ladder at a reference.
-fn price_of(ladder: &Ladder, reference: u32) -> Option<Price>
+/// The price that the limits around the crossing give at a reference. It is that of every book whose ladder is the same
+/// there.
+fn price_around(ladder: &Ladder, around: &Around, reference: u32) -> Option<Price>
     requires low { ladder.now.low ≤ reference }
     requires high { reference < ladder.now.low + length ladder.now.bids }
-    ensures { (book : List Order) → IsLadderOf ladder.now book → result ≡ price book reference }
+    requires around { IsAround ladder.now around.now }
+    requires flags { ladder.now.present ≡ zip2 flag_of ladder.now.bids ladder.now.asks }
+    ensures { (view : LadderView) (book other : List Order) → IsLadderOf ladder.now book → IsLadderOf view other → view.present ≡ zip2 flag_of view.bids view.asks → IsNear ladder.now around.now view → result ≡ price other reference }
 {
-    let around = look_around(ladder);
-    match best_of(&limits_around(ladder, &around)) {
+    let lanes = limits_around(ladder, around);
+    match best_of(&lanes) {
         Some(leaders) => hold(leaders, reference),
-        None => match ladder.first_from(0) {
+        None => match first(&lanes.flags) {
             Some(_) => None,
             None => market_price(ladder, reference),
         },
+    }
+}
+
+/// A price, and which orders decide it: bids below `lowest` and asks above `highest`, in ticks, change nothing of it.
+#[derive(Clone, Copy, Debug, PartialEq, Eq)]
+pub struct Decision {
+    pub price: Option<Price>,
+    pub lowest: u32,
+    pub highest: u32,
+}
+
+/// The first tick that decides.
+fn lowest_deciding(ladder: &Ladder, around: &Around) -> u32
+    requires around { IsAround ladder.now around.now }
+    ensures { result ≡ ladder.now.low + from_place around.now.far }
+{
+    match around.far {
+        Some(place) => ladder.low() + place as u32,
+        None => ladder.low(),
+    }
+}
+
+/// The last tick that decides.
+fn highest_deciding(ladder: &Ladder, around: &Around) -> u32
+    requires around { IsAround ladder.now around.now }
+    ensures { result ≡ ladder.now.low + to_place (length ladder.now.bids) around.now.after }
+{
+    let last = match around.after {
+        Some(place) => place,
+        None => ladder.bids().len() - 1,
+    };
+    ladder.low() + last as u32
+}
+
+/// The auction price of every book whose ladder this is, at a reference price in its bounds, as [`determine`] gives it,
+/// with the ticks from which on bids, and up to which asks, decide it.
+///
+/// Around the place where demand and supply cross lie at most four limits among which the price is chosen. A bid below
+/// them adds to the demand at lower limits alone, which are worse by then, and so does an ask above them to the supply.
+pub fn decide(ladder: &Ladder, reference: u32) -> Decision
+    requires low { ladder.now.low ≤ reference }
+    requires high { reference < ladder.now.low + length ladder.now.bids }
+    ensures price { (book : List Order) → IsLadderOf ladder.now book → result.price ≡ price book reference }
+
+    // Any book with the same quantities there has the same price.
+    ensures deciding { (book other : List Order) → IsLadderOf ladder.now book → IsBookOver ladder.now.low (length ladder.now.bids) other → IsSameWithin result.lowest result.highest book other → result.price ≡ price other reference }
+{
+    let around = look_around(ladder);
+    Decision {
+        price: price_around(ladder, &around, reference),
+        lowest: lowest_deciding(ladder, &around),
+        highest: highest_deciding(ladder, &around),
     }
 }
 
@@ -123,5 +183,5 @@ pub fn determine(ladder: &Ladder, reference: u32) -> Option<Price>
     // A reference strictly between the two limits that it may be held at has no surplus.
     ensures balanced { (book : List Order) → IsLadderOf ladder.now book → (lower upper : ℕ) → lower_kept book ≡ Some lower → upper_kept book ≡ Some upper → lower < reference → reference < upper → surplus book reference ≡ 0 }
 {
-    price_of(ladder, reference)
+    decide(ladder, reference).price
 }
