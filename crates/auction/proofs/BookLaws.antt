@@ -1,19 +1,18 @@
 -- The book of an auction, after each command.
-use Rattle.std.proofs.Common.{◌≡◌, ℕ, ◌+◌, ◌*◌, ◌<◌, ◌≤◌, Bool, true, false, cond, List, All, Some, None, IfSome, length, refl, sym, ap, ◌∙◌, arith}
+use Rattle.std.proofs.Common.{◌≡◌, ℕ, ◌+◌, ◌*◌, ◌<◌, ◌≤◌, List, All, Some, length, ap, ◌∙◌, arith}
 use Rattle.auction_terms.specs.declared.Order.{Order}
 use Rattle.auction_terms.specs.declared.Kind.{Kind}
 use Rattle.auction_terms.specs.declared.Kind.TheVariants.{Opening, Intraday, Closing}
 use Rattle.auction_terms.specs.declared.Config.{Config}
-use Rattle.auction_terms.specs.declared.Display.{Display}
 use Rattle.std.specs.Prelude.{Option}
 use Rattle.auction_terms.specs.declared.Price.{Price}
 use Rattle.auction_terms.specs.Book.{counted, kind_now, limits}
 use Rattle.auction_terms.specs.PriceOf.{price}
 use Rattle.auction.proofs.PriceLaws.{price_in}
 use Rattle.auction_terms.specs.Edits.{staying}
-use Rattle.auction_terms.specs.Day.{display_at, next_auction}
+use Rattle.auction_terms.specs.Day.{next_auction}
 use Rattle.auction.specs.Open.{OpenOrders}
-use Rattle.auction.specs.Sound.{IsBookOf, auctions_ended, display_of_book}
+use Rattle.auction.specs.Sound.{IsBookOf, auctions_ended}
 use Rattle.auction.proofs.LengthLaws.{length-staying}
 
 -- with other orders, no more of them
@@ -39,13 +38,6 @@ book_ended config kind calls old new is e = record {
   few = omega (arith, ap (λ (b : OpenOrders). length b.orders) e, length-staying old.kind old.orders, is.few);
   stamps = omega (arith, ap (λ (b : OpenOrders). b.stamps) e, is.stamps);
 }
-
--- where the same orders count, the same is shown; else it is forgotten
-pub still_shown : (is_changed : Bool) (shown : Option Display) (old new : OpenOrders) (reference : ℕ) → IfSome shown (λ d. d ≡ display_of_book old reference) → new.kind ≡ old.kind → (is_changed ≡ false → counted new.orders old.kind ≡ counted old.orders old.kind) → IfSome (cond is_changed None shown) (λ d. d ≡ display_of_book new reference)
-still_shown true shown old new reference is kind same = tt
-still_shown false None old new reference is kind same = tt
-still_shown false (Some d) old new reference is kind same =
-    is ∙ ap (λ (book : List Order). display_at book reference) (sym (same refl) ∙ ap (λ k. counted new.orders k) (sym kind))
 
 -- there is room for the trades of each auction of the day
 pub ended_more : (kind : Kind) (trades more most : ℕ) → trades ≤ auctions_ended (Some kind) * most → more ≤ most → trades + more ≤ auctions_ended (next_auction kind) * most

@@ -13,8 +13,9 @@ use Rattle.auction_terms.specs.PriceOf.{price}
 use Rattle.auction_terms.specs.Day.{display_of, display_at}
 use Rattle.auction_terms.specs.Ladder.{LadderView, IsTickOf}
 use Rattle.tick_ladder.specs.Ladder.{IsLadderOf, best_limit}
+use Rattle.price_rules.specs.Deciding.{IsBookOver}
 use Rattle.auction.specs.Kept.{IsKept}
-use Rattle.auction.proofs.KeptLaws.{HasTick}
+use Rattle.auction.proofs.KeptLaws.{HasTick, open_counted}
 
 abbrev IsAmong : ℕ → ℕ → ℕ → Type 0
 IsAmong low n tick = (low ≤ tick) × (tick < low + n)
@@ -34,6 +35,9 @@ kept_ladder kind book ladder is = record {
   within = all_limits ladder.low (length ladder.bids) (counted book kind) (All-filter (counts kind) (HasTick ladder.low (length ladder.bids)) book is.within);
   same = is.same;
 }
+
+pub kept_over : (kind : Kind) (book : List Order) (ladder : LadderView) → IsKept ladder.low (length ladder.bids) kind book ladder → IsBookOver ladder.low (length ladder.bids) (counted book kind)
+kept_over kind book ladder is = record { within = (kept_ladder kind book ladder is).within; positive = open_counted kind book is.orderly }
 
 pub unpriced : (book : List Order) (reference : ℕ) (bid ask : Option ℕ) → None ≡ price book reference → bid ≡ best_limit book Buy → ask ≡ best_limit book Sell → Unpriced bid ask ≡ display_at book reference
 unpriced book reference bid ask none b a =

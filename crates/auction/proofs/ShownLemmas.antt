@@ -1,5 +1,5 @@
 -- What is seen of the open orders after each step.
-use Rattle.std.proofs.Common.{◌≡◌, ℕ, ◌+◌, ◌<◌, ◌≤◌, Bool, true, false, cond, List, [], ◌∷◌, ◌++◌, Some, length, sym, ap, subst, ◌∙◌, arith, length-append}
+use Rattle.std.proofs.Common.{◌≡◌, ℕ, ◌+◌, ◌<◌, ◌≤◌, Bool, true, false, cond, List, [], ◌∷◌, ◌++◌, Option, Some, IfSome, length, sym, ap, subst, ◌∙◌, arith, length-append}
 use Rattle.std.proofs.lemmas.Bool.Decides.{nat_tests}
 use Rattle.auction_terms.specs.declared.Order.{Order}
 use Rattle.auction_terms.specs.declared.Stamped.{Stamped}
@@ -14,6 +14,8 @@ use Rattle.auction_terms.proofs.EditLaws.{change_is}
 use Rattle.order_book.specs.Book.{Book as Orders, with_terms, with_stamp, changed_at, moved_to_end}
 use Rattle.order_book.proofs.OrderLaws.{orders_of-push, orders_of-kept, orders_of-gone}
 use Rattle.auction.specs.Open.{OpenOrders}
+use Rattle.auction.specs.Known.{IsKnown}
+use Rattle.auction.specs.declared.book.known.Shown.{Shown}
 use Rattle.auction.specs.Kept.{shown, IsKept, IsBook}
 use Rattle.auction.proofs.KeptLaws.{low_of, ticks_of, own_ticks}
 
@@ -31,10 +33,13 @@ pub seen_tick : (orders : Orders) (ladder : LadderView) (kind : Kind) (view : Op
 seen_tick orders ladder kind view limit e tick = subst (λ (v : OpenOrders). IsTickOf v.low v.ticks limit) (sym e) tick
 
 -- the book holds after a step
-pub closes_book : {low n : ℕ} {kind : Kind} {ladder : LadderView} (orders : Orders) (max_open desk : ℕ) → IsKept low n kind (orders_of orders.line) ladder → orders.max_open ≡ max_open → length (orders_of orders.line) ≤ max_open → max_open ≤ 65536 → max_open ≤ desk → IsBook orders ladder kind desk
-closes_book orders max_open desk is same few small room = record {
+pub closes_book : {low n : ℕ} {kind : Kind} {ladder : LadderView} (orders : Orders) (max_open desk : ℕ) (found : Option Shown) → IsKept low n kind (orders_of orders.line) ladder → orders.max_open ≡ max_open → length (orders_of orders.line) ≤ max_open → max_open ≤ 65536 → max_open ≤ desk → IfSome found (IsKnown low n (counted (orders_of orders.line) kind)) → IsBook orders ladder kind desk found
+closes_book {low} {n} {kind} {ladder} orders max_open desk found is same few small room known = record {
   kept = own_ticks is;
   room = record { few = omega arith; small = omega arith; room = omega arith };
+  known =
+      subst (λ l. IfSome found (IsKnown l (length ladder.bids) (counted (orders_of orders.line) kind))) (sym (low_of low n (counted (orders_of orders.line) kind) ladder is.same))
+      (subst (λ k. IfSome found (IsKnown low k (counted (orders_of orders.line) kind))) (sym (ticks_of low n (counted (orders_of orders.line) kind) ladder is.same)) known);
 }
 
 -- the value after a step that leaves the bounds, with the ticks of the ladder before

@@ -1,5 +1,5 @@
 -- The ladder that is kept of the orders that count.
-use Rattle.std.specs.Prelude.{◌≡◌, ℕ, ◌≤◌, List, Option, Some, None, All, length, if◌then◌else◌}
+use Rattle.std.specs.Prelude.{◌≡◌, ℕ, ◌≤◌, List, Option, Some, None, IfSome, All, length, if◌then◌else◌}
 use Rattle.auction_terms.specs.declared.Order.{Order}
 use Rattle.auction_terms.specs.declared.Stamped.{Stamped}
 use Rattle.auction_terms.specs.declared.Kind.{Kind}
@@ -10,6 +10,8 @@ use Rattle.auction_terms.specs.Line.{orders_of}
 use Rattle.auction_terms.specs.Ladder.{LadderView, ladder_of, added, taken, IsTickOf}
 use Rattle.order_book.specs.Book.{Book as Orders}
 use Rattle.auction.specs.Open.{OpenOrders}
+use Rattle.auction.specs.Known.{IsKnown}
+use Rattle.auction.specs.declared.book.known.Shown.{Shown}
 
 -- the ladder with an order more, if that counts
 abbrev pub with_order : Kind → Order → LadderView → LadderView
@@ -50,7 +52,8 @@ shown orders ladder kind = record {
   max_calls = orders.max_calls;
 }
 
--- a desk that has room for as many orders as may be open
-pub record IsBook (orders : Orders) (ladder : LadderView) (kind : Kind) (desk : ℕ) : Type 0 where
+-- a desk that has room for as many orders as may be open, and what is known of the display
+pub record IsBook (orders : Orders) (ladder : LadderView) (kind : Kind) (desk : ℕ) (found : Option Shown) : Type 0 where
   pub kept : IsKept ladder.low (length ladder.bids) kind (orders_of orders.line) ladder
   pub room : HasRoom (orders_of orders.line) orders.max_open desk
+  pub known : IfSome found (IsKnown ladder.low (length ladder.bids) (counted (orders_of orders.line) kind))

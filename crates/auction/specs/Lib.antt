@@ -1,5 +1,6 @@
 pub mod Audits
 pub mod Kept
 pub mod Open
+pub mod Known
 pub mod Opening
 pub mod Sound

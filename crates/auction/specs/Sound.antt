@@ -1,11 +1,9 @@
 -- The fields of an auction, the state of the day that they are, and what they keep.
-use Rattle.std.specs.Prelude.{◌≡◌, ℕ, ◌+◌, ◌-◌, ◌*◌, ◌≤◌, Option, Some, None, IfSome, length, vec_capacity}
+use Rattle.std.specs.Prelude.{◌≡◌, ℕ, ◌+◌, ◌-◌, ◌*◌, ◌≤◌, Option, Some, None, length, vec_capacity}
 use Rattle.auction_terms.specs.declared.Kind.{Kind}
 use Rattle.auction_terms.specs.declared.Kind.TheVariants.{Opening, Intraday, Closing}
 use Rattle.auction_terms.specs.declared.Config.{Config}
-use Rattle.auction_terms.specs.declared.Display.{Display}
-use Rattle.auction_terms.specs.Book.{counted, kind_now}
-use Rattle.auction_terms.specs.Day.{display_at}
+use Rattle.auction_terms.specs.Book.{kind_now}
 use Rattle.auction_terms.specs.Running.{Running}
 use Rattle.auction.specs.Open.{OpenOrders}
 use Rattle.auction.specs.declared.Auction.TheInside.{Inside}
@@ -42,10 +40,6 @@ pub record IsBookOf (config : Config) (auction : Option Kind) (calls : ℕ) (boo
   pub few : length book.orders ≤ config.max_open
   pub stamps : book.stamps ≤ calls
 
--- what is shown of the book at the reference
-abbrev pub display_of_book : OpenOrders → ℕ → Display
-display_of_book book reference = display_at (counted book.orders book.kind) reference
-
 pub record IsSound (a : Inside) : Type 0 where
   pub book : IsBookOf a.config a.auction a.calls a.book
   pub calls : a.calls ≤ a.config.max_calls
@@ -55,4 +49,3 @@ pub record IsSound (a : Inside) : Type 0 where
   -- no auction makes more trades than there were open orders
   pub trades : length a.tape.items ≤ auctions_ended a.auction * a.config.max_open
   pub room : 3 * a.config.max_open ≤ vec_capacity a.tape
-  pub shown : IfSome a.shown (λ display. display ≡ display_of_book a.book a.reference)

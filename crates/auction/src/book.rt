@@ -7,11 +7,13 @@ ghost use Rattle.auction_terms.specs.Ladder.{ladder_of, IsTickOf};
 ghost use Rattle.auction_terms.specs.Day.{book_with_change, display_at, is_bad_quantity, next_auction};
 ghost use Rattle.auction.specs.Opening.{open_fault};
 ghost use Rattle.auction.specs.Open.{no_orders};
+ghost use Rattle.auction.specs.Known.{IsKnown};
 
 mod admit;
 mod counting;
 mod dismiss;
 mod execute;
+mod known;
 
 use admit::admit;
 use allocation::Desk;
@@ -19,8 +21,8 @@ use auction_terms::{Config, Display, Kind, Limit, Only, Order, Side, Trade};
 use counting::{add, take};
 use dismiss::{dismiss, remove};
 use execute::execute;
+use known::{Shown, find, still_known};
 use order_book::Orders;
-use price_rules::determine;
 use std::alloc::{AllocError, Global};
 use std::marker::Model;
 use tick_ladder::Ladder;
@@ -28,7 +30,8 @@ use tick_ladder::Ladder;
 /// The open orders, the ladder of those that count in the current auction, and the desk where they are executed.
 ///
 /// An order for another auction alone waits: it is open, but not in the ladder. Each call changes the ladder for the
-/// order concerned alone, and only `open` takes memory.
+/// order concerned alone, and only `open` takes memory. What was shown is kept until an order that decides it comes or
+/// goes.
 #[derive(Drop)]
 pub(crate) struct Book {
     orders: Orders,
@@ -36,6 +39,8 @@ pub(crate) struct Book {
     desk: Desk,
     // The auction whose orders the ladder has.
     kind: Kind,
+    // What is shown, once it was asked for.
+    known: Option<Shown>,
 }
 
 impl Model for Book {
@@ -46,7 +51,7 @@ impl Model for Book {
 
     ghost view = { λ b. shown b.orders b.ladder b.kind };
 
-    ghost invariant = { λ b. IsBook b.orders b.ladder b.kind b.desk.room };
+    ghost invariant = { λ b. IsBook b.orders b.ladder b.kind b.desk.room b.known };
 }
 
 // Adds trades to those of the day.
@@ -71,6 +76,7 @@ impl Book {
             ladder: Ladder::open(alloc, config.low, config.high)?,
             desk: Desk::open(alloc, config.max_open)?,
             kind: Kind::Opening,
+            known: None,
         })
     }
 
@@ -97,6 +103,20 @@ impl Book {
         &self.ladder
     }
 
+    // What is shown at this reference, found where it isn't known.
+    fn shown_at(&self, reference: u32) -> Shown
+        requires low { self.now.low ≤ reference }
+        requires high { reference < self.now.low + self.now.ticks }
+        ensures reference { result.reference ≡ reference }
+        ensures known { IsKnown self.now.low self.now.ticks (counted self.now.orders self.now.kind) result }
+        ensures display { result.display ≡ display_at (counted self.now.orders self.now.kind) reference }
+    {
+        match self.known {
+            Some(shown) if shown.reference == reference => shown,
+            _ => find(&self.ladder, reference),
+        }
+    }
+
     /// What is shown of the orders that count: the price at this reference, or the best limits of both sides where there
     /// is none.
     pub(crate) fn display(&self, reference: u32) -> Display
@@ -104,13 +124,19 @@ impl Book {
         requires high { reference < self.now.low + self.now.ticks }
         ensures { result ≡ display_at (counted self.now.orders self.now.kind) reference }
     {
-        match determine(&self.ladder, reference) {
-            Some(price) => Display::Priced(price),
-            None => Display::Unpriced {
-                best_buy: self.ladder.best(Side::Buy),
-                best_sell: self.ladder.best(Side::Sell),
-            },
-        }
+        self.shown_at(reference).display
+    }
+
+    /// The same as [`Book::display`], which is then kept for the next question.
+    pub(crate) fn show(&mut self, reference: u32) -> Display
+        requires low { self.old.low ≤ reference }
+        requires high { reference < self.old.low + self.old.ticks }
+        ensures book { self.new ≡ self.old }
+        ensures display { result ≡ display_at (counted self.old.orders self.old.kind) reference }
+    {
+        let shown = self.shown_at(reference);
+        self.known = Some(shown);
+        shown.display
     }
 
     /// Adds an order as the last one in time, under the next id.
@@ -141,6 +167,7 @@ impl Book {
             only,
         };
         add(&mut self.ladder, self.kind, order);
+        self.known = still_known(self.known, order.counts(self.kind), side, limit);
         id
     }
 
@@ -163,6 +190,9 @@ impl Book {
             ..before
         };
         add(&mut self.ladder, self.kind, after);
+        let counts = before.counts(self.kind);
+        let left = still_known(self.known, counts, before.side, before.limit);
+        self.known = still_known(left, counts, before.side, limit);
         kept
     }
 
@@ -171,7 +201,9 @@ impl Book {
         requires { IsSome (order_with id self.old.orders) }
         ensures { self.new ≡ record self.old { orders = without id self.old.orders } }
     {
-        remove(&mut self.orders, &mut self.ladder, self.kind, id);
+        let order = remove(&mut self.orders, &mut self.ladder, self.kind, id);
+        let counts = order.counts(self.kind);
+        self.known = still_known(self.known, counts, order.side, order.limit);
     }
 
     /// Executes the orders that count at the tick of a price, adds the trades to those of the day, and returns how many
@@ -186,6 +218,7 @@ impl Book {
         ensures limits { All (λ tick. (self.old.low ≤ tick) × (tick < self.old.low + self.old.ticks)) (limits (counted self.old.orders self.old.kind)) }
         ensures capacity { vec_capacity tape.new ≡ vec_capacity tape.old }
     {
+        self.known = None;
         self.desk.allocate(&self.orders, self.kind, price);
         execute(
             &mut self.orders,
@@ -203,6 +236,7 @@ impl Book {
     pub(crate) fn end_auction(&mut self)
         ensures { self.new ≡ record self.old { orders = staying self.old.kind self.old.orders; kind = kind_now (next_auction self.old.kind) } }
     {
+        self.known = None;
         match self.kind {
             Kind::Intraday => {
                 admit(&self.orders, &mut self.ladder);

@@ -53,23 +53,6 @@ pub(crate) fn is_past(auction: Option<Kind>, only: Only) -> bool
     }
 }
 
-/// Whether an order for these auctions counts in this one.
-pub(crate) fn is_counted(only: Only, kind: Kind) -> bool
-    ensures { result ≡ (is_any only || names kind only) }
-{
-    match (only, kind) {
-        (Only::Any, _) | (Only::Opening, Kind::Opening) | (Only::Closing, Kind::Closing) => true,
-        _ => false,
-    }
-}
-
-/// Whether an order counts in this auction and gets other terms than it has.
-pub(crate) fn is_seen_change(order: Order, kind: Kind, limit: Limit, quantity: u64) -> bool
-    ensures { result ≡ (counts kind order && not (is_same_limit order.limit limit && nat_eq order.quantity quantity)) }
-{
-    order.counts(kind) && !(order.limit == limit && order.quantity == quantity)
-}
-
 /// Whether a tick lies more than the range away from the reference.
 pub(crate) fn is_outside(range: Option<u32>, reference: u32, tick: u32) -> bool
     ensures { result ≡ outside range reference tick }

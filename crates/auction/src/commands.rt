@@ -5,24 +5,10 @@ ghost use Rattle.auction_terms.specs.Edits.{without, IdsDiffer};
 ghost use Rattle.auction_terms.specs.Day.{own_order as own, accepted as after, refusal as refusal_of, change_order, enter_order, trade_reply, is_bad_quantity as bad_quantity, is_bad_limit as bad_limit};
 
 use crate::Auction;
-use crate::checks::{is_counted, is_seen_change, status_of};
-use auction_terms::{Command, Display, Kind, Limit, Only, Order, Refused, Reply, Side};
-
-/// What was shown, as long as what it is made of hasn't changed.
-fn shown_after(shown: Option<Display>, is_changed: bool) -> Option<Display>
-    ensures { result ≡ (if is_changed then None else shown) }
-{
-    if is_changed { None } else { shown }
-}
+use crate::checks::status_of;
+use auction_terms::{Command, Limit, Only, Order, Refused, Reply, Side};
 
 impl Auction {
-    /// The auction whose orders count.
-    fn kind(&self) -> Kind
-        ensures { result ≡ kind_now self.now.state.auction }
-    {
-        self.auction.unwrap_or(Kind::Intraday)
-    }
-
     /// The member's own open order with this id.
     pub(crate) fn own_order(&self, member: u8, id: u32) -> Option<Order>
         ensures order { result ≡ own self.now.state member id }
@@ -58,10 +44,8 @@ impl Auction {
         ensures state { self.new ≡ record self.old { state = (enter_order self.old.state (record { id = self.old.state.next_id; member = member; side = side; limit = limit; quantity = quantity; peak = peak; only = only })).0; calls = self.old.calls + 1 } }
         ensures reply { result ≡ Reply.Entered self.old.state.next_id }
     {
-        let counts = is_counted(only, self.kind());
         let id = self.book.enter(member, side, limit, quantity, peak, only);
         self.calls += 1;
-        self.shown = shown_after(self.shown, counts);
         Reply::Entered { id }
     }
 
@@ -73,13 +57,11 @@ impl Auction {
         ensures state { self.new ≡ record self.old { state = (change_order self.old.state limit quantity (own self.old.state member id)).0; calls = self.old.calls + 1 } }
         ensures reply { result ≡ (change_order self.old.state limit quantity (own self.old.state member id)).1 }
     {
-        let Some(order) = self.own_order(member, id) else {
+        if self.own_order(member, id).is_none() {
             return self.answer(Reply::Refused(Refused::UnknownOrder));
-        };
-        let is_seen = is_seen_change(order, self.kind(), limit, quantity);
+        }
         let kept = self.book.change(id, limit, quantity);
         self.calls += 1;
-        self.shown = shown_after(self.shown, is_seen);
         Reply::Changed { kept }
     }
 
@@ -90,13 +72,8 @@ impl Auction {
         ensures state { self.new ≡ record self.old { state = record self.old.state { book = without id self.old.state.book }; calls = self.old.calls + 1 } }
         ensures reply { result ≡ Reply.Deleted }
     {
-        let Some(order) = self.own_order(member, id) else {
-            unreachable!();
-        };
-        let counts = order.counts(self.kind());
         self.book.delete(id);
         self.calls += 1;
-        self.shown = shown_after(self.shown, counts);
         Reply::Deleted
     }
 

@@ -51,7 +51,7 @@ pub enum Verdict {
     BadAt(usize),
 }
 
-/// The auctions of one day: the open orders in time order, the trades so far, the reference price and what is shown.
+/// The auctions of one day: the open orders in time order, the trades so far, the reference price.
 #[derive(Drop)]
 pub struct Auction {
     config: Config,
@@ -63,8 +63,6 @@ pub struct Auction {
     auction: Option<Kind>,
     // Whether this call phase was extended by an interruption.
     extended: bool,
-    // What is shown, once it was asked for. It is forgotten where the orders that count, the reference or the auction change.
-    shown: Option<Display>,
     calls: u32,
 }
 
@@ -129,7 +127,6 @@ impl Auction {
             reference: config.reference,
             auction: Some(Kind::Opening),
             extended: false,
-            shown: None,
             calls: 0,
         })
     }
@@ -163,20 +160,16 @@ impl Auction {
     pub fn display(&self) -> Display
         ensures { result ≡ display self.now.state }
     {
-        match self.shown {
-            Some(display) => display,
-            None => self.book.display(self.reference),
-        }
+        self.book.display(self.reference)
     }
 
     /// The same as [`Auction::display`], which is then kept for the next question.
+    #[tactic(auto, unfolding(auction_terms::specs::Day::display))]
     pub fn show(&mut self) -> Display
         ensures state { self.new ≡ self.old }
         ensures display { result ≡ display self.old.state }
     {
-        let display = self.display();
-        self.shown = Some(display);
-        display
+        self.book.show(self.reference)
     }
 
     /// The quantities of the orders that count in the current auction, tick by tick over the bounds.

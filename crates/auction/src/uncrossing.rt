@@ -48,7 +48,6 @@ impl Auction {
         self.book.end_auction();
         self.auction = next_auction(kind);
         self.extended = false;
-        self.shown = None;
         Reply::Uncrossed {
             kind,
             price: None,
@@ -70,7 +69,6 @@ impl Auction {
         self.reference = price.tick;
         self.auction = next_auction(kind);
         self.extended = false;
-        self.shown = None;
         Reply::Uncrossed {
             kind,
             price: Some(price),

@@ -55,7 +55,7 @@ counted_additive kind w additive = record {
   nothing = λ o none. let h = additive.nothing o none in elim (counts kind o) as (λ b. cond b (w o) 0 ≡ 0) [ true ↦ h | false ↦ refl ];
 }
 
-counted_sums : (kind : Kind) (o : Order) (old new : List Order) → IsMore o old new → (w : Order → ℕ) → IsAdditive w → sum_by w (counted new kind) ≡ sum_by w (counted old kind) + cond (counts kind o) (w o) 0
+pub counted_sums : (kind : Kind) (o : Order) (old new : List Order) → IsMore o old new → (w : Order → ℕ) → IsAdditive w → sum_by w (counted new kind) ≡ sum_by w (counted old kind) + cond (counts kind o) (w o) 0
 unfolding counted_weight
 counted_sums kind o old new is w additive =
     omega (arith, sum-counted w kind new, sum-counted w kind old, is.sums (counted_weight kind w) (counted_additive kind w additive))

@@ -94,6 +94,14 @@ lowest-first : (p : ℕ) (ps : List ℕ) → IsLowest (p ∷ ps) (option_map_or 
 lowest-first p [] = record { here = has-first p []; bound = λ t e. elim (has-cases t p [] e) [ inl same ↦ omega (arith, same) | inr later ↦ no_tick t later ] }
 lowest-first p (q ∷ qs) = lower p (option_map_or (min q) (lowest qs) q) (q ∷ qs) (lowest-first q qs)
 
+pub highest-has : (ps : List ℕ) (m : ℕ) → highest ps ≡ Some m → has m ps ≡ true
+highest-has [] m e = absurd (cc)
+highest-has (p ∷ ps) m e = let is = highest-first p ps in let same : option_map_or (max p) (highest ps) p ≡ m = cc in subst (λ t. has t (p ∷ ps) ≡ true) same is.here
+
+pub lowest-has : (ps : List ℕ) (m : ℕ) → lowest ps ≡ Some m → has m ps ≡ true
+lowest-has [] m e = absurd (cc)
+lowest-has (p ∷ ps) m e = let is = lowest-first p ps in let same : option_map_or (min p) (lowest ps) p ≡ m = cc in subst (λ t. has t (p ∷ ps) ≡ true) same is.here
+
 -- two lists in which each tick of the one is no higher than some tick of the other
 pub highest_agree : (xs ys : List ℕ) → ((q : ℕ) → has q xs ≡ true → (c : ℕ) × (has c ys ≡ true) × (q ≤ c)) → ((q : ℕ) → has q ys ≡ true → (c : ℕ) × (has c xs ≡ true) × (q ≤ c)) → highest xs ≡ highest ys
 highest_agree [] [] f g = refl

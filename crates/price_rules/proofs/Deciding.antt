@@ -1,5 +1,5 @@
 -- The orders around the crossing alone decide a price.
-use Rattle.std.proofs.Common.{◌≡◌, ℕ, zero, suc, ◌+◌, ◌-◌, ◌≤◌, ◌<◌, ◌⊎◌, inl, inr, true, cond, ltb, List, ◌++◌, Option, Some, None, length, get_or, sum, refl, sym, ap, subst, ◌∙◌, arith}
+use Rattle.std.proofs.Common.{◌≡◌, ℕ, zero, suc, ◌+◌, ◌-◌, ◌≤◌, ◌<◌, inl, inr, true, cond, ltb, List, ◌++◌, Option, Some, None, length, get_or, sum, refl, sym, ap, subst, ◌∙◌, arith}
 use Rattle.std.specs.Prelude.{MatchOption, IfSome}
 use Rattle.auction_terms.specs.declared.Order.{Order}
 use Rattle.auction_terms.specs.Book.{demand, supply}
@@ -19,7 +19,7 @@ use Rattle.price_rules.specs.Held.{market_priced}
 use Rattle.price_rules.specs.InLanes.{AreCandidates, AreMarked}
 use Rattle.price_rules.specs.declared.candidates.Lanes.{Lanes}
 use Rattle.price_rules.proofs.Curves.{Tells, length-spread, get_or-spread}
-use Rattle.price_rules.proofs.Nearby.{has-either, one_is, here_is, last_stands, first_stands, far_stands}
+use Rattle.price_rules.proofs.Nearby.{has-either, one_is, here_is, first_stands, far_stands}
 
 -- ---- sums of lists that end alike, and of lists that begin alike
 

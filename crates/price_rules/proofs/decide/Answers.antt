@@ -1,6 +1,6 @@
-use Rattle.std.proofs.Common.{◌≡◌, ◌+◌, length, subst}
+use Rattle.std.proofs.Common.{◌+◌, length, subst}
 use Rattle.auction_terms.specs.Ladder.{ladder_of}
-use Rattle.price_rules.specs.Deciding.{IsSameWithin, from_place, to_place}
+use Rattle.price_rules.specs.Deciding.{IsSameWithin, to_place}
 use Rattle.price_rules.proofs.Curves.{tells}
 use Rattle.price_rules.proofs.Deciding.{over_ladder, over_flags, over_near}
 use Rattle.price_rules.proofs.decide.Goals as goal

@@ -1,6 +1,4 @@
-use Rattle.std.proofs.Common.{◌≡◌, sym, subst, ◌∙◌, arith}
-use Rattle.auction_terms.specs.declared.Order.{Order}
-use Rattle.auction_terms.specs.Ladder.{LadderView}
+use Rattle.std.proofs.Common.{sym, subst, ◌∙◌, arith}
 use Rattle.price_rules.specs.Around.{few_limits}
 use Rattle.price_rules.specs.InLanes.{AreMarked, lead_of}
 use Rattle.price_rules.proofs.Curves.{tells}

@@ -23,5 +23,4 @@ invariant_of-self c =
       high = inside.high;
       trades = subst (λ a. length fields.tape.items ≤ auctions_ended a * most) next (omega (arith, after));
       room = inside.room;
-      shown = tt;
     }

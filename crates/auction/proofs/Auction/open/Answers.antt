@@ -25,5 +25,4 @@ invariant_of-result c =
       high = within.high;
       trades = omega (arith, ap length tape.items);
       room = tape.capacity;
-      shown = tt;
     }

@@ -11,6 +11,7 @@ use Rattle.auction.proofs.FoundLemmas.{listed_with, found_from}
 use Rattle.auction.proofs.LengthLaws.{one_less, length-change}
 use Rattle.auction.proofs.KeptLaws.{kept_tick, own_tick, kept_stands, kept_fits, kept-without, kept-change}
 use Rattle.auction.proofs.ShownLemmas.{good_quantity, seen_tick, closes_book, shown_changed, changed_line}
+use Rattle.auction.proofs.KnownLaws.{known-change}
 use Rattle.auction.proofs.book.Book.change.Goals as goal
 
 pub unwrap-before-requires : goal.unwrap-before-requires
@@ -41,19 +42,19 @@ add-requires-clause-fits c =
     (omega (arith, one_less c.args.id (orders_of c.self.inside.orders.line) c.unwrap-before.result found, c.self.invariant.room.few, c.self.invariant.room.small))
     (good_quantity c.args.quantity c.requires.quantity).1
 
-found : (c : goal.After-add) → order_with c.args.id (orders_of c.self.inside.orders.line) ≡ Some c.unwrap-before.result
+found : (c : goal.After-self-1) → order_with c.args.id (orders_of c.self.inside.orders.line) ≡ Some c.unwrap-before.result
 found c = found_from c.args.id c.self.inside.orders.line c.get.result c.unwrap-before.result c.get.ensures c.unwrap-before.ensures
 
-keeps : (c : goal.After-add) → c.change-kept.result ≡ keeps_place c.unwrap-before.result c.args.limit c.args.quantity
+keeps : (c : goal.After-self-1) → c.change-kept.result ≡ keeps_place c.unwrap-before.result c.args.limit c.args.quantity
 keeps c =
     subst (λ x. IfSome x (λ (o : Order). c.change-kept.result ≡ keeps_place o c.args.limit c.args.quantity)) (found c)
     (listed_with (λ o. c.change-kept.result ≡ keeps_place o c.args.limit c.args.quantity) c.args.id c.self.inside.orders.line c.change-kept.ensures.kept)
 
-changed : (c : goal.After-add) → orders_of c.change-kept.new.self.line ≡ book_with_change (orders_of c.self.inside.orders.line) c.unwrap-before.result c.args.limit c.args.quantity
+changed : (c : goal.After-self-1) → orders_of c.change-kept.new.self.line ≡ book_with_change (orders_of c.self.inside.orders.line) c.unwrap-before.result c.args.limit c.args.quantity
 changed c =
     changed_line c.args.id c.self.inside.orders.stamps c.args.limit c.args.quantity c.self.inside.orders.line c.change-kept.new.self.line c.unwrap-before.result c.change-kept.result c.self.invariant.kept.orderly.ids (found c) (keeps c) c.change-kept.ensures.line
 
-still_kept : (c : goal.After-add) → IsKept c.self.inside.ladder.low (length c.self.inside.ladder.bids) c.self.inside.kind (orders_of c.change-kept.new.self.line) c.add.new.ladder
+still_kept : (c : goal.After-self-1) → IsKept c.self.inside.ladder.low (length c.self.inside.ladder.bids) c.self.inside.kind (orders_of c.change-kept.new.self.line) c.add.new.ladder
 still_kept c =
     kept-change c.self.invariant.kept c.args.id c.args.limit c.args.quantity c.unwrap-before.result c.take.new.ladder (found c)
     (seen_tick c.self.inside.orders c.self.inside.ladder c.self.inside.kind c.args.self.now c.args.limit c.self.view_is c.requires.limit)
@@ -61,12 +62,13 @@ still_kept c =
 
 pub invariant_of-self : goal.invariant_of-self
 invariant_of-self c =
-    closes_book c.change-kept.new.self c.self.inside.orders.max_open c.self.inside.desk.room (still_kept c)
+    closes_book c.change-kept.new.self c.self.inside.orders.max_open c.self.inside.desk.room c.still_known-self-inside.result (still_kept c)
     (ap (λ (o : Orders). o.max_open) c.change-kept.ensures.rest)
     (omega (arith, ap length (changed c), length-change c.args.id c.args.limit c.args.quantity (orders_of c.self.inside.orders.line) c.unwrap-before.result (found c), c.self.invariant.room.few))
     c.self.invariant.room.small c.self.invariant.room.room
+    (known-change _ _ c.self.inside.kind c.self.inside.known c.still_known-left.result _ (orders_of c.self.inside.orders.line) _ c.args.id c.args.limit c.args.quantity c.unwrap-before.result c.counts-counts.result c.self.invariant.known c.self.invariant.kept.orderly.ids (found c) c.counts-counts.ensures (changed c) c.still_known-left.ensures c.still_known-self-inside.ensures)
 
-listed : (c : goal.After-add) → order_with c.args.id c.args.self.now.orders ≡ Some c.unwrap-before.result
+listed : (c : goal.After-self-1) → order_with c.args.id c.args.self.now.orders ≡ Some c.unwrap-before.result
 listed c = sym (ap (λ (v : OpenOrders). order_with c.args.id v.orders) c.self.view_is) ∙ found c
 
 pub returns-clause-kept : goal.returns-clause-kept

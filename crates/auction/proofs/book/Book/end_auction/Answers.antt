@@ -1,4 +1,4 @@
-use Rattle.std.proofs.Common.{◌≡◌, length, refl, sym, ap, ◌∙◌, arith}
+use Rattle.std.proofs.Common.{◌≡◌, length, None, refl, sym, ap, ◌∙◌, arith}
 use Rattle.auction_terms.specs.declared.Kind.{Kind}
 use Rattle.auction_terms.specs.declared.Kind.TheVariants.{Intraday, Closing}
 use Rattle.auction_terms.specs.Book.{kind_now}
@@ -18,6 +18,7 @@ pub invariant_of-self : goal.invariant_of-self
 invariant_of-self c = record {
   kept = own_ticks c.admit.ensures;
   room = c.self.invariant.room;
+  known = tt;
 }
 
 pub returns-in-Intraday : goal.returns-in-Intraday
@@ -32,11 +33,11 @@ returns-in-Intraday c =
 
 pub invariant_of-self-in_default : goal.invariant_of-self-in_default
 invariant_of-self-in_default c =
-    closes_book c.dismiss.new.orders c.self.inside.orders.max_open c.self.inside.desk.room
+    closes_book c.dismiss.new.orders c.self.inside.orders.max_open c.self.inside.desk.room None
     (kept_staying (orders_of c.self.inside.orders.line) c.dismiss.ensures.kept c.dismiss.ensures.book)
     (ap (λ (o : Orders). o.max_open) c.dismiss.ensures.rest)
     (omega (arith, ap length c.dismiss.ensures.book, length-staying c.self.inside.kind (orders_of c.self.inside.orders.line), c.self.invariant.room.few))
-    c.self.invariant.room.small c.self.invariant.room.room
+    c.self.invariant.room.small c.self.invariant.room.room tt
 
 pub returns-in_default : goal.returns-in_default
 returns-in_default c =

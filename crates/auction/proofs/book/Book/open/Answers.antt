@@ -32,4 +32,5 @@ invariant_of-result c =
         small = omega (arith, h.few_open, c.in_ok-open.ensures.max_open);
         room = omega (arith, c.in_ok-open-3.ensures.room, c.in_ok-open.ensures.max_open);
       };
+      known = tt;
     }

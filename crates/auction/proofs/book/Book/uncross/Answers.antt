@@ -1,4 +1,4 @@
-use Rattle.std.proofs.Common.{◌≡◌, ◌+◌, ◌<◌, ◌≤◌, All, length, sym, ap, subst, ◌∙◌, arith}
+use Rattle.std.proofs.Common.{◌≡◌, ◌+◌, ◌<◌, ◌≤◌, All, length, None, sym, ap, subst, ◌∙◌, arith}
 use Rattle.auction_terms.specs.Book.{counted, limits}
 use Rattle.auction_terms.specs.Line.{orders_of}
 use Rattle.auction_terms.specs.Edits.{AreExecutable, reduced_by}
@@ -34,10 +34,10 @@ executed c =
 
 pub invariant_of-self : goal.invariant_of-self
 invariant_of-self c =
-    closes_book c.execute.new.orders c.self.inside.orders.max_open c.allocate.new.self.room c.execute.ensures.kept
+    closes_book c.execute.new.orders c.self.inside.orders.max_open c.allocate.new.self.room None c.execute.ensures.kept
     (ap (λ (o : Orders). o.max_open) c.execute.ensures.rest)
     (omega (arith, ap length (executed c), length-rest_in c.self.inside.kind (orders_of c.self.inside.orders.line) c.args.price, c.self.invariant.room.few))
-    c.self.invariant.room.small (omega (arith, c.allocate.ensures.room, c.self.invariant.room.room))
+    c.self.invariant.room.small (omega (arith, c.allocate.ensures.room, c.self.invariant.room.room)) tt
 
 pub returns-clause-book : goal.returns-clause-book
 returns-clause-book c =

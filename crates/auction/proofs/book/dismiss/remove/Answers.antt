@@ -22,3 +22,6 @@ pub returns-clause-kept : goal.returns-clause-kept
 returns-clause-kept c =
     let found = found_order c.args.id c.args.orders.now.line c.delete-order.result c.requires.open c.delete-order.ensures.order in
     kept-without c.requires.kept c.args.id c.delete-order.result found (returns-clause-book c) c.take.ensures
+
+pub returns-clause-order : goal.returns-clause-order
+returns-clause-order c = found_order c.args.id c.args.orders.now.line c.delete-order.result c.requires.open c.delete-order.ensures.order
