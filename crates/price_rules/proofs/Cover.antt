@@ -1,6 +1,7 @@
 -- A few limits that stand for all limits of a book.
 use Rattle.std.proofs.Common.{◌≡◌, ℕ, ◌<◌, ◌≤◌, inl, inr, Bool, true, eqb, List, filter, All, Option, Some, None, ◌∙◌, arith}
 use Rattle.std.proofs.lemmas.Bool.{eq-eqb, ne_eqb, cases_eq, lt-ltb, and_from}
+use Rattle.std.proofs.lemmas.Grind.{common_steps}
 use Rattle.auction_terms.specs.declared.Order.{Order}
 use Rattle.auction_terms.specs.Book.{demand, supply, volume, surplus, has_bid_surplus, has_ask_surplus, limits}
 use Rattle.auction_terms.specs.Leading.{Leaders, has, has_key, keyed, lower_among, upper_among, NoBetter, Lead, AreBest}
@@ -19,13 +20,7 @@ pub record StandFor (book : List Order) (few : List ℕ) : Type 0 where
   pub covers : (q : ℕ) → has q (limits book) ≡ true → Covered book few q
 
 no_better : (book : List Order) (few : List ℕ) (leaders : Leaders) (q : ℕ) → ((c : ℕ) → has c few ≡ true → NoBetter book leaders c) → Covered book few q → NoBetter book leaders q
-no_better book few leaders q all (among h) = all q h
-no_better book few leaders q all (beaten c h less worse) =
-    let b = all c h in
-    (omega (arith, b.0), λ e. let same : volume book c ≡ leaders.volume = omega (arith, b.0) in let least = b.1 same in let more = worse (omega arith) in omega arith)
-no_better book few leaders q all (behind c h far ask_c ask_q less worse) =
-    let b = all c h in
-    (omega (arith, b.0), λ e. let same : volume book c ≡ leaders.volume = omega (arith, b.0) in let least = b.1 same in let more = worse (omega arith) in omega arith)
+no_better book few leaders q all h5 = grind (arith, common_steps)
 
 -- a covered limit as good as the leaders is one of the few, or behind one that is as good
 data Good (book : List Order) (few : List ℕ) (v s q : ℕ) : Type 0 where
@@ -34,19 +29,11 @@ data Good (book : List Order) (few : List ℕ) (v s q : ℕ) : Type 0 where
 
 good : (book : List Order) (few : List ℕ) (leaders : Leaders) (q : ℕ) → ((c : ℕ) → has c few ≡ true → NoBetter book leaders c) → has_key book leaders.volume leaders.surplus q ≡ true → Covered book few q → Good book few leaders.volume leaders.surplus q
 good book few leaders q all key (among h) = one h
-good book few leaders q all key (beaten c h less worse) =
-    let k = key_parts book leaders.volume leaders.surplus q key in
-    let b = all c h in
-    let same : volume book c ≡ leaders.volume = omega (arith, b.0, k.0) in
-    let least = b.1 same in
-    let more = worse (omega (arith, k.0)) in
-    absurd (omega (arith, k.1))
+good book few leaders q all key (beaten c h less worse) = grind (arith, common_steps, key_parts)
 good book few leaders q all key (behind c h far ask_c ask_q less worse) =
     let k = key_parts book leaders.volume leaders.surplus q key in
     let b = all c h in
     let same : volume book c ≡ leaders.volume = omega (arith, b.0, k.0) in
-    let least = b.1 same in
-    let more = worse (omega (arith, k.0)) in
     let equal : surplus book c ≡ leaders.surplus = omega (arith, k.1) in
     farther c h (and_from (eqb (volume book c) leaders.volume) (eqb (surplus book c) leaders.surplus) (eq-eqb _ leaders.volume same) (eq-eqb _ leaders.surplus equal)) far ask_c ask_q
 
@@ -63,7 +50,6 @@ lead_all book few leaders stand lead =
     let v = leaders.volume in
     let s = leaders.surplus in
     let all = limits book in
-    let T = has_key book v s in
     let each : (c : ℕ) → has c few ≡ true → NoBetter book leaders c = All_at (NoBetter book leaders) few lead.none_better in
     let into : (q : ℕ) → has q (keyed book v s few) ≡ true → has q (keyed book v s all) ≡ true =
     λ q e. let h = filter-has (has_key book v s) few q e in has-filter (has_key book v s) all q (stand.limits_too q h.0) h.1 in

@@ -1,5 +1,5 @@
 -- What a ladder tells of its orders.
-use Rattle.std.proofs.Common.{◌≡◌, ℕ, zero, suc, ◌+◌, ◌-◌, ◌≤◌, ◌<◌, Bool, true, false, cond, ◌&&◌, ◌||◌, nat_eq, not, ltb, List, [], ◌∷◌, filter, All, length, get_or, sum, refl, sym, ap, ◌∙◌, zero-add, arith}
+use Rattle.std.proofs.Common.{◌≡◌, ℕ, zero, suc, ◌+◌, ◌-◌, ◌≤◌, ◌<◌, Bool, true, cond, ◌&&◌, not, ltb, List, [], ◌∷◌, filter, All, length, get_or, sum, refl, sym, ap, ◌∙◌, zero-add, arith}
 use Rattle.std.specs.Simd.Lanes.{zip2}
 use Rattle.std.proofs.lemmas.Bool.{lt-ltb, ltb-true}
 use Rattle.std.proofs.lemmas.Bool.Decides.{nat_tests}
@@ -9,11 +9,12 @@ use Rattle.auction_terms.specs.declared.Side.{Side}
 use Rattle.auction_terms.specs.declared.Side.TheVariants.{Buy, Sell}
 use Rattle.auction_terms.specs.declared.Limit.{Limit}
 use Rattle.auction_terms.specs.declared.Limit.TheVariants.{Market, At}
-use Rattle.auction_terms.specs.Book.{demand, supply, quantity_of, is_buy, is_bid, is_ask, is_market, is_eligible, reaches, limits}
+use Rattle.auction_terms.specs.Book.{demand, supply, quantity_of, is_buy, is_market, reaches, limits}
 use Rattle.auction_terms.proofs.Sums.{counted, quantity_of-cons}
 use Rattle.auction_terms.specs.Ladder.{LadderView, spread, is_at, standing, market, presence, ladder_of, flag_of}
 use Rattle.tick_ladder.specs.Ladder.{IsLadderOf}
 use Rattle.std.specs.List.{list_any}
+use Rattle.std.proofs.lemmas.Grind.{common_steps}
 use Rattle.lane_prefix.specs.Meeting.{before}
 use Rattle.tick_ladder.proofs.Sums.{before_next, before_all}
 use Rattle.auction_terms.specs.Leading.{has}
@@ -42,11 +43,7 @@ abbrev quantity_if : (Order → Bool) → List Order → ℕ
 quantity_if t book = quantity_of (filter t book)
 
 kept : (b : Bool) (order : Order) (orders : List Order) → quantity_of (cond b (order ∷ orders) orders) ≡ counted b order + quantity_of orders
-kept true order orders = quantity_of-cons order orders
-kept false order orders = sym (zero-add (quantity_of orders))
-
-quantity_if-cons : (t : Order → Bool) (order : Order) (book : List Order) → quantity_if t (order ∷ book) ≡ counted (t order) order + quantity_if t book
-quantity_if-cons t order book = kept (t order) order (filter t book)
+kept b order orders = grind (arith, common_steps, quantity_of-cons, zero-add)
 
 -- P of the limit's tick, if it has one
 abbrev AtTick : (ℕ → Type 0) → Limit → Type 0
@@ -62,68 +59,49 @@ split : (P : ℕ → Type 0) (t a b : Order → Bool) → ((o : Order) → AtTic
 split P t a b each [] all = refl
 split P t a b each (o ∷ book) all =
     let parts = limits-cons P o.limit o book refl all in
-    omega (arith, quantity_if-cons t o book, quantity_if-cons a o book, quantity_if-cons b o book, each o parts.0, split P t a b each book parts.1)
+    omega (arith, kept, each o parts.0, split P t a b each book parts.1)
 
 agree : (P : ℕ → Type 0) (t a : Order → Bool) → ((o : Order) → AtTick P o.limit → counted (t o) o ≡ counted (a o) o) → (book : List Order) → All P (limits book) → quantity_if t book ≡ quantity_if a book
 agree P t a each [] all = refl
 agree P t a each (o ∷ book) all =
     let parts = limits-cons P o.limit o book refl all in
-    omega (arith, quantity_if-cons t o book, quantity_if-cons a o book, each o parts.0, agree P t a each book parts.1)
+    omega (arith, kept, each o parts.0, agree P t a each book parts.1)
 
 abbrev Within : ℕ → ℕ → ℕ → Type 0
 Within low n l = (low ≤ l) × (l < low + n)
 
 bid_step : (limit : Limit) (side : Side) (n t : ℕ) → cond (is_buy side && reaches limit side t) n 0 ≡ cond (is_buy side && is_at t limit) n 0 + cond (is_buy side && reaches limit side (t + 1)) n 0
-bid_step Market Buy n t = omega arith
-bid_step Market Sell n t = omega arith
-bid_step (At l) Buy n t = grind (arith, nat_tests)
-bid_step (At l) Sell n t = omega arith
+bid_step limit side n t = grind (arith, common_steps, nat_tests)
 
 bid_end : (limit : Limit) (side : Side) (n low m : ℕ) → AtTick (Within low m) limit → cond (is_buy side && reaches limit side (low + m)) n 0 ≡ cond (is_buy side && is_market limit) n 0
-bid_end Market Buy n low m h = refl
-bid_end Market Sell n low m h = refl
-bid_end (At l) Buy n low m h = grind (arith, nat_tests)
-bid_end (At l) Sell n low m h = refl
+bid_end limit side n low m h = grind (arith, common_steps, nat_tests)
 
 ask_step : (limit : Limit) (side : Side) (n t : ℕ) → cond (not (is_buy side) && reaches limit side (t + 1)) n 0 ≡ cond (not (is_buy side) && reaches limit side t) n 0 + cond (not (is_buy side) && is_at (t + 1) limit) n 0
-ask_step Market Buy n t = omega arith
-ask_step Market Sell n t = omega arith
-ask_step (At l) Buy n t = omega arith
-ask_step (At l) Sell n t = grind (arith, nat_tests)
+ask_step limit side n t = grind (arith, common_steps, nat_tests)
 
 ask_first : (limit : Limit) (side : Side) (n low m : ℕ) → AtTick (Within low m) limit → cond (not (is_buy side) && reaches limit side low) n 0 ≡ cond (not (is_buy side) && is_market limit) n 0 + cond (not (is_buy side) && is_at low limit) n 0
-ask_first Market Buy n low m h = omega arith
-ask_first Market Sell n low m h = omega arith
-ask_first (At l) Buy n low m h = omega arith
-ask_first (At l) Sell n low m h = grind (arith, nat_tests)
+ask_first limit side n low m h = grind (arith, common_steps, nat_tests)
 
 demand_next : (book : List Order) (low m t : ℕ) → All (Within low m) (limits book) → demand book t ≡ standing Buy book t + demand book (t + 1)
 unfolding demand
-demand_next book low m t all =
-    split (Within low m) (λ o. is_bid o && is_eligible t o) (λ o. is_bid o && is_at t o.limit) (λ o. is_bid o && is_eligible (t + 1) o) (λ o h. bid_step o.limit o.side o.quantity t) book all
+demand_next book low m t all = search (arith, split, bid_step)
 
 demand_end : (book : List Order) (low m : ℕ) → All (Within low m) (limits book) → demand book (low + m) ≡ market Buy book
 unfolding demand
-demand_end book low m all =
-    agree (Within low m) (λ o. is_bid o && is_eligible (low + m) o) (λ o. is_bid o && is_market o.limit) (λ o h. bid_end o.limit o.side o.quantity low m h) book all
+demand_end book low m all = search (arith, agree, bid_end)
 
 supply_next : (book : List Order) (low m t : ℕ) → All (Within low m) (limits book) → supply book (t + 1) ≡ supply book t + standing Sell book (t + 1)
 unfolding supply
-supply_next book low m t all =
-    split (Within low m) (λ o. is_ask o && is_eligible (t + 1) o) (λ o. is_ask o && is_eligible t o) (λ o. is_ask o && is_at (t + 1) o.limit) (λ o h. ask_step o.limit o.side o.quantity t) book all
+supply_next book low m t all = search (arith, split, ask_step)
 
 supply_first : (book : List Order) (low m : ℕ) → All (Within low m) (limits book) → supply book low ≡ market Sell book + standing Sell book low
 unfolding supply
-supply_first book low m all =
-    split (Within low m) (λ o. is_ask o && is_eligible low o) (λ o. is_ask o && is_market o.limit) (λ o. is_ask o && is_at low o.limit) (λ o h. ask_first o.limit o.side o.quantity low m h) book all
+supply_first book low m all = search (arith, split, ask_first)
 
 -- ---- demand and supply from sums
 
 demand_up : (book : List Order) (low n : ℕ) (b : List ℕ) (i : ℕ) → All (Within low n) (limits book) → b ≡ spread (standing Buy book) low n → i ≤ n → demand book (low + i) + before b i ≡ demand book low
-demand_up book low n b zero all e h =
-    let start : demand book (low + 0) ≡ demand book low = ap (demand book) (omega arith) in
-    let none : before b 0 ≡ 0 = refl in
-    omega arith
+demand_up book low n b zero all e h = grind (arith, common_steps)
 demand_up book low n b (suc i) all e h =
     let here : get_or b i 0 ≡ standing Buy book (low + i) = ap (λ l. get_or l i 0) e ∙ get_or-spread (standing Buy book) low n i (omega arith) in
     let up : suc i ≡ i + 1 = omega arith in
@@ -132,10 +110,7 @@ demand_up book low n b (suc i) all e h =
 
 supply_up : (book : List Order) (low n : ℕ) (a : List ℕ) (i : ℕ) → All (Within low n) (limits book) → a ≡ spread (standing Sell book) low n → i < n → supply book (low + i) ≡ market Sell book + before a (i + 1)
 supply_up book low n a zero all e h =
-    let here : get_or a 0 0 ≡ standing Sell book (low + 0) = ap (λ l. get_or l 0 0) e ∙ get_or-spread (standing Sell book) low n 0 (omega arith) in
-    let same : low + 0 ≡ low = omega arith in
-    let none : before a 0 ≡ 0 = refl in
-    omega (arith, here, ap (supply book) same, ap (standing Sell book) same, before_next a 0, supply_first book low n all)
+    grind (arith, common_steps, (get_or-spread (standing Sell book) low n 0 (omega arith)), (before_next a 0), (supply_first book low n all))
 supply_up book low n a (suc i) all e h =
     let here : get_or a (suc i) 0 ≡ standing Sell book (low + suc i) = ap (λ l. get_or l (suc i) 0) e ∙ get_or-spread (standing Sell book) low n (suc i) (omega arith) in
     let same : low + suc i ≡ low + i + 1 = omega arith in
@@ -155,19 +130,13 @@ pub record Tells (v : LadderView) (book : List Order) : Type 0 where
 present_is : (book : List Order) (t : ℕ) → list_any (λ order. is_at t order.limit) book ≡ has t (limits book)
 unfolding limits
 present_is [] t = refl
-present_is (o ∷ book) t = at_limit o.limit o book t refl (present_is book t)
-  where
-    at_limit : (limit : Limit) (o : Order) (book : List Order) (t : ℕ) → o.limit ≡ limit → list_any (λ order. is_at t order.limit) book ≡ has t (limits book) → list_any (λ order. is_at t order.limit) (o ∷ book) ≡ has t (limits (o ∷ book))
-    at_limit Market o book t e rest = rw e rest
-    at_limit (At l) o book t e rest = rw e (ap (λ b. nat_eq l t || b) rest)
+present_is (o ∷ book) t = grind (arith, common_steps, (present_is book t))
 
 abbrev one_of : Bool → ℕ
 one_of b = cond b 1 0
 
 one_if : (b c : Bool) → one_of b ≡ one_of c → c ≡ true → b ≡ true
-one_if true c e h = refl
-one_if false true e h = absurd (omega (arith, e))
-one_if false false e h = h
+one_if b c e h = grind (arith, common_steps)
 
 pub tells : (v : LadderView) (book : List Order) → IsLadderOf v book → v.present ≡ zip2 flag_of v.bids v.asks → Tells v book
 unfolding ladder_of

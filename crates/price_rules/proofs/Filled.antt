@@ -1,15 +1,16 @@
 -- The limits around the crossing in their lanes.
-use Rattle.std.proofs.Common.{◌≡◌, ℕ, zero, suc, ◌+◌, ◌≤◌, ◌<◌, inl, inr, true, List, [], ◌∷◌, ◌++◌, Option, Some, None, length, get_or, refl, ap, ◌∙◌, arith}
+use Rattle.std.proofs.Common.{◌≡◌, ℕ, zero, suc, ◌+◌, ◌≤◌, ◌<◌, inl, inr, true, List, [], ◌∷◌, ◌++◌, Option, Some, length, get_or, ap, ◌∙◌, arith}
+use Rattle.std.proofs.lemmas.Grind.{common_steps}
 use Rattle.auction_terms.specs.declared.Order.{Order}
 use Rattle.auction_terms.specs.Book.{demand, supply}
 use Rattle.auction_terms.specs.Ladder.{LadderView}
 use Rattle.auction_terms.specs.Leading.{has}
 use Rattle.price_rules.specs.declared.surroundings.Around.{Around}
 use Rattle.price_rules.specs.declared.candidates.Candidate.{Candidate}
-use Rattle.price_rules.specs.Around.{IsAround, IsFar, IsPoint, here_at, tick_list, few_limits}
+use Rattle.price_rules.specs.Around.{IsAround, IsPoint, here_at, tick_list, few_limits}
 use Rattle.price_rules.specs.InLanes.{IsCandidate, AreCandidates, AreMarked, in_lanes}
 use Rattle.price_rules.proofs.Curves.{Tells}
-use Rattle.price_rules.proofs.Nearby.{has-left, has-right, has-either, has_one, one_is, here_is, last_stands, first_stands, far_stands}
+use Rattle.price_rules.proofs.Nearby.{has-left, has-right, has-either, has_one, one_is}
 
 -- a flag says that there is a limit
 record Flagged (v : LadderView) (o : Option ℕ) (c : Candidate) : Type 0 where
@@ -20,93 +21,21 @@ record Flagged (v : LadderView) (o : Option ℕ) (c : Candidate) : Type 0 where
   point : IsPoint v place c.demand c.supply
 
 flagged : (v : LadderView) (o : Option ℕ) (c : Candidate) → IsCandidate v o c → c.flag ≡ 1 → Flagged v o c
-flagged v None c is flag = absurd (omega arith)
-flagged v (Some i) c is flag = record { place = i; there = refl; tick = is.1; within = is.2; point = is.3 }
+flagged v o c is flag = grind (arith, common_steps)
 
 -- and a limit has a flag
 flag_of_limit : (v : LadderView) (o : Option ℕ) (c : Candidate) (i : ℕ) → o ≡ Some i → IsCandidate v o c → (c.flag ≡ 1) × (c.tick ≡ v.low + i)
-flag_of_limit v None c i e is = absurd (let wrong : None ≡ Some i = e in cc)
-flag_of_limit v (Some j) c i e is = let same : j ≡ i = cc in (is.0, is.1 ∙ ap (λ n. v.low + n) same)
+flag_of_limit v o c i e is = grind (arith, common_steps)
 
 values : (v : LadderView) (book : List Order) (o : Option ℕ) (c : Candidate) → Tells v book → IsCandidate v o c → c.flag ≡ 1 → (c.demand ≡ demand book c.tick) × (c.supply ≡ supply book c.tick)
-values v book o c tells is flag =
-    let f = flagged v o c is flag in
-    let d = f.point.demand_is in
-    let s = f.point.supply_is in
-    let inside = f.within in
-    (omega (arith, ap (demand book) f.tick, tells.demand_is f.place (omega arith)), omega (arith, ap (supply book) f.tick, tells.supply_is f.place f.within))
+values v book o c tells is flag = grind (arith, common_steps, flagged)
 
 no_more : (k : ℕ) → get_or {A = ℕ} (0 ∷ 0 ∷ 0 ∷ 0 ∷ []) k 0 ≡ 1 → ⊥
-no_more zero h = omega arith
-no_more (suc zero) h = omega arith
-no_more (suc (suc zero)) h = omega arith
-no_more (suc (suc (suc zero))) h = omega arith
-no_more (suc (suc (suc (suc zero)))) h = omega arith
-no_more (suc (suc (suc (suc (suc k))))) h = omega arith
-
-far_before : (v : LadderView) (near far : Option ℕ) (f p : ℕ) → near ≡ Some p → far ≡ Some f → IsFar v near far → f < p
-far_before v None far f p e g is = absurd (let wrong : None ≡ Some p = e in cc)
-far_before v (Some n) far f p e g is =
-    let same : n ≡ p = cc in
-    let last = last_stands v.bids v.asks n f far g is in
-    omega (arith, last.within)
+no_more k h = grind (arith, common_steps)
 
 module _ (v : LadderView) (a : Around) (c1 c2 c3 c4 : Candidate) (is : IsAround v a) (far : IsCandidate v a.far c1) (near : IsCandidate v a.near c2) (here : IsCandidate v (here_at v a.crossing.place) c3) (after : IsCandidate v a.after c4) where
-  far_near : c1.flag ≡ 1 → c2.flag ≡ 1 → c1.tick ≤ c2.tick
-  far_near e g =
-      let f = flagged v a.far c1 far e in
-      let p = flagged v a.near c2 near g in
-      omega (arith, f.tick, p.tick, far_before v a.near a.far f.place p.place p.there f.there is.far)
-
-  near_here : c2.flag ≡ 1 → c3.flag ≡ 1 → c2.tick ≤ c3.tick
-  near_here e g =
-      let p = flagged v a.near c2 near e in
-      let h = flagged v (here_at v a.crossing.place) c3 here g in
-      let last = last_stands v.bids v.asks a.crossing.place p.place a.near p.there is.near in
-      omega (arith, p.tick, h.tick, last.within, (here_is v a.crossing.place h.place h.there).0)
-
-  far_here : c1.flag ≡ 1 → c3.flag ≡ 1 → c1.tick ≤ c3.tick
-  far_here e g =
-      let f = flagged v a.far c1 far e in
-      let h = flagged v (here_at v a.crossing.place) c3 here g in
-      let last = far_stands v a.crossing.place f.place a.near a.far f.there is.near is.far in
-      omega (arith, f.tick, h.tick, last.0, (here_is v a.crossing.place h.place h.there).0)
-
-  before_after : (i : ℕ) (t : ℕ) → t ≡ v.low + i → i ≤ a.crossing.place → c4.flag ≡ 1 → t ≤ c4.tick
-  before_after i t at below e =
-      let n = flagged v a.after c4 after e in
-      let first = first_stands v.bids v.asks (a.crossing.place + 1) (length v.bids) n.place a.after n.there is.after in
-      omega (arith, n.tick, first.from)
-
-  far_after : c1.flag ≡ 1 → c4.flag ≡ 1 → c1.tick ≤ c4.tick
-  far_after e =
-      let f = flagged v a.far c1 far e in
-      let last = far_stands v a.crossing.place f.place a.near a.far f.there is.near is.far in
-      before_after f.place c1.tick f.tick (let less = last.0 in omega arith)
-
-  near_after : c2.flag ≡ 1 → c4.flag ≡ 1 → c2.tick ≤ c4.tick
-  near_after e =
-      let p = flagged v a.near c2 near e in
-      let last = last_stands v.bids v.asks a.crossing.place p.place a.near p.there is.near in
-      before_after p.place c2.tick p.tick (let less = last.within in omega arith)
-
-  here_after : c3.flag ≡ 1 → c4.flag ≡ 1 → c3.tick ≤ c4.tick
-  here_after e =
-      let h = flagged v (here_at v a.crossing.place) c3 here e in
-      before_after h.place c3.tick h.tick (let same = (here_is v a.crossing.place h.place h.there).0 in omega arith)
-
   rises : (j k : ℕ) → j < k → get_or (in_lanes c1 c2 c3 c4).flags j 0 ≡ 1 → get_or (in_lanes c1 c2 c3 c4).flags k 0 ≡ 1 → get_or (in_lanes c1 c2 c3 c4).ticks j 0 ≤ get_or (in_lanes c1 c2 c3 c4).ticks k 0
-  rises j zero less e g = absurd (omega arith)
-  rises zero (suc zero) less e g = far_near e g
-  rises (suc j) (suc zero) less e g = absurd (omega arith)
-  rises zero (suc (suc zero)) less e g = far_here e g
-  rises (suc zero) (suc (suc zero)) less e g = near_here e g
-  rises (suc (suc j)) (suc (suc zero)) less e g = absurd (omega arith)
-  rises zero (suc (suc (suc zero))) less e g = far_after e g
-  rises (suc zero) (suc (suc (suc zero))) less e g = near_after e g
-  rises (suc (suc zero)) (suc (suc (suc zero))) less e g = here_after e g
-  rises (suc (suc (suc j))) (suc (suc (suc zero))) less e g = absurd (omega arith)
-  rises j (suc (suc (suc (suc k)))) less e g = absurd (no_more k g)
+  rises j k less e g = grind (arith, common_steps)
 
   pub are_candidates : (book : List Order) → Tells v book → AreCandidates book (in_lanes c1 c2 c3 c4)
   are_candidates book tells = record { demands_are = demands; supplies_are = supplies; rising = rises }

@@ -1,16 +1,16 @@
 -- Flags that mark the ticks of a list.
-use Rattle.std.proofs.Common.{◌≡◌, ℕ, zero, suc, ◌≤◌, ◌<◌, inl, inr, Bool, true, cond, ltb, List, [], ◌∷◌, filter, Option, Some, None, option_map, length, get_or, refl, sym, ap, ◌∙◌, arith}
+use Rattle.std.proofs.Common.{◌≡◌, ℕ, zero, suc, ◌≤◌, ◌<◌, inl, inr, Bool, true, cond, ltb, List, [], ◌∷◌, filter, Option, Some, None, option_map, length, get_or, refl, sym, ap, arith}
 use Rattle.std.specs.Prelude.{MatchOption}
 use Rattle.std.specs.Simd.Lanes.{zip2}
 use Rattle.std.proofs.lemmas.Bool.{cases_eq, cases_lt, cases_order, eq-eqb, ne_eqb, lt-ltb, le-ltb}
+use Rattle.std.proofs.lemmas.Grind.{common_steps}
 use Rattle.auction_terms.specs.PriceOf.{highest, lowest}
 use Rattle.auction_terms.proofs.Members.{has-first, has-cases, no_tick, none_empty, has-filter, filter-has, highest_agree, lowest_agree}
 use Rattle.lane_select.specs.Select.{kept_if_equal, kept_if_above, NoFlagIn, IsFirstFlag, IsLastFlag}
 use Rattle.price_rules.specs.InLanes.{AreMarked}
 
 nothing : (k : ℕ) → get_or {A = ℕ} [] k 0 ≡ 0
-nothing zero = refl
-nothing (suc k) = refl
+nothing k = grind (arith, common_steps)
 
 -- ---- what a kernel leaves at a lane
 
@@ -23,10 +23,7 @@ zip_at f (x ∷ xs) (y ∷ ys) zero z e = refl
 zip_at f (x ∷ xs) (y ∷ ys) (suc k) z e = zip_at f xs ys k z (omega arith)
 
 flag_kept : (w v f : ℕ) → kept_if_equal w v f ≡ 1 → (v ≡ w) × (f ≡ 1)
-flag_kept w v f h = elim (cases_eq v w) [
-  | inl same ↦ (same, rw (eq-eqb v w same) at h)
-  | inr other ↦ absurd (let wrong : 0 ≡ 1 = rw (ne_eqb v w other) at h in omega arith)
-]
+flag_kept w v f h = grind (arith, common_steps, cases_eq, eq-eqb, ne_eqb)
 
 pub kept_parts : (w : ℕ) (vs fs : List ℕ) (k : ℕ) → length vs ≡ length fs → get_or (zip2 (kept_if_equal w) vs fs) k 0 ≡ 1 → (get_or vs k 0 ≡ w) × (get_or fs k 0 ≡ 1)
 kept_parts w [] fs zero e h = absurd (omega arith)
@@ -43,10 +40,7 @@ kept_there w (v ∷ vs) (f ∷ fs) zero e is h = rw (eq-eqb v w is) h
 kept_there w (v ∷ vs) (f ∷ fs) (suc k) e is h = kept_there w vs fs k (omega arith) is h
 
 flag_above : (a b f : ℕ) → cond (ltb b a) f 0 ≡ 1 → (b < a) × (f ≡ 1)
-flag_above a b f h = elim (cases_lt b a) [
-  | inl less ↦ (less, rw (lt-ltb b a less) at h)
-  | inr more ↦ absurd (let wrong : 0 ≡ 1 = rw (le-ltb b a more) at h in omega arith)
-]
+flag_above a b f h = grind (arith, common_steps, cases_lt, lt-ltb, le-ltb)
 
 pub above_parts : (xs ys fs : List ℕ) (k : ℕ) → length xs ≡ length fs → length ys ≡ length fs → get_or (kept_if_above xs ys fs) k 0 ≡ 1 → (get_or ys k 0 < get_or xs k 0) × (get_or fs k 0 ≡ 1)
 above_parts [] ys fs zero d e h = absurd (omega arith)
@@ -111,11 +105,4 @@ module _ (ts fs few : List ℕ) (marked : AreMarked ts fs few) where
 
 -- the flags that are left where a test holds mark the ticks that pass it
 pub marked_part : (ts fs gs few : List ℕ) (T : ℕ → Bool) → AreMarked ts fs few → ((k : ℕ) → get_or gs k 0 ≡ 1 → (T (get_or ts k 0) ≡ true) × (get_or fs k 0 ≡ 1)) → ((k : ℕ) → T (get_or ts k 0) ≡ true → get_or fs k 0 ≡ 1 → get_or gs k 0 ≡ 1) → AreMarked ts gs (filter T few)
-marked_part ts fs gs few T marked parts back = record {
-  there = λ k h. let p = parts k h in has-filter T few (get_or ts k 0) (marked.there k p.1) p.0;
-  place = λ t e.
-      let f = filter-has T few t e in
-      let p = marked.place t f.0 in
-      let left = back p.0 (ap T p.3 ∙ f.1) p.2 in
-      (p.0, inside gs p.0 left, left, p.3);
-}
+marked_part ts fs gs few T marked parts back = grind (arith, common_steps, has-filter, filter-has, inside)

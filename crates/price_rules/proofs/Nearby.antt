@@ -1,11 +1,11 @@
 -- The limits around the crossing stand for all.
-use Rattle.std.proofs.Common.{◌≡◌, ℕ, ◌+◌, ◌-◌, ◌≤◌, ◌<◌, ◌⊎◌, inl, inr, true, ltb, List, [], ◌∷◌, ◌++◌, Option, Some, None, length, get_or, min, sum, refl, sym, ap, subst, ◌∙◌, arith}
+use Rattle.std.proofs.Common.{◌≡◌, ℕ, ◌+◌, ◌-◌, ◌≤◌, ◌<◌, ◌⊎◌, inl, inr, true, List, [], ◌∷◌, ◌++◌, Option, Some, None, length, get_or, min, sum, refl, sym, ap, subst, ◌∙◌, arith}
 use Rattle.std.specs.Prelude.{MatchOption}
 use Rattle.std.proofs.lemmas.Bool.{lt-ltb, ltb-true, cases_order, cases_Bool}
+use Rattle.std.proofs.lemmas.Grind.{common_steps}
 use Rattle.auction_terms.specs.declared.Order.{Order}
 use Rattle.auction_terms.specs.Book.{demand, supply, volume, surplus, limits}
 use Rattle.auction_terms.specs.Ladder.{LadderView}
-use Rattle.lane_prefix.specs.Meeting.{before}
 use Rattle.tick_ladder.specs.Standing.{IsClear, IsLast, IsFirst, IsCrossing}
 use Rattle.tick_ladder.specs.declared.Crossing.{Crossing}
 use Rattle.tick_ladder.proofs.Sums.{before_next, before_rises}
@@ -34,37 +34,20 @@ pub has-either : (t : ℕ) (xs ys : List ℕ) → has t (xs ++ ys) ≡ true → 
 has-either t [] ys e = inr e
 has-either t (x ∷ xs) ys e = elim (has-cases t x (xs ++ ys) e) [
   | inl same ↦ inl (subst (λ n. has n (x ∷ xs) ≡ true) same (has-first x xs))
-  | inr later ↦ elim (has-either t xs ys later) [
-    | inl a ↦ inl (has-later t x xs a)
-    | inr b ↦ inr b
-  ]
+  | inr later ↦ grind (arith, common_steps, has-later, (has-either t xs ys later))
 ]
 
 pub has_one : (low i : ℕ) → has (low + i) (tick_list low (Some i)) ≡ true
 has_one low i = has-first (low + i) []
 
 pub one_is : (low t : ℕ) (o : Option ℕ) → has t (tick_list low o) ≡ true → (i : ℕ) × (o ≡ Some i) × (low + i ≡ t)
-one_is low t None e = no_tick t e
-one_is low t (Some i) e = elim (has-cases t (low + i) [] e) [
-  | inl same ↦ (i, refl, same)
-  | inr later ↦ no_tick t later
-]
+one_is low t o e = grind (arith, common_steps, no_tick, has-cases)
 
 -- ---- what stands and where nothing stands
 
 pub clear_none : (b a : List ℕ) (i j k : ℕ) → IsClear b a i j → i ≤ k → k < j → 0 < get_or b k 0 + get_or a k 0 → ⊥
 clear_none b a i j k clear from to some =
-    omega (
-      arith,
-      clear.no_bids,
-      clear.no_asks,
-      before_next b k,
-      before_next a k,
-      before_rises b i k from,
-      before_rises b (k + 1) j (omega arith),
-      before_rises a i k from,
-      before_rises a (k + 1) j (omega arith),
-    )
+    grind (arith, common_steps, (before_next b k), (before_next a k), before_rises)
 
 -- ---- which of two limits is better
 
@@ -78,16 +61,8 @@ behind_of di si vi ai dc sc vc ac h1 h2 h3 h4 h5 h6 h7 = (omega arith, omega ari
 -- a limit below two others, the upper of which is not past the crossing
 below_two : (v : LadderView) (book : List Order) (c : Crossing) (few : List ℕ) (i f p : ℕ) → Tells v book → IsCrossing v.bids v.asks 0 (length v.bids) (v.market_bids + sum v.bids) v.market_asks c → i < f → f < p → p < c.place → 0 < get_or v.bids f 0 + get_or v.asks f 0 → has (v.low + p) few ≡ true → Covered book few (v.low + i)
 below_two v book c few i f p tells cross il fl pl some at =
-    let inside = cross.within in
     let ai = amounts book (v.low + i) in
     let ap = amounts book (v.low + p) in
-    let zb : before v.bids 0 ≡ 0 = refl in
-    let za : before v.asks 0 ≡ 0 = refl in
-    let met : c.below ≤ c.demand = elim cross.met [ inl first ↦ absurd (omega arith) | inr met ↦ met ] in
-    let di = tells.demand_is i (omega arith) in
-    let dp = tells.demand_is p (omega arith) in
-    let si = tells.supply_is i (omega arith) in
-    let sp = tells.supply_is p (omega arith) in
     let more : demand book (v.low + p) + get_or v.bids f 0 ≤ demand book (v.low + i) =
     omega (arith, before_rises v.bids i f (omega arith), before_next v.bids f, before_rises v.bids (f + 1) p (omega arith)) in
     let less : supply book (v.low + i) + get_or v.asks f 0 ≤ supply book (v.low + p) =
@@ -102,14 +77,6 @@ above_one : (v : LadderView) (book : List Order) (c : Crossing) (few : List ℕ)
 above_one v book c few i p tells cross from il top at =
     let ai = amounts book (v.low + i) in
     let ap = amounts book (v.low + p) in
-    let zb : before v.bids 0 ≡ 0 = refl in
-    let za : before v.asks 0 ≡ 0 = refl in
-    let di = tells.demand_is i (omega arith) in
-    let dp = tells.demand_is p (omega arith) in
-    let si = tells.supply_is i (omega arith) in
-    let sp = tells.supply_is p (omega arith) in
-    let over : v.market_bids + sum v.bids + before v.bids 0 + before v.asks 0 < v.market_asks + before v.asks (c.place + 1) + before v.bids (c.place + 1) =
-    elim cross.over [ inl last ↦ absurd (omega arith) | inr over ↦ over ] in
     let less : demand book (v.low + i) ≤ demand book (v.low + p) = omega (arith, before_rises v.bids p i (omega arith)) in
     let more : supply book (v.low + p) ≤ supply book (v.low + i) = omega (arith, before_rises v.asks (p + 1) (i + 1) (omega arith)) in
     let under : demand book (v.low + p) < supply book (v.low + p) =
@@ -153,24 +120,16 @@ here_some : (v : LadderView) (p : ℕ) → 0 < get_or v.bids p 0 + get_or v.asks
 here_some v p some = rw (lt-ltb 0 (get_or v.bids p 0 + get_or v.asks p 0) some) refl
 
 pub here_is : (v : LadderView) (p i : ℕ) → here_at v p ≡ Some i → (p ≡ i) × (0 < get_or v.bids p 0 + get_or v.asks p 0)
-here_is v p i e = elim (cases_Bool (ltb 0 (get_or v.bids p 0 + get_or v.asks p 0))) [
-  | inl stands ↦ let same : Some p ≡ Some i = rw stands at e in (cc, ltb-true 0 (get_or v.bids p 0 + get_or v.asks p 0) stands)
-  | inr none ↦ absurd (let wrong : None ≡ Some i = rw none at e in cc)
-]
+here_is v p i e = grind (arith, common_steps, cases_Bool, ltb-true)
 
 pub last_stands : (b a : List ℕ) (j i : ℕ) (o : Option ℕ) → o ≡ Some i → MatchOption o (IsClear b a 0 j) (IsLast b a 0 j) → IsLast b a 0 j i
-last_stands b a j i None e h = absurd (cc)
-last_stands b a j i (Some p) e h = let same : p ≡ i = cc in subst (IsLast b a 0 j) same h
+last_stands b a j i o e h = grind (arith, common_steps)
 
 pub first_stands : (b a : List ℕ) (s j i : ℕ) (o : Option ℕ) → o ≡ Some i → MatchOption o (IsClear b a s j) (IsFirst b a s j) → IsFirst b a s j i
-first_stands b a s j i None e h = absurd (cc)
-first_stands b a s j i (Some p) e h = let same : p ≡ i = cc in subst (IsFirst b a s j) same h
+first_stands b a s j i o e h = grind (arith, common_steps)
 
 pub far_stands : (v : LadderView) (j i : ℕ) (near far : Option ℕ) → far ≡ Some i → MatchOption near (IsClear v.bids v.asks 0 j) (IsLast v.bids v.asks 0 j) → IsFar v near far → (i < j) × (0 < get_or v.bids i 0 + get_or v.asks i 0)
-far_stands v j i None far e near is = absurd (let wrong : None ≡ Some i = sym is ∙ e in cc)
-far_stands v j i (Some p) far e near is =
-    let f = last_stands v.bids v.asks p i far e is in
-    (omega (arith, f.within, near.within), f.stands)
+far_stands v j i near far e is_near is = grind (arith, common_steps, last_stands)
 
 pub stand_around : (v : LadderView) (book : List Order) (a : Around) → Tells v book → IsAround v a → StandFor book (few_limits v a)
 stand_around v book a tells is =

@@ -1,11 +1,12 @@
 -- The candidates that the kernels leave are the best.
-use Rattle.std.proofs.Common.{◌≡◌, ℕ, ◌≤◌, ◌<◌, true, min, eqb, List, filter, All, Option, length, get_or, refl, sym, ap, ◌∙◌, arith}
+use Rattle.std.proofs.Common.{◌≡◌, ℕ, ◌≤◌, ◌<◌, true, min, List, filter, All, Option, length, get_or, refl, sym, ap, ◌∙◌, arith}
 use Rattle.std.specs.Simd.Lanes.{zip2}
 use Rattle.std.proofs.lemmas.Bool.{lt-ltb, eq-eqb, and_from}
 use Rattle.std.proofs.lemmas.Simd.{length-zip2}
+use Rattle.std.proofs.lemmas.Grind.{common_steps}
 use Rattle.auction_terms.specs.declared.Order.{Order}
 use Rattle.auction_terms.specs.Book.{demand, supply, volume, surplus, has_bid_surplus, has_ask_surplus}
-use Rattle.auction_terms.specs.Leading.{Leaders, has_key, keyed, lower_among, upper_among, NoBetter, Lead}
+use Rattle.auction_terms.specs.Leading.{Leaders, keyed, lower_among, upper_among, NoBetter, Lead}
 use Rattle.auction_terms.proofs.KeptLaws.{amounts, bid_amounts, ask_amounts, key_parts}
 use Rattle.auction_terms.proofs.Members.{All_from, not_empty}
 use Rattle.lane_select.specs.Select.{distance, kept_if_equal, kept_if_above, NoFlagIn, IsGreatestFlagged, IsLeastFlagged}
@@ -30,29 +31,11 @@ module _ (book : List Order) (lanes : Lanes) (even : AreEven lanes) (cand : AreC
   -- the flags of the best with a surplus on one side
   pub bids_marked : (fs best : List ℕ) → length fs ≡ length lanes.flags → IsWithin fs lanes.flags → AreMarked lanes.ticks fs best → AreMarked lanes.ticks (kept_if_above lanes.demands lanes.supplies fs) (filter (has_bid_surplus book) best)
   bids_marked fs best same within marked =
-      let d : length lanes.demands ≡ length fs = omega (arith, even.demands) in
-      let s : length lanes.supplies ≡ length fs = omega (arith, even.supplies) in
-      marked_part lanes.ticks fs (kept_if_above lanes.demands lanes.supplies fs) best (has_bid_surplus book) marked
-      (λ k h. let p = above_parts lanes.demands lanes.supplies fs k d s h in
-      let more = cand.demands_are k (within k p.1) in
-      let less = cand.supplies_are k (within k p.1) in
-      (bid_true book (get_or lanes.ticks k 0) (omega (arith, p.0)), p.1))
-      (λ k h f. let more = cand.demands_are k (within k f) in
-      let less = cand.supplies_are k (within k f) in
-      above_there lanes.demands lanes.supplies fs k d s (omega (arith, bid_amounts book (get_or lanes.ticks k 0) h)) f)
+      search (arith, marked_part, above_parts, bid_true, above_there, bid_amounts)
 
   pub asks_marked : (fs best : List ℕ) → length fs ≡ length lanes.flags → IsWithin fs lanes.flags → AreMarked lanes.ticks fs best → AreMarked lanes.ticks (kept_if_above lanes.supplies lanes.demands fs) (filter (has_ask_surplus book) best)
   asks_marked fs best same within marked =
-      let d : length lanes.demands ≡ length fs = omega (arith, even.demands) in
-      let s : length lanes.supplies ≡ length fs = omega (arith, even.supplies) in
-      marked_part lanes.ticks fs (kept_if_above lanes.supplies lanes.demands fs) best (has_ask_surplus book) marked
-      (λ k h. let p = above_parts lanes.supplies lanes.demands fs k s d h in
-      let less = cand.demands_are k (within k p.1) in
-      let more = cand.supplies_are k (within k p.1) in
-      (ask_true book (get_or lanes.ticks k 0) (omega (arith, p.0)), p.1))
-      (λ k h f. let less = cand.demands_are k (within k f) in
-      let more = cand.supplies_are k (within k f) in
-      above_there lanes.supplies lanes.demands fs k s d (omega (arith, ask_amounts book (get_or lanes.ticks k 0) h)) f)
+      search (arith, marked_part, above_parts, ask_true, above_there, ask_amounts)
 
   pub rising_within : (fs : List ℕ) → IsWithin fs lanes.flags → (j k : ℕ) → j < k → get_or fs j 0 ≡ 1 → get_or fs k 0 ≡ 1 → get_or lanes.ticks j 0 ≤ get_or lanes.ticks k 0
   rising_within fs within j k less f g = cand.rising j k less (within j f) (within k g)
@@ -70,10 +53,7 @@ module _ (book : List Order) (lanes : Lanes) (even : AreEven lanes) (cand : AreC
 
   module _ (few volumes : List ℕ) (marked : AreMarked lanes.ticks lanes.flags few) (vols : volumes ≡ zip2 min lanes.demands lanes.supplies) where
     volume_at : (k : ℕ) → get_or lanes.flags k 0 ≡ 1 → volume book (get_or lanes.ticks k 0) ≡ get_or volumes k 0
-    volume_at k h =
-        let a = amounts book (get_or lanes.ticks k 0) in
-        let at = ap (λ l. get_or l k 0) vols ∙ zip_at min lanes.demands lanes.supplies k refl (omega (arith, even.demands, even.supplies)) in
-        omega (arith, a.least, cand.demands_are k h, cand.supplies_are k h)
+    volume_at k h = grind (arith, common_steps, amounts)
 
     -- with no candidate, or with none that has volume
     pub none_flagged : NoFlagIn lanes.flags 0 (length lanes.flags) → All (λ t. volume book t ≡ 0) few
@@ -95,15 +75,12 @@ module _ (book : List Order) (lanes : Lanes) (even : AreEven lanes) (cand : AreC
       -- a candidate with the most volume is left
       pub some_left : NoFlagIn fs 0 (length fs) → ⊥
       some_left none =
-          let at = first_there most.place most.value most.here in
-          none most.place (omega arith) (inside fs most.place at) at
+          grind (arith, common_steps, (first_there most.place most.value most.here), (inside fs most.place))
 
       module _ (surpluses : List ℕ) (s : ℕ) (gs : List ℕ) (gaps : surpluses ≡ zip2 distance lanes.demands lanes.supplies) (same : length fs ≡ length lanes.flags) (least : IsLeastFlagged surpluses fs s) (left_too : gs ≡ zip2 (kept_if_equal s) surpluses fs) where
         surplus_at : (k : ℕ) → get_or lanes.flags k 0 ≡ 1 → surplus book (get_or lanes.ticks k 0) ≡ get_or surpluses k 0
         surplus_at k h =
-            let a = amounts book (get_or lanes.ticks k 0) in
-            let at = ap (λ l. get_or l k 0) gaps ∙ zip_at distance lanes.demands lanes.supplies k refl (omega (arith, even.demands, even.supplies)) in
-            omega (arith, a.apart, cand.demands_are k h, cand.supplies_are k h)
+            grind (arith, common_steps, (amounts book (get_or lanes.ticks k 0)), (zip_at distance lanes.demands lanes.supplies k refl (omega (arith, even.demands, even.supplies))))
 
         long_too : length surpluses ≡ length fs
         long_too = ap length gaps ∙ length-zip2 distance lanes.demands lanes.supplies (omega (arith, even.demands, even.supplies)) ∙ even.demands ∙ sym same
@@ -118,12 +95,8 @@ module _ (book : List Order) (lanes : Lanes) (even : AreEven lanes) (cand : AreC
         best_within k h = (first_parts k (second_parts k h).1).1
 
         pub best_marked : AreMarked lanes.ticks gs (keyed book m s few)
-        best_marked = marked_part lanes.ticks lanes.flags gs few (has_key book m s) marked
-            (λ k h. let p = second_parts k h in
-            let q = first_parts k p.1 in
-            (and_from (eqb (volume book (get_or lanes.ticks k 0)) m) (eqb (surplus book (get_or lanes.ticks k 0)) s) (eq-eqb _ m (volume_at k q.1 ∙ q.0)) (eq-eqb _ s (surplus_at k q.1 ∙ p.0)), q.1))
-            (λ k h f. let p = key_parts book m s (get_or lanes.ticks k 0) h in
-            second_there k (sym (surplus_at k f) ∙ p.1) (first_there k (sym (volume_at k f) ∙ p.0) f))
+        best_marked =
+            grind (arith, common_steps, marked_part, kept_parts, length-zip2, and_from, eq-eqb, volume_at, surplus_at, key_parts, second_there, first_there)
 
         pub best_lead : (lower upper : Option ℕ) → 0 < m → lower ≡ lower_among book s (keyed book m s few) → upper ≡ upper_among book s (keyed book m s few) → Lead book few (record { volume = m; surplus = s; lower = lower; upper = upper })
         best_lead lower upper positive is_lower is_upper =

@@ -1,4 +1,5 @@
 use Rattle.std.proofs.Common.{◌≡◌, length, arith}
+use Rattle.std.proofs.lemmas.Grind.{common_steps}
 use Rattle.auction_terms.specs.Leading.{keyed}
 use Rattle.price_rules.proofs.Selected.{AreEven, none_flagged, none_positive, some_left, best_within, best_marked, best_lead}
 use Rattle.price_rules.proofs.choice.best_of.Goals as goal
@@ -10,10 +11,7 @@ returns-in_default c book few cand marked =
     none_flagged book lanes even cand few c.lesser.new.out marked c.lesser.ensures c.in_default.ensures
 
 pub returns-then-volume-eq0 : goal.returns-then-volume-eq0
-returns-then-volume-eq0 c book few cand marked =
-    let lanes = c.args.lanes.now in
-    let even : AreEven lanes = record { demands = omega arith; supplies = omega arith } in
-    none_positive book lanes even cand few c.lesser.new.out marked c.lesser.ensures c.in-Some.volume (omega arith) c.in-Some.ensures
+returns-then-volume-eq0 c book few cand marked = grind (arith, common_steps, none_positive)
 
 pub returns-in_default-least_where : goal.returns-in_default-least_where
 returns-in_default-least_where c book few cand marked =
