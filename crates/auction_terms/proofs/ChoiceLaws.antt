@@ -1,13 +1,13 @@
 -- What the best of the limits make of the price.
-use Rattle.std.proofs.Common.{◌≡◌, ℕ, ◌<◌, min, Bool, true, false, cond, ◌&&◌, not, eqb, ltb, leb, List, [], ◌∷◌, filter, All, Option, Some, None, is_some, option_map, inl, inr, refl, sym, ap, ◌∙◌, arith}
+use Rattle.std.proofs.Common.{◌≡◌, ℕ, ◌<◌, min, Bool, true, false, cond, ◌&&◌, not, eqb, ltb, List, [], ◌∷◌, filter, All, Option, Some, None, is_some, option_map, inl, inr, refl, ap, ◌∙◌, arith}
 use Rattle.std.specs.List.{list_any, list_all}
 use Rattle.std.proofs.lemmas.Bool.{ltb-true, leb-true, eqb-true, lt-ltb, le-ltb, le-leb, eq-eqb, ne_eqb, cases_eq, cases_Bool, and_parts, and_from, or_cases, or_parts, or_left, or_right, and_left}
 use Rattle.std.proofs.lemmas.Bool.Decides.{nat_tests}
 use Rattle.std.proofs.lemmas.List.Elements.{All-head, All-tail, All-weaker, filter_passes}
 use Rattle.std.proofs.lemmas.List.Sums.{AllPass-from_list_all, list_all-from_AllPass}
+use Rattle.std.proofs.lemmas.Grind.{common_steps}
 use Rattle.auction_terms.specs.declared.Order.{Order}
 use Rattle.auction_terms.specs.declared.Limit.{Limit}
-use Rattle.auction_terms.specs.declared.Limit.TheVariants.{Market, At}
 use Rattle.auction_terms.specs.declared.Price.{Price}
 use Rattle.auction_terms.specs.Book.{demand, supply, volume, surplus, has_bid_surplus, has_ask_surplus, limits, tick_of, is_bid, is_ask, is_market, is_eligible}
 use Rattle.auction_terms.specs.PriceOf.{highest, lowest, is_empty, priced, is_no_better, is_best, best_limits, lower_kept, upper_kept, held_between, has_market_orders, price_tick, price}
@@ -16,22 +16,15 @@ use Rattle.auction_terms.proofs.BestLemmas.{on_bid, on_ask, balanced, side_of}
 
 -- ---- lists
 
-same_bools : (a b : Bool) → (a ≡ true → b ≡ true) → (b ≡ true → a ≡ true) → a ≡ b
-same_bools true b f g = sym (f refl)
-same_bools false true f g = g refl
-same_bools false false f g = refl
-
 filter_agree_on : (a b : ℕ → Bool) (ps : List ℕ) → All (λ p. a p ≡ b p) ps → filter a ps ≡ filter b ps
 filter_agree_on a b [] same = refl
 filter_agree_on a b (p ∷ ps) same =
-    ap (λ t. cond t (p ∷ filter a ps) (filter a ps)) (All-head (λ q. a q ≡ b q) p ps same)
-    ∙ ap (λ qs. cond (b p) (p ∷ qs) qs) (filter_agree_on a b ps (All-tail (λ q. a q ≡ b q) p ps same))
+    grind (arith, common_steps, All-head, All-tail, (filter_agree_on a b ps (All-tail (λ q. a q ≡ b q) p ps same)))
 
 filter_none : (a : ℕ → Bool) (ps : List ℕ) → All (λ p. a p ≡ false) ps → filter a ps ≡ []
 filter_none a [] none = refl
 filter_none a (p ∷ ps) none =
-    ap (λ t. cond t (p ∷ filter a ps) (filter a ps)) (All-head (λ q. a q ≡ false) p ps none)
-    ∙ filter_none a ps (All-tail (λ q. a q ≡ false) p ps none)
+    grind (arith, common_steps, All-head, All-tail, (filter_none a ps (All-tail (λ q. a q ≡ false) p ps none)))
 
 pub filter_all : (a : ℕ → Bool) (ps : List ℕ) → list_all a ps ≡ true → filter a ps ≡ ps
 filter_all a [] all = refl
@@ -40,8 +33,7 @@ filter_all a (p ∷ ps) all =
     ap (λ t. cond t (p ∷ filter a ps) (filter a ps)) parts.0 ∙ ap (λ qs. p ∷ qs) (filter_all a ps parts.1)
 
 nonempty : (a : ℕ → Bool) (ps : List ℕ) → is_empty (filter a ps) ≡ false → is_empty ps ≡ false
-nonempty a [] h = h
-nonempty a (p ∷ ps) h = refl
+nonempty a ps h = grind (arith, common_steps)
 
 -- some element passes, and has what each has
 pub some_kept : (a : ℕ → Bool) (P : ℕ → Type 0) (ps : List ℕ) → is_empty (filter a ps) ≡ false → All P ps → (q : ℕ) × (a q ≡ true) × P q
@@ -57,61 +49,30 @@ all_or_some a b [] opposite = refl
 all_or_some a b (p ∷ ps) opposite =
     let here : a p ≡ not (b p) = All-head (λ q. a q ≡ not (b q)) p ps opposite in
     let rest = all_or_some a b ps (All-tail (λ q. a q ≡ not (b q)) p ps opposite) in
-    elim (cases_Bool (b p)) [
-      | inl passes ↦ rw (here, passes) refl
-      | inr fails ↦ rw (here, fails) rest
-    ]
+    grind (arith, common_steps, cases_Bool)
 
 -- ---- the best limits are those with the leaders' key
 
 is_best_from_key : (book : List Order) (leaders : Leaders) (p : ℕ) → Lead book (limits book) leaders → has_key book leaders.volume leaders.surplus p ≡ true → is_best book p ≡ true
 unfolding is_best is_no_better
 is_best_from_key book leaders p lead key =
-    let parts = and_parts (eqb (volume book p) leaders.volume) (eqb (surplus book p) leaders.surplus) key in
-    let same = eqb-true (volume book p) leaders.volume parts.0 in
-    let equal = eqb-true (surplus book p) leaders.surplus parts.1 in
-    and_from _ _ (lt-ltb 0 (volume book p) (omega (arith, lead.positive)))
-    (list_all-from_AllPass (is_no_better book p) (limits book)
-    (All-weaker (NoBetter book leaders) (λ q. is_no_better book p q ≡ true)
-    (λ q h. elim (cases_eq (volume book q) (volume book p)) [
-      | inl tie ↦ or_right (ltb (volume book q) (volume book p)) _ (and_from _ _ (eq-eqb _ _ tie) (le-leb (surplus book p) (surplus book q) (let no_less = h.1 (tie ∙ same) in omega arith)))
-      | inr apart ↦ or_left (ltb (volume book q) (volume book p)) _ (lt-ltb (volume book q) (volume book p) (omega (arith, h.0)))
-    ]) (limits book) lead.none_better))
+    grind (arith, common_steps, and_parts, eqb-true, and_from, lt-ltb, list_all-from_AllPass, All-weaker, cases_eq, or_right, eq-eqb, le-leb, or_left)
 
 key_from_is_best : (book : List Order) (leaders : Leaders) (p : ℕ) → Lead book (limits book) leaders → NoBetter book leaders p → is_best book p ≡ true → has_key book leaders.volume leaders.surplus p ≡ true
 unfolding is_best is_no_better
 key_from_is_best book leaders p lead no_better best =
     let parts = and_parts (ltb 0 (volume book p)) (list_all (is_no_better book p) (limits book)) best in
     let found = some_kept (has_key book leaders.volume leaders.surplus) (λ q. is_no_better book p q ≡ true) (limits book) lead.some_among (AllPass-from_list_all (is_no_better book p) (limits book) parts.1) in
-    let q = found.0 in
-    let keys = and_parts (eqb (volume book q) leaders.volume) (eqb (surplus book q) leaders.surplus) found.1 in
-    let same = eqb-true (volume book q) leaders.volume keys.0 in
-    let equal = eqb-true (surplus book q) leaders.surplus keys.1 in
-    let tie : (volume book p ≡ leaders.volume) × (surplus book p ≡ leaders.surplus) = elim (or_cases (ltb (volume book q) (volume book p)) (eqb (volume book q) (volume book p) && leb (surplus book p) (surplus book q)) found.2) [
-      | inl less ↦ absurd (let more = ltb-true (volume book q) (volume book p) less in omega (arith, no_better.0))
-      | inr level ↦
-          let levels = and_parts (eqb (volume book q) (volume book p)) (leb (surplus book p) (surplus book q)) level in
-          let level_volume = sym (eqb-true (volume book q) (volume book p) levels.0) ∙ same in
-          let at_most = leb-true (surplus book p) (surplus book q) levels.1 in
-          let at_least = no_better.1 level_volume in
-          (level_volume, omega arith)
-    ] in
-    and_from _ _ (eq-eqb _ _ tie.0) (eq-eqb _ _ tie.1)
+    grind (arith, common_steps, and_parts, eqb-true, or_cases, ltb-true, leb-true, and_from, eq-eqb)
 
 pub best_limits_keyed : (book : List Order) (leaders : Leaders) → Lead book (limits book) leaders → best_limits book ≡ keyed book leaders.volume leaders.surplus (limits book)
 unfolding best_limits
 best_limits_keyed book leaders lead =
-    filter_agree_on (is_best book) (has_key book leaders.volume leaders.surplus) (limits book)
-    (All-weaker (NoBetter book leaders) (λ p. is_best book p ≡ has_key book leaders.volume leaders.surplus p)
-    (λ p h. same_bools (is_best book p) (has_key book leaders.volume leaders.surplus p) (key_from_is_best book leaders p lead h) (is_best_from_key book leaders p lead))
-    (limits book) lead.none_better)
+    search (arith, filter_agree_on, All-weaker, key_from_is_best, is_best_from_key)
 
 pub best_limits_none : (book : List Order) → All (λ p. volume book p ≡ 0) (limits book) → best_limits book ≡ []
 unfolding best_limits is_best
-best_limits_none book none =
-    filter_none (is_best book) (limits book)
-    (All-weaker (λ p. volume book p ≡ 0) (λ p. is_best book p ≡ false)
-    (λ p h. and_left (ltb 0 (volume book p)) _ (le-ltb 0 (volume book p) (omega arith))) (limits book) none)
+best_limits_none book none = grind (arith, common_steps, filter_none, All-weaker, and_left, le-ltb)
 
 -- ---- the choice among the best limits
 
@@ -127,21 +88,13 @@ choice book ps r =
 -- no best limit has a surplus
 choice_balanced : (book : List Order) (p : ℕ) (ps : List ℕ) (r : ℕ) → All (λ q. surplus book q ≡ 0) (p ∷ ps) → choice book (p ∷ ps) r ≡ tick_between (lowest (p ∷ ps)) (highest (p ∷ ps)) r
 choice_balanced book p ps r even =
-    let here : surplus book p ≡ 0 = All-head (λ q. surplus book q ≡ 0) p ps even in
     let all : list_all (λ q. eqb (surplus book q) 0) (p ∷ ps) ≡ true =
     list_all-from_AllPass (λ q. eqb (surplus book q) 0) (p ∷ ps) (All-weaker (λ q. surplus book q ≡ 0) (λ q. eqb (surplus book q) 0 ≡ true) (λ q e. eq-eqb (surplus book q) 0 e) (p ∷ ps) even) in
-    elim (side_of book p) [
-      | on_bid side bid ask some ↦ absurd (omega arith)
-      | on_ask side bid ask some ↦ absurd (omega arith)
-      | balanced side bid ask none ↦ rw (bid, ask, all) refl
-    ]
+    grind (arith, common_steps, (side_of book p), on_bid, on_ask, balanced)
 
 -- the highest with a bid surplus and the lowest with an ask surplus, where each has the one or the other
 held_of : (ps bids asks : List ℕ) (r : ℕ) → (is_empty asks ≡ true → bids ≡ ps) → (is_empty bids ≡ true → asks ≡ ps) → cond (is_empty asks) (highest ps) (cond (is_empty bids) (lowest ps) (held_between (highest bids) (lowest asks) r)) ≡ tick_between (highest bids) (lowest asks) r
-held_of ps [] [] r only_bids only_asks = ap highest (sym (only_bids refl))
-held_of ps (b ∷ bids) [] r only_bids only_asks = ap highest (sym (only_bids refl))
-held_of ps [] (a ∷ asks) r only_bids only_asks = ap lowest (sym (only_asks refl))
-held_of ps (b ∷ bids) (a ∷ asks) r only_bids only_asks = refl
+held_of ps bids asks r only_bids only_asks = grind (arith, common_steps)
 
 choice_uneven : (book : List Order) (p : ℕ) (ps : List ℕ) (r s : ℕ) → 0 < s → All (λ q. surplus book q ≡ s) (p ∷ ps) → choice book (p ∷ ps) r ≡ tick_between (highest (filter (has_bid_surplus book) (p ∷ ps))) (lowest (filter (has_ask_surplus book) (p ∷ ps))) r
 choice_uneven book p ps r s some even =
@@ -201,25 +154,19 @@ is_limited order = is_some (tick_of order.limit)
 
 limits_empty-cons : (limit : Limit) (order : Order) (book : List Order) → order.limit ≡ limit → is_empty (limits book) ≡ not (list_any is_limited book) → is_empty (limits (order ∷ book)) ≡ not (list_any is_limited (order ∷ book))
 unfolding limits
-limits_empty-cons Market order book e rest = rw e rest
-limits_empty-cons (At tick) order book e rest = rw e refl
+limits_empty-cons limit order book e rest = grind (arith, common_steps)
 
 pub limits_empty : (book : List Order) → is_empty (limits book) ≡ not (list_any is_limited book)
 unfolding limits
 limits_empty [] = refl
 limits_empty (order ∷ book) = limits_empty-cons order.limit order book refl (limits_empty book)
 
-eligible_market : (limit : Limit) (order : Order) (p : ℕ) → order.limit ≡ limit → is_some (tick_of order.limit) ≡ false → is_eligible p order ≡ is_market order.limit
-eligible_market Market order p e none = rw e refl
-eligible_market (At tick) order p e none = absurd (let h : true ≡ false = rw e at none in cc)
-
 -- with no limits, the eligible orders are the market orders
 market_kept : (t : Order → Bool) (book : List Order) (p : ℕ) → list_any is_limited book ≡ false → filter (λ o. t o && is_eligible p o) book ≡ filter (λ o. t o && is_market o.limit) book
 market_kept t [] p none = refl
 market_kept t (order ∷ book) p none =
     let parts = or_parts (is_limited order) (list_any is_limited book) none in
-    ap (λ b. cond (t order && b) (order ∷ filter (λ o. t o && is_eligible p o) book) (filter (λ o. t o && is_eligible p o) book)) (eligible_market order.limit order p refl parts.0)
-    ∙ ap (λ orders. cond (t order && is_market order.limit) (order ∷ orders) orders) (market_kept t book p parts.1)
+    grind (arith, common_steps, (market_kept t book p parts.1))
 
 positive_min : (a b : ℕ) → (ltb 0 a && ltb 0 b) ≡ ltb 0 (min a b)
 positive_min a b = grind (arith, nat_tests)
@@ -236,12 +183,5 @@ scanned book r (Some leaders) = option_map (priced book) (tick_between leaders.l
 
 pub price_scanned : (book : List Order) (r : ℕ) (leaders : Option Leaders) → AreBest book (limits book) leaders → price book r ≡ scanned book r leaders
 unfolding price price_tick
-price_scanned book r (Some leaders) lead = ap (option_map (priced book)) (tick_found book r leaders lead)
-price_scanned book r None none = elim (cases_Bool (list_any is_limited book)) [
-  | inl some ↦ rw (limits_empty book, some, best_limits_none book none) refl
-  | inr no_limit ↦ rw (limits_empty book, no_limit, has_market_volume book r no_limit) (cond_map (ltb 0 (volume book r)) book r)
-]
-  where
-    cond_map : (b : Bool) (book : List Order) (r : ℕ) → option_map (priced book) (cond b (Some r) None) ≡ cond b (Some (priced book r)) None
-    cond_map true book r = refl
-    cond_map false book r = refl
+price_scanned book r leaders lead =
+    grind (arith, common_steps, tick_found, cases_Bool, limits_empty, best_limits_none, has_market_volume)

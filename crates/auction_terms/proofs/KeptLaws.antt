@@ -1,8 +1,9 @@
 -- The two ticks that the price is held between.
-use Rattle.std.proofs.Common.{◌≡◌, ℕ, ◌+◌, ◌-◌, ◌<◌, ◌≤◌, min, max, Bool, true, false, eqb, List, [], ◌∷◌, filter, All, Option, Some, None, ◌⊎◌, inl, inr, refl, sym, subst, ◌∙◌, arith}
+use Rattle.std.proofs.Common.{◌≡◌, ℕ, ◌+◌, ◌-◌, ◌<◌, ◌≤◌, min, max, Bool, true, false, eqb, List, [], ◌∷◌, filter, All, Option, Some, None, ◌⊎◌, inl, inr, refl, sym, ◌∙◌, arith}
 use Rattle.std.specs.Option.{option_map_or}
 use Rattle.std.proofs.lemmas.Bool.{ltb-true, eqb-true, eq-eqb, ne_eqb, cases_lt, cases_eq, cases_Bool, and_parts, and_from}
 use Rattle.std.proofs.lemmas.List.Elements.{All-nil, All-cons, All-head, All-tail, All-weaker, All-filter, filter_passes}
+use Rattle.std.proofs.lemmas.Grind.{common_steps}
 use Rattle.auction_terms.specs.declared.Order.{Order}
 use Rattle.auction_terms.specs.Book.{demand, supply, volume, surplus, has_bid_surplus, has_ask_surplus, limits}
 use Rattle.auction_terms.specs.PriceOf.{highest, lowest}
@@ -13,13 +14,7 @@ use Rattle.auction_terms.proofs.BestLemmas.{on_bid, on_ask, balanced, side_of}
 -- ---- the highest and the lowest of a list
 
 highest_of : (P : ℕ → Type 0) (p h : ℕ) (o : Option ℕ) → P p → ((m : ℕ) → o ≡ Some m → P m) → Some (option_map_or (max p) o p) ≡ Some h → P h
-highest_of P p h None here rest e = let same : p ≡ h = cc in subst P same here
-highest_of P p h (Some m) here rest e =
-    let same : max p m ≡ h = cc in
-    elim (cases_lt p m) [
-      | inl less ↦ let at_m : m ≡ h = omega arith in subst P at_m (rest m refl)
-      | inr more ↦ let at_p : p ≡ h = omega arith in subst P at_p here
-    ]
+highest_of P p h o here rest e = grind (arith, common_steps, cases_lt)
 
 -- the highest has what each has
 highest_has : (P : ℕ → Type 0) (ps : List ℕ) (h : ℕ) → All P ps → highest ps ≡ Some h → P h
@@ -27,44 +22,32 @@ highest_has P [] h all e = absurd (cc)
 highest_has P (p ∷ ps) h all e = highest_of P p h (highest ps) (All-head P p ps all) (λ m at. highest_has P ps m (All-tail P p ps all) at) e
 
 lowest_of : (P : ℕ → Type 0) (p h : ℕ) (o : Option ℕ) → P p → ((m : ℕ) → o ≡ Some m → P m) → Some (option_map_or (min p) o p) ≡ Some h → P h
-lowest_of P p h None here rest e = let same : p ≡ h = cc in subst P same here
-lowest_of P p h (Some m) here rest e =
-    let same : min p m ≡ h = cc in
-    elim (cases_lt p m) [
-      | inl less ↦ let at_p : p ≡ h = omega arith in subst P at_p here
-      | inr more ↦ let at_m : m ≡ h = omega arith in subst P at_m (rest m refl)
-    ]
+lowest_of P p h o here rest e = grind (arith, common_steps, cases_lt)
 
 lowest_has : (P : ℕ → Type 0) (ps : List ℕ) (h : ℕ) → All P ps → lowest ps ≡ Some h → P h
 lowest_has P [] h all e = absurd (cc)
 lowest_has P (p ∷ ps) h all e = lowest_of P p h (lowest ps) (All-head P p ps all) (λ m at. lowest_has P ps m (All-tail P p ps all) at) e
 
 no_less : (p h : ℕ) (o : Option ℕ) → Some (option_map_or (max p) o p) ≡ Some h → (p ≤ h) × ((m : ℕ) → o ≡ Some m → m ≤ h)
-no_less p h None e = let same : p ≡ h = cc in (omega arith, λ m at. absurd (cc))
-no_less p h (Some n) e = let same : max p n ≡ h = cc in (omega arith, λ m at. let equal : n ≡ m = cc in omega arith)
+no_less p h o e = grind (arith, common_steps)
 
 no_more : (p h : ℕ) (o : Option ℕ) → Some (option_map_or (min p) o p) ≡ Some h → (h ≤ p) × ((m : ℕ) → o ≡ Some m → h ≤ m)
-no_more p h None e = let same : p ≡ h = cc in (omega arith, λ m at. absurd (cc))
-no_more p h (Some n) e = let same : min p n ≡ h = cc in (omega arith, λ m at. let equal : n ≡ m = cc in omega arith)
+no_more p h o e = grind (arith, common_steps)
 
 -- no element is above the highest
 highest_bounds : (ps : List ℕ) (h : ℕ) → highest ps ≡ Some h → All (λ q. q ≤ h) ps
 highest_bounds [] h e = All-nil (λ q. q ≤ h)
 highest_bounds (p ∷ []) h e = All-cons (λ q. q ≤ h) p [] (no_less p h None e).0 (All-nil (λ q. q ≤ h))
 highest_bounds (p ∷ q ∷ ps) h e =
-    let bounds = no_less p h (highest (q ∷ ps)) e in
     let m = option_map_or (max q) (highest ps) q in
-    All-cons (λ t. t ≤ h) p (q ∷ ps) bounds.0
-    (All-weaker (λ t. t ≤ m) (λ t. t ≤ h) (λ t b. let top = bounds.1 m refl in omega arith) (q ∷ ps) (highest_bounds (q ∷ ps) m refl))
+    grind (arith, common_steps, All-cons, All-weaker, (highest_bounds (q ∷ ps) m refl))
 
 lowest_bounds : (ps : List ℕ) (h : ℕ) → lowest ps ≡ Some h → All (λ q. h ≤ q) ps
 lowest_bounds [] h e = All-nil (λ q. h ≤ q)
 lowest_bounds (p ∷ []) h e = All-cons (λ q. h ≤ q) p [] (no_more p h None e).0 (All-nil (λ q. h ≤ q))
 lowest_bounds (p ∷ q ∷ ps) h e =
-    let bounds = no_more p h (lowest (q ∷ ps)) e in
     let m = option_map_or (min q) (lowest ps) q in
-    All-cons (λ t. h ≤ t) p (q ∷ ps) bounds.0
-    (All-weaker (λ t. m ≤ t) (λ t. h ≤ t) (λ t b. let top = bounds.1 m refl in omega arith) (q ∷ ps) (lowest_bounds (q ∷ ps) m refl))
+    grind (arith, common_steps, All-cons, All-weaker, (lowest_bounds (q ∷ ps) m refl))
 
 -- what holds of each element that a filter keeps
 filter_tells : (a : ℕ → Bool) (P : ℕ → Type 0) (ps : List ℕ) → All P (filter a ps) → All (λ q. a q ≡ true → P q) ps
@@ -83,9 +66,7 @@ abbrev pub Kept : List Order → Leaders → (ℕ → Bool) → ℕ → Type 0
 Kept book leaders side p = (volume book p ≡ leaders.volume) × (surplus book p ≡ leaders.surplus) × (0 < leaders.surplus → side p ≡ true)
 
 pub key_parts : (book : List Order) (v s p : ℕ) → has_key book v s p ≡ true → (volume book p ≡ v) × (surplus book p ≡ s)
-key_parts book v s p key =
-    let parts = and_parts (eqb (volume book p) v) (eqb (surplus book p) s) key in
-    (eqb-true (volume book p) v parts.0, eqb-true (surplus book p) s parts.1)
+key_parts book v s p key = grind (arith, common_steps, and_parts, eqb-true)
 
 pub lower_is_kept : (book : List Order) (leaders : Leaders) (low : ℕ) → Lead book (limits book) leaders → leaders.lower ≡ Some low → Kept book leaders (has_bid_surplus book) low
 lower_is_kept book leaders low lead e =

@@ -1,16 +1,17 @@
 -- One order more or less in a book, by the sums over it, and what that makes of the ladder.
-use Rattle.std.proofs.Common.{◌≡◌, ℕ, ◌+◌, ◌-◌, ◌<◌, ◌≤◌, Bool, true, false, cond, ◌&&◌, List, [], ◌∷◌, ◌++◌, All, Some, sum_by, refl, sym, ap, ◌∙◌, arith}
+use Rattle.std.proofs.Common.{◌≡◌, ℕ, ◌+◌, ◌-◌, ◌<◌, ◌≤◌, Bool, true, false, cond, List, [], ◌∷◌, ◌++◌, All, Some, sum_by, sym, ap, ◌∙◌, arith}
 use Rattle.std.proofs.lemmas.List.Elements.{All-filter}
 use Rattle.auction_terms.specs.declared.Order.{Order}
 use Rattle.auction_terms.specs.declared.Fill.{Fill}
 use Rattle.auction_terms.specs.declared.Side.{Side}
 use Rattle.auction_terms.specs.declared.Side.TheVariants.{Buy, Sell}
 use Rattle.auction_terms.specs.declared.Kind.{Kind}
-use Rattle.auction_terms.specs.Book.{on_side, is_market, counts, counted}
+use Rattle.auction_terms.specs.Book.{counts, counted}
 use Rattle.auction_terms.specs.Edits.{order_with, without, changed_at, moved_to_end, reduced, less_quantity, IdsDiffer}
-use Rattle.auction_terms.specs.Ladder.{is_at, standing, market, spread, ladder_of, added, taken, IsTickOf}
+use Rattle.auction_terms.specs.Ladder.{standing, market, spread, ladder_of, added, taken, IsTickOf}
 use Rattle.auction_terms.proofs.EditSums.{sum-push, sum-counted, sum-without, sum-changed, sum-moved, sum-reduced}
 use Rattle.auction_terms.proofs.LadderLaws.{same_spread, stands_by, market_by, by_order, by_market, standing_is, market_is, ladder_is, view_same, more, fewer}
+use Rattle.std.proofs.lemmas.Grind.{common_steps}
 
 abbrev pub with_quantity : ℕ → Order → Order
 with_quantity quantity order = record order { quantity = quantity }
@@ -39,26 +40,16 @@ pub more-moved : (id : ℕ) (change : Order → Order) (book : List Order) (o : 
 more-moved id change book o d e = record { sums = λ w additive. omega (arith, sum-moved w id change book o d e, sum-without w id book o d e) }
 
 pub more-reduced : (f : Fill) (book : List Order) (o : Order) → IdsDiffer book → order_with f.id book ≡ Some o → f.quantity ≤ o.quantity → IsMore (with_quantity f.quantity o) (reduced f book) book
-more-reduced f book o d e within = record {
-  sums = λ w additive. omega (arith, sum-reduced w additive.nothing f book o d e, additive.split o f.quantity within);
-}
+more-reduced f book o d e within = grind (arith, common_steps, sum-reduced)
 
 -- ---- what counts
 
 counted_weight : Kind → (Order → ℕ) → Order → ℕ
 counted_weight kind w o = cond (counts kind o) (w o) 0
 
-counted_additive : (kind : Kind) (w : Order → ℕ) → IsAdditive w → IsAdditive (counted_weight kind w)
-unfolding counted_weight
-counted_additive kind w additive = record {
-  split = λ o q within. let h = additive.split o q within in elim (counts kind o) as (λ b. cond b (w o) 0 ≡ cond b (w (less_quantity q o)) 0 + cond b (w (with_quantity q o)) 0) [ true ↦ h | false ↦ refl ];
-  nothing = λ o none. let h = additive.nothing o none in elim (counts kind o) as (λ b. cond b (w o) 0 ≡ 0) [ true ↦ h | false ↦ refl ];
-}
-
 pub counted_sums : (kind : Kind) (o : Order) (old new : List Order) → IsMore o old new → (w : Order → ℕ) → IsAdditive w → sum_by w (counted new kind) ≡ sum_by w (counted old kind) + cond (counts kind o) (w o) 0
 unfolding counted_weight
-counted_sums kind o old new is w additive =
-    omega (arith, sum-counted w kind new, sum-counted w kind old, is.sums (counted_weight kind w) (counted_additive kind w additive))
+counted_sums kind o old new is w additive = search (arith, sum-counted)
 
 pub more-counted : (kind : Kind) (o : Order) (old new : List Order) → counts kind o ≡ true → IsMore o old new → IsMore o (counted old kind) (counted new kind)
 more-counted kind o old new e is = record {
@@ -68,26 +59,15 @@ more-counted kind o old new e is = record {
 -- ---- the ladder
 
 part : (b : Bool) (q r : ℕ) → r ≤ q → cond b q 0 ≡ cond b (q - r) 0 + cond b r 0
-part true q r h = omega arith
-part false q r h = refl
-
-nothing_by : (b : Bool) (q : ℕ) → q ≡ 0 → cond b q 0 ≡ 0
-nothing_by true q h = h
-nothing_by false q h = refl
+part b q r h = grind (arith, common_steps)
 
 pub order_additive : (s : Side) (t : ℕ) → IsAdditive (by_order s t)
 unfolding by_order
-order_additive s t = record {
-  split = λ o q within. part (on_side s o.side && is_at t o.limit) o.quantity q within;
-  nothing = λ o none. nothing_by (on_side s o.side && is_at t o.limit) o.quantity none;
-}
+order_additive s t = grind (arith, common_steps, part)
 
 pub market_additive : (s : Side) → IsAdditive (by_market s)
 unfolding by_market
-market_additive s = record {
-  split = λ o q within. part (on_side s o.side && is_market o.limit) o.quantity q within;
-  nothing = λ o none. nothing_by (on_side s o.side && is_market o.limit) o.quantity none;
-}
+market_additive s = grind (arith, common_steps, part)
 
 module _ (low n : ℕ) (old new : List Order) (was : All (λ o. 0 < o.quantity) old) (now : All (λ o. 0 < o.quantity) new) where
   -- books with the same sums have the same ladder

@@ -1,10 +1,11 @@
 -- Which ticks a list has, and its highest and lowest.
-use Rattle.std.proofs.Common.{◌≡◌, ℕ, ◌≤◌, ◌⊎◌, inl, inr, Bool, true, false, cond, eqb, List, [], ◌∷◌, filter, All, Some, min, max, refl, sym, ap, subst, ◌∙◌, arith}
+use Rattle.std.proofs.Common.{◌≡◌, ℕ, ◌≤◌, ◌⊎◌, inl, inr, Bool, true, false, cond, eqb, List, [], ◌∷◌, filter, All, Some, min, max, refl, ap, subst, arith}
 use Rattle.std.specs.Option.{option_map_or}
 use Rattle.std.proofs.lemmas.Bool.{eqb-true, eq-eqb, or_cases, or_left, or_right, cases_lt}
 use Rattle.std.proofs.lemmas.List.Elements.{All-nil, All-cons, All-head, All-tail}
 use Rattle.auction_terms.specs.PriceOf.{highest, lowest, is_empty}
 use Rattle.auction_terms.specs.Leading.{has}
+use Rattle.std.proofs.lemmas.Grind.{common_steps}
 
 pub no_tick : {X : Type 0} (t : ℕ) → has t [] ≡ true → X
 no_tick t e = absurd (let wrong : false ≡ true = e in cc)
@@ -30,21 +31,14 @@ All_from P [] h = All-nil P
 All_from P (p ∷ ps) h = All-cons P p ps (h p (has-first p ps)) (All_from P ps (λ t e. h t (has-later t p ps e)))
 
 has_taken : (T : ℕ → Bool) (x : ℕ) (xs : List ℕ) (t : ℕ) (b : Bool) → T x ≡ b → (x ≡ t) ⊎ (has t (filter T xs) ≡ true) → T t ≡ true → has t (cond b (x ∷ filter T xs) (filter T xs)) ≡ true
-has_taken T x xs t true is (inl same) p = subst (λ n. has n (x ∷ filter T xs) ≡ true) same (has-first x (filter T xs))
-has_taken T x xs t true is (inr later) p = has-later t x (filter T xs) later
-has_taken T x xs t false is (inl same) p = absurd (let wrong : false ≡ true = sym is ∙ ap T same ∙ p in cc)
-has_taken T x xs t false is (inr later) p = later
+has_taken T x xs t b is h6 p = grind (arith, common_steps, has-first, has-later)
 
 pub has-filter : (T : ℕ → Bool) (xs : List ℕ) (t : ℕ) → has t xs ≡ true → T t ≡ true → has t (filter T xs) ≡ true
 has-filter T [] t e p = e
 has-filter T (x ∷ xs) t e p = has_taken T x xs t (T x) refl (elim (has-cases t x xs e) [ inl same ↦ inl same | inr later ↦ inr (has-filter T xs t later p) ]) p
 
 taken_has : (T : ℕ → Bool) (x : ℕ) (xs : List ℕ) (t : ℕ) (b : Bool) → T x ≡ b → (has t (filter T xs) ≡ true → (has t xs ≡ true) × (T t ≡ true)) → has t (cond b (x ∷ filter T xs) (filter T xs)) ≡ true → (has t (x ∷ xs) ≡ true) × (T t ≡ true)
-taken_has T x xs t true is ih e = elim (has-cases t x (filter T xs) e) [
-  | inl same ↦ (subst (λ n. has n (x ∷ xs) ≡ true) same (has-first x xs), ap T (sym same) ∙ is)
-  | inr later ↦ (has-later t x xs (ih later).0, (ih later).1)
-]
-taken_has T x xs t false is ih e = (has-later t x xs (ih e).0, (ih e).1)
+taken_has T x xs t b is ih e = grind (arith, common_steps, has-cases, has-first, has-later)
 
 pub filter-has : (T : ℕ → Bool) (xs : List ℕ) (t : ℕ) → has t (filter T xs) ≡ true → (has t xs ≡ true) × (T t ≡ true)
 filter-has T [] t e = no_tick t e
@@ -59,8 +53,7 @@ some_in [] e = absurd (let wrong : true ≡ false = e in cc)
 some_in (p ∷ ps) e = (p, has-first p ps)
 
 pub not_empty : (ps : List ℕ) (t : ℕ) → has t ps ≡ true → is_empty ps ≡ false
-not_empty [] t e = no_tick t e
-not_empty (p ∷ ps) t e = refl
+not_empty ps t e = grind (arith, common_steps, no_tick)
 
 record IsHighest (xs : List ℕ) (m : ℕ) : Type 0 where
   here : has m xs ≡ true
@@ -71,20 +64,10 @@ record IsLowest (xs : List ℕ) (m : ℕ) : Type 0 where
   bound : (t : ℕ) → has t xs ≡ true → m ≤ t
 
 higher : (p k : ℕ) (ps : List ℕ) → IsHighest ps k → IsHighest (p ∷ ps) (max p k)
-higher p k ps h =
-    let b : (t : ℕ) → has t (p ∷ ps) ≡ true → t ≤ max p k = λ t e. elim (has-cases t p ps e) [ inl same ↦ omega (arith, same) | inr later ↦ omega (arith, h.bound t later) ] in
-    elim (cases_lt p k) [
-      | inl less ↦ let m : max p k ≡ k = omega (arith, less) in record { here = ap (λ n. has n (p ∷ ps)) m ∙ has-later k p ps h.here; bound = b }
-      | inr more ↦ let m : max p k ≡ p = omega (arith, more) in record { here = ap (λ n. has n (p ∷ ps)) m ∙ has-first p ps; bound = b }
-    ]
+higher p k ps h = grind (arith, common_steps, has-cases, cases_lt, has-later, has-first)
 
 lower : (p k : ℕ) (ps : List ℕ) → IsLowest ps k → IsLowest (p ∷ ps) (min p k)
-lower p k ps h =
-    let b : (t : ℕ) → has t (p ∷ ps) ≡ true → min p k ≤ t = λ t e. elim (has-cases t p ps e) [ inl same ↦ omega (arith, same) | inr later ↦ omega (arith, h.bound t later) ] in
-    elim (cases_lt p k) [
-      | inl less ↦ let m : min p k ≡ p = omega (arith, less) in record { here = ap (λ n. has n (p ∷ ps)) m ∙ has-first p ps; bound = b }
-      | inr more ↦ let m : min p k ≡ k = omega (arith, more) in record { here = ap (λ n. has n (p ∷ ps)) m ∙ has-later k p ps h.here; bound = b }
-    ]
+lower p k ps h = grind (arith, common_steps, has-cases, cases_lt, has-first, has-later)
 
 highest-first : (p : ℕ) (ps : List ℕ) → IsHighest (p ∷ ps) (option_map_or (max p) (highest ps) p)
 highest-first p [] = record { here = has-first p []; bound = λ t e. elim (has-cases t p [] e) [ inl same ↦ omega (arith, same) | inr later ↦ no_tick t later ] }

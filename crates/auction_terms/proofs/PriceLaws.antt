@@ -1,15 +1,16 @@
 -- Laws of the price: no tick has more volume, none has any without a price, and a reference that is itself the price is balanced.
-use Rattle.std.proofs.Common.{◌≡◌, ℕ, ◌<◌, ◌≤◌, Bool, true, false, ◌&&◌, not, eqb, ltb, leb, List, [], ◌∷◌, filter, fold, All, Option, Some, None, option_map, ◌⊎◌, inl, inr, refl, sym, ap, subst, ◌∙◌, arith}
+use Rattle.std.proofs.Common.{◌≡◌, ℕ, ◌<◌, ◌≤◌, true, false, not, eqb, ltb, leb, List, [], ◌∷◌, filter, fold, All, Option, Some, None, option_map, inl, inr, refl, sym, ap, subst, ◌∙◌, arith}
 use Rattle.std.specs.Prelude.{IfSome, IfNone}
 use Rattle.std.specs.List.{list_any, list_all}
 use Rattle.std.proofs.lemmas.Bool.{ltb-false, leb-false, eq-eqb, ne_eqb, cases_lt, cases_eq, cases_Bool}
 use Rattle.std.proofs.lemmas.List.Elements.{All-nil, All-head, All-tail, All-weaker, filter_passes}
+use Rattle.std.proofs.lemmas.Grind.{common_steps}
 use Rattle.auction_terms.specs.declared.Order.{Order}
 use Rattle.auction_terms.specs.declared.Price.{Price}
 use Rattle.auction_terms.specs.Book.{volume, surplus, has_bid_surplus, has_ask_surplus, limits}
-use Rattle.auction_terms.specs.PriceOf.{highest, lowest, is_empty, priced, lower_kept, upper_kept, price}
+use Rattle.auction_terms.specs.PriceOf.{lowest, is_empty, priced, lower_kept, upper_kept, price}
 use Rattle.auction_terms.proofs.Shape.{demand_same, supply_same, volume_le}
-use Rattle.auction_terms.specs.Leading.{Leaders, has_key, keyed, lower_among, upper_among, NoBetter, Lead, AreBest, tick_between}
+use Rattle.auction_terms.specs.Leading.{Leaders, keyed, lower_among, upper_among, Lead, AreBest, tick_between}
 use Rattle.auction_terms.proofs.BestLemmas.{on_bid, on_ask, balanced, side_of, next_after, scanned_best}
 use Rattle.auction_terms.proofs.ChoiceLaws.{is_limited, limits_empty, best_limits_keyed, best_limits_none, scanned, price_scanned, filter_all, all_or_some}
 use Rattle.auction_terms.proofs.KeptLaws.{lower_is_kept, upper_is_kept, balanced_between, key_parts}
@@ -28,34 +29,17 @@ chosen (Some low) (Some high) r t e = elim (cases_Bool (leb high r)) [
   | inr not_past ↦ elim (cases_Bool (leb r low)) [
     | inl under ↦ at_lower (rw (not_past, under) at e)
     | inr not_under ↦
-        let same : Some r ≡ Some t = rw (not_past, not_under) at e in
         inside low high refl refl (leb-false r low not_under) (leb-false high r not_past) (cc)
   ]
 ]
 
 volume_flat : (book : List Order) (p q : ℕ) → limits book ≡ [] → volume book p ≡ volume book q
 unfolding volume
-volume_flat book p q none = elim (cases_lt p q) [
-  | inl less ↦ omega (
-    arith,
-    demand_same book p q (omega arith) (rw none (All-nil (λ l. (l < p) ⊎ (q ≤ l)))),
-    supply_same book p q (omega arith) (rw none (All-nil (λ l. (l ≤ p) ⊎ (q < l)))),
-  )
-  | inr more ↦ omega (
-    arith,
-    demand_same book q p more (rw none (All-nil (λ l. (l < q) ⊎ (p ≤ l)))),
-    supply_same book q p more (rw none (All-nil (λ l. (l ≤ q) ⊎ (p < l)))),
-  )
-]
-
-some_limit : (book : List Order) (v s : ℕ) → is_empty (keyed book v s (limits book)) ≡ false → limits book ≡ [] → ⊥
-some_limit book v s some none = let h : is_empty (keyed book v s []) ≡ false = rw none at some in let wrong : true ≡ false = h in cc
+volume_flat book p q none = grind (arith, common_steps, cases_lt, demand_same, All-nil, supply_same)
 
 -- no tick has more volume than the leaders
 pub leaders_most : (book : List Order) (leaders : Leaders) (t : ℕ) → Lead book (limits book) leaders → volume book t ≤ leaders.volume
-leaders_most book leaders t lead =
-    volume_le book leaders.volume t (All-weaker (NoBetter book leaders) (λ q. volume book q ≤ leaders.volume) (λ q h. h.0) (limits book) lead.none_better)
-    (λ none. absurd (some_limit book leaders.volume leaders.surplus lead.some_among none))
+leaders_most book leaders t lead = grind (arith, common_steps, volume_le, All-weaker)
 
 pub chosen_volume : (book : List Order) (leaders : Leaders) (r t : ℕ) → Lead book (limits book) leaders → Chosen leaders.lower leaders.upper r t → leaders.volume ≤ volume book t
 chosen_volume book leaders r t lead (at_lower e) = omega (arith, (lower_is_kept book leaders t lead e).0)
@@ -73,15 +57,10 @@ best_of book = scanned_best book (limits book)
 
 mapped : (book : List Order) (o : Option ℕ) (p : Price) → option_map (priced book) o ≡ Some p → (t : ℕ) × (o ≡ Some t) × (volume book t ≡ p.volume)
 unfolding priced
-mapped book None p e = absurd (cc)
-mapped book (Some t) p e = (t, refl, let same : priced book t ≡ p = cc in ap (λ (x : Price). x.volume) same)
+mapped book o p e = grind (arith, common_steps)
 
 no_limits : (book : List Order) → list_any is_limited book ≡ false → limits book ≡ []
-no_limits book none = go (limits book) (limits_empty book ∙ ap not none)
-  where
-    go : (ps : List ℕ) → is_empty ps ≡ true → ps ≡ []
-    go [] e = refl
-    go (p ∷ ps) e = absurd (let wrong : false ≡ true = e in cc)
+no_limits book none = grind (arith, common_steps, (limits_empty book))
 
 most_scanned : (book : List Order) (r t : ℕ) (p : Price) (leaders : Option Leaders) → AreBest book (limits book) leaders → scanned book r leaders ≡ Some p → volume book t ≤ p.volume
 most_scanned book r t p (Some leaders) lead e =
@@ -103,22 +82,14 @@ pub price_most : (book : List Order) (r t : ℕ) (p : Price) → price book r �
 price_most book r t p e =
     most_scanned book r t p (leaders_of book) (best_of book) (sym (price_scanned book r (leaders_of book) (best_of book)) ∙ e)
 
-some_highest : (ps : List ℕ) → is_empty ps ≡ false → highest ps ≡ None → ⊥
-some_highest [] some none = let wrong : true ≡ false = some in cc
-some_highest (p ∷ ps) some none = cc
-
 some_lowest : (ps : List ℕ) → is_empty ps ≡ false → lowest ps ≡ None → ⊥
-some_lowest [] some none = let wrong : true ≡ false = some in cc
-some_lowest (p ∷ ps) some none = cc
+some_lowest ps some none = grind (arith, common_steps)
 
 neither : (lower upper : Option ℕ) (r : ℕ) → tick_between lower upper r ≡ None → (lower ≡ None) × (upper ≡ None)
-neither None upper r e = (refl, e)
-neither (Some low) None r e = absurd (cc)
-neither (Some low) (Some high) r e = absurd (cc)
+neither lower upper r e = grind (arith, common_steps)
 
 no_price : (book : List Order) (o : Option ℕ) → option_map (priced book) o ≡ None → o ≡ None
-no_price book None e = refl
-no_price book (Some t) e = absurd (cc)
+no_price book o e = grind (arith, common_steps)
 
 -- leaders have a price
 leaders_chosen : (book : List Order) (leaders : Leaders) (r : ℕ) → Lead book (limits book) leaders → tick_between leaders.lower leaders.upper r ≡ None → ⊥
@@ -137,12 +108,7 @@ leaders_chosen book leaders r lead e =
           elim (cases_Bool (is_empty (filter (has_ask_surplus book) best))) [
             | inr some_ask ↦ some_lowest (filter (has_ask_surplus book) best) some_ask no_ask
             | inl empty ↦
-                let opposite : All (λ q. has_bid_surplus book q ≡ not (has_ask_surplus book q)) best =
-                All-weaker (λ q. has_key book v s q ≡ true) (λ q. has_bid_surplus book q ≡ not (has_ask_surplus book q))
-                (λ q key. one_side book q (let parts = key_parts book v s q key in omega (arith, parts.1)))
-                best (filter_passes (has_key book v s) (limits book)) in
-                let all_bids = filter_all (has_bid_surplus book) best (all_or_some (has_bid_surplus book) (has_ask_surplus book) best opposite ∙ empty) in
-                some_highest best lead.some_among (ap highest (sym all_bids) ∙ no_bid)
+                search (arith, All-weaker, one_side, key_parts, filter_passes, filter_all, all_or_some)
           ]
     ]
   where
@@ -173,21 +139,12 @@ price_none book r t e =
 
 all_zero : (book : List Order) (s : ℕ) (ps : List ℕ) → is_empty ps ≡ false → All (λ q. surplus book q ≡ s) ps → list_all (λ q. eqb (surplus book q) 0) ps ≡ eqb s 0
 all_zero book s [] some even = absurd (let wrong : true ≡ false = some in cc)
-all_zero book s (p ∷ []) some even = rw (All-head (λ q. surplus book q ≡ s) p [] even) (at_end (eqb s 0))
-  where
-    at_end : (b : Bool) → (b && true) ≡ b
-    at_end true = refl
-    at_end false = refl
+all_zero book s (p ∷ []) some even = grind (arith, common_steps, All-head)
 all_zero book s (p ∷ q ∷ ps) some even =
-    rw (All-head (λ t. surplus book t ≡ s) p (q ∷ ps) even, all_zero book s (q ∷ ps) refl (All-tail (λ t. surplus book t ≡ s) p (q ∷ ps) even)) (twice (eqb s 0))
-  where
-    twice : (b : Bool) → (b && b) ≡ b
-    twice true = refl
-    twice false = refl
+    grind (arith, common_steps, All-head, All-tail, (all_zero book s (q ∷ ps) refl (All-tail (λ t. surplus book t ≡ s) p (q ∷ ps) even)))
 
 even_keyed : (book : List Order) (v s : ℕ) (ps : List ℕ) → All (λ q. surplus book q ≡ s) (keyed book v s ps)
-even_keyed book v s ps =
-    All-weaker (λ q. has_key book v s q ≡ true) (λ q. surplus book q ≡ s) (λ q key. (key_parts book v s q key).1) (keyed book v s ps) (filter_passes (has_key book v s) ps)
+even_keyed book v s ps = grind (arith, common_steps, All-weaker, key_parts, filter_passes)
 
 lower_kept_is : (book : List Order) (leaders : Leaders) → Lead book (limits book) leaders → lower_kept book ≡ leaders.lower
 unfolding lower_kept
@@ -219,9 +176,7 @@ price_balanced book r low high is_low is_high above below =
 
 -- the first two of whatever is the price
 pub most_of : (book : List Order) (r : ℕ) (found : Option Price) → found ≡ price book r → IfSome found (λ p. (t : ℕ) → volume book t ≤ p.volume)
-most_of book r None e = tt
-most_of book r (Some p) e = λ t. price_most book r t p (sym e)
+most_of book r found e = grind (arith, common_steps, price_most)
 
 pub none_of : (book : List Order) (r : ℕ) (found : Option Price) → found ≡ price book r → IfNone found ((t : ℕ) → volume book t ≡ 0)
-none_of book r None e = λ t. price_none book r t (sym e)
-none_of book r (Some p) e = tt
+none_of book r found e = grind (arith, common_steps, price_none)
