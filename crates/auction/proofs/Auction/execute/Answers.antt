@@ -1,6 +1,6 @@
 -- The auction has ended at a price within the bounds.
 use Rattle.std.proofs.Common.{◌+◌, ◌*◌, ◌≤◌, sym, ap, subst, ◌∙◌, arith, length, length-append}
-use Rattle.auction_terms.specs.Book.{limits, counted, kind_now}
+use Rattle.auction_terms.specs.Book.{counted, kind_now}
 use Rattle.auction_terms.specs.Running.{Running}
 use Rattle.auction_terms.specs.PriceOf.{price}
 use Rattle.auction_terms.specs.Allotment.{rest_in, trades}

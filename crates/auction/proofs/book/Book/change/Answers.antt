@@ -1,22 +1,19 @@
-use Rattle.std.proofs.Common.{◌≡◌, ◌+◌, cond, Some, IsSome, IfSome, length, sym, ap, subst, ◌∙◌, refl, arith}
-use Rattle.auction_terms.specs.declared.Order.{Order}
+use Rattle.std.proofs.Common.{◌≡◌, Some, length, sym, ap, ◌∙◌, refl, arith}
+use Rattle.std.proofs.lemmas.Grind.{common_steps}
 use Rattle.auction_terms.specs.Line.{orders_of}
 use Rattle.auction_terms.specs.Edits.{order_with, keeps_place}
 use Rattle.auction_terms.specs.Day.{book_with_change}
-use Rattle.order_book.specs.Book.{Book as Orders}
 use Rattle.order_book.proofs.OrderLaws.{order_of_open}
 use Rattle.auction.specs.Open.{OpenOrders}
-use Rattle.auction.specs.Kept.{shown, IsKept}
+use Rattle.auction.specs.Kept.{IsKept}
 use Rattle.auction.proofs.FoundLemmas.{listed_with, found_from}
 use Rattle.auction.proofs.LengthLaws.{one_less, length-change}
-use Rattle.auction.proofs.KeptLaws.{kept_tick, own_tick, kept_stands, kept_fits, kept-without, kept-change}
+use Rattle.auction.proofs.KeptLaws.{kept_tick, kept_stands, kept_fits, kept-without, kept-change}
 use Rattle.auction.proofs.ShownLemmas.{good_quantity, seen_tick, closes_book, shown_changed, changed_line}
 use Rattle.auction.proofs.book.Book.change.Goals as goal
 
 pub unwrap-before-requires : goal.unwrap-before-requires
-unwrap-before-requires c =
-    subst IsSome (sym (c.get.ensures ∙ order_of_open c.args.id c.self.inside.orders.line))
-    (subst (λ (v : OpenOrders). IsSome (order_with c.args.id v.orders)) (sym c.self.view_is) c.requires.open)
+unwrap-before-requires c = grind (arith, common_steps, order_of_open)
 
 pub take-requires-clause-in_bounds : goal.take-requires-clause-in_bounds
 take-requires-clause-in_bounds c =
@@ -29,10 +26,7 @@ take-requires-clause-stands c =
     kept_stands c.self.invariant.kept (record { id = c.args.id; quantity = c.unwrap-before.result.quantity }) c.unwrap-before.result found (omega arith)
 
 pub add-requires-clause-in_bounds : goal.add-requires-clause-in_bounds
-add-requires-clause-in_bounds c =
-    let found = found_from c.args.id c.self.inside.orders.line c.get.result c.unwrap-before.result c.get.ensures c.unwrap-before.ensures in
-    own_tick (kept-without c.self.invariant.kept c.args.id c.unwrap-before.result found refl c.take.ensures) c.args.limit
-    (seen_tick c.self.inside.orders c.self.inside.ladder c.self.inside.kind c.args.self.now c.args.limit c.self.view_is c.requires.limit)
+add-requires-clause-in_bounds c = grind (arith, common_steps)
 
 pub add-requires-clause-fits : goal.add-requires-clause-fits
 add-requires-clause-fits c =
@@ -45,9 +39,7 @@ found : (c : goal.After-add) → order_with c.args.id (orders_of c.self.inside.o
 found c = found_from c.args.id c.self.inside.orders.line c.get.result c.unwrap-before.result c.get.ensures c.unwrap-before.ensures
 
 keeps : (c : goal.After-add) → c.change-kept.result ≡ keeps_place c.unwrap-before.result c.args.limit c.args.quantity
-keeps c =
-    subst (λ x. IfSome x (λ (o : Order). c.change-kept.result ≡ keeps_place o c.args.limit c.args.quantity)) (found c)
-    (listed_with (λ o. c.change-kept.result ≡ keeps_place o c.args.limit c.args.quantity) c.args.id c.self.inside.orders.line c.change-kept.ensures.kept)
+keeps c = grind (arith, common_steps, found, listed_with, c.change-kept.ensures.kept)
 
 changed : (c : goal.After-add) → orders_of c.change-kept.new.self.line ≡ book_with_change (orders_of c.self.inside.orders.line) c.unwrap-before.result c.args.limit c.args.quantity
 changed c =
@@ -60,24 +52,13 @@ still_kept c =
     c.change-kept.ensures.orderly (changed c) c.take.ensures c.add.ensures
 
 pub invariant_of-self : goal.invariant_of-self
-invariant_of-self c =
-    closes_book c.change-kept.new.self c.self.inside.orders.max_open c.self.inside.desk.room (still_kept c)
-    (ap (λ (o : Orders). o.max_open) c.change-kept.ensures.rest)
-    (omega (arith, ap length (changed c), length-change c.args.id c.args.limit c.args.quantity (orders_of c.self.inside.orders.line) c.unwrap-before.result (found c), c.self.invariant.room.few))
-    c.self.invariant.room.small c.self.invariant.room.room
+invariant_of-self c = grind (arith, common_steps, closes_book, still_kept, changed, length-change, found)
 
 listed : (c : goal.After-add) → order_with c.args.id c.args.self.now.orders ≡ Some c.unwrap-before.result
 listed c = sym (ap (λ (v : OpenOrders). order_with c.args.id v.orders) c.self.view_is) ∙ found c
 
 pub returns-clause-kept : goal.returns-clause-kept
-returns-clause-kept c =
-    subst (λ x. IfSome x (λ (o : Order). c.change-kept.result ≡ keeps_place o c.args.limit c.args.quantity)) (sym (listed c)) (keeps c)
+returns-clause-kept c = grind (arith, common_steps, listed, keeps)
 
 pub returns-clause-book : goal.returns-clause-book
-returns-clause-book c =
-    let view = c.args.self.now in
-    subst (λ x. IfSome x (λ (o : Order). shown c.change-kept.new.self c.add.new.ladder c.self.inside.kind ≡ record view { orders = book_with_change view.orders o c.args.limit c.args.quantity; stamps = cond c.change-kept.result view.stamps (view.stamps + 1) })) (sym (listed c))
-    (shown_changed c.self.inside.orders c.change-kept.new.self c.self.inside.ladder c.add.new.ladder c.self.inside.kind c.self.inside.kind view.kind view c.self.view_is (still_kept c)
-    (ap (λ (v : OpenOrders). v.kind) c.self.view_is) (book_with_change view.orders c.unwrap-before.result c.args.limit c.args.quantity)
-    (changed c ∙ ap (λ (v : OpenOrders). book_with_change v.orders c.unwrap-before.result c.args.limit c.args.quantity) c.self.view_is)
-    c.change-kept.result c.change-kept.ensures.rest)
+returns-clause-book c = grind (arith, common_steps, listed, shown_changed, still_kept, changed)

@@ -1,16 +1,14 @@
-use Rattle.std.proofs.Common.{length, IsSome, sym, ap, subst, ◌∙◌, arith}
+use Rattle.std.proofs.Common.{length, ap, arith}
+use Rattle.std.proofs.lemmas.Grind.{common_steps}
 use Rattle.auction_terms.specs.Line.{orders_of}
-use Rattle.auction_terms.specs.Edits.{order_with, without}
 use Rattle.order_book.specs.Book.{Book as Orders}
-use Rattle.auction.specs.Open.{OpenOrders}
 use Rattle.auction.proofs.FoundLemmas.{open_where}
 use Rattle.auction.proofs.LengthLaws.{length-without}
 use Rattle.auction.proofs.ShownLemmas.{closes_book, shown_rest}
 use Rattle.auction.proofs.book.Book.delete.Goals as goal
 
 pub remove-requires-clause-open : goal.remove-requires-clause-open
-remove-requires-clause-open c =
-    open_where c.args.id c.self.inside.orders.line (subst (λ (v : OpenOrders). IsSome (order_with c.args.id v.orders)) (sym c.self.view_is) c.requires)
+remove-requires-clause-open c = grind (arith, common_steps, open_where)
 
 pub invariant_of-self : goal.invariant_of-self
 invariant_of-self c =
@@ -20,8 +18,4 @@ invariant_of-self c =
     c.self.invariant.room.small c.self.invariant.room.room
 
 pub returns : goal.returns
-returns c =
-    shown_rest c.self.inside.orders c.remove.new.orders c.self.inside.ladder c.remove.new.ladder c.self.inside.kind c.self.inside.kind c.args.self.now.kind c.args.self.now c.self.view_is c.remove.ensures.kept
-    (ap (λ (v : OpenOrders). v.kind) c.self.view_is) (without c.args.id c.args.self.now.orders)
-    (c.remove.ensures.book ∙ ap (λ (v : OpenOrders). without c.args.id v.orders) c.self.view_is)
-    c.remove.ensures.rest
+returns c = grind (arith, common_steps, shown_rest)
