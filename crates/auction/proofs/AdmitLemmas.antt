@@ -1,10 +1,11 @@
 -- The closing orders, added one by one in the order of a walk.
-use Rattle.std.proofs.Common.{◌≡◌, ℕ, zero, suc, ◌+◌, ◌≤◌, Bool, true, false, cond, not, List, [], ◌∷◌, ◌++◌, All, Option, Some, None, IfSome, take, filter, sum_by, refl, sym, ap, subst, ◌∙◌, arith, append_assoc}
-use Rattle.std.proofs.lemmas.List.{map-append, append-nil}
-use Rattle.std.proofs.lemmas.List.Elements.{All-append, All-nil, All-cons, filter-append}
+use Rattle.std.proofs.Common.{◌≡◌, ℕ, zero, suc, ◌+◌, ◌≤◌, Bool, true, false, cond, not, List, [], ◌∷◌, ◌++◌, All, Option, Some, None, IfSome, take, filter, sum_by, refl, sym, ap, ◌∙◌, arith, append_assoc}
+use Rattle.std.proofs.lemmas.List.{append-nil}
+use Rattle.std.proofs.lemmas.List.Elements.{All-append, All-nil, All-cons}
 use Rattle.std.proofs.lemmas.List.Filters.{sum_by-filter_both}
 use Rattle.std.proofs.lemmas.List.Sums.{sum_by-cons, sum_by-append}
 use Rattle.std.specs.Option.{option_to_list}
+use Rattle.std.proofs.lemmas.Grind.{common_steps}
 use Rattle.auction_terms.specs.declared.Order.{Order}
 use Rattle.auction_terms.specs.declared.Stamped.{Stamped}
 use Rattle.auction_terms.specs.declared.Kind.TheVariants.{Intraday, Closing}
@@ -33,19 +34,11 @@ closing walk = orders_of (filter closes walk)
 abbrev pub admitted : List Order → List Stamped → List Order
 admitted book walk = counted book Intraday ++ closing walk
 
-closing-append : (xs ys : List Stamped) → closing (xs ++ ys) ≡ closing xs ++ closing ys
-closing-append xs ys = ap orders_of (filter-append closes xs ys) ∙ map-append (λ (s : Stamped). s.order) (filter closes xs) (filter closes ys)
-
 sum-closing_walk : (w : Order → ℕ) (walk : List Stamped) → sum_by w (closing walk) ≡ sum_by (λ s. cond (closes s) (w s.order) 0) walk
 sum-closing_walk w walk = sum_by-map w (λ (s : Stamped). s.order) (filter closes walk) ∙ sum_by-filter (λ (s : Stamped). w s.order) closes walk
 
 sum_all : (w : Order → ℕ) (walk line : List Stamped) → IsLineOf walk line → sum_by w (admitted (orders_of line) walk) ≡ sum_by w (counted (orders_of line) Closing)
-sum_all w walk line is =
-    let parts = sum_by-append w (counted (orders_of line) Intraday) (closing walk) in
-    let whole = sum-closing w (orders_of line) in
-    let same = is.same (λ s. cond (closes s) (w s.order) 0) in
-    let listed = ap (sum_by w) (map-filter (λ (o : Order). names Closing o.only) (λ (s : Stamped). s.order) line) in
-    omega (arith, sum-closing_walk w walk, sum-closing_walk w line)
+sum_all w walk line is = search (arith, sum_by-append, sum-closing, map-filter, sum_by-map, sum_by-filter)
 
 -- ---- one place more
 
@@ -54,19 +47,10 @@ walk_more slots i found at = present_more slots i ∙ ap (λ o. present (take i 
 
 module _ (low n : ℕ) (book : List Order) (was : All IsOpen (counted book Intraday)) where
   pub open_more : (walk : List Stamped) (found : Option Stamped) → All IsOpen (closing walk) → IfSome found (λ s. IsOpen s.order) → All IsOpen (closing (walk ++ option_to_list found))
-  open_more walk found so_far here =
-      subst (All IsOpen) (sym (closing-append walk (option_to_list found))) (All-append IsOpen (closing walk) (closing (option_to_list found)) so_far (at found here))
-    where
-      at : (found : Option Stamped) → IfSome found (λ s. IsOpen s.order) → All IsOpen (closing (option_to_list found))
-      at None here = All-nil IsOpen
-      at (Some s) here = elim (closes s) as (λ b. All IsOpen (orders_of (cond b (s ∷ []) []))) [
-        | true ↦ All-cons IsOpen s.order [] here (All-nil IsOpen)
-        | false ↦ All-nil IsOpen
-      ]
+  open_more walk found so_far here = grind (arith, common_steps)
 
   pub ladder-admitted : (walk : List Stamped) (found : Option Stamped) (ladder : LadderView) → All IsOpen (closing walk) → IfSome found (λ s. IsOpen s.order) → IfSome found (λ s. IsTickOf low n s.order.limit) → ladder ≡ ladder_of low n (admitted book walk) → with_closing found ladder ≡ ladder_of low n (admitted book (walk ++ option_to_list found))
-  ladder-admitted walk found ladder so_far here tick is =
-      is_with found here tick ∙ ap (λ l. ladder_of low n (counted book Intraday ++ l)) (sym (closing-append walk (option_to_list found)))
+  ladder-admitted walk found ladder so_far here tick is = grind (arith, common_steps, is_with)
     where
       nothing_more : ladder ≡ ladder_of low n (counted book Intraday ++ (closing walk ++ []))
       nothing_more = is ∙ ap (λ l. ladder_of low n (counted book Intraday ++ l)) (sym (append-nil (closing walk)))
@@ -119,11 +103,5 @@ admit_fits low n slots line i (Some s) ladder is bounded at same =
 
 -- after the walk the ladder is that of the closing auction
 pub all_admitted : (low n : ℕ) (walk line : List Stamped) (was view : LadderView) → IsLineOf walk line → IsKept low n Intraday (orders_of line) was → All IsOpen (closing walk) → view ≡ ladder_of low n (admitted (orders_of line) walk) → IsKept low n Closing (orders_of line) view
-all_admitted low n walk line was view is kept still_open same = record {
-  orderly = kept.orderly;
-  within = kept.within;
-  same = same ∙ ladder-same low n (counted (orders_of line) Closing) (admitted (orders_of line) walk)
-      (open_counted Closing (orders_of line) kept.orderly)
-      (All-append IsOpen (counted (orders_of line) Intraday) (closing walk) (open_counted Intraday (orders_of line) kept.orderly) still_open)
-      (λ w additive. sum_all w walk line is);
-}
+all_admitted low n walk line was view is kept still_open same =
+    grind (arith, common_steps, ladder-same, open_counted, All-append, sum_by-append, sum-closing, map-filter, sum_by-map, sum_by-filter)

@@ -1,7 +1,7 @@
 -- A book without orders.
-use Rattle.std.proofs.Common.{◌≡◌, ℕ, zero, suc, ◌+◌, ◌<◌, ◌≤◌, List, [], replicate, refl, sym, subst, ◌∙◌}
+use Rattle.std.proofs.Common.{◌≡◌, ℕ, zero, suc, ◌+◌, List, [], replicate, refl, arith}
 use Rattle.std.proofs.lemmas.List.Elements.{All-nil}
-use Rattle.auction_terms.specs.declared.Order.{Order}
+use Rattle.std.proofs.lemmas.Grind.{common_steps}
 use Rattle.auction_terms.specs.declared.Stamped.{Stamped}
 use Rattle.auction_terms.specs.declared.Kind.{Kind}
 use Rattle.auction_terms.specs.Line.{orders_of}
@@ -14,14 +14,7 @@ spread_zero f a (suc n) none = let first = none a in let rest = spread_zero f (a
 
 empty_ladder : (low n : ℕ) → ladder_of low n [] ≡ record { low = low; bids = replicate n 0; asks = replicate n 0; present = replicate n 0; market_bids = 0; market_asks = 0 }
 unfolding ladder_of
-empty_ladder low n =
-    let bids = spread_zero (λ t. 0) low n (λ t. refl) in
-    cc
+empty_ladder low n = grind (arith, common_steps, spread_zero)
 
 pub empty_kept : (low n : ℕ) (kind : Kind) (line : List Stamped) (ladder : LadderView) → line ≡ [] → ladder ≡ record { low = low; bids = replicate n 0; asks = replicate n 0; present = replicate n 0; market_bids = 0; market_asks = 0 } → IsKept low n kind (orders_of line) ladder
-empty_kept low n kind line ladder e is =
-    subst (λ l. IsKept low n kind (orders_of l) ladder) (sym e) (record {
-      orderly = record { ids = tt; positive = All-nil (λ (o : Order). 0 < o.quantity); bounded = All-nil (λ (o : Order). o.quantity ≤ 1000000000) };
-      within = All-nil _;
-      same = is ∙ sym (empty_ladder low n);
-    })
+empty_kept low n kind line ladder e is = grind (arith, common_steps, All-nil, empty_ladder)

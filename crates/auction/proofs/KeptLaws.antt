@@ -1,7 +1,8 @@
 -- The ladder is kept by each edit of the orders.
-use Rattle.std.proofs.Common.{◌≡◌, ℕ, ◌+◌, ◌<◌, ◌≤◌, Bool, true, false, cond, not, zero, suc, List, [], ◌∷◌, ◌++◌, All, Some, length, filter, refl, sym, ap, subst, ◌∙◌, arith}
+use Rattle.std.proofs.Common.{◌≡◌, ℕ, ◌+◌, ◌<◌, ◌≤◌, Bool, true, false, cond, zero, suc, List, [], ◌∷◌, ◌++◌, All, Some, length, refl, sym, ap, subst, ◌∙◌, arith}
 use Rattle.std.proofs.lemmas.List.Elements.{All-filter, All-push, All-map, All-weaker}
 use Rattle.std.proofs.lemmas.List.Sums.{sum_by-le}
+use Rattle.std.proofs.lemmas.Grind.{common_steps}
 use Rattle.auction_terms.specs.declared.Order.{Order}
 use Rattle.auction_terms.specs.declared.Fill.{Fill}
 use Rattle.auction_terms.specs.declared.Limit.{Limit}
@@ -9,7 +10,7 @@ use Rattle.auction_terms.specs.declared.Kind.{Kind}
 use Rattle.auction_terms.specs.Book.{counts, counted}
 use Rattle.auction_terms.specs.Edits.{has_id, order_with, without, changed_at, moved_to_end, with_terms, less_quantity, is_open, reduced, keeps_place, IsOrderly}
 use Rattle.auction_terms.specs.Day.{book_with_change}
-use Rattle.auction_terms.specs.Ladder.{LadderView, spread, ladder_of, added, taken, IsTickOf}
+use Rattle.auction_terms.specs.Ladder.{LadderView, spread, ladder_of, IsTickOf}
 use Rattle.auction_terms.proofs.RestIdLaws.{IdsDiffer-filter}
 use Rattle.auction_terms.proofs.EditLaws.{change_is, moved_is}
 use Rattle.auction_terms.proofs.LadderSums.{with_quantity, IsMore, more-push, more-without, more-changed, more-moved, more-reduced, more-counted, ladder-more, ladder-fewer, ladder-others}
@@ -24,13 +25,6 @@ IsOpen o = 0 < o.quantity
 
 abbrev pub HasTick : ℕ → ℕ → Order → Type 0
 HasTick low n o = IsTickOf low n o.limit
-
-orderly-filter : (p : Order → Bool) (book : List Order) → IsOrderly book → IsOrderly (filter p book)
-orderly-filter p book is = record {
-  ids = IdsDiffer-filter p book is.ids;
-  positive = All-filter p IsOpen book is.positive;
-  bounded = All-filter p (λ o. o.quantity ≤ 1000000000) book is.bounded;
-}
 
 pub open_counted : (kind : Kind) (book : List Order) → IsOrderly book → All IsOpen (counted book kind)
 open_counted kind book is = All-filter (counts kind) IsOpen book is.positive
@@ -53,46 +47,24 @@ ticks_of low n book ladder same = ap (λ (v : LadderView). length v.bids) same �
 
 module _ {low n : ℕ} {kind : Kind} {old : List Order} {ladder : LadderView} (was : IsKept low n kind old ladder) (new : List Order) (o : Order) (orderly : IsOrderly new) (within : All (HasTick low n) new) (tick : IsTickOf low n o.limit) where
   kept_more : IsMore o old new → IsKept low n kind new (with_order kind o ladder)
-  kept_more is = record { orderly = orderly; within = within; same = at (counts kind o) refl }
-    where
-      at : (b : Bool) → counts kind o ≡ b → cond b (added ladder o.side o.limit o.quantity) ladder ≡ ladder_of low n (counted new kind)
-      at true e =
-          ap (λ v. added v o.side o.limit o.quantity) was.same
-          ∙ sym (ladder-more low n (counted old kind) (counted new kind) (open_counted kind old was.orderly) (open_counted kind new orderly) o tick (more-counted kind o old new e is))
-      at false e = was.same ∙ sym (ladder-others low n kind o old new was.orderly.positive orderly.positive e is)
+  kept_more is = grind (arith, common_steps, ladder-more, open_counted, more-counted, ladder-others)
 
   kept_fewer : IsMore o new old → IsKept low n kind new (less_order kind o o.quantity ladder)
-  kept_fewer is = record { orderly = orderly; within = within; same = at (counts kind o) refl }
-    where
-      at : (b : Bool) → counts kind o ≡ b → cond b (taken ladder o.side o.limit o.quantity) ladder ≡ ladder_of low n (counted new kind)
-      at true e =
-          ap (λ v. taken v o.side o.limit o.quantity) was.same
-          ∙ sym (ladder-fewer low n (counted old kind) (counted new kind) (open_counted kind old was.orderly) (open_counted kind new orderly) o tick (more-counted kind o new old e is))
-      at false e = was.same ∙ ladder-others low n kind o new old orderly.positive was.orderly.positive e is
+  kept_fewer is = grind (arith, common_steps, ladder-fewer, open_counted, more-counted, ladder-others)
 
 changed_ticks : (low n id : ℕ) (change : Order → Order) (book : List Order) → ((o : Order) → HasTick low n o → HasTick low n (change o)) → All (HasTick low n) book → All (HasTick low n) (changed_at id change book)
 changed_ticks low n id change book keeps all =
     All-map (HasTick low n) (λ o. cond (has_id id o) (change o) o) book
-    (All-weaker (HasTick low n) (λ o. HasTick low n (cond (has_id id o) (change o) o))
-    (λ o h. elim (has_id id o) as (λ b. HasTick low n (cond b (change o) o)) [ true ↦ keeps o h | false ↦ h ]) book all)
+    (grind (arith, common_steps, All-weaker))
 
 module _ {low n : ℕ} {kind : Kind} {book : List Order} {ladder : LadderView} (was : IsKept low n kind book ladder) where
   -- ---- the ticks, as the ladder itself has them
 
   pub own_ticks : IsKept ladder.low (length ladder.bids) kind book ladder
-  own_ticks =
-      subst (λ l. IsKept l (length ladder.bids) kind book ladder) (sym (low_of low n (counted book kind) ladder was.same))
-      (subst (λ k. IsKept low k kind book ladder) (sym (ticks_of low n (counted book kind) ladder was.same)) was)
+  own_ticks = search (arith, low_of, ticks_of)
 
   pub same_ticks : {next : Kind} {new : List Order} {view : LadderView} → IsKept ladder.low (length ladder.bids) next new view → IsKept low n next new view
-  same_ticks {next} {new} {view} is =
-      subst (λ l. IsKept l n next new view) (low_of low n (counted book kind) ladder was.same)
-      (subst (λ k. IsKept ladder.low k next new view) (ticks_of low n (counted book kind) ladder was.same) is)
-
-  pub own_tick : (limit : Limit) → IsTickOf low n limit → IsTickOf ladder.low (length ladder.bids) limit
-  own_tick limit tick =
-      subst (λ l. IsTickOf l (length ladder.bids) limit) (sym (low_of low n (counted book kind) ladder was.same))
-      (subst (λ k. IsTickOf low k limit) (sym (ticks_of low n (counted book kind) ladder was.same)) tick)
+  same_ticks {next} {new} {view} is = search (arith, low_of, ticks_of)
 
   -- ---- what the calls of the ladder ask
 
@@ -105,6 +77,8 @@ module _ {low n : ℕ} {kind : Kind} {book : List Order} {ladder : LadderView} (
       let part = with_quantity f.quantity o in
       let more = more-counted kind part (reduced f book) book c (more-reduced f book o was.orderly.ids e within) in
       subst (λ v. f.quantity ≤ standing_at v o.side o.limit) (sym was.same) (stands low n (counted (reduced f book) kind) (counted book kind) part (kept_tick f.id o e) more)
+
+  -- ---- the edits
 
   pub kept_fits : (q : ℕ) → length book < 65536 → q ≤ 1000000000 → all_standing ladder + q ≤ 65536000000000
   kept_fits q few bounded =
@@ -120,11 +94,7 @@ module _ {low n : ℕ} {kind : Kind} {book : List Order} {ladder : LadderView} (
   kept-same {new} {view} e f = subst (λ v. IsKept low n kind new v) (sym f) (subst (λ l. IsKept low n kind l ladder) (sym e) was)
 
   kept_without : (id : ℕ) (o : Order) → order_with id book ≡ Some o → IsKept low n kind (without id book) (less_order kind o o.quantity ladder)
-  kept_without id o e =
-      kept_fewer was (without id book) o
-      (orderly-filter (λ o. not (has_id id o)) book was.orderly)
-      (All-filter (λ o. not (has_id id o)) (HasTick low n) book was.within)
-      (kept_tick id o e) (more-without id book o was.orderly.ids e)
+  kept_without id o e = search (arith, kept_fewer, IdsDiffer-filter, All-filter, kept_tick, more-without)
 
   kept_part : (f : Fill) (o : Order) → order_with f.id book ≡ Some o → f.quantity ≤ o.quantity → IsOrderly (reduced f book) → IsKept low n kind (reduced f book) (less_order kind o f.quantity ladder)
   kept_part f o e within orderly =

@@ -1,13 +1,14 @@
 -- No edit but an entry makes the list of open orders longer.
-use Rattle.std.proofs.Common.{◌≡◌, ℕ, suc, ◌+◌, ◌≤◌, Bool, true, false, cond, not, List, [], ◌∷◌, ◌++◌, Option, Some, None, filter, length, refl, sym, ap, subst, arith, length-append}
-use Rattle.std.specs.List.{filter_map, cons_option}
+use Rattle.std.proofs.Common.{◌≡◌, ℕ, suc, ◌+◌, ◌≤◌, Bool, cond, not, List, [], ◌∷◌, Option, Some, filter, length, refl, ap, arith, length-append}
+use Rattle.std.specs.List.{filter_map}
 use Rattle.std.proofs.lemmas.List.{length-map}
 use Rattle.std.proofs.lemmas.List.Filters.{length-filter_both}
+use Rattle.std.proofs.lemmas.Grind.{common_steps}
 use Rattle.auction_terms.specs.declared.Order.{Order}
 use Rattle.auction_terms.specs.declared.Kind.{Kind}
 use Rattle.auction_terms.specs.declared.Limit.{Limit}
 use Rattle.auction_terms.specs.Book.{counts, names}
-use Rattle.auction_terms.specs.Edits.{order_with, has_id, keeps_place, with_terms, changed_at, without, staying}
+use Rattle.auction_terms.specs.Edits.{order_with, has_id, without, staying}
 use Rattle.auction_terms.specs.Allotment.{placed_among, left_of, rest_in}
 use Rattle.auction_terms.specs.Day.{book_with_change}
 use Rattle.auction_terms.proofs.EditLaws.{found_id}
@@ -24,32 +25,14 @@ length-staying kind book = length-filter_le (λ o. not (names kind o.only)) book
 -- without an open order there is one less
 pub one_less : (id : ℕ) (book : List Order) (o : Order) → order_with id book ≡ Some o → length (without id book) + 1 ≤ length book
 one_less id [] o e = absurd (cc)
-one_less id (x ∷ xs) o e =
-    let more = one_less id xs o in
-    let all = length-without id xs in
-    let at : (b : Bool) → cond b (Some x) (order_with id xs) ≡ Some o → length (cond (not b) (x ∷ without id xs) (without id xs)) + 1 ≤ length (x ∷ xs) =
-    λ b. elim b as (λ b. cond b (Some x) (order_with id xs) ≡ Some o → length (cond (not b) (x ∷ without id xs) (without id xs)) + 1 ≤ length (x ∷ xs)) [
-      | true ↦ λ f. omega (arith, all)
-      | false ↦ λ f. omega (arith, more f)
-    ] in
-    at (has_id id x) e
+one_less id (x ∷ xs) o e = grind (arith, common_steps, length-without, (one_less id xs o))
 
 pub length-change : (id : ℕ) (limit : Limit) (quantity : ℕ) (book : List Order) (o : Order) → order_with id book ≡ Some o → length (book_with_change book o limit quantity) ≤ length book
-length-change id limit quantity book o found =
-    let e = subst (λ i. order_with i book ≡ Some o) (sym (found_id id book o found)) found in
-    let same = length-map book (λ x. cond (has_id o.id x) (with_terms limit quantity x) x) in
-    let less = one_less o.id book o e in
-    let push = length-append (without o.id book) (with_terms limit quantity o ∷ []) in
-    elim (keeps_place o limit quantity) as (λ b. length (cond b (changed_at o.id (with_terms limit quantity) book) (without o.id book ++ with_terms limit quantity o ∷ [])) ≤ length book) [
-      | true ↦ omega (arith, same)
-      | false ↦ omega (arith, push, less)
-    ]
+length-change id limit quantity book o found = search (arith, found_id, length-map, one_less, length-append)
 
 length-filter_map_le : {X Y : Type 0} (h : X → Option Y) (xs : List X) → length (filter_map h xs) ≤ length xs
 length-filter_map_le h [] = omega arith
-length-filter_map_le h (x ∷ xs) =
-    let more = length-filter_map_le h xs in
-    elim (h x) as (λ o. length (cons_option o (filter_map h xs)) ≤ length (x ∷ xs)) [ None ↦ omega (arith, more) | Some y ↦ omega (arith, more) ]
+length-filter_map_le h (x ∷ xs) = grind (arith, common_steps, (length-filter_map_le h xs))
 
 length-placed_among : (kind : Kind) (place : ℕ) (book : List Order) → length (placed_among kind place book) ≡ length book
 length-placed_among kind place [] = refl

@@ -1,16 +1,14 @@
 -- What an auction without a fault is opened with.
-use Rattle.std.proofs.Common.{◌≡◌, ◌<◌, ◌≤◌, ◌+◌, Bool, true, false, [], ◌∷◌, None, refl, arith}
+use Rattle.std.proofs.Common.{◌≡◌, ◌<◌, ◌≤◌, ◌+◌, Bool, false, [], ◌∷◌, None, arith}
 use Rattle.std.proofs.lemmas.Bool.Decides.{nat_tests}
+use Rattle.std.proofs.lemmas.Grind.{common_steps}
 use Rattle.auction_terms.specs.declared.Config.{Config}
 use Rattle.auction_terms.specs.Day.{first_that_holds}
 use Rattle.auction.specs.declared.OpenFault.TheVariants.{BadBounds, BadReference, BadLimits}
 use Rattle.auction.specs.Opening.{open_fault, has_bad_bounds, has_bad_reference, has_bad_limits}
 
 none_holds : (a b d : Bool) → first_that_holds ((a, BadBounds) ∷ (b, BadReference) ∷ (d, BadLimits) ∷ []) ≡ None → (a ≡ false) × ((b ≡ false) × (d ≡ false))
-none_holds true b d e = absurd (cc)
-none_holds false true d e = absurd (cc)
-none_holds false false true e = absurd (cc)
-none_holds false false false e = (refl, (refl, refl))
+none_holds a b d e = grind (arith, common_steps)
 
 pub record IsWithin (config : Config) : Type 0 where
   pub low : config.low ≤ config.reference
@@ -52,6 +50,4 @@ module _ (config : Config) (bounds : has_bad_bounds config ≡ false) (reference
 
 pub terms_within : (config : Config) → open_fault config ≡ None → IsWithin config
 unfolding open_fault
-terms_within config e =
-    let fine = none_holds (has_bad_bounds config) (has_bad_reference config) (has_bad_limits config) e in
-    all_within config fine.0 fine.1.0 fine.1.1
+terms_within config e = grind (arith, common_steps, none_holds, all_within)

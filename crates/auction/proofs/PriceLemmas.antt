@@ -1,17 +1,15 @@
 -- The kept ladder is that of the orders that count, as the price asks for it.
-use Rattle.std.proofs.Common.{◌≡◌, ℕ, ◌+◌, ◌<◌, ◌≤◌, List, [], ◌∷◌, All, Option, None, length, ap, ◌∙◌}
+use Rattle.std.proofs.Common.{◌≡◌, ℕ, ◌+◌, ◌<◌, ◌≤◌, List, [], ◌∷◌, All, Option, None, length, arith}
 use Rattle.std.proofs.lemmas.List.Elements.{All-nil, All-cons, All-head, All-tail, All-filter}
-use Rattle.std.specs.List.{cons_option}
+use Rattle.std.proofs.lemmas.Grind.{common_steps}
 use Rattle.auction_terms.specs.declared.Order.{Order}
 use Rattle.auction_terms.specs.declared.Kind.{Kind}
-use Rattle.auction_terms.specs.declared.Limit.{Limit}
-use Rattle.auction_terms.specs.declared.Limit.TheVariants.{Market, At}
 use Rattle.auction_terms.specs.declared.Side.TheVariants.{Buy, Sell}
 use Rattle.auction_terms.specs.declared.Display.TheVariants.{Unpriced}
-use Rattle.auction_terms.specs.Book.{counts, counted, tick_of, limits}
+use Rattle.auction_terms.specs.Book.{counts, counted, limits}
 use Rattle.auction_terms.specs.PriceOf.{price}
-use Rattle.auction_terms.specs.Day.{display_of, display_at}
-use Rattle.auction_terms.specs.Ladder.{LadderView, IsTickOf}
+use Rattle.auction_terms.specs.Day.{display_at}
+use Rattle.auction_terms.specs.Ladder.{LadderView}
 use Rattle.tick_ladder.specs.Ladder.{IsLadderOf, best_limit}
 use Rattle.price_rules.specs.Deciding.{IsBookOver}
 use Rattle.auction.specs.Kept.{IsKept}
@@ -24,11 +22,7 @@ all_limits : (low n : ℕ) (book : List Order) → All (HasTick low n) book → 
 unfolding limits
 all_limits low n [] all = All-nil (IsAmong low n)
 all_limits low n (o ∷ book) all =
-    at o.limit (limits book) (All-head (HasTick low n) o book all) (all_limits low n book (All-tail (HasTick low n) o book all))
-  where
-    at : (limit : Limit) (ticks : List ℕ) → IsTickOf low n limit → All (IsAmong low n) ticks → All (IsAmong low n) (cons_option (tick_of limit) ticks)
-    at Market ticks tick more = more
-    at (At t) ticks tick more = All-cons (IsAmong low n) t ticks tick more
+    grind (arith, common_steps, All-head, All-tail, All-cons, (all_limits low n book (All-tail (HasTick low n) o book all)))
 
 pub kept_ladder : (kind : Kind) (book : List Order) (ladder : LadderView) → IsKept ladder.low (length ladder.bids) kind book ladder → IsLadderOf ladder (counted book kind)
 kept_ladder kind book ladder is = record {
@@ -40,5 +34,4 @@ pub kept_over : (kind : Kind) (book : List Order) (ladder : LadderView) → IsKe
 kept_over kind book ladder is = record { within = (kept_ladder kind book ladder is).within; positive = open_counted kind book is.orderly }
 
 pub unpriced : (book : List Order) (reference : ℕ) (bid ask : Option ℕ) → None ≡ price book reference → bid ≡ best_limit book Buy → ask ≡ best_limit book Sell → Unpriced bid ask ≡ display_at book reference
-unpriced book reference bid ask none b a =
-    ap (λ x. Unpriced x ask) b ∙ ap (Unpriced (best_limit book Buy)) a ∙ ap (display_of book) none
+unpriced book reference bid ask none b a = grind (arith, common_steps)

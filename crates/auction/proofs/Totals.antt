@@ -1,13 +1,14 @@
 -- What stands in the ladder of a book, at one limit and in all.
-use Rattle.std.proofs.Common.{◌≡◌, ℕ, zero, suc, ◌+◌, ◌-◌, ◌≤◌, Bool, true, false, cond, ◌&&◌, not, List, [], ◌∷◌, sum, sum_by, refl, ap, arith, nat_eq}
+use Rattle.std.proofs.Common.{◌≡◌, ℕ, zero, suc, ◌+◌, ◌≤◌, Bool, true, false, cond, ◌&&◌, List, [], ◌∷◌, sum, sum_by, refl, ap, arith, nat_eq}
 use Rattle.std.proofs.lemmas.Bool.Decides.{nat_tests}
 use Rattle.std.proofs.lemmas.List.Sums.{sum_by-cons}
+use Rattle.std.proofs.lemmas.Grind.{common_steps}
 use Rattle.auction_terms.specs.declared.Order.{Order}
 use Rattle.auction_terms.specs.declared.Side.{Side}
 use Rattle.auction_terms.specs.declared.Side.TheVariants.{Buy, Sell}
 use Rattle.auction_terms.specs.declared.Limit.{Limit}
 use Rattle.auction_terms.specs.declared.Limit.TheVariants.{Market, At}
-use Rattle.auction_terms.specs.Book.{on_side, is_buy, is_market, quantity_of}
+use Rattle.auction_terms.specs.Book.{on_side, is_market, quantity_of}
 use Rattle.auction_terms.specs.Ladder.{is_at, standing, market, spread, ladder_of, IsTickOf}
 use Rattle.auction_terms.proofs.LadderLaws.{same_spread, at_spread, stands_by, market_by, by_order, by_market, standing_is, market_is}
 use Rattle.auction_terms.proofs.LadderSums.{IsMore, order_additive, market_additive}
@@ -23,26 +24,13 @@ own l q = ap (λ b. cond b q 0) (itself l)
 
 at_limit : (low n : ℕ) (book : List Order) (side : Side) (limit : Limit) (q : ℕ) → IsTickOf low n limit → ((s : Side) (t : ℕ) → stands_by s t side limit q ≤ standing s book t) → ((s : Side) → market_by s side limit q ≤ market s book) → q ≤ standing_at (ladder_of low n book) side limit
 unfolding ladder_of
-at_limit low n book Buy Market q tick stands sums = sums Buy
-at_limit low n book Sell Market q tick stands sums = sums Sell
-at_limit low n book Buy (At l) q tick stands sums =
-    let here = at_spread (standing Buy book) low n (l - low) (omega arith) in
-    let e : low + (l - low) ≡ l = omega arith in
-    let there = ap (standing Buy book) e in
-    omega (arith, here, there, stands Buy l, own l q)
-at_limit low n book Sell (At l) q tick stands sums =
-    let here = at_spread (standing Sell book) low n (l - low) (omega arith) in
-    let e : low + (l - low) ≡ l = omega arith in
-    let there = ap (standing Sell book) e in
-    omega (arith, here, there, stands Sell l, own l q)
+at_limit low n book side limit q tick stands sums = grind (arith, common_steps, at_spread, stands, own)
 
 -- an order of the book stands at its limit
 pub stands : (low n : ℕ) (old new : List Order) (o : Order) → IsTickOf low n o.limit → IsMore o old new → o.quantity ≤ standing_at (ladder_of low n new) o.side o.limit
 unfolding by_order by_market
 stands low n old new o tick is =
-    at_limit low n new o.side o.limit o.quantity tick
-    (λ s t. omega (arith, is.sums (by_order s t) (order_additive s t), standing_is s new t))
-    (λ s. omega (arith, is.sums (by_market s) (market_additive s), market_is s new))
+    grind (arith, common_steps, at_limit, by_order, order_additive, standing_is, by_market, market_additive, market_is)
 
 -- ---- in all
 
@@ -56,8 +44,7 @@ sum-spread_none f a (suc n) none =
 
 sum-spread_plus : (f g : ℕ → ℕ) (a n : ℕ) → sum (spread (λ t. f t + g t) a n) ≡ sum (spread f a n) + sum (spread g a n)
 sum-spread_plus f g a zero = refl
-sum-spread_plus f g a (suc n) =
-    omega (arith, sum-cons (f a + g a) (spread (λ t. f t + g t) (a + 1) n), sum-cons (f a) (spread f (a + 1) n), sum-cons (g a) (spread g (a + 1) n), sum-spread_plus f g (a + 1) n)
+sum-spread_plus f g a (suc n) = grind (arith, common_steps, sum-cons, (sum-spread_plus f g (a + 1) n))
 
 later : (l a t : ℕ) → nat_eq l a ≡ true → a + 1 ≤ t → nat_eq l t ≡ false
 later l a t e h = grind (arith, nat_tests)
@@ -65,17 +52,7 @@ later l a t e h = grind (arith, nat_tests)
 -- one tick has it, at most
 once : (l q a n : ℕ) → sum (spread (λ t. cond (nat_eq l t) q 0) a n) ≤ q
 once l q a zero = omega arith
-once l q a (suc n) =
-    let rest = spread (λ t. cond (nat_eq l t) q 0) (a + 1) n in
-    let more = once l q (a + 1) n in
-    let at : (b : Bool) → nat_eq l a ≡ b → cond b q 0 + sum rest ≤ q =
-    λ b. elim b as (λ b. nat_eq l a ≡ b → cond b q 0 + sum rest ≤ q) [
-      | true ↦ λ e.
-          let none = sum-spread_none (λ t. cond (nat_eq l t) q 0) (a + 1) n (λ t h. ap (λ b. cond b q 0) (later l a t e h)) in
-          omega arith
-      | false ↦ λ e. omega arith
-    ] in
-    omega (arith, sum-cons (cond (nat_eq l a) q 0) rest, at (nat_eq l a) refl)
+once l q a (suc n) = grind (arith, common_steps, sum-spread_none, later, sum-cons, (once l q (a + 1) n))
 
 -- what an order adds to the ticks and the market sum of a side
 piece : (b : Bool) (limit : Limit) (q low n : ℕ) → sum (spread (λ t. cond (b && is_at t limit) q 0) low n) + cond (b && is_market limit) q 0 ≤ cond b q 0
@@ -98,10 +75,7 @@ side_within s (o ∷ book) low n =
 both_sides : (book : List Order) → sum_by (on Buy) book + sum_by (on Sell) book ≡ quantity_of book
 unfolding on
 both_sides [] = refl
-both_sides (o ∷ book) =
-    let one : (b : Bool) → cond b o.quantity 0 + cond (not b) o.quantity 0 ≡ o.quantity =
-    λ b. elim b as (λ b. cond b o.quantity 0 + cond (not b) o.quantity 0 ≡ o.quantity) [ true ↦ omega arith | false ↦ omega arith ] in
-    omega (arith, one (is_buy o.side), sum_by-cons (on Buy) o book, sum_by-cons (on Sell) o book, sum_by-cons (λ (o : Order). o.quantity) o book, both_sides book)
+both_sides (o ∷ book) = grind (arith, common_steps, sum_by-cons, on, (both_sides book))
 
 -- no more stands in the ladder than in the book
 pub all_within : (low n : ℕ) (book : List Order) → all_standing (ladder_of low n book) ≤ quantity_of book

@@ -1,6 +1,7 @@
 -- The first reply that is not the auction's own, and the next entry of a legal history.
-use Rattle.std.proofs.Common.{◌∙◌, sym, subst, take, get_or, None, refl, IsTrue, false}
+use Rattle.std.proofs.Common.{◌∙◌, sym, subst, take, get_or, None, refl, arith}
 use Rattle.std.proofs.lemmas.List.{take_more}
+use Rattle.std.proofs.lemmas.Grind.{common_steps}
 use Rattle.auction_terms.specs.declared.Entry.{Entry}
 use Rattle.auction_terms.specs.declared.Side.TheVariants.{Buy}
 use Rattle.auction_terms.specs.declared.Limit.TheVariants.{Market}
@@ -16,14 +17,7 @@ no_entry = record { member = 0; command = Enter Buy Any Market 0 None; reply = E
 pub returns-then-not-is_same-clause-finding : goal.returns-then-not-is_same-clause-finding
 unfolding no_entry
 returns-then-not-is_same-clause-finding c =
-    let entries = c.args.entries.now in
-    let place = c.loop-place.place in
-    let entry = get_or entries place no_entry in
-    bad_reply c.args.config entries place entry c.loop-place.auction c.loop-place-test.true (take_more entries place no_entry c.loop-place-test.true) c.loop-place.invariant
-    (λ same. absurd (is_no (c.if-not-is_same.ensures.1 (same ∙ sym c.apply-reply.ensures.reply))))
-  where
-    is_no : IsTrue false → ⊥
-    is_no e = absurd (cc)
+    grind (arith, common_steps, no_entry, bad_reply, take_more, c.loop-place-test.true, c.loop-place.invariant, c.if-not-is_same.ensures.1, c.apply-reply.ensures.reply)
 
 pub loop-place-preserved : goal.loop-place-preserved
 unfolding no_entry
@@ -35,5 +29,4 @@ loop-place-preserved c =
     (audited_more c.args.config (take place entries) entry c.loop-place.auction c.apply-reply.new.self c.loop-place.invariant (sym c.if-is_full.ensures) c.apply-reply.ensures.state (c.if-not-is_same.ensures.0 refl ∙ c.apply-reply.ensures.reply))
 
 pub returns-then-is_full-clause-finding : goal.returns-then-is_full-clause-finding
-returns-then-is_full-clause-finding c =
-    full_at c.args.config c.args.entries.now c.loop-place.place c.loop-place.auction c.loop-place-test.true c.loop-place.invariant (sym c.if-is_full.ensures)
+returns-then-is_full-clause-finding c = search (arith, full_at)

@@ -1,4 +1,5 @@
 use Rattle.std.proofs.Common.{All, length, take, sym, ap, subst, ◌∙◌, arith}
+use Rattle.std.proofs.lemmas.Grind.{common_steps}
 use Rattle.auction_terms.specs.declared.Kind.TheVariants.{Intraday}
 use Rattle.auction_terms.specs.Line.{orders_of}
 use Rattle.auction_terms.specs.Ladder.{ladder_of, IsTickOf}
@@ -42,12 +43,4 @@ loop-place-preserved c =
     }
 
 pub returns : goal.returns
-returns c =
-    let low = c.args.ladder.now.low in
-    let n = length c.args.ladder.now.bids in
-    let line = c.args.orders.now.line in
-    let slots = c.args.orders.now.slots in
-    let all = present_all slots c.loop-place.place (let past = c.loop-place-test.false in let whole = c.places-place-end.ensures.all in omega arith) in
-    all_admitted low n (present slots) line c.args.ladder.now c.loop-place.ladder c.places-place-end.ensures.line c.requires
-    (subst (λ l. All IsOpen (closing l)) all c.loop-place.invariant.still_open)
-    (c.loop-place.invariant.same ∙ ap (λ l. ladder_of low n (admitted (orders_of line) l)) all)
+returns c = grind (arith, common_steps, present_all, all_admitted, closing, admitted)

@@ -1,7 +1,6 @@
-use Rattle.std.proofs.Common.{◌≡◌, inl, inr, false, IfSome, sym, subst, ◌∙◌, arith}
+use Rattle.std.proofs.Common.{sym, ◌∙◌, arith}
 use Rattle.std.proofs.lemmas.Bool.{cases_lt, cases_eq}
-use Rattle.auction_terms.specs.declared.Stamped.{Stamped}
-use Rattle.auction_terms.specs.Book.{names}
+use Rattle.std.proofs.lemmas.Grind.{common_steps}
 use Rattle.auction_terms.proofs.StayLaws.{all_stay}
 use Rattle.order_book.specs.Book.{present, slot_at}
 use Rattle.auction.proofs.KeptLaws.{own_ticks, same_ticks}
@@ -17,19 +16,12 @@ loop-place-preserved c = record {
   same = c.dismiss_at.ensures.same ∙ c.loop-place.invariant.same;
   kept = same_ticks c.loop-place.invariant.kept c.dismiss_at.ensures.kept;
   walk = c.dismiss_at.ensures.walk;
-  passed = λ p below. elim (cases_eq p c.loop-place.place) [
-    | inl same ↦ subst (λ n. IfSome (slot_at c.dismiss_at.new.orders.slots n) (λ (s : Stamped). names c.args.kind s.order.only ≡ false)) (sym same) c.dismiss_at.ensures.passed
-    | inr differs ↦ still_passed c.args.kind (slot_at c.loop-place.orders.slots p) (slot_at c.dismiss_at.new.orders.slots p) (c.loop-place.invariant.passed p (omega arith)) (c.dismiss_at.ensures.still p)
-  ];
+  passed = search (arith, cases_eq, still_passed);
   past = λ p beyond. still_none (slot_at c.loop-place.orders.slots p) (slot_at c.dismiss_at.new.orders.slots p) (c.loop-place.invariant.past p beyond) (c.dismiss_at.ensures.still p);
   rest = rest_on c.args.orders.now c.loop-place.orders c.dismiss_at.new.orders c.loop-place.invariant.rest c.dismiss_at.ensures.rest;
 }
 
 pub returns-clause-book : goal.returns-clause-book
 returns-clause-book c =
-    sym (all_stay c.args.kind (present c.loop-place.orders.slots) c.loop-place.orders.line c.loop-place.invariant.walk
-    (none_leaving c.args.kind c.loop-place.orders.slots (λ p. elim (cases_lt p c.loop-place.place) [
-      | inl below ↦ c.loop-place.invariant.passed p below
-      | inr beyond ↦ passed_from c.args.kind (slot_at c.loop-place.orders.slots p) (c.loop-place.invariant.past p (let h = c.loop-place-test.false in omega arith))
-    ])))
+    sym (grind (arith, common_steps, (all_stay c.args.kind (present c.loop-place.orders.slots) c.loop-place.orders.line c.loop-place.invariant.walk), none_leaving, cases_lt, passed_from))
     ∙ c.loop-place.invariant.same
