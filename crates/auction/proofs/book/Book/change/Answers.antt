@@ -1,4 +1,5 @@
-use Rattle.std.proofs.Common.{◌≡◌, ◌+◌, cond, Some, IsSome, IfSome, length, sym, ap, subst, ◌∙◌, refl, arith}
+use Rattle.std.proofs.Common.{◌≡◌, ◌+◌, cond, Some, IfSome, length, sym, ap, subst, ◌∙◌, refl, arith}
+use Rattle.std.proofs.lemmas.Grind.{common_steps}
 use Rattle.auction_terms.specs.declared.Order.{Order}
 use Rattle.auction_terms.specs.Line.{orders_of}
 use Rattle.auction_terms.specs.Edits.{order_with, keeps_place}
@@ -9,15 +10,13 @@ use Rattle.auction.specs.Open.{OpenOrders}
 use Rattle.auction.specs.Kept.{shown, IsKept}
 use Rattle.auction.proofs.FoundLemmas.{listed_with, found_from}
 use Rattle.auction.proofs.LengthLaws.{one_less, length-change}
-use Rattle.auction.proofs.KeptLaws.{kept_tick, own_tick, kept_stands, kept_fits, kept-without, kept-change}
+use Rattle.auction.proofs.KeptLaws.{kept_tick, kept_stands, kept_fits, kept-without, kept-change}
 use Rattle.auction.proofs.ShownLemmas.{good_quantity, seen_tick, closes_book, shown_changed, changed_line}
 use Rattle.auction.proofs.KnownLaws.{known-change}
 use Rattle.auction.proofs.book.Book.change.Goals as goal
 
 pub unwrap-before-requires : goal.unwrap-before-requires
-unwrap-before-requires c =
-    subst IsSome (sym (c.get.ensures ∙ order_of_open c.args.id c.self.inside.orders.line))
-    (subst (λ (v : OpenOrders). IsSome (order_with c.args.id v.orders)) (sym c.self.view_is) c.requires.open)
+unwrap-before-requires c = grind (arith, common_steps, order_of_open)
 
 pub take-requires-clause-in_bounds : goal.take-requires-clause-in_bounds
 take-requires-clause-in_bounds c =
@@ -30,10 +29,7 @@ take-requires-clause-stands c =
     kept_stands c.self.invariant.kept (record { id = c.args.id; quantity = c.unwrap-before.result.quantity }) c.unwrap-before.result found (omega arith)
 
 pub add-requires-clause-in_bounds : goal.add-requires-clause-in_bounds
-add-requires-clause-in_bounds c =
-    let found = found_from c.args.id c.self.inside.orders.line c.get.result c.unwrap-before.result c.get.ensures c.unwrap-before.ensures in
-    own_tick (kept-without c.self.invariant.kept c.args.id c.unwrap-before.result found refl c.take.ensures) c.args.limit
-    (seen_tick c.self.inside.orders c.self.inside.ladder c.self.inside.kind c.args.self.now c.args.limit c.self.view_is c.requires.limit)
+add-requires-clause-in_bounds c = grind (arith, common_steps)
 
 pub add-requires-clause-fits : goal.add-requires-clause-fits
 add-requires-clause-fits c =
@@ -46,9 +42,7 @@ found : (c : goal.After-self-1) → order_with c.args.id (orders_of c.self.insid
 found c = found_from c.args.id c.self.inside.orders.line c.get.result c.unwrap-before.result c.get.ensures c.unwrap-before.ensures
 
 keeps : (c : goal.After-self-1) → c.change-kept.result ≡ keeps_place c.unwrap-before.result c.args.limit c.args.quantity
-keeps c =
-    subst (λ x. IfSome x (λ (o : Order). c.change-kept.result ≡ keeps_place o c.args.limit c.args.quantity)) (found c)
-    (listed_with (λ o. c.change-kept.result ≡ keeps_place o c.args.limit c.args.quantity) c.args.id c.self.inside.orders.line c.change-kept.ensures.kept)
+keeps c = grind (arith, common_steps, found, listed_with, c.change-kept.ensures.kept)
 
 changed : (c : goal.After-self-1) → orders_of c.change-kept.new.self.line ≡ book_with_change (orders_of c.self.inside.orders.line) c.unwrap-before.result c.args.limit c.args.quantity
 changed c =
