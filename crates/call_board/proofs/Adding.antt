@@ -1,10 +1,11 @@
 -- The exchange that adds a call keeps the rule.
-use Rattle.std.proofs.Common.{◌≡◌, ℕ, ◌+◌, ◌<◌, ◌==◌, Bool, true, false, List, [], ◌∷◌, ◌++◌, length, refl, ap, sym, subst, arith, inl, length-append, None}
+use Rattle.std.proofs.Common.{◌≡◌, ℕ, ◌+◌, ◌==◌, Bool, true, false, List, [], ◌∷◌, ◌++◌, length, refl, ap, sym, arith, inl, length-append, None}
 use Rattle.std.proofs.lemmas.List.{append-nil}
 use Rattle.std.proofs.lemmas.Bool.Decides.{nat_tests}
+use Rattle.std.proofs.lemmas.Grind.{common_steps}
 use mathlib.Core.List.{IsPrefix}
 use prog.Atomic.{either}
-use Rattle.logbook.specs.Pages.{Cell, cell, keeps, no_nib, step, Moves, Goes}
+use Rattle.logbook.specs.Pages.{keeps, no_nib, step, Moves, Goes}
 use Rattle.auction_terms.specs.declared.Command.{Command}
 use Rattle.call_board.specs.Stories.{IsStory, Adds}
 use Rattle.call_board.proofs.Prefixes.{prefix_whole}
@@ -46,5 +47,4 @@ adds_goes log v e old len pre false is =
 pub adds_moves : (v : List (ℕ × Command)) (e : ℕ × Command) (old : ℕ) → length v ≡ old
     → Moves IsStory shown moved 0 (v, (no_nib, None)) (λ n. either (n == old) (old + 1) n) (Adds (step 0 old (old + 1) e) (v, (no_nib, None)))
 adds_moves v e old len cs log kept pre away =
-    let P : List Cell → Type 0 = λ c. (0 < length c) × ((cell c 0).1 ≡ true) × Goes IsStory shown moved 0 (v, (no_nib, None)) (λ n. either (n == old) (old + 1) n) (Adds (step 0 old (old + 1) e) (v, (no_nib, None))) c log in
-    subst P (sym kept) (omega arith, refl, adds_goes log v e old len pre (length log == old) refl)
+    grind (arith, common_steps, (adds_goes log v e old len pre (length log == old) refl))

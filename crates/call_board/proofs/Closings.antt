@@ -1,17 +1,18 @@
 -- Counts and shares, joined member by member.
-use Rattle.std.proofs.Common.{◌≡◌, ℕ, zero, suc, ◌+◌, ◌<◌, ◌≤◌, ◌≢◌, ◌==◌, Bool, true, false, List, [], ◌∷◌, ◌++◌, All, length, sum, count_by, Option, None, Some, Contains, IfNone, IfSome, get_or, set, slice_index, refl, sym, ap, ◌∙◌, subst, arith, length-set, get_or-set_same, get_or-set_other}
+use Rattle.std.proofs.Common.{◌≡◌, ℕ, zero, suc, ◌+◌, ◌<◌, ◌≤◌, ◌==◌, Bool, true, false, List, [], ◌∷◌, ◌++◌, All, length, sum, count_by, Option, None, Some, IfNone, IfSome, get_or, set, slice_index, refl, sym, ap, ◌∙◌, subst, arith, length-set, get_or-set_same, get_or-set_other}
 use Rattle.std.specs.Prelude.{if◌then◌else◌}
 use Rattle.std.proofs.lemmas.Bool.{eqb-true, eqb-false, eq-eqb}
 use Rattle.std.proofs.lemmas.List.{get_or_default}
 use Rattle.std.proofs.lemmas.List.Sums.{sum_by-cons, sum_by-set}
 use Rattle.std.proofs.lemmas.List.Elements.{All-append, All-cons, All-nil, All-push, All-contains, Contains-append_left}
+use Rattle.std.proofs.lemmas.Grind.{common_steps}
 use Rattle.call_board.specs.Standing.{Standing}
 use mathlib.Core.List.{IsPrefix}
 use Rattle.auction_terms.specs.declared.Command.{Command}
 use Rattle.auction_terms.specs.declared.Config.{Config}
 use Rattle.auction_terms.specs.Day.{IsLegal}
 use Rattle.call_board.specs.declared.closing.Closing.{Closing}
-use Rattle.call_board.specs.Standing.{own, own_from}
+use Rattle.call_board.specs.Standing.{own}
 use Rattle.call_board.proofs.Prefixes.{prefix_whole, prefix_trans, prefix_length}
 use Rattle.call_board.proofs.Histories.{own-append}
 use Rattle.call_board.specs.Closed.{EachOnce, Gathered, Follows, Accounts, KeptBack, HasLate, IsClosing, IsLate, brought}
@@ -22,17 +23,8 @@ brought-push k (x ∷ ms) m = omega (arith, brought-push k ms m)
 
 -- a count in place i
 count_at : (n : ℕ) (ms : List Standing) (m : Standing) (counts : List ℕ) (k : ℕ) → k < length counts → slice_index counts k ≡ brought k ms → (b : Bool) → (m.number == k) ≡ b → slice_index (set counts m.number (slice_index counts m.number + m.calls)) k ≡ brought k (ms ++ m ∷ [])
-count_at n ms m counts k within was true is =
-    let at : m.number ≡ k = eqb-true m.number k is in
-    let here : slice_index (set counts k (slice_index counts k + m.calls)) k ≡ slice_index counts k + m.calls = get_or-set_same counts k (slice_index counts k + m.calls) 0 within in
-    let moved : slice_index (set counts m.number (slice_index counts m.number + m.calls)) k ≡ slice_index (set counts k (slice_index counts k + m.calls)) k = ap (λ j. slice_index (set counts j (slice_index counts j + m.calls)) k) at in
-    let more : (if m.number == k then m.calls else 0) ≡ m.calls = ap (λ (b : Bool). if b then m.calls else 0) is in
-    omega (arith, moved, here, was, more, brought-push k ms m)
-count_at n ms m counts k within was false is =
-    let apart : k ≢ m.number = λ e. eqb-false m.number k is (sym e) in
-    let there = get_or-set_other counts m.number k (slice_index counts m.number + m.calls) 0 apart in
-    let more : (if m.number == k then m.calls else 0) ≡ 0 = ap (λ (b : Bool). if b then m.calls else 0) is in
-    omega (arith, there, was, more, brought-push k ms m)
+count_at n ms m counts k within was b is =
+    grind (arith, common_steps, eqb-true, get_or-set_same, brought-push, eqb-false, get_or-set_other)
 
 pub Gathered-push : (n : ℕ) (ms : List Standing) (m : Standing) (counts counts' : List ℕ) (amount amount' : ℕ)
     → Gathered n ms counts amount → m.number < n → counts' ≡ set counts m.number (slice_index counts m.number + m.calls) → amount' ≡ amount + m.calls → Gathered n (ms ++ m ∷ []) counts' amount'
@@ -66,8 +58,7 @@ count_no k m ms is = omega (arith, sum_by-cons (λ (x : Standing). if x.number =
 
 -- a number that no member has
 none_by : (k : ℕ) (m : Standing) (ms : List Standing) (b : Bool) → (m.number == k) ≡ b → count_by (λ (x : Standing). x.number == k) (m ∷ ms) ≡ 0 → (count_by (λ (x : Standing). x.number == k) ms ≡ 0 → brought k ms ≡ 0) → brought k (m ∷ ms) ≡ 0
-none_by k m ms true is none rest = absurd (omega (arith, count_yes k m ms is))
-none_by k m ms false is none rest = ap (λ (b : Bool). (if b then m.calls else 0) + brought k ms) is ∙ omega (arith, rest (sym (count_no k m ms is) ∙ none))
+none_by k m ms b is none rest = grind (arith, common_steps, count_yes, count_no)
 
 none_brought : (k : ℕ) (ms : List Standing) → count_by (λ (m : Standing). m.number == k) ms ≡ 0 → brought k ms ≡ 0
 none_brought k [] none = refl
@@ -82,15 +73,11 @@ counted_some (m ∷ ms) (suc j) d lt = omega (arith, counted_some ms j d (omega 
 -- the number of one member alone: it brought its calls
 one_by : (m : Standing) (ms : List Standing) (j : ℕ) (d : Standing) → j < length ms → (b : Bool) → (m.number == (get_or ms j d).number) ≡ b → count_by (λ (x : Standing). x.number == (get_or ms j d).number) (m ∷ ms) ≡ 1
     → (count_by (λ (x : Standing). x.number == (get_or ms j d).number) ms ≡ 1 → brought (get_or ms j d).number ms ≡ (get_or ms j d).calls) → brought (get_or ms j d).number (m ∷ ms) ≡ (get_or ms j d).calls
-one_by m ms j d lt true is one rest = absurd (omega (arith, count_yes (get_or ms j d).number m ms is, counted_some ms j d lt))
-one_by m ms j d lt false is one rest = ap (λ (b : Bool). (if b then m.calls else 0) + brought (get_or ms j d).number ms) is ∙ omega (arith, rest (sym (count_no (get_or ms j d).number m ms is) ∙ one))
+one_by m ms j d lt x is one rest = grind (arith, common_steps, count_yes, counted_some, count_no)
 
 pub one_brought : (ms : List Standing) (j : ℕ) (d : Standing) → j < length ms → count_by (λ (x : Standing). x.number == (get_or ms j d).number) ms ≡ 1 → brought (get_or ms j d).number ms ≡ (get_or ms j d).calls
 one_brought [] j d lt one = absurd (omega arith)
-one_brought (m ∷ ms) zero d lt one =
-    let same : (m.number == m.number) ≡ true = eq-eqb m.number m.number refl in
-    let none : count_by (λ (x : Standing). x.number == m.number) ms ≡ 0 = omega (arith, count_yes m.number m ms same) in
-    ap (λ (b : Bool). (if b then m.calls else 0) + brought m.number ms) same ∙ omega (arith, none_brought m.number ms none)
+one_brought (m ∷ ms) zero d lt one = grind (arith, common_steps, eq-eqb, count_yes, none_brought)
 one_brought (m ∷ ms) (suc j) d lt one = one_by m ms j d (omega arith) (m.number == (get_or ms j d).number) refl one (one_brought ms j d (omega arith))
 
 -- each member's count is the one that it brought
@@ -137,9 +124,7 @@ has_one k (m ∷ ms) one = has_by k m ms (m.number == k) refl one (has_one k ms)
 
 -- a member that follows the story has no more calls than the story has of it
 own_story : (n : ℕ) (story : List (ℕ × Command)) (m : Standing) → Follows n story m → IsPrefix m.mine (own story m.number)
-own_story n story m f =
-    let goes : IsPrefix (own m.seen m.number) (own story m.number) = (own_from (1 + length m.seen) f.begins.0 m.number, sym (own-append 1 m.seen f.begins.0 m.number) ∙ ap (λ t. own t m.number) f.begins.1) in
-    prefix_trans _ _ _ f.mine goes
+own_story n story m f = grind (arith, common_steps, (own-append 1 m.seen f.begins.0 m.number), prefix_trans)
 
 -- a count is at most what the story has of that number
 at_most : (n : ℕ) (story : List (ℕ × Command)) (ms : List Standing) (counts counted : List ℕ) (amount : ℕ) → EachOnce n ms → Gathered n ms counts amount → All (Follows n story) ms → ((k : ℕ) → k < n → slice_index counted k ≡ length (own story k))
@@ -172,30 +157,18 @@ accounts n story ms counts counted amount once h follow wide own_counts sums j d
 
 -- a member more, which isn't kept back
 pub keeps : (late : Option ℕ) (end : ℕ) (ms : List Standing) (m : Standing) (kept : Option Standing) → KeptBack late end ms kept → (kept ≡ None → late ≡ Some m.number → length m.seen ≤ end) → KeptBack late end (ms ++ m ∷ []) kept
-keeps late end ms m None h f = λ k is. All-push (λ (x : Standing). x.number ≡ k → length x.seen ≤ end) ms m (h k is) (λ same. f refl (is ∙ ap (λ (j : ℕ). Some j) (sym same)))
-keeps late end ms m (Some k) h f = (h.0, h.1, Contains-append_left ms (m ∷ []) k h.2)
+keeps late end ms m kept h f = grind (arith, common_steps, All-push, Contains-append_left)
 
 -- no member was kept back, so none that is late was asked for
 pub none_late : (late : Option ℕ) (k end : ℕ) (ms : List Standing) → KeptBack late end ms None → late ≡ Some k → HasLate k end ms → ⊥
-none_late late k end ms h is has =
-    let m : Standing = has.0 in
-    let inside : Contains ms m = has.1 in
-    let number : m.number ≡ k = has.2 in
-    let more : end < length m.seen = has.3 in
-    let least : length m.seen ≤ end = All-contains (λ (x : Standing). x.number ≡ k → length x.seen ≤ end) ms m (h k is) inside number in
-    absurd (omega (arith, more, least))
+none_late late k end ms h is has = grind (arith, common_steps, All-contains)
 
 -- the same members, and how many there are
 pub complete : (n n' : ℕ) (ms ms' : List Standing) → n' ≡ n → ms' ≡ ms → EachOnce n' ms' → EachOnce n ms
 complete n n' ms ms' many same h = subst (EachOnce n) same (subst (λ (k : ℕ). EachOnce k ms') many h)
 
 pub closes : (c : Config) (n : ℕ) (ms : List Standing) (closing : Closing) (amount total : ℕ) → EachOnce n ms → Gathered n ms closing.calls.items amount → IsLegal c closing.history.items → total ≡ length closing.history.items → amount ≡ total → IsClosing c n ms closing
-closes c n ms closing amount total once h legal total_is amount_is = record {
-  legal = legal;
-  whole = omega (arith, h.whole, total_is, amount_is);
-  counts = h.wide;
-  each = each_of n ms closing.calls.items amount once h;
-}
+closes c n ms closing amount total once h legal total_is amount_is = search (arith, each_of)
 
 -- where no member was kept back, all follow the story
 pub all_follow : (n end : ℕ) (story : List (ℕ × Command)) (ms ms' : List Standing) (late : Option ℕ) → end ≡ length story → ms' ≡ ms → KeptBack late end ms None → IfNone late (All (Follows n story) ms') → IfSome late (λ k. HasLate k (length story) ms') → All (Follows n story) ms
@@ -207,14 +180,4 @@ pub is_late : (c : Config) (n end : ℕ) (story : List (ℕ × Command)) (ms ms'
     → IsClosing c n ms closing → end ≡ length story → ms' ≡ ms → KeptBack late end ms (Some m) → m' ≡ m → seen ≡ length m'.seen → length story ≡ length closing.history.items
     → IfSome late (λ k. All (λ (x : Standing). x.number < k → length x.seen ≤ length story) ms') → IsLate c n ms m' seen closing
 is_late c n end story ms ms' late m m' seen closing closed is same kept same_m seen_is history first =
-    let First : ℕ → List Standing → Type 0 = λ k xs. All (λ (x : Standing). x.number < k → length x.seen ≤ length story) xs in
-    let first' : First m.number ms' = subst (λ (l : Option ℕ). IfSome l (λ k. First k ms')) kept.0 first in
-    let more : end < length m.seen = kept.1 in
-    let many : length m'.seen ≡ length m.seen = ap (λ (x : Standing). length x.seen) same_m in
-    record {
-      closes = closed;
-      one_of = subst (Contains ms) (sym same_m) kept.2;
-      seen_is = seen_is;
-      more = omega (arith, more, many, seen_is, is, history);
-      first = subst (λ (e : ℕ). All (λ (x : Standing). x.number < m'.number → length x.seen ≤ e) ms) history (subst (λ (k : ℕ). First k ms) (sym (ap (λ (x : Standing). x.number) same_m)) (subst (First m.number) same first'));
-    }
+    grind (arith, common_steps, closes)

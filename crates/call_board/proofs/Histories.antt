@@ -12,6 +12,7 @@ use Rattle.call_board.specs.Standing.{Standing, own, own_from}
 use Rattle.std.proofs.lemmas.List.Elements.{All-append, All-cons, All-nil}
 use Rattle.std.proofs.lemmas.List.{map_push, take-append-drop, take-append-le}
 use Rattle.std.proofs.Math.Seq.{take-length}
+use Rattle.std.proofs.lemmas.Grind.{common_steps}
 use Rattle.auction_terms.specs.declared.Config.{Config}
 use Rattle.auction_terms.specs.declared.Command.{Command}
 use Rattle.auction_terms.specs.declared.Reply.{Reply}
@@ -28,20 +29,16 @@ follows c a a' v s member command was is more = is ∙ ap (λ (r : Running). cal
 -- what is shown after one call more
 pub shows_more : (c : Config) (a a' : Running) (v s : List (ℕ × Command)) (member : ℕ) (command : Command) (shown : Shown) → a ≡ running c v → a' ≡ called a member command → s ≡ v ++ (member, command) ∷ [] → shown.calls ≡ a'.calls → shown.display ≡ display a'.state → ShowsAfter c s shown
 shows_more c a a' v s member command shown was is more calls display_is =
-    let whole = follows c a a' v s member command was is more in
-    record { calls_are = sym (calls ∙ ap (λ (r : Running). r.calls) whole); display = display_is ∙ ap (λ (r : Running). display r.state) whole }
+    grind (arith, common_steps, (follows c a a' v s member command was is more))
 
 -- the own calls of a beginning
 own_by : (k : ℕ) (x : ℕ × Command) (xs ys : List (ℕ × Command)) (m : ℕ) (b : Bool) → own_from (k + 1) (xs ++ ys) m ≡ own_from (k + 1) xs m ++ own_from (k + length (x ∷ xs)) ys m
     → (if b then (k, x.1) ∷ own_from (k + 1) (xs ++ ys) m else own_from (k + 1) (xs ++ ys) m) ≡ (if b then (k, x.1) ∷ own_from (k + 1) xs m else own_from (k + 1) xs m) ++ own_from (k + length (x ∷ xs)) ys m
-own_by k x xs ys m true e = ap (λ t. (k, x.1) ∷ t) e
-own_by k x xs ys m false e = e
+own_by k x xs ys m b e = grind (arith, common_steps)
 
 pub own-append : (k : ℕ) (xs ys : List (ℕ × Command)) (m : ℕ) → own_from k (xs ++ ys) m ≡ own_from k xs m ++ own_from (k + length xs) ys m
 own-append k [] ys m = let e : k ≡ k + 0 = omega arith in ap (λ j. own_from j ys m) e
-own-append k (x ∷ xs) ys m =
-    let e : (k + 1) + length xs ≡ k + length (x ∷ xs) = omega arith in
-    own_by k x xs ys m (x.0 == m) (own-append (k + 1) xs ys m ∙ ap (λ j. own_from (k + 1) xs m ++ own_from j ys m) e)
+own-append k (x ∷ xs) ys m = grind (arith, common_steps, own_by, (own-append (k + 1) xs ys m))
 
 pub own_begins : (n : ℕ) (xs : List (ℕ × Command)) (m : ℕ) → IsPrefix (own (take n xs) m) (own xs m)
 own_begins n xs m = (own_from (1 + length (take n xs)) (drop n xs) m, sym (own-append 1 (take n xs) (drop n xs) m) ∙ ap (λ t. own t m) (take-append-drop n xs))
@@ -55,14 +52,7 @@ standing number calls last seen = record { number = number; calls = calls; seen 
 
 -- a look that takes in a longer story
 pub looks_more : (c : Config) (number calls last : ℕ) (seen seen' : List (ℕ × Command)) (shown : Shown) → last ≤ length seen → IsPrefix seen seen' → ShowsAfter c seen' shown → Looks c (standing number calls last seen) (standing number calls last seen') shown
-looks_more c number calls last seen seen' shown le pre s = record {
-  number = refl;
-  calls = refl;
-  mine = ap (λ t. own t number) (take_of last seen seen' le pre);
-  seen = pre;
-  shown = s;
-  own_begins = own_begins last seen' number;
-}
+looks_more c number calls last seen seen' shown le pre s = grind (arith, common_steps, take_of, own_begins)
 
 -- how many calls a member has after one call more
 abbrev bit : Bool → ℕ
@@ -73,32 +63,19 @@ abbrev alone : Bool → ℕ → Command → List (ℕ × Command)
 alone b k command = if b then (k, command) ∷ [] else []
 
 own_last : (k : ℕ) (x : ℕ × Command) (m : ℕ) (b : Bool) → length (alone b k x.1) ≡ bit b
-own_last k x m true = refl
-own_last k x m false = refl
+own_last k x m b = grind (arith, common_steps)
 
 pub own_count-push : (xs : List (ℕ × Command)) (x : ℕ × Command) (m : ℕ) → length (own (xs ++ x ∷ []) m) ≡ length (own xs m) + bit (x.0 == m)
 own_count-push xs x m = ap length (own-append 1 xs (x ∷ []) m) ∙ length-append (own xs m) (own_from (1 + length xs) (x ∷ []) m) ∙ ap (λ k. length (own xs m) + k) (own_last (1 + length xs) x m (x.0 == m))
 
 pub own-push : (xs : List (ℕ × Command)) (m : ℕ) (command : Command) → own (xs ++ (m, command) ∷ []) m ≡ own xs m ++ (length xs + 1, command) ∷ []
-own-push xs m command =
-    let same : (m == m) ≡ true = eq-eqb m m refl in
-    let n : 1 + length xs ≡ length xs + 1 = omega arith in
-    own-append 1 xs ((m, command) ∷ []) m ∙ (λ i. own xs m ++ (if same i then (n i, command) ∷ [] else []))
+own-push xs m command = grind (arith, common_steps, eq-eqb, own-append)
 
 -- the counts by number, after one call more
 count_at : (xs : List (ℕ × Command)) (x : ℕ × Command) (counts : List ℕ) (k : ℕ) → k < length counts → slice_index counts k ≡ length (own xs k) → (b : Bool) → (x.0 == k) ≡ b
     → slice_index (set counts x.0 (slice_index counts x.0 + 1)) k ≡ length (own (xs ++ x ∷ []) k)
-count_at xs x counts k within was true is =
-    let at : x.0 ≡ k = eqb-true x.0 k is in
-    let here : slice_index (set counts k (slice_index counts k + 1)) k ≡ slice_index counts k + 1 = get_or-set_same counts k (slice_index counts k + 1) 0 within in
-    let moved : slice_index (set counts x.0 (slice_index counts x.0 + 1)) k ≡ slice_index (set counts k (slice_index counts k + 1)) k = ap (λ j. slice_index (set counts j (slice_index counts j + 1)) k) at in
-    let more : bit (x.0 == k) ≡ 1 = ap bit is in
-    omega (arith, moved, here, was, more, own_count-push xs x k)
-count_at xs x counts k within was false is =
-    let apart : k ≢ x.0 = λ e. eqb-false x.0 k is (sym e) in
-    let there = get_or-set_other counts x.0 k (slice_index counts x.0 + 1) 0 apart in
-    let more : bit (x.0 == k) ≡ 0 = ap bit is in
-    omega (arith, there, was, more, own_count-push xs x k)
+count_at xs x counts k within was h6 is =
+    grind (arith, common_steps, eqb-true, get_or-set_same, own_count-push, eqb-false, get_or-set_other)
 
 pub Kept-push : (c : Config) (n : ℕ) (a a' : Running) (h h' : List Entry) (f f' : List (ℕ × Command)) (counts counts' : List ℕ) (t t' space space' member : ℕ) (command : Command) (reply : Reply)
     → Kept c n a h f counts t space → length h < c.max_calls → member < n → reply ≡ (step a.config a.state member command).1 → a' ≡ called a member command → h' ≡ h ++ entry member command reply ∷ []
@@ -128,8 +105,7 @@ Kept-push c n a a' h h' f f' counts counts' t t' space space' member command rep
 -- among calls none of which is a member's, all are others'
 none_by : (k : ℕ) (x : ℕ × Command) (xs : List (ℕ × Command)) (m : ℕ) (b : Bool) → (x.0 == m) ≡ b → length (if b then (k, x.1) ∷ own_from (k + 1) xs m else own_from (k + 1) xs m) ≡ 0
     → (length (own_from (k + 1) xs m) ≡ 0 → All (λ (y : ℕ × Command). y.0 ≢ m) xs) → All (λ (y : ℕ × Command). y.0 ≢ m) (x ∷ xs)
-none_by k x xs m true is none rest = absurd (omega arith)
-none_by k x xs m false is none rest = All-cons (λ (y : ℕ × Command). y.0 ≢ m) x xs (eqb-false x.0 m is) (rest none)
+none_by k x xs m b is none rest = grind (arith, common_steps, All-cons, eqb-false)
 
 pub all_others : (k : ℕ) (xs : List (ℕ × Command)) (m : ℕ) → length (own_from k xs m) ≡ 0 → All (λ (y : ℕ × Command). y.0 ≢ m) xs
 all_others k [] m none = All-nil (λ (y : ℕ × Command). y.0 ≢ m)

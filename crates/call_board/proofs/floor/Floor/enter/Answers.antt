@@ -1,8 +1,8 @@
 use Rattle.std.proofs.Common.{arith, ◌≡◌, ◌+◌, ◌<◌, ◌∙◌, sym, ap, subst, length, set, slice_index, ℕ, List, [], ◌∷◌, ◌++◌, length-append, take}
 use Rattle.std.proofs.lemmas.List.{get_or_default}
-use mathlib.Core.List.{IsPrefix}
+use Rattle.std.proofs.lemmas.Grind.{common_steps}
 use Rattle.auction_terms.specs.declared.Entry.{Entry}
-use Rattle.auction_terms.specs.Day.{calls_of, step, replay, display}
+use Rattle.auction_terms.specs.Day.{calls_of, display}
 use Rattle.auction_terms.specs.Running.{Running, running}
 use Rattle.call_board.specs.Standing.{Standing, own}
 use Rattle.call_board.specs.Told.{CallsOnce}
@@ -28,7 +28,6 @@ pub invariant_of-self : goal.invariant_of-self
 invariant_of-self g c =
     let f = c.self.inside in
     let k = c.self.invariant.0 in
-    let m = c.by.inside.number in
     let number = number_is g c in
     let room : length f.history.items < g.K.Day.config.max_calls = subst (λ (h : List Entry). length h < g.K.Day.config.max_calls) (sym c.self.view_is) c.requires.room in
     let one_of : c.number-member.result < g.K.Ledger.parts = omega (arith, number, c.by.invariant.2) in
@@ -47,16 +46,7 @@ pub returns-clause-legal : goal.returns-clause-legal
 returns-clause-legal g c = (invariant_of-self g c).0.legal
 
 once : (g : Over) (c : After-calls-2 g) → CallsOnce g.K.Day.config (standing c.by.inside.number c.by.inside.calls c.by.inside.last c.by.inside.front) (standing c.by.inside.number (c.by.inside.calls + 1) c.calls-by-inside.result c.again.result) c.args.command (record { number = c.calls-2.result; reply = c.apply-reply.result })
-once g c =
-    let m = c.by.inside in
-    let xs = calls_of c.self.inside.history.items in
-    let k = c.self.invariant.0 in
-    let number = number_is g c in
-    let pre : IsPrefix m.front xs = rw (← c.self.view_is, ← c.by.view_is) at c.requires.seen in
-    let counted : m.calls ≡ length (own xs m.number) = rw (← c.self.view_is, ← c.by.view_is) at c.requires.counted in
-    let calls : c.apply-reply.new.self.calls ≡ length xs + 1 = ap (λ (r : Running). r.calls) c.apply-reply.ensures.state ∙ ap (λ (r : Running). r.calls + 1) k.replayed in
-    let reply : c.apply-reply.result ≡ (step g.K.Day.config (replay g.K.Day.config xs).0 m.number c.args.command).1 = c.apply-reply.ensures.reply ∙ (λ i. (step (k.replayed i).config (k.replayed i).state (number i) c.args.command).1) in
-    called_once g.K.Day.config m.number m.calls m.last c.calls-by-inside.result m.front xs c.again.result c.args.command _ pre c.by.invariant.4 counted (c.again.ensures ∙ front_is g c) (c.calls-by-inside.ensures.value ∙ ap (λ (r : Running). r.calls) c.show-display.ensures.state ∙ calls) (c.calls-2.ensures.value ∙ ap (λ (r : Running). r.calls) c.show-display.ensures.state ∙ calls) reply
+once g c = grind (arith, common_steps, number_is, called_once, front_is)
 
 pub returns-clause-call : goal.returns-clause-call
 returns-clause-call g c = subst (λ (s : Standing). CallsOnce g.K.Day.config s (standing c.by.inside.number (c.by.inside.calls + 1) c.calls-by-inside.result c.again.result) c.args.command (record { number = c.calls-2.result; reply = c.apply-reply.result })) c.by.view_is (once g c)
