@@ -2,9 +2,9 @@
 use Rattle.std.proofs.Common.{◌≡◌, ℕ, zero, suc, ◌+◌, ◌-◌, ◌≤◌, ◌<◌, inl, inr, true, List, [], ◌∷◌, filter, All, Option, Some, None, option_map, length, get_or, refl, sym, ap, ◌∙◌, arith}
 use Rattle.std.specs.Prelude.{MatchOption}
 use Rattle.std.proofs.lemmas.Bool.{cases_lt, lt-ltb, le-ltb}
+use Rattle.std.proofs.lemmas.Grind.{common_steps}
 use Rattle.auction_terms.specs.declared.Order.{Order}
 use Rattle.auction_terms.specs.declared.Side.{Side}
-use Rattle.auction_terms.specs.declared.Side.TheVariants.{Buy, Sell}
 use Rattle.auction_terms.specs.Book.{limits, is_on}
 use Rattle.auction_terms.specs.PriceOf.{highest, lowest}
 use Rattle.auction_terms.specs.Ladder.{LadderView, ladder_of, spread, standing}
@@ -20,16 +20,9 @@ use Rattle.tick_ladder.proofs.Sums.{before_next, before_rises}
 
 tick_there : (low : ℕ) (xs : List ℕ) (i : ℕ) → i < length xs → 0 < get_or xs i 0 → has (low + i) (positive_ticks low xs) ≡ true
 tick_there low [] i lt some = absurd (omega arith)
-tick_there low (x ∷ xs) zero lt some =
-    let here : low ≡ low + 0 = omega arith in
-    rw (lt-ltb 0 x some) (ap (λ t. has t (low ∷ positive_ticks (low + 1) xs)) (sym here) ∙ has-first low (positive_ticks (low + 1) xs))
+tick_there low (x ∷ xs) zero lt some = grind (arith, common_steps, lt-ltb, has-first)
 tick_there low (x ∷ xs) (suc i) lt some =
-    let next : low + 1 + i ≡ low + suc i = omega arith in
-    let rest = sym (ap (λ t. has t (positive_ticks (low + 1) xs)) next) ∙ tick_there (low + 1) xs i (omega arith) some in
-    elim (cases_lt 0 x) [
-      | inl more ↦ rw (lt-ltb 0 x more) (has-later (low + suc i) low (positive_ticks (low + 1) xs) rest)
-      | inr none ↦ rw (le-ltb 0 x none) rest
-    ]
+    grind (arith, common_steps, cases_lt, lt-ltb, has-later, le-ltb, (tick_there (low + 1) xs i (omega arith) some))
 
 record Place (low : ℕ) (xs : List ℕ) (t : ℕ) : Type 0 where
   place : ℕ
@@ -95,10 +88,7 @@ length-spread f a (suc n) = omega (arith, length-spread f (a + 1) n)
 module _ (low n : ℕ) (s : Side) (book : List Order) (within : All (λ t. (low ≤ t) × (t < low + n)) (limits book)) (positive : All (λ o. 0 < o.quantity) book) where
   tick_limit : (t : ℕ) → has t (positive_ticks low (spread (standing s book) low n)) ≡ true → has t (limits (filter (is_on s) book)) ≡ true
   tick_limit t e =
-      let p = place_of low (spread (standing s book) low n) t e in
-      let inside : p.place < n = omega (arith, p.within, length-spread (standing s book) low n) in
-      let here = at_spread (standing s book) low n p.place inside ∙ ap (standing s book) p.tick in
-      standing_limit s book t (let some = p.some in omega arith)
+      grind (arith, common_steps, (place_of low (spread (standing s book) low n) t e), (length-spread (standing s book) low n), at_spread, standing_limit)
 
   limit_tick : (t : ℕ) → has t (limits (filter (is_on s) book)) ≡ true → has t (positive_ticks low (spread (standing s book) low n)) ≡ true
   limit_tick t e =
@@ -117,9 +107,4 @@ module _ (low n : ℕ) (s : Side) (book : List Order) (within : All (λ t. (low 
 
 pub best_of_book : (v : LadderView) (side : Side) (book : List Order) → All (λ o. 0 < o.quantity) book → IsLadderOf v book → best_tick v side ≡ best_limit book side
 unfolding ladder_of
-best_of_book v Buy book positive h =
-    let bids : v.bids ≡ spread (standing Buy book) v.low (length v.bids) = ap (λ (w : LadderView). w.bids) h.same in
-    ap (λ l. highest (positive_ticks v.low l)) bids ∙ same_highest v.low (length v.bids) Buy book h.within positive
-best_of_book v Sell book positive h =
-    let asks : v.asks ≡ spread (standing Sell book) v.low (length v.bids) = ap (λ (w : LadderView). w.asks) h.same in
-    ap (λ l. lowest (positive_ticks v.low l)) asks ∙ same_lowest v.low (length v.bids) Sell book h.within positive
+best_of_book v side book positive h = grind (arith, common_steps, same_highest, same_lowest)

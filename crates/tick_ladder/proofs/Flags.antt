@@ -1,9 +1,10 @@
 -- The flags of bids and asks.
-use Rattle.std.proofs.Common.{◌≡◌, ℕ, zero, suc, ◌+◌, ◌-◌, ◌≤◌, ◌<◌, inl, inr, List, [], ◌∷◌, Option, Some, None, length, get_or, set, replicate, sum, refl, sym, ap, subst, ◌∙◌, arith}
+use Rattle.std.proofs.Common.{◌≡◌, ℕ, zero, suc, ◌+◌, ◌-◌, ◌≤◌, ◌<◌, inl, inr, List, [], ◌∷◌, Option, length, get_or, set, replicate, sum, refl, sym, ap, subst, ◌∙◌, arith}
 use Rattle.std.specs.Prelude.{MatchOption}
 use Rattle.std.specs.Simd.Lanes.{zip2}
 use Rattle.std.proofs.lemmas.Bool.{cases_lt, lt-ltb, le-ltb}
 use Rattle.std.proofs.lemmas.List.Sums.{sum_by-cons, sum_by-set}
+use Rattle.std.proofs.lemmas.Grind.{common_steps}
 use Rattle.auction_terms.specs.Ladder.{LadderView, flag_of, with_bids, with_asks}
 use Rattle.lane_prefix.specs.Meeting.{before}
 use Rattle.tick_ladder.specs.Standing.{IsBlank, IsLastIn, IsFirstIn, IsClear, IsLast, IsFirst}
@@ -35,16 +36,10 @@ flag_at (x ∷ xs) (y ∷ ys) zero e = refl
 flag_at (x ∷ xs) (y ∷ ys) (suc i) e = flag_at xs ys i (omega (arith, e))
 
 no_flag : (x y : ℕ) → flag_of x y ≡ 0 → (x ≡ 0) × (y ≡ 0)
-no_flag x y e = elim (cases_lt 0 (x + y)) [
-  | inl some ↦ absurd (let one : 1 ≡ 0 = rw (lt-ltb 0 (x + y) some) at e in omega arith)
-  | inr none ↦ (omega arith, omega arith)
-]
+no_flag x y e = grind (arith, common_steps, cases_lt, lt-ltb)
 
 some_flag : (x y : ℕ) → 0 < flag_of x y → 0 < x + y
-some_flag x y h = elim (cases_lt 0 (x + y)) [
-  | inl some ↦ some
-  | inr none ↦ absurd (let none_less : 0 < 0 = rw (le-ltb 0 (x + y) none) at h in omega arith)
-]
+some_flag x y h = grind (arith, common_steps, cases_lt, le-ltb)
 
 -- ---- the flags tell where something stands
 
@@ -53,9 +48,7 @@ module _ (b a f : List ℕ) (same : length a ≡ length b) (flags : f ≡ zip2 f
   flag_is i = ap (λ l. get_or l i 0) flags ∙ flag_at b a i same
 
   clear_by : (i d : ℕ) → before f i ≡ before f (i + d) → IsClear b a i (i + d)
-  clear_by i zero e =
-      let at_i : i ≡ i + 0 = omega arith in
-      record { no_bids = ap (before b) at_i; no_asks = ap (before a) at_i }
+  clear_by i zero e = grind (arith, common_steps)
   clear_by i (suc d) e =
       let next : i + suc d ≡ i + d + 1 = omega arith in
       let up = ap (before f) next in
@@ -74,22 +67,10 @@ module _ (b a f : List ℕ) (same : length a ≡ length b) (flags : f ≡ zip2 f
       subst (λ n. IsClear b a i n) back (clear_by i (j - i) (blank ∙ ap (before f) (sym back)))
 
   pub last_found : (o : Option ℕ) (i j : ℕ) → i ≤ j → MatchOption o (IsBlank f i j) (IsLastIn f i j) → MatchOption o (IsClear b a i j) (IsLast b a i j)
-  last_found None i j h blank = clear_is i j h blank
-  last_found (Some p) i j h last = record {
-    from = last.from;
-    within = last.within;
-    stands = some_flag (get_or b p 0) (get_or a p 0) (let is = flag_is p in let some = last.positive in omega arith);
-    clear = clear_is (p + 1) j (let w = last.within in omega arith) last.blank;
-  }
+  last_found o i j h blank = grind (arith, common_steps, clear_is, some_flag, flag_is)
 
   pub first_found : (o : Option ℕ) (i j : ℕ) → i ≤ j → MatchOption o (IsBlank f i j) (IsFirstIn f i j) → MatchOption o (IsClear b a i j) (IsFirst b a i j)
-  first_found None i j h blank = clear_is i j h blank
-  first_found (Some p) i j h first = record {
-    from = first.from;
-    within = first.within;
-    stands = some_flag (get_or b p 0) (get_or a p 0) (let is = flag_is p in let some = first.positive in omega arith);
-    clear = clear_is i p first.from first.blank;
-  }
+  first_found o i j h blank = grind (arith, common_steps, clear_is, some_flag, flag_is)
 
 -- ---- one place changed
 
@@ -106,16 +87,10 @@ zip2-set_right (y ∷ ys) (z ∷ zs) zero x lt e = refl
 zip2-set_right (y ∷ ys) (z ∷ zs) (suc i) x lt e = ap (λ l. flag_of y z ∷ l) (zip2-set_right ys zs i x (omega (arith, lt)) (omega (arith, e)))
 
 pub flags_left : (b a old : List ℕ) (i x y f : ℕ) → i < length b → length a ≡ length b → old ≡ zip2 flag_of b a → y ≡ get_or a i 0 → f ≡ flag_of x y → set old i f ≡ zip2 flag_of (set b i x) a
-flags_left b a old i x y f lt e o ey ef =
-    ap (λ l. set l i f) o
-    ∙ ap (set (zip2 flag_of b a) i) (ef ∙ ap (flag_of x) ey)
-    ∙ sym (zip2-set_left b a i x lt e)
+flags_left b a old i x y f lt e o ey ef = grind (arith, common_steps, zip2-set_left)
 
 pub flags_right : (b a old : List ℕ) (i x y f : ℕ) → i < length b → length a ≡ length b → old ≡ zip2 flag_of b a → y ≡ get_or b i 0 → f ≡ flag_of y x → set old i f ≡ zip2 flag_of b (set a i x)
-flags_right b a old i x y f lt e o ey ef =
-    ap (λ l. set l i f) o
-    ∙ ap (set (zip2 flag_of b a) i) (ef ∙ ap (λ n. flag_of n x) ey)
-    ∙ sym (zip2-set_right b a i x lt e)
+flags_right b a old i x y f lt e o ey ef = grind (arith, common_steps, zip2-set_right)
 
 pub sum-set : (b : List ℕ) (i x : ℕ) → i < length b → sum (set b i x) + get_or b i 0 ≡ sum b + x
 sum-set b i x lt = sum_by-set (λ n. n) b i x 0 lt

@@ -1,10 +1,11 @@
 -- What a part of a list tells of the list.
-use Rattle.std.proofs.Common.{◌≡◌, ℕ, zero, suc, ◌+◌, ◌-◌, ◌≤◌, ◌<◌, inl, inr, List, length, take, drop, get_or, sum, refl, ap, ◌∙◌, arith}
+use Rattle.std.proofs.Common.{◌≡◌, ℕ, zero, suc, ◌+◌, ◌-◌, ◌≤◌, ◌<◌, List, length, drop, get_or, sum, refl, ap, ◌∙◌, arith}
 use Rattle.std.specs.Simd.Lanes.{chunk}
 use Rattle.std.proofs.Math.Seq.{take-add}
 use Rattle.std.proofs.lemmas.List.{take-take, get_or-take, get_or-drop}
 use Rattle.std.proofs.lemmas.List.Sums.{sum_by-append}
 use Rattle.std.proofs.lemmas.Simd.{length-chunk}
+use Rattle.std.proofs.lemmas.Grind.{common_steps}
 use Rattle.lane_prefix.specs.declared.Meeting.{Meeting}
 use Rattle.lane_prefix.specs.Meeting.{before, IsMeeting}
 use Rattle.lane_select.specs.Positive.{NoneIn, IsFirstPositive, IsLastPositive}
@@ -13,19 +14,14 @@ use Rattle.tick_ladder.specs.Standing.{IsBlank, IsLastIn, IsFirstIn, IsCrossing}
 use Rattle.tick_ladder.proofs.Sums.{before_next, before_all}
 
 pub before_chunk : (xs : List ℕ) (s n k : ℕ) → k ≤ n → before (chunk s n xs) k + before xs s ≡ before xs (s + k)
-before_chunk xs s n k h =
-    let part : before (chunk s n xs) k ≡ sum (take k (drop s xs)) = ap sum (take-take k n (drop s xs) h) in
-    let whole = ap sum (take-add s k xs) ∙ sum_by-append (λ x. x) (take s xs) (take k (drop s xs)) in
-    omega arith
+before_chunk xs s n k h = grind (arith, common_steps, take-take, take-add, sum_by-append)
 
 chunk_at : (xs : List ℕ) (s n k : ℕ) → k < n → get_or (chunk s n xs) k 0 ≡ get_or xs (s + k) 0
 chunk_at xs s n k h = get_or-take n (drop s xs) k 0 h ∙ get_or-drop s xs k 0
 
 -- the sum of a part
 pub sum_chunk : (xs : List ℕ) (s n : ℕ) → s + n ≤ length xs → sum (chunk s n xs) + before xs s ≡ before xs (s + n)
-sum_chunk xs s n h =
-    let all = before_all (chunk s n xs) n (let l = length-chunk s n xs h in omega arith) in
-    omega (arith, before_chunk xs s n n (omega arith))
+sum_chunk xs s n h = omega (arith, before_all, (length-chunk s n xs h), (before_chunk xs s n n (omega arith)))
 
 -- numbers that are all 0 add nothing
 blank_by : (vs : List ℕ) (i d : ℕ) → NoneIn vs i (i + d) → before vs i ≡ before vs (i + d)
@@ -87,19 +83,4 @@ abbrev crossing_at : ℕ → Meeting → Crossing
 crossing_at s m = record { place = s + m.place; demand = m.high; below = m.low }
 
 pub crossing_is : (b a : List ℕ) (s e d l : ℕ) (m : Meeting) → s < e → e ≤ length b → length a ≡ length b → IsMeeting d (chunk s (e - s) b) l (chunk s (e - s) a) m → IsCrossing b a s e d l (crossing_at s m)
-crossing_is b a s e d l m order room same met =
-    let long = length-chunk s (e - s) b (omega arith) in
-    let inside : m.place < e - s = omega (arith, long, met.within) in
-    let bids = before_chunk b s (e - s) m.place (omega arith) in
-    let asks = before_chunk a s (e - s) m.place (omega arith) in
-    let next : s + (m.place + 1) ≡ s + m.place + 1 = omega arith in
-    let bids_next = before_chunk b s (e - s) (m.place + 1) (omega arith) ∙ ap (before b) next in
-    let asks_next = before_chunk a s (e - s) (m.place + 1) (omega arith) ∙ ap (before a) next in
-    record {
-      from = omega arith;
-      within = omega arith;
-      demand_is = omega (arith, met.high_is, bids);
-      below_is = omega (arith, met.low_is, asks);
-      met = elim met.met [ inl first ↦ inl (omega arith) | inr over ↦ inr over ];
-      over = elim met.over [ inl last ↦ inl (omega (arith, long)) | inr over ↦ inr (omega (arith, bids_next, asks_next)) ];
-    }
+crossing_is b a s e d l m order room same met = grind (arith, common_steps, long, length-chunk, before_chunk)
