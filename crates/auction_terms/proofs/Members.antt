@@ -31,7 +31,7 @@ All_from P [] h = All-nil P
 All_from P (p ∷ ps) h = All-cons P p ps (h p (has-first p ps)) (All_from P ps (λ t e. h t (has-later t p ps e)))
 
 has_taken : (T : ℕ → Bool) (x : ℕ) (xs : List ℕ) (t : ℕ) (b : Bool) → T x ≡ b → (x ≡ t) ⊎ (has t (filter T xs) ≡ true) → T t ≡ true → has t (cond b (x ∷ filter T xs) (filter T xs)) ≡ true
-has_taken T x xs t b is h6 p = grind (arith, common_steps, has-first, has-later)
+has_taken T x xs t b is e p = grind (arith, common_steps, has-first, has-later)
 
 pub has-filter : (T : ℕ → Bool) (xs : List ℕ) (t : ℕ) → has t xs ≡ true → T t ≡ true → has t (filter T xs) ≡ true
 has-filter T [] t e p = e

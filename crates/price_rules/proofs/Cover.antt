@@ -20,7 +20,7 @@ pub record StandFor (book : List Order) (few : List ℕ) : Type 0 where
   pub covers : (q : ℕ) → has q (limits book) ≡ true → Covered book few q
 
 no_better : (book : List Order) (few : List ℕ) (leaders : Leaders) (q : ℕ) → ((c : ℕ) → has c few ≡ true → NoBetter book leaders c) → Covered book few q → NoBetter book leaders q
-no_better book few leaders q all h5 = grind (arith, common_steps)
+no_better book few leaders q all covered = grind (arith, common_steps)
 
 -- a covered limit as good as the leaders is one of the few, or behind one that is as good
 data Good (book : List Order) (few : List ℕ) (v s q : ℕ) : Type 0 where
