@@ -3,6 +3,7 @@ use Rattle.std.proofs.Common.{◌≡◌, ℕ, ◌<◌, ◌≤◌, min, max, true
 use Rattle.std.proofs.lemmas.Bool.{ltb-true, ltb-false, eqb-true, eqb-false, lt-ltb, le-ltb, eq-eqb, ne_eqb, cond_both, cases_order, and_parts, and_cases, or_parts}
 use Rattle.std.proofs.lemmas.List.{append-nil, append_assoc}
 use Rattle.std.proofs.lemmas.List.Elements.{All-nil, All-head, All-tail, All-push, All-weaker, filter-append}
+use Rattle.std.proofs.lemmas.Grind.{common_steps}
 use Rattle.auction_terms.specs.declared.Order.{Order}
 use Rattle.auction_terms.specs.declared.Side.TheVariants.{Buy, Sell}
 use Rattle.auction_terms.specs.Book.{volume, surplus, has_bid_surplus, has_ask_surplus, surplus_side}
@@ -10,7 +11,6 @@ use Rattle.auction_terms.specs.PriceOf.{highest, lowest, priced}
 use Rattle.auction_terms.specs.declared.Price.{Price}
 use Rattle.auction_terms.specs.declared.Side.{Side}
 use Rattle.auction_terms.specs.Leading.{Leaders, has_key, keyed, NoBetter, Lead, AreBest}
-use Rattle.std.proofs.lemmas.Grind.{common_steps}
 
 -- ---- the best so far, after one more tick
 

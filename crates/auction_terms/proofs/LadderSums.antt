@@ -1,6 +1,7 @@
 -- One order more or less in a book, by the sums over it, and what that makes of the ladder.
 use Rattle.std.proofs.Common.{◌≡◌, ℕ, ◌+◌, ◌-◌, ◌<◌, ◌≤◌, Bool, true, false, cond, List, [], ◌∷◌, ◌++◌, All, Some, sum_by, sym, ap, ◌∙◌, arith}
 use Rattle.std.proofs.lemmas.List.Elements.{All-filter}
+use Rattle.std.proofs.lemmas.Grind.{common_steps}
 use Rattle.auction_terms.specs.declared.Order.{Order}
 use Rattle.auction_terms.specs.declared.Fill.{Fill}
 use Rattle.auction_terms.specs.declared.Side.{Side}
@@ -11,7 +12,6 @@ use Rattle.auction_terms.specs.Edits.{order_with, without, changed_at, moved_to_
 use Rattle.auction_terms.specs.Ladder.{standing, market, spread, ladder_of, added, taken, IsTickOf}
 use Rattle.auction_terms.proofs.EditSums.{sum-push, sum-counted, sum-without, sum-changed, sum-moved, sum-reduced}
 use Rattle.auction_terms.proofs.LadderLaws.{same_spread, stands_by, market_by, by_order, by_market, standing_is, market_is, ladder_is, view_same, more, fewer}
-use Rattle.std.proofs.lemmas.Grind.{common_steps}
 
 abbrev pub with_quantity : ℕ → Order → Order
 with_quantity quantity order = record order { quantity = quantity }

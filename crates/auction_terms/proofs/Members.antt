@@ -3,9 +3,9 @@ use Rattle.std.proofs.Common.{◌≡◌, ℕ, ◌≤◌, ◌⊎◌, inl, inr, Bo
 use Rattle.std.specs.Option.{option_map_or}
 use Rattle.std.proofs.lemmas.Bool.{eqb-true, eq-eqb, or_cases, or_left, or_right, cases_lt}
 use Rattle.std.proofs.lemmas.List.Elements.{All-nil, All-cons, All-head, All-tail}
+use Rattle.std.proofs.lemmas.Grind.{common_steps}
 use Rattle.auction_terms.specs.PriceOf.{highest, lowest, is_empty}
 use Rattle.auction_terms.specs.Leading.{has}
-use Rattle.std.proofs.lemmas.Grind.{common_steps}
 
 pub no_tick : {X : Type 0} (t : ℕ) → has t [] ≡ true → X
 no_tick t e = absurd (let wrong : false ≡ true = e in cc)

@@ -2,6 +2,7 @@
 use Rattle.std.proofs.Common.{◌≡◌, ℕ, ◌+◌, ◌<◌, Bool, true, cond, ◌&&◌, List, [], ◌∷◌, filter, All, arith, zero-add}
 use Rattle.std.proofs.lemmas.Bool.{eq-eqb}
 use Rattle.std.proofs.lemmas.List.Elements.{All-head, All-tail}
+use Rattle.std.proofs.lemmas.Grind.{common_steps}
 use Rattle.auction_terms.specs.declared.Order.{Order}
 use Rattle.auction_terms.specs.declared.Side.{Side}
 use Rattle.auction_terms.specs.declared.Limit.{Limit}
@@ -11,7 +12,6 @@ use Rattle.auction_terms.specs.Ladder.{is_at, standing}
 use Rattle.auction_terms.proofs.Sums.{quantity_of-cons}
 use Rattle.auction_terms.specs.Leading.{has}
 use Rattle.auction_terms.proofs.Members.{has-cases, no_tick}
-use Rattle.std.proofs.lemmas.Grind.{common_steps}
 
 -- the limits with one more in front
 abbrev with_limit : Limit → List ℕ → List ℕ
