@@ -11,6 +11,7 @@ use Rattle.auction_terms.specs.Book.{counts, counted}
 use Rattle.auction_terms.specs.Edits.{has_id, order_with, without, changed_at, moved_to_end, with_terms, less_quantity, is_open, reduced, keeps_place, IsOrderly}
 use Rattle.auction_terms.specs.Day.{book_with_change}
 use Rattle.auction_terms.specs.Ladder.{LadderView, spread, ladder_of, IsTickOf}
+use Rattle.auction_terms.proofs.LadderLaws.{length-spread}
 use Rattle.auction_terms.proofs.RestIdLaws.{IdsDiffer-filter}
 use Rattle.auction_terms.proofs.EditLaws.{change_is, moved_is}
 use Rattle.auction_terms.proofs.LadderSums.{with_quantity, IsMore, more-push, more-without, more-changed, more-moved, more-reduced, more-counted, ladder-more, ladder-fewer, ladder-others}
@@ -30,10 +31,6 @@ pub open_counted : (kind : Kind) (book : List Order) → IsOrderly book → All 
 open_counted kind book is = All-filter (counts kind) IsOpen book is.positive
 
 -- ---- the ticks
-
-length-spread : (f : ℕ → ℕ) (a n : ℕ) → length (spread f a n) ≡ n
-length-spread f a zero = refl
-length-spread f a (suc n) = ap suc (length-spread f (a + 1) n)
 
 pub low_of : (low n : ℕ) (book : List Order) (ladder : LadderView) → ladder ≡ ladder_of low n book → ladder.low ≡ low
 unfolding ladder_of

@@ -12,6 +12,7 @@ use Rattle.auction_terms.specs.declared.Limit.TheVariants.{Market, At}
 use Rattle.auction_terms.specs.Book.{demand, supply, quantity_of, is_buy, is_market, reaches, limits}
 use Rattle.auction_terms.proofs.Sums.{counted, quantity_of-cons}
 use Rattle.auction_terms.specs.Ladder.{LadderView, spread, is_at, standing, market, presence, ladder_of, flag_of}
+use Rattle.auction_terms.proofs.LadderLaws.{length-spread, at_spread}
 use Rattle.tick_ladder.specs.Ladder.{IsLadderOf}
 use Rattle.std.specs.List.{list_any}
 use Rattle.std.proofs.lemmas.Grind.{common_steps}
@@ -21,15 +22,6 @@ use Rattle.auction_terms.specs.Leading.{has}
 use Rattle.auction_terms.proofs.Members.{All_at}
 
 -- ---- lists by tick
-
-pub length-spread : (f : ℕ → ℕ) (a n : ℕ) → length (spread f a n) ≡ n
-length-spread f a zero = refl
-length-spread f a (suc n) = omega (arith, length-spread f (a + 1) n)
-
-pub get_or-spread : (f : ℕ → ℕ) (a n i : ℕ) → i < n → get_or (spread f a n) i 0 ≡ f (a + i)
-get_or-spread f a zero i lt = absurd (omega (arith, lt))
-get_or-spread f a (suc n) zero lt = ap f (omega arith)
-get_or-spread f a (suc n) (suc i) lt = get_or-spread f (a + 1) n i (omega (arith, lt)) ∙ ap f (omega arith)
 
 flag_there : (b a : List ℕ) (i : ℕ) → length a ≡ length b → i < length b → get_or (zip2 flag_of b a) i 0 ≡ flag_of (get_or b i 0) (get_or a i 0)
 flag_there [] a i e lt = absurd (omega (arith, lt))
@@ -103,16 +95,16 @@ supply_first book low m all = search (arith, split, ask_first)
 demand_up : (book : List Order) (low n : ℕ) (b : List ℕ) (i : ℕ) → All (Within low n) (limits book) → b ≡ spread (standing Buy book) low n → i ≤ n → demand book (low + i) + before b i ≡ demand book low
 demand_up book low n b zero all e h = grind (arith, common_steps)
 demand_up book low n b (suc i) all e h =
-    let here : get_or b i 0 ≡ standing Buy book (low + i) = ap (λ l. get_or l i 0) e ∙ get_or-spread (standing Buy book) low n i (omega arith) in
+    let here : get_or b i 0 ≡ standing Buy book (low + i) = ap (λ l. get_or l i 0) e ∙ at_spread (standing Buy book) low n i (omega arith) in
     let up : suc i ≡ i + 1 = omega arith in
     let next : demand book (low + suc i) ≡ demand book (low + i + 1) = ap (demand book) (omega arith) in
     omega (arith, here, next, ap (before b) up, before_next b i, demand_next book low n (low + i) all, demand_up book low n b i all e (omega arith))
 
 supply_up : (book : List Order) (low n : ℕ) (a : List ℕ) (i : ℕ) → All (Within low n) (limits book) → a ≡ spread (standing Sell book) low n → i < n → supply book (low + i) ≡ market Sell book + before a (i + 1)
 supply_up book low n a zero all e h =
-    grind (arith, common_steps, (get_or-spread (standing Sell book) low n 0 (omega arith)), (before_next a 0), (supply_first book low n all))
+    grind (arith, common_steps, (at_spread (standing Sell book) low n 0 (omega arith)), (before_next a 0), (supply_first book low n all))
 supply_up book low n a (suc i) all e h =
-    let here : get_or a (suc i) 0 ≡ standing Sell book (low + suc i) = ap (λ l. get_or l (suc i) 0) e ∙ get_or-spread (standing Sell book) low n (suc i) (omega arith) in
+    let here : get_or a (suc i) 0 ≡ standing Sell book (low + suc i) = ap (λ l. get_or l (suc i) 0) e ∙ at_spread (standing Sell book) low n (suc i) (omega arith) in
     let same : low + suc i ≡ low + i + 1 = omega arith in
     let up : suc i ≡ i + 1 = omega arith in
     omega (arith, here, ap (supply book) same, ap (standing Sell book) same, ap (before a) up, before_next a (suc i), supply_next book low n (low + i) all, supply_up book low n a i all e (omega arith))
@@ -151,7 +143,7 @@ tells v book h flags =
     let top : demand book (v.low + n) + before v.bids n ≡ demand book v.low = demand_up book v.low n v.bids n h.within eb (omega arith) in
     let all : before v.bids n ≡ sum v.bids = before_all v.bids n (omega arith) in
     let flag : (i : ℕ) → i < n → one_of (has (v.low + i) (limits book)) ≡ one_of (ltb 0 (get_or v.bids i 0 + get_or v.asks i 0)) =
-    λ i lt. ap one_of (sym (present_is book (v.low + i))) ∙ sym (get_or-spread (presence book) v.low n i lt) ∙ sym (ap (λ l. get_or l i 0) ep) ∙ ap (λ l. get_or l i 0) flags ∙ flag_there v.bids v.asks i long lt in
+    λ i lt. ap one_of (sym (present_is book (v.low + i))) ∙ sym (at_spread (presence book) v.low n i lt) ∙ sym (ap (λ l. get_or l i 0) ep) ∙ ap (λ l. get_or l i 0) flags ∙ flag_there v.bids v.asks i long lt in
     record {
       same = long;
       demand_is = λ i lt. omega (arith, mb, top, all, demand_end book v.low n h.within, demand_up book v.low n v.bids i h.within eb lt);

@@ -11,7 +11,7 @@ use Rattle.auction_terms.specs.Ladder.{LadderView, ladder_of, spread, standing}
 use Rattle.auction_terms.specs.Leading.{has}
 use Rattle.auction_terms.proofs.Members.{has-first, has-later, has-cases, no_tick, none_empty, All_at, highest_agree, lowest_agree}
 use Rattle.auction_terms.proofs.StandingLaws.{standing_limit, limit_standing, side_limit}
-use Rattle.auction_terms.proofs.LadderLaws.{at_spread}
+use Rattle.auction_terms.proofs.LadderLaws.{length-spread, at_spread}
 use Rattle.tick_ladder.specs.Ladder.{positive_ticks, best_tick, best_limit, IsLadderOf}
 use Rattle.tick_ladder.specs.Standing.{IsBlank, IsLastIn, IsFirstIn}
 use Rattle.tick_ladder.proofs.Sums.{before_next, before_rises}
@@ -80,10 +80,6 @@ lowest_found low xs (Some i) first =
     ])
 
 -- ---- the best tick is the best limit of the book
-
-length-spread : (f : ℕ → ℕ) (a n : ℕ) → length (spread f a n) ≡ n
-length-spread f a zero = refl
-length-spread f a (suc n) = omega (arith, length-spread f (a + 1) n)
 
 module _ (low n : ℕ) (s : Side) (book : List Order) (within : All (λ t. (low ≤ t) × (t < low + n)) (limits book)) (positive : All (λ o. 0 < o.quantity) book) where
   tick_limit : (t : ℕ) → has t (positive_ticks low (spread (standing s book) low n)) ≡ true → has t (limits (filter (is_on s) book)) ≡ true
