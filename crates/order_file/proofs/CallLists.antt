@@ -1,10 +1,11 @@
 -- Orders that go before others.
-use Rattle.std.proofs.Common.{◌≡◌, ◌<◌, ◌≤◌, ◌+◌, ℕ, List, ◌++◌, [], ◌∷◌, Result, Ok, Err, true, false, nat_le, refl, ap, append_assoc, rules, sym, ◌∙◌}
+use Rattle.std.proofs.Common.{◌≡◌, ◌<◌, ◌≤◌, ◌+◌, ℕ, List, ◌++◌, [], ◌∷◌, Result, Ok, Err, false, nat_le, refl, ap, append_assoc, rules, arith}
 use Rattle.std.proofs.lemmas.List.{append-nil}
 use Rattle.order_file.specs.File.{Fails, Call, calls_after}
 use Rattle.order_file.specs.Record.{numbered_call, ◌>>=◌}
 use Rattle.order_file.specs.declared.fault.FileFault.{FileFault}
 use Rattle.order_file.specs.declared.fault.FileFault.TheVariants as file
+use Rattle.std.proofs.lemmas.Grind.{common_steps}
 
 -- these calls, and then those
 abbrev pub after : List Call → Result (List Call) FileFault → Result (List Call) FileFault
@@ -27,27 +28,21 @@ one_more members max_calls before r rs room = let full : nat_le max_calls before
 pub at-end : (members max_calls before : ℕ) (front : List Call) (rows : List (List (List ℕ))) (all : Result (List Call) FileFault)
     → after front (calls_after members max_calls before rows) ≡ all → rows ≡ [] → all ≡ Ok front
 unfolding calls_after
-at-end members max_calls before front rows all same none =
-    let e = rw none at same in
-    sym e ∙ ap Ok (append-nil front)
+at-end members max_calls before front rows all same none = grind (arith, common_steps, append-nil)
 
 -- a record has a fault
 pub at-fault : (members max_calls before : ℕ) (front : List Call) (rows : List (List (List ℕ))) (all : Result (List Call) FileFault)
     (r : List (List ℕ)) (rs : List (List (List ℕ))) (fault : FileFault)
     → after front (calls_after members max_calls before rows) ≡ all → rows ≡ r ∷ rs → before < max_calls
     → numbered_call members (before + 1) r ≡ Err fault → all ≡ Err fault
-at-fault members max_calls before front rows all r rs fault same is room bad =
-    let e = rw (is, one_more members max_calls before r rs room, bad) at same in
-    sym e
+at-fault members max_calls before front rows all r rs fault same is room bad = grind (arith, common_steps, one_more)
 
 -- a record has a call
 pub at-call : (members max_calls before : ℕ) (front : List Call) (rows : List (List (List ℕ))) (all : Result (List Call) FileFault)
     (r : List (List ℕ)) (rs : List (List (List ℕ))) (call : Call)
     → after front (calls_after members max_calls before rows) ≡ all → rows ≡ r ∷ rs → before < max_calls
     → numbered_call members (before + 1) r ≡ Ok call → after (front ++ call ∷ []) (calls_after members max_calls (before + 1) rs) ≡ all
-at-call members max_calls before front rows all r rs call same is room good =
-    let e = rw (is, one_more members max_calls before r rs room, good) at same in
-    after-more front call (calls_after members max_calls (before + 1) rs) ∙ e
+at-call members max_calls before front rows all r rs call same is room good = grind (arith, common_steps, one_more, after-more)
 
 -- there is a record too many
 pub at-limit : (members max_calls before : ℕ) (front : List Call) (rows : List (List (List ℕ))) (all : Result (List Call) FileFault)
@@ -55,10 +50,7 @@ pub at-limit : (members max_calls before : ℕ) (front : List Call) (rows : List
     → after front (calls_after members max_calls before rows) ≡ all → rows ≡ r ∷ rs → max_calls ≤ before
     → all ≡ Err (file.TooManyCommands (before + 1))
 unfolding calls_after
-at-limit members max_calls before front rows all r rs same is full =
-    let test : nat_le max_calls before ≡ true = search (rules) in
-    let e = rw (is, test) at same in
-    sym e
+at-limit members max_calls before front rows all r rs same is full = grind (arith, common_steps)
 
 -- a fault that was wanted
 pub fails-at : {Y : Type 0} (e : FileFault) (wanted : Result Y FileFault) → wanted ≡ Err e → Fails e wanted

@@ -1,10 +1,11 @@
 -- The bytes that were read so far.
-use Rattle.std.proofs.Common.{◌≡◌, ◌<◌, ◌≤◌, ℕ, List, [], ◌++◌, length, take, Option, Some, None, Ok, Err, true, false, nat_lt, refl, sym, ◌∙◌, append_assoc, length-append, arith, rules}
+use Rattle.std.proofs.Common.{◌≡◌, ◌<◌, ◌≤◌, ℕ, List, ◌++◌, length, take, Option, Some, None, Ok, Err, true, nat_lt, sym, append_assoc, arith, rules}
 use Rattle.std.proofs.lemmas.List.{append-nil}
 use Rattle.std.specs.Prelude.{IfSome}
 use Rattle.std.specs.Io.KnownBytes.{Consumes, IsAtEnd}
 use Rattle.order_file.specs.File.{max_bytes, within_limit}
 use Rattle.order_file.specs.declared.fault.FileFault.TheVariants.{TooLong}
+use Rattle.std.proofs.lemmas.Grind.{common_steps}
 
 -- one read after another
 pub consumes-more : (a b c : Option (List ℕ)) (x y : List ℕ) → Consumes a b x → Consumes b c y → Consumes a c (x ++ y)
@@ -20,11 +21,7 @@ unfolding within_limit
 read-all None b c x buffer n h k z end short = tt
 read-all (Some p) None c x buffer n h k z end short = absurd h
 read-all (Some p) (Some q) None x buffer n h k z end short = absurd k
-read-all (Some p) (Some q) (Some r) x buffer n h k z end short =
-    let none : q ≡ [] = rw (z, end) at k in
-    let all : p ≡ x = h ∙ rw none (append-nil x) in
-    let test : nat_lt max_bytes (length x) ≡ false = search rules in
-    rw (all, test) refl
+read-all (Some p) (Some q) (Some r) x buffer n h k z end short = grind (arith, common_steps, append-nil)
 
 long_test : (n m : ℕ) → max_bytes < n → n ≤ m → nat_lt max_bytes m ≡ true
 long_test n m h k = search rules
@@ -34,6 +31,4 @@ pub read-too-much : (a b : Option (List ℕ)) (x : List ℕ) → Consumes a b x 
 unfolding within_limit
 read-too-much None b x h long = tt
 read-too-much (Some p) None x h long = absurd h
-read-too-much (Some p) (Some q) x h long =
-    let test : nat_lt max_bytes (length (x ++ q)) ≡ true = long_test (length x) (length (x ++ q)) long (omega (arith, length-append {A = ℕ})) in
-    rw (h, test) refl
+read-too-much (Some p) (Some q) x h long = grind (arith, common_steps, long_test)

@@ -11,6 +11,7 @@ use Rattle.csv.specs.declared.parser.Config.{Config}
 use Rattle.csv.specs.declared.parser.State.{State}
 use Rattle.csv.specs.declared.parser.State.TheVariants as st
 use Rattle.order_file.specs.Rows.{Stands, bytes_left, records_left, rows_left}
+use Rattle.std.proofs.lemmas.Grind.{common_steps}
 
 -- less is left than there was, or nothing is left, at the start of a record
 abbrev pub Shrinks : List ℕ → Read → Type 0
@@ -34,11 +35,7 @@ shrinks cfg s fields field (c ∷ rest) p e = by (is_end (step cfg s c).1) refl 
     by : (b : Bool) → is_end (step cfg s c).1 ≡ b → next_record cfg s fields field (c ∷ rest) ≡ Some p
         → (next_record cfg (step cfg s c).0 (fields_after (step cfg s c).1 fields field) (field_after (step cfg s c).1 c field) rest ≡ Some p → Shrinks rest p)
         → Shrinks (c ∷ rest) p
-    by true eb h more =
-        let q : Some (fields_after (step cfg s c).1 fields field, (step cfg s c).0, rest) ≡ Some p = rw eb at h in
-        let r : rest ≡ p.2 = cc in
-        let n : length rest ≡ length p.2 = ap length r in
-        inl (omega arith)
+    by true eb h more = grind (arith, common_steps, rest)
     by false eb h more = weaker c rest p (more (rw eb at h))
 
 -- the end of a text has no record
@@ -103,8 +100,7 @@ row-more a b fields stands first read =
 pub row-none : (a b : Reader (Bor (List ℕ))) (fields : List (List ℕ)) → Stands a
     → ReadRecord (λ (s : Bor (List ℕ)). Some s.now) a b false fields → rows_left a ≡ []
 unfolding rows_left
-row-none a b fields stands read =
-    rw stands.known (no-record (reader_state a) stands.bytes (rows-end (λ (s : Bor (List ℕ)). Some s.now) a b fields default_config stands.bytes stands.config stands.known read))
+row-none a b fields stands read = grind (arith, common_steps, no-record, rows-end)
 
 -- what a read of a record says of the records that are left
 pub row-found : (found : Bool) (a b : Reader (Bor (List ℕ))) (fields : List (List ℕ)) → Stands a → took_first b ≡ true
