@@ -120,14 +120,12 @@ fn day<K: Day + Send + Sync, R: Wait + Threads + Sync + Clock>(
     board_time(rt, alloc, board, members, tasks)
 }
 
-/// Measures members at their tasks, of which each does so many, and prints nanoseconds for one, and how many calls were
-/// made.
+/// Measures members at their tasks, and prints nanoseconds for one thing that they do, and how many calls were made.
 fn measure<R: Wait + Threads + Sync + Clock + Print + AllocGlobal>(
     rt: &R,
-    name: &str,
-    tasks: &[Task],
-    count: u32,
+    row: Row,
 ) -> io::Result<()> {
+    let Row { name, tasks, count } = row;
     let fresh = Fresh::open(rt.alloc(), CONFIG, u8::try_from(tasks.len()).unwrap_or(0)).map_err(
         |_| AllocError,
     )?;
@@ -153,41 +151,73 @@ fn measure_alone<R: Clock + Print + AllocGlobal>(
     Ok(())
 }
 
+/// Members at their tasks, and how many things are measured that they do together.
+#[derive(Clone, Copy)]
+struct Row {
+    name: &'static str,
+    tasks: &'static [Task],
+    count: u32,
+}
+
+const ROWS: [Row; 9] = [
+    Row {
+        name: "calls-of-1-member",
+        tasks: &[Task::Call(CALLS)],
+        count: CALLS,
+    },
+    Row {
+        name: "calls-of-2-members",
+        tasks: &[Task::Call(CALLS / 2); 2],
+        count: CALLS,
+    },
+    Row {
+        name: "calls-of-4-members",
+        tasks: &[Task::Call(CALLS / 4); 4],
+        count: CALLS,
+    },
+    Row {
+        name: "look",
+        tasks: &[Task::Look(LOOKS)],
+        count: LOOKS,
+    },
+    Row {
+        name: "look-of-4-members",
+        tasks: &[Task::Look(LOOKS); 4],
+        count: LOOKS * 4,
+    },
+    Row {
+        name: "look-beside-calls",
+        tasks: &[Task::CallOn { pauses: 0 }, Task::Look(LOOKS)],
+        count: LOOKS,
+    },
+    Row {
+        name: "look-beside-calls-now-and-then",
+        tasks: &[Task::CallOn { pauses: PAUSES }, Task::Look(LOOKS)],
+        count: LOOKS,
+    },
+    Row {
+        name: "look-under-lock",
+        tasks: &[Task::LookUnderLock(LOCKED_LOOKS)],
+        count: LOCKED_LOOKS,
+    },
+    Row {
+        name: "look-under-lock-beside-calls",
+        tasks: &[
+            Task::CallOn { pauses: 0 },
+            Task::LookUnderLock(LOCKED_LOOKS),
+        ],
+        count: LOCKED_LOOKS,
+    },
+];
+
 /// Measures an auction alone, then calls, then looks.
 pub fn measure_all<R: Wait + Threads + Sync + Clock + Print + AllocGlobal>(
     rt: &R,
 ) -> io::Result<()> {
     measure_alone(rt, "apply-alone", false)?;
     measure_alone(rt, "apply-and-show-alone", true)?;
-    let one = [Task::Call(CALLS)];
-    let two = [Task::Call(CALLS / 2); 2];
-    let four = [Task::Call(CALLS / 4); 4];
-    measure(rt, "calls-of-1-member", one.as_slice(), CALLS)?;
-    measure(rt, "calls-of-2-members", two.as_slice(), CALLS)?;
-    measure(rt, "calls-of-4-members", four.as_slice(), CALLS)?;
-    let idle = [Task::Look(LOOKS)];
-    let lookers = [Task::Look(LOOKS); 4];
-    let beside = [Task::CallOn { pauses: 0 }, Task::Look(LOOKS)];
-    let now_and_then = [Task::CallOn { pauses: PAUSES }, Task::Look(LOOKS)];
-    let locked = [Task::LookUnderLock(LOCKED_LOOKS)];
-    let locked_beside = [
-        Task::CallOn { pauses: 0 },
-        Task::LookUnderLock(LOCKED_LOOKS),
-    ];
-    measure(rt, "look", idle.as_slice(), LOOKS)?;
-    measure(rt, "look-of-4-members", lookers.as_slice(), LOOKS * 4)?;
-    measure(rt, "look-beside-calls", beside.as_slice(), LOOKS)?;
-    measure(
-        rt,
-        "look-beside-calls-now-and-then",
-        now_and_then.as_slice(),
-        LOOKS,
-    )?;
-    measure(rt, "look-under-lock", locked.as_slice(), LOCKED_LOOKS)?;
-    measure(
-        rt,
-        "look-under-lock-beside-calls",
-        locked_beside.as_slice(),
-        LOCKED_LOOKS,
-    )
+    for row in ROWS {
+        measure(rt, row)?;
+    }
+    Ok(())
 }

@@ -49,10 +49,11 @@ pub fn last_id(reply: Reply, before: u32) -> u32 {
 
 /// Applies a command where the auction isn't full.
 fn apply(auction: &mut Auction, command: Command, id: u32) -> u32 {
-    if auction.calls() >= auction.config().max_calls {
-        return id;
+    if auction.calls() < auction.config().max_calls {
+        last_id(auction.apply(1, command), id)
+    } else {
+        id
     }
-    last_id(auction.apply(1, command), id)
 }
 
 /// Enters the orders that are open before the measuring.
