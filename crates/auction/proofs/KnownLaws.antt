@@ -98,16 +98,10 @@ known_fewer low n kind found o old new is known =
 
 module _ (low n : ℕ) (kind : Kind) (found next : Option Shown) (old new : List Order) (was : IfSome found (IsKnown low n (counted old kind))) where
   pub known-push : (o : Order) (b : Bool) → b ≡ counts kind o → new ≡ old ++ o ∷ [] → next ≡ still_known found b o.side o.limit → IfSome next (IsKnown low n (counted new kind))
-  known-push o b c e f =
-      subst (λ x. IfSome x (IsKnown low n (counted new kind))) (sym f)
-      (subst (λ l. IfSome (still_known found b o.side o.limit) (IsKnown low n (counted l kind))) (sym e)
-      (subst (λ x. IfSome (still_known found x o.side o.limit) (IsKnown low n (counted (old ++ o ∷ []) kind))) (sym c) (known_more low n kind found o old (old ++ o ∷ []) (more-push old o) was)))
+  known-push o b c e f = rw (f, e, c) (known_more low n kind found o old (old ++ o ∷ []) (more-push old o) was)
 
   pub known-without : (id : ℕ) (o : Order) (b : Bool) → IdsDiffer old → order_with id old ≡ Some o → b ≡ counts kind o → new ≡ without id old → next ≡ still_known found b o.side o.limit → IfSome next (IsKnown low n (counted new kind))
-  known-without id o b d is c e f =
-      subst (λ x. IfSome x (IsKnown low n (counted new kind))) (sym f)
-      (subst (λ l. IfSome (still_known found b o.side o.limit) (IsKnown low n (counted l kind))) (sym e)
-      (subst (λ x. IfSome (still_known found x o.side o.limit) (IsKnown low n (counted (without id old) kind))) (sym c) (known_fewer low n kind found o old (without id old) (more-without id old o d is) was)))
+  known-without id o b d is c e f = rw (f, e, c) (known_fewer low n kind found o old (without id old) (more-without id old o d is) was)
 
 -- an order went, and came back with other terms
 pub known-change : (low n : ℕ) (kind : Kind) (found between next : Option Shown) (old new : List Order) (id : ℕ) (limit : Limit) (quantity : ℕ) (o : Order) (b : Bool) → IfSome found (IsKnown low n (counted old kind)) → IdsDiffer old → order_with id old ≡ Some o → b ≡ counts kind o → new ≡ book_with_change old o limit quantity → between ≡ still_known found b o.side o.limit → next ≡ still_known between b o.side limit → IfSome next (IsKnown low n (counted new kind))

@@ -51,7 +51,7 @@ pub enum Verdict {
     BadAt(usize),
 }
 
-/// The auctions of one day: the open orders in time order, the trades so far, the reference price.
+/// The auctions of one day: the open orders in time order, the trades so far and the reference price.
 #[derive(Drop)]
 pub struct Auction {
     config: Config,
@@ -163,7 +163,8 @@ impl Auction {
         self.book.display(self.reference)
     }
 
-    /// The same as [`Auction::display`], which is then kept for the next question.
+    /// The same as [`Auction::display`], which is then kept for the next question, until an order that decides it comes or
+    /// goes, or the reference or the auction changes.
     #[tactic(auto, unfolding(auction_terms::specs::Day::display))]
     pub fn show(&mut self) -> Display
         ensures state { self.new ≡ self.old }

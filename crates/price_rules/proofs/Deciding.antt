@@ -6,9 +6,9 @@ use Rattle.auction_terms.specs.Book.{demand, supply}
 use Rattle.std.specs.Simd.Lanes.{zip2}
 use Rattle.auction_terms.specs.declared.Side.TheVariants.{Buy, Sell}
 use Rattle.auction_terms.specs.Ladder.{LadderView, spread, standing, market, ladder_of, flag_of}
-use Rattle.auction_terms.proofs.LadderLaws.{ladder_flags}
+use Rattle.auction_terms.proofs.LadderLaws.{length-spread, at_spread, ladder_flags}
 use Rattle.tick_ladder.specs.Ladder.{IsLadderOf}
-use Rattle.auction_terms.specs.Leading.{has}
+use Rattle.auction_terms.specs.Leading.{has, Leaders, AreBest}
 use Rattle.lane_prefix.specs.Meeting.{before}
 use Rattle.tick_ladder.specs.Standing.{IsClear, IsLast, IsFirst, IsCrossing}
 use Rattle.tick_ladder.proofs.Sums.{before_next, before_all}
@@ -18,7 +18,7 @@ use Rattle.price_rules.specs.Around.{IsAround, IsFar, here_at, tick_list, few_li
 use Rattle.price_rules.specs.Held.{market_priced}
 use Rattle.price_rules.specs.InLanes.{AreCandidates, AreMarked}
 use Rattle.price_rules.specs.declared.candidates.Lanes.{Lanes}
-use Rattle.price_rules.proofs.Curves.{Tells, length-spread, get_or-spread}
+use Rattle.price_rules.proofs.Curves.{Tells}
 use Rattle.price_rules.proofs.Nearby.{has-either, one_is, here_is, first_stands, far_stands}
 
 -- ---- sums of lists that end alike, and of lists that begin alike
@@ -35,9 +35,6 @@ head_same xs ys to (suc k) same h =
     omega (arith, ap (before xs) up, ap (before ys) up, before_next xs k, before_next ys k, same k (omega arith), head_same xs ys to k same (omega arith))
 
 -- ---- the places that decide
-
-pub near_itself : (v : LadderView) (a : Around) → IsNear v a v
-near_itself v a = record { low = refl; long = refl; above = λ k h l. refl; below = λ k h. refl }
 
 -- where the limits lie
 pub record IsInOrder (v : LadderView) (a : Around) : Type 0 where
@@ -198,7 +195,7 @@ module _ (v w : LadderView) (a : Around) (near : IsNear v a w) where
           ]
         ]
 
-    pub few_there : few_limits w a ≡ few_limits v a
+    few_there : few_limits w a ≡ few_limits v a
     few_there =
         let from = order.from in
         let to = order.to in
@@ -222,12 +219,20 @@ module _ (v w : LadderView) (a : Around) (near : IsNear v a w) where
         let yt = ap (supply other) is_tick in
         (omega (arith, d, x, dt, xt, near.above i f.2 (omega (arith, f.3))), omega (arith, s, y, st, yt, near.below (i + 1) (omega (arith, f.4))))
 
-    pub candidates_there : (book other : List Order) (lanes : Lanes) → Tells v book → Tells w other → AreMarked lanes.ticks lanes.flags (few_limits v a) → AreCandidates book lanes → AreCandidates other lanes
+    candidates_there : (book other : List Order) (lanes : Lanes) → Tells v book → Tells w other → AreMarked lanes.ticks lanes.flags (few_limits v a) → AreCandidates book lanes → AreCandidates other lanes
     candidates_there book other lanes tells others marked are = record {
       demands_are = λ k e. are.demands_are k e ∙ (amounts_there book other (get_or lanes.ticks k 0) tells others (marked.there k e)).0;
       supplies_are = λ k e. are.supplies_are k e ∙ (amounts_there book other (get_or lanes.ticks k 0) tells others (marked.there k e)).1;
       rising = are.rising;
     }
+
+    pub marked_there : (ticks flags : List ℕ) → AreMarked ticks flags (few_limits v a) → AreMarked ticks flags (few_limits w a)
+    marked_there ticks flags marked = subst (AreMarked ticks flags) (sym few_there) marked
+
+    -- what is best of them is so for the other book too
+    pub best_there : (book other : List Order) (lanes : Lanes) (found : Option Leaders) → Tells v book → Tells w other → AreMarked lanes.ticks lanes.flags (few_limits v a) → AreCandidates book lanes → ((list : List Order) (few : List ℕ) → AreCandidates list lanes → AreMarked lanes.ticks lanes.flags few → AreBest list few found) → AreBest other (few_limits w a) found
+    best_there book other lanes found tells others marked are best =
+        best other (few_limits w a) (candidates_there book other lanes tells others marked are) (marked_there lanes.ticks lanes.flags marked)
 
     pub market_there : (r : ℕ) → market_priced v r ≡ market_priced w r
     market_there r =
@@ -269,9 +274,9 @@ over_near v a book other is ladder tells same =
     let ma : market Sell other ≡ v.market_asks = same.market_asks ∙ sym (ap (λ (x : LadderView). x.market_asks) ladder.same) in
     let long = length-spread (standing Buy other) v.low n in
     let bid : (i : ℕ) → from_place a.far ≤ i → i < n → get_or (spread (standing Buy other) v.low n) i 0 ≡ get_or v.bids i 0 =
-    λ i from lt. get_or-spread (standing Buy other) v.low n i lt ∙ same.bids (v.low + i) (omega arith) ∙ sym (get_or-spread (standing Buy book) v.low n i lt) ∙ sym (ap (λ l. get_or l i 0) bids) in
+    λ i from lt. at_spread (standing Buy other) v.low n i lt ∙ same.bids (v.low + i) (omega arith) ∙ sym (at_spread (standing Buy book) v.low n i lt) ∙ sym (ap (λ l. get_or l i 0) bids) in
     let ask : (i : ℕ) → i ≤ to_place n a.after → get_or (spread (standing Sell other) v.low n) i 0 ≡ get_or v.asks i 0 =
-    λ i to. get_or-spread (standing Sell other) v.low n i (omega arith) ∙ same.asks (v.low + i) (omega arith) ∙ sym (get_or-spread (standing Sell book) v.low n i (omega arith)) ∙ sym (ap (λ l. get_or l i 0) asks) in
+    λ i to. at_spread (standing Sell other) v.low n i (omega arith) ∙ same.asks (v.low + i) (omega arith) ∙ sym (at_spread (standing Sell book) v.low n i (omega arith)) ∙ sym (ap (λ l. get_or l i 0) asks) in
     record {
       low = refl;
       long = long;

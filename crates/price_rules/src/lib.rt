@@ -10,6 +10,7 @@ ghost use Rattle.tick_ladder.specs.Ladder.{IsLadderOf};
 ghost use Rattle.price_rules.specs.Held.{sided, price_from, priced_by, market_priced};
 ghost use Rattle.price_rules.specs.InLanes.{lead_of};
 ghost use Rattle.price_rules.specs.Around.{IsAround};
+ghost use Rattle.price_rules.specs.declared.surroundings.Around.{Around as AroundView};
 ghost use Rattle.price_rules.specs.Deciding.{IsBookOver, IsSameWithin, IsNear, from_place, to_place};
 ghost use Rattle.std.specs.Simd.Lanes.{zip2};
 
@@ -155,6 +156,9 @@ pub fn decide(ladder: &Ladder, reference: u32) -> Decision
 
     // Any book with the same quantities there has the same price.
     ensures deciding { (book other : List Order) → IsLadderOf ladder.now book → IsBookOver ladder.now.low (length ladder.now.bids) other → IsSameWithin result.lowest result.highest book other → result.price ≡ price other reference }
+
+    // They are the ticks of the second limit before the crossing and of the first after it, or the ends of the ladder.
+    ensures ticks { (around : AroundView) × IsAround ladder.now around × (result.lowest ≡ ladder.now.low + from_place around.far) × (result.highest ≡ ladder.now.low + to_place (length ladder.now.bids) around.after) }
 {
     let around = look_around(ladder);
     Decision {
