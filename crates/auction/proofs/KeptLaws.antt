@@ -1,5 +1,5 @@
 -- The ladder is kept by each edit of the orders.
-use Rattle.std.proofs.Common.{◌≡◌, ℕ, ◌+◌, ◌<◌, ◌≤◌, Bool, true, false, cond, zero, suc, List, [], ◌∷◌, ◌++◌, All, Some, length, refl, sym, ap, subst, ◌∙◌, arith}
+use Rattle.std.proofs.Common.{◌≡◌, ℕ, ◌+◌, ◌<◌, ◌≤◌, Bool, true, false, cond, List, [], ◌∷◌, ◌++◌, All, Some, length, refl, sym, ap, subst, ◌∙◌, arith}
 use Rattle.std.proofs.lemmas.List.Elements.{All-filter, All-push, All-map, All-weaker}
 use Rattle.std.proofs.lemmas.List.Sums.{sum_by-le}
 use Rattle.std.proofs.lemmas.Grind.{common_steps}
@@ -10,7 +10,7 @@ use Rattle.auction_terms.specs.declared.Kind.{Kind}
 use Rattle.auction_terms.specs.Book.{counts, counted}
 use Rattle.auction_terms.specs.Edits.{has_id, order_with, without, changed_at, moved_to_end, with_terms, less_quantity, is_open, reduced, keeps_place, IsOrderly}
 use Rattle.auction_terms.specs.Day.{book_with_change}
-use Rattle.auction_terms.specs.Ladder.{LadderView, spread, ladder_of, IsTickOf}
+use Rattle.auction_terms.specs.Ladder.{LadderView, ladder_of, IsTickOf}
 use Rattle.auction_terms.proofs.LadderLaws.{length-spread}
 use Rattle.auction_terms.proofs.RestIdLaws.{IdsDiffer-filter}
 use Rattle.auction_terms.proofs.EditLaws.{change_is, moved_is}

@@ -24,6 +24,7 @@ use Rattle.tick_ladder.specs.Ladder.{best_limit}
 use Rattle.price_rules.specs.Deciding.{IsBookOver, IsSameWithin}
 use Rattle.auction.specs.declared.book.known.Shown.{Shown}
 use Rattle.auction.specs.Known.{is_beyond, still_known, IsKnown}
+use Rattle.std.proofs.lemmas.Grind.{common_steps}
 
 -- ---- what an order beyond adds where it decides
 
@@ -63,22 +64,12 @@ more_same kind s o old new is e = record {
 }
 
 flipped : (from to : ℕ) (book other : List Order) → IsSameWithin from to book other → IsSameWithin from to other book
-flipped from to book other is = record {
-  bids = λ t h. sym (is.bids t h);
-  asks = λ t h. sym (is.asks t h);
-  market_bids = sym is.market_bids;
-  market_asks = sym is.market_asks;
-}
+flipped from to book other is = grind (arith, common_steps)
 
 -- ---- what is known of one book is known of the other
 
 known_of : (low n : ℕ) (s : Shown) (book new : List Order) → IsSameWithin s.lowest s.highest book new → IsKnown low n book s → IsKnown low n new s
-known_of low n s book new same known other over is = known other over (record {
-  bids = λ t h. is.bids t h ∙ same.bids t h;
-  asks = λ t h. is.asks t h ∙ same.asks t h;
-  market_bids = is.market_bids ∙ same.market_bids;
-  market_asks = is.market_asks ∙ same.market_asks;
-})
+known_of low n s book new same known other over is = grind (arith, common_steps)
 
 -- after an order came, or went
 known_once : (low n : ℕ) (kind : Kind) (found : Option Shown) (o : Order) (old new : List Order) → ((s : Shown) → counts kind o && not (is_beyond s o.side o.limit) ≡ false → IsSameWithin s.lowest s.highest (counted old kind) (counted new kind)) → IfSome found (IsKnown low n (counted old kind)) → IfSome (still_known found (counts kind o) o.side o.limit) (IsKnown low n (counted new kind))
@@ -178,12 +169,7 @@ best_ask_same low n from to book other over others same some none =
     bottom q lt most = bottom_of (lowest xs) refl some none q lt most
 
 pub same_wider : (from to lowest highest : ℕ) (book other : List Order) → from ≤ lowest → highest ≤ to → IsSameWithin from to book other → IsSameWithin lowest highest book other
-same_wider from to lowest highest book other h k is = record {
-  bids = λ t l. is.bids t (omega arith);
-  asks = λ t l. is.asks t (omega arith);
-  market_bids = is.market_bids;
-  market_asks = is.market_asks;
-}
+same_wider from to lowest highest book other h k is = grind (arith, common_steps)
 
 pub none_then : {X A B : Type 0} (o : Option X) → (A → B) → IfNone o A → IfNone o B
 none_then None f h = f h

@@ -20,13 +20,13 @@ use Rattle.price_rules.specs.InLanes.{AreCandidates, AreMarked}
 use Rattle.price_rules.specs.declared.candidates.Lanes.{Lanes}
 use Rattle.price_rules.proofs.Curves.{Tells}
 use Rattle.price_rules.proofs.Nearby.{has-either, one_is, here_is, first_stands, far_stands}
+use Rattle.std.proofs.lemmas.Grind.{common_steps}
 
 -- ---- sums of lists that end alike, and of lists that begin alike
 
 pub tail_same : (xs ys : List ℕ) (from n m k : ℕ) → length xs ≡ n → length ys ≡ n → ((i : ℕ) → from ≤ i → i < n → get_or ys i 0 ≡ get_or xs i 0) → k + m ≡ n → from ≤ k → sum ys + before xs k ≡ sum xs + before ys k
 tail_same xs ys from n zero k e f same at h = omega (arith, before_all xs k (omega arith), before_all ys k (omega arith))
-tail_same xs ys from n (suc m) k e f same at h =
-    omega (arith, before_next xs k, before_next ys k, same k h (omega arith), tail_same xs ys from n m (k + 1) e f same (omega arith) (omega arith))
+tail_same xs ys from n (suc m) k e f same at h = grind (arith, common_steps, before_next, (tail_same xs ys from n m (k + 1) e f same (omega arith) (omega arith)))
 
 pub head_same : (xs ys : List ℕ) (to k : ℕ) → ((i : ℕ) → i ≤ to → get_or ys i 0 ≡ get_or xs i 0) → k ≤ to + 1 → before ys k ≡ before xs k
 head_same xs ys to zero same h = refl
@@ -73,14 +73,10 @@ in_order v a is =
 
 module _ (v w : LadderView) (a : Around) (near : IsNear v a w) where
   clear_there : (i j : ℕ) → from_place a.far ≤ i → i ≤ j → j ≤ length v.bids → j ≤ to_place (length v.bids) a.after + 1 → IsClear v.bids v.asks i j → IsClear w.bids w.asks i j
-  clear_there i j from le most to clear = record {
-    no_bids = omega (arith, clear.no_bids, near.above i from (omega arith), near.above j (omega arith) most);
-    no_asks = omega (arith, clear.no_asks, near.below i (omega arith), near.below j to);
-  }
+  clear_there i j from le most to clear = grind (arith, common_steps)
 
   pub stands_there : (p : ℕ) → from_place a.far ≤ p → p < length v.bids → p ≤ to_place (length v.bids) a.after → get_or w.bids p 0 + get_or w.asks p 0 ≡ get_or v.bids p 0 + get_or v.asks p 0
-  stands_there p from in_v to =
-      omega (arith, before_next v.bids p, before_next w.bids p, before_next v.asks p, before_next w.asks p, near.above p from (omega arith), near.above (p + 1) (omega arith) (omega arith), near.below p (omega arith), near.below (p + 1) (omega arith))
+  stands_there p from in_v to = grind (arith, common_steps, before_next)
 
   last_there : (j : ℕ) (o : Option ℕ) → j ≤ length v.bids → j ≤ to_place (length v.bids) a.after + 1 → (o ≡ None → from_place a.far ≡ 0) → IfSome o (λ p. from_place a.far ≤ p) → MatchOption o (IsClear v.bids v.asks 0 j) (IsLast v.bids v.asks 0 j) → MatchOption o (IsClear w.bids w.asks 0 j) (IsLast w.bids w.asks 0 j)
   last_there j None most to none some is = let z = none refl in clear_there 0 j (omega arith) (omega arith) most to is
@@ -92,14 +88,8 @@ module _ (v w : LadderView) (a : Around) (near : IsNear v a w) where
   }
 
   first_there : (s : ℕ) (o : Option ℕ) → from_place a.far ≤ s → s ≤ length v.bids → s ≤ to_place (length v.bids) a.after + 1 → (o ≡ None → to_place (length v.bids) a.after + 1 ≡ length v.bids) → IfSome o (λ p. p ≤ to_place (length v.bids) a.after) → MatchOption o (IsClear v.bids v.asks s (length v.bids)) (IsFirst v.bids v.asks s (length v.bids)) → MatchOption o (IsClear w.bids w.asks s (length w.bids)) (IsFirst w.bids w.asks s (length w.bids))
-  first_there s None from most to none some is =
-      let z = none refl in subst (IsClear w.bids w.asks s) (sym near.long) (clear_there s (length v.bids) from most (omega arith) (omega arith) is)
-  first_there s (Some p) from most to none some is = record {
-    from = is.from;
-    within = omega (arith, is.within, near.long);
-    stands = omega (arith, is.stands, stands_there p (omega (arith, is.from)) is.within some);
-    clear = clear_there s p from is.from (omega (arith, is.within)) (omega arith) is.clear;
-  }
+  first_there s None from most to none some is = grind (arith, common_steps, clear_there)
+  first_there s (Some p) from most to none some is = grind (arith, common_steps, stands_there, clear_there)
 
   module _ (is : IsAround v a) where
     order : IsInOrder v a
@@ -205,19 +195,7 @@ module _ (v w : LadderView) (a : Around) (near : IsNear v a w) where
 
     -- and so are demand and supply at these limits
     amounts_there : (book other : List Order) (t : ℕ) → Tells v book → Tells w other → has t (few_limits v a) ≡ true → (demand book t ≡ demand other t) × (supply book t ≡ supply other t)
-    amounts_there book other t tells others e =
-        let f = few_place t e in
-        let i = f.0 in
-        let is_tick : w.low + i ≡ t = omega (arith, near.low, f.1) in
-        let d = tells.demand_is i (omega (arith, f.3)) in
-        let s = tells.supply_is i f.3 in
-        let x = others.demand_is i (omega (arith, f.3, near.long)) in
-        let y = others.supply_is i (omega (arith, f.3, near.long)) in
-        let dt = ap (demand book) f.1 in
-        let st = ap (supply book) f.1 in
-        let xt = ap (demand other) is_tick in
-        let yt = ap (supply other) is_tick in
-        (omega (arith, d, x, dt, xt, near.above i f.2 (omega (arith, f.3))), omega (arith, s, y, st, yt, near.below (i + 1) (omega (arith, f.4))))
+    amounts_there book other t tells others e = search (arith, few_place)
 
     candidates_there : (book other : List Order) (lanes : Lanes) → Tells v book → Tells w other → AreMarked lanes.ticks lanes.flags (few_limits v a) → AreCandidates book lanes → AreCandidates other lanes
     candidates_there book other lanes tells others marked are = record {
@@ -251,12 +229,7 @@ module _ (v w : LadderView) (a : Around) (near : IsNear v a w) where
 
 pub over_ladder : (low n : ℕ) (book : List Order) → IsBookOver low n book → IsLadderOf (ladder_of low n book) book
 unfolding ladder_of
-over_ladder low n book over =
-    let long = length-spread (standing Buy book) low n in
-    record {
-      within = rw long over.within;
-      same = rw long refl;
-    }
+over_ladder low n book over = grind (arith, common_steps, length-spread)
 
 pub over_flags : (low n : ℕ) (book : List Order) → IsBookOver low n book → (ladder_of low n book).present ≡ zip2 flag_of (ladder_of low n book).bids (ladder_of low n book).asks
 unfolding ladder_of
