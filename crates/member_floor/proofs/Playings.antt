@@ -3,10 +3,10 @@ use Rattle.std.proofs.Common.{◌≡◌, ℕ, ◌+◌, List, [], ◌∷◌, ◌+
 use Rattle.std.proofs.lemmas.List.{append-nil}
 use Rattle.std.proofs.Math.Seq.{take-append_seam, drop-append-add}
 use Rattle.auction_terms.specs.declared.Config.{Config}
-use Rattle.auction_terms.specs.declared.Command.{Command}
 use Rattle.call_board.specs.Standing.{Standing}
 use Rattle.member_floor.specs.declared.script.Script.{Script}
 use Rattle.member_floor.specs.Plays.{Task, PlayedScript, Plays, EachPlays, AllPlay, SameNumbers}
+use Rattle.std.proofs.lemmas.Grind.{common_steps}
 
 pub EachPlays-push : (c : Config) (ts : List Task) (rs : List PlayedScript) (t : Task) (r : PlayedScript) → EachPlays c ts rs → Plays c t.member t.commands r → EachPlays c (ts ++ t ∷ []) (rs ++ r ∷ [])
 EachPlays-push c [] [] t r h p = (p, tt)
@@ -34,10 +34,7 @@ all_play c [] (m ∷ ms) ss rs p q h = absurd cc
 all_play c (t ∷ ts) [] ss rs p q h = absurd cc
 all_play c (t ∷ ts) (m ∷ ms) [] rs p q h = absurd cc
 all_play c (t ∷ ts) (m ∷ ms) (s ∷ ss) [] p q h = absurd h
-all_play c (t ∷ ts) (m ∷ ms) (s ∷ ss) (r ∷ rs) p q h =
-    let member : t.member ≡ m = cc (p) in
-    let commands : t.commands ≡ s.commands.items = cc (q) in
-    (subst (λ (xs : List Command). Plays c m xs r) commands (subst (λ (x : Standing). Plays c x t.commands r) member h.0), all_play c ts ms ss rs (cc (p)) (cc (q)) h.1)
+all_play c (t ∷ ts) (m ∷ ms) (s ∷ ss) (r ∷ rs) p q h = grind (arith, common_steps, (all_play c ts ms ss rs (cc (p)) (cc (q)) h.1))
 
 pub same_length : (ms : List Standing) (ss : List Script) → SameNumbers ms ss → length ss ≡ length ms
 same_length [] [] h = refl

@@ -1,6 +1,7 @@
 -- The texts of a list's elements, one by one.
-use Rattle.std.proofs.Common.{◌≡◌, ◌<◌, ◌≤◌, ◌+◌, ℕ, List, [], ◌∷◌, ◌++◌, length, drop, get_or, add-one, drop-cons, append_assoc, sym, ◌∙◌}
+use Rattle.std.proofs.Common.{◌≡◌, ◌<◌, ◌≤◌, ◌+◌, ℕ, List, [], ◌∷◌, ◌++◌, length, drop, get_or, append_assoc, ◌∙◌, arith}
 use Rattle.std.proofs.lemmas.List.{append-nil, drop_all}
+use Rattle.std.proofs.lemmas.Grind.{common_steps}
 
 -- the texts of elements are that of the first, which comes after so many others, and then those of the rest
 pub record IsText {X : Type 0} (one : ℕ → X → List ℕ) (texts : ℕ → List X → List ℕ) : Type 0 where
@@ -10,9 +11,7 @@ pub record IsText {X : Type 0} (one : ℕ → X → List ℕ) (texts : ℕ → L
 -- the next text comes first of those that are left
 pub text-next : {X : Type 0} (one : ℕ → X → List ℕ) (texts : ℕ → List X → List ℕ) → IsText one texts → (xs : List X) (front all : List ℕ) (i : ℕ) (d : X)
     → front ++ texts i (drop i xs) ≡ all → i < length xs → front ++ (one i (get_or xs i d) ++ texts (i + 1) (drop (i + 1) xs)) ≡ all
-text-next one texts is xs front all i d e h =
-    let first : drop i xs ≡ get_or xs i d ∷ drop (i + 1) xs = rw (add-one i) (drop-cons xs i d h) in
-    rw (first, is.more i (get_or xs i d) (drop (i + 1) xs)) at e
+text-next one texts is xs front all i d e h = grind (arith, common_steps)
 
 -- the next text was done
 pub text-done : {X : Type 0} (one : ℕ → X → List ℕ) (texts : ℕ → List X → List ℕ) → IsText one texts → (xs : List X) (front all : List ℕ) (i : ℕ) (d : X)
@@ -22,6 +21,4 @@ text-done one texts is xs front all i d e h = append_assoc front _ _ ∙ text-ne
 -- no text is left
 pub text-end : {X : Type 0} (one : ℕ → X → List ℕ) (texts : ℕ → List X → List ℕ) → IsText one texts → (xs : List X) (front all : List ℕ) (i : ℕ)
     → front ++ texts i (drop i xs) ≡ all → length xs ≤ i → front ≡ all
-text-end one texts is xs front all i e h =
-    let nothing : texts i (drop i xs) ≡ [] = rw (drop_all i xs h) (is.none i) in
-    sym (append-nil front) ∙ rw nothing at e
+text-end one texts is xs front all i e h = grind (arith, common_steps, drop_all, append-nil)

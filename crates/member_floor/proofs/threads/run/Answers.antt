@@ -1,4 +1,4 @@
-use Rattle.std.proofs.Common.{ap, sym, ◌≡◌, ◌∙◌, ◌+◌, List, map, take, drop, length}
+use Rattle.std.proofs.Common.{ap, sym, ◌≡◌, ◌∙◌, ◌+◌, List, map, take, drop, arith}
 use Rattle.std.proofs.lemmas.List.{length-map, take-map, drop-map}
 use Rattle.auction_terms.specs.declared.Command.{Command}
 use Rattle.call_board.specs.Standing.{Standing}
@@ -6,17 +6,13 @@ use Rattle.member_floor.specs.declared.script.Script.{Script}
 use Rattle.member_floor.specs.Plays.{Task}
 use Rattle.member_floor.proofs.Playings.{all_play, same_length}
 use Rattle.member_floor.proofs.threads.run.Goals as goal
+use Rattle.std.proofs.lemmas.Grind.{common_steps}
 
 pub sit_down-parts-requires-clause-many : goal.sit_down-parts-requires-clause-many
-sit_down-parts-requires-clause-many g c =
-    let commands : Script → List Command = λ s. s.commands.items in
-    ap length c.in-Ok.ensures ∙ length-map c.args.scripts.items commands ∙ same_length c.args.members.items c.args.scripts.items c.requires.fits.numbers
+sit_down-parts-requires-clause-many g c = grind (arith, common_steps, length-map, same_length)
 
 pub returns-clause-all : goal.returns-clause-all
-returns-clause-all g c =
-    λ none.
-    let p = c.scoped.ensures.1.0 none in
-    (p.0, all_play g.K.Day.config c.sit_down-parts.result.items c.args.members.items c.args.scripts.items c.scoped.result.played.items c.sit_down-parts.ensures.members (c.sit_down-parts.ensures.commands ∙ c.in-Ok.ensures) p.1)
+returns-clause-all g c = grind (arith, common_steps, all_play)
 
 pub returns-clause-thread : goal.returns-clause-thread
 returns-clause-thread g c =
