@@ -3,6 +3,8 @@
 ghost use Rattle.std.specs.Prelude.{◌≡◌, ◌<◌};
 
 use crate::serve;
+use auction::Auction;
+use auction_terms::{Command, Reply};
 use order_file::{Failures, FromMemory, ToMemory};
 use std::marker::Brand;
 use std::process::Abort;
@@ -88,6 +90,15 @@ fn gives<T: Abort + AllocGlobal + Wait + Threads + Sync>(
     assert_eq!(rt; from_utf8(printed.out.as_slice()).unwrap_or("?"), out);
     assert_eq!(rt; from_utf8(printed.err.as_slice()).unwrap_or("?"), err);
     assert_eq!(rt; printed.status, status);
+}
+
+/// The reply to a command of this member, if there is room for it.
+fn reply_to(auction: &mut Auction, member: u8, command: Command) -> Option<Reply> {
+    if auction.calls() < auction.config().max_calls {
+        Some(auction.apply(member, command))
+    } else {
+        None
+    }
 }
 
 /// A file and what it should print: what it shows, the words that the program is run with, and a

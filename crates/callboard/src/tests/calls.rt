@@ -1,5 +1,6 @@
 //! Numbers at the edges of their limits, in calls of an auction.
 
+use super::reply_to;
 use auction::{Auction, OpenFault, Verdict, audit};
 use auction_terms::{Command, Config, Limit, Only, Refused, Reply, Side};
 use std::test::Fail;
@@ -124,15 +125,6 @@ fn changing(id: u32, limit: Limit, quantity: u64) -> Command {
         id,
         limit,
         quantity,
-    }
-}
-
-/// The reply to a command of this member, if there is room for it.
-fn reply_to(auction: &mut Auction, member: u8, command: Command) -> Option<Reply> {
-    if auction.calls() < auction.config().max_calls {
-        Some(auction.apply(member, command))
-    } else {
-        None
     }
 }
 

@@ -1,6 +1,6 @@
 //! Books, tapes and days that are full.
 
-use super::{Example, each_gives_its_lines, gives};
+use super::{Example, each_gives_its_lines, gives, reply_to};
 use auction::Auction;
 use auction_terms::{
     Command, Config, Display, Kind, Limit, Only, Price, Refused, Reply, Side, Trade,
@@ -166,15 +166,6 @@ fn as_many_orders_on_each_side(rt: HostRuntime) -> Result<(), Fail> {
     assert_eq!(rt; story.records, 65_543);
     gives_the_story(&rt, &story);
     Ok(())
-}
-
-/// The reply to a command, if there is room for it.
-fn reply_to(auction: &mut Auction, member: u8, command: Command) -> Option<Reply> {
-    if auction.calls() < auction.config().max_calls {
-        Some(auction.apply(member, command))
-    } else {
-        None
-    }
 }
 
 /// Whether an order that is entered gets this id.
