@@ -23,6 +23,7 @@ pub fn number_of(field: &[u8]) -> Option<u32>
     u32::try_from(value).ok()
 }
 
+/// A side: `bid` or `ask`.
 #[tactic(auto, unfolding(crate::specs::Field::side_of))]
 pub fn side_of(field: &[u8]) -> Option<Side>
     ensures { result ≡ side_of field.now }
@@ -36,6 +37,7 @@ pub fn side_of(field: &[u8]) -> Option<Side>
     }
 }
 
+/// A limit: `market`, or the number of a tick.
 #[tactic(auto, unfolding(crate::specs::Field::limit_of))]
 pub fn limit_of(field: &[u8]) -> Option<Limit>
     ensures { result ≡ limit_of field.now }

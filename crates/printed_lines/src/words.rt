@@ -17,6 +17,7 @@ pub fn side_word(side: Option<Side>) -> &'static str
     }
 }
 
+/// The auction that a call phase ends with.
 pub fn kind_word(kind: Kind) -> &'static str
     ensures word { result.now ≡ kind_word kind }
     ensures short { length result.now ≤ 8 }
