@@ -35,7 +35,7 @@ shrinks cfg s fields field (c ∷ rest) p e = by (is_end (step cfg s c).1) refl 
     by : (b : Bool) → is_end (step cfg s c).1 ≡ b → next_record cfg s fields field (c ∷ rest) ≡ Some p
         → (next_record cfg (step cfg s c).0 (fields_after (step cfg s c).1 fields field) (field_after (step cfg s c).1 c field) rest ≡ Some p → Shrinks rest p)
         → Shrinks (c ∷ rest) p
-    by true eb h more = grind (arith, common_steps, rest)
+    by true eb h more = grind (arith, common_steps)
     by false eb h more = weaker c rest p (more (rw eb at h))
 
 -- the end of a text has no record
