@@ -1,16 +1,23 @@
 //! Days and files whose answers are known, by the public calls of each crate.
 
-use auction_terms::{Command, Config, Display, Limit, Only, Side};
+use auction::Auction;
+use auction_terms::{Command, Config, Display, Entry, Limit, Only, Price, Reply, Side};
+use call_board::{Board, CloseFault, Closing, Day, Member, Update, Version, close};
+use left_right::Absorb;
+use std::sync::Wait;
 
 mod board;
 mod execution;
 mod ladder;
+mod largest;
+mod limits;
 mod members;
 mod one_thread;
 mod options;
 mod prices;
 mod printing;
 mod reading;
+mod refused;
 mod selection;
 mod sums;
 
@@ -23,6 +30,17 @@ const DAY: Config = Config {
     max_calls: 65_536,
     range: None,
 };
+
+/// A limit order without a peak, for each auction of the day.
+fn order(side: Side, quantity: u64, tick: u32) -> Command {
+    Command::Enter {
+        side,
+        limit: Limit::At(tick),
+        quantity,
+        peak: None,
+        only: Only::Any,
+    }
+}
 
 const BID: Command = Command::Enter {
     side: Side::Buy,
@@ -37,3 +55,51 @@ const BEST_BID: Display = Display::Unpriced {
     best_buy: Some(200),
     best_sell: None,
 };
+
+/// A price without a surplus.
+fn even(tick: u32, volume: u64) -> Price {
+    Price {
+        tick,
+        volume,
+        surplus: 0,
+        side: None,
+    }
+}
+
+/// A bid of member 1, which gets this id.
+fn bid_entered(id: u32) -> Entry {
+    Entry {
+        member: 1,
+        command: BID,
+        reply: Reply::Entered { id },
+    }
+}
+
+/// The reply to a command of this member, if there is room for it.
+fn reply_to(auction: &mut Auction, member: u8, command: Command) -> Option<Reply> {
+    if auction.calls() < auction.config().max_calls {
+        Some(auction.apply(member, command))
+    } else {
+        None
+    }
+}
+
+/// Closes the board with these members, or gives it up: a board that is dropped keeps its copies.
+fn closed<K: Day, R: Wait>(rt: &R, board: Board<K>, members: Vec<Member<K>>) -> Option<Closing>
+where
+    Version<K>: Absorb<Update<K>, State = ()>,
+{
+    match close(board, members, rt) {
+        Ok(closing) => Some(closing),
+        Err(
+            CloseFault::MissingMember {
+                board,
+                members: _members,
+            },
+        ) => {
+            board.abandon(rt);
+            None
+        }
+        Err(CloseFault::Behind { .. }) => None,
+    }
+}

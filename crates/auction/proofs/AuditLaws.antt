@@ -5,8 +5,8 @@ use Rattle.std.proofs.lemmas.List.{map-append, length-map, length-take-le}
 use Rattle.std.proofs.lemmas.Grind.{common_steps}
 use Rattle.auction_terms.specs.declared.Config.{Config}
 use Rattle.auction_terms.specs.declared.Entry.{Entry}
-use Rattle.auction_terms.specs.Day.{calls_of, step, IsLegal}
-use Rattle.auction_terms.specs.Running.{Running, called, running}
+use Rattle.auction_terms.specs.Day.{call_of, calls_of, step, IsLegal}
+use Rattle.auction_terms.specs.Devices.Running.{Running, called, running}
 use Rattle.auction_terms.proofs.RunLaws.{running-push, replies_from-push, IsLegal-push}
 use Rattle.auction.specs.Audits.{IsFirstBad}
 
@@ -15,11 +15,11 @@ pub record IsAudited (config : Config) (entries : List Entry) (auction : Running
   pub state : auction ≡ running config (calls_of entries)
   pub legal : IsLegal config entries
 
-pub audited_more : (config : Config) (entries : List Entry) (entry : Entry) (old new : Running) → IsAudited config entries old → nat_eq old.calls old.config.max_calls ≡ false → new ≡ called old entry.member entry.command → entry.reply ≡ (step old.config old.state entry.member entry.command).1 → IsAudited config (entries ++ entry ∷ []) new
+pub audited_more : (config : Config) (entries : List Entry) (entry : Entry) (old new : Running) → IsAudited config entries old → nat_eq old.calls old.config.max_calls ≡ false → new ≡ called old (call_of entry) → entry.reply ≡ (step old.config old.state (call_of entry)).1 → IsAudited config (entries ++ entry ∷ []) new
 audited_more config entries entry old new is room next reply =
     grind (arith, common_steps, running-push, IsLegal-push, nat_tests)
 
-pub bad_reply : (config : Config) (entries : List Entry) (place : ℕ) (entry : Entry) (auction : Running) → place < length entries → take (place + 1) entries ≡ take place entries ++ entry ∷ [] → IsAudited config (take place entries) auction → entry.reply ≢ (step auction.config auction.state entry.member entry.command).1 → IsFirstBad config entries place
+pub bad_reply : (config : Config) (entries : List Entry) (place : ℕ) (entry : Entry) (auction : Running) → place < length entries → take (place + 1) entries ≡ take place entries ++ entry ∷ [] → IsAudited config (take place entries) auction → entry.reply ≢ (step auction.config auction.state (call_of entry)).1 → IsFirstBad config entries place
 bad_reply config entries place entry auction within next is differs = grind (arith, common_steps, map-append, replies_from-push)
 
 -- a full auction has no room for a further entry

@@ -1,6 +1,6 @@
 pub mod Audits
-pub mod Kept
-pub mod Open
-pub mod Known
-pub mod Opening
-pub mod Sound
+pub mod AuctionState
+pub mod ConfigFault
+pub mod CountedBook
+pub mod KnownPrice
+pub mod OpenOrders

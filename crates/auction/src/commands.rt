@@ -1,128 +1,194 @@
-//! What each accepted command does. Each counts its call.
-ghost use Rattle.std.specs.Prelude.{◌≡◌, ◌<◌, ◌+◌, ◌-◌, None, false, length, IsSome, slice_get, if◌then◌else◌};
-ghost use Rattle.auction_terms.specs.Book.{kind_now};
-ghost use Rattle.auction_terms.specs.Edits.{without, IdsDiffer};
-ghost use Rattle.auction_terms.specs.Day.{own_order as own, accepted as after, refusal as refusal_of, change_order, enter_order, trade_reply, is_bad_quantity as bad_quantity, is_bad_limit as bad_limit};
+//! The day of an auction, and what each command comes to.
+ghost use Rattle.std.specs.Prelude.{◌≡◌, ◌<◌, None, IfOk, OnErr};
+ghost use Rattle.auction_terms.specs.Day as day;
+ghost use Rattle.auction.specs.ConfigFault.{open_fault};
+ghost use Rattle.auction.specs.OpenOrders.{IsOpenIn};
+ghost use Rattle.auction.specs.AuctionState.{opening, counting, ladder_over, outcome, IsOneCommand};
 
-use crate::Auction;
-use crate::checks::status_of;
-use auction_terms::{Command, Limit, Only, Order, Refused, Reply, Side};
+mod ask;
+mod change;
+mod delete;
+mod enter;
+mod status;
+mod trade;
+mod uncross;
 
-impl Auction {
-    /// The member's own open order with this id.
-    pub(crate) fn own_order(&self, member: u8, id: u32) -> Option<Order>
-        ensures order { result ≡ own self.now.state member id }
-        ensures ids { IdsDiffer self.now.state.book }
+use crate::book::Book;
+use auction_terms::{
+    Call, Command, Config, Display, Kind, Limit, MAX_QUANTITY, NewOrder, Order, Refused, Reply,
+    Trade,
+};
+use std::alloc::{AllocError, Global};
+use std::marker::Model;
+use tick_ladder::Ladder;
+
+/// The auctions of one day: the open orders in time order, the trades so far and the reference price.
+#[derive(Drop)]
+pub(crate) struct Day {
+    config: Config,
+    book: Book,
+    tape: Vec<Trade>,
+    // The last auction price, or the one that was handed in.
+    reference: u32,
+    // None once the day is over.
+    auction: Option<Kind>,
+    // Whether this call phase was extended by an interruption.
+    extended: bool,
+}
+
+impl Model for Day {
+    ghost use Rattle.std.specs.Prelude.{◌+◌};
+    ghost use Rattle.auction.specs.AuctionState.{AuctionState, IsSound};
+
+    ghost Value = { AuctionState };
+
+    ghost view = { λ d. record {
+      config = d.config;
+      state = record {
+        book = d.book.orders;
+        reference = d.reference;
+        next_id = d.book.entered + 1;
+        tape = d.tape.items;
+        auction = d.auction;
+        extended = d.extended;
+      };
+      stamps = d.book.stamps;
+    } };
+
+    ghost invariant = { λ d. IsSound d.config d.auction d.book d.reference d.tape };
+}
+
+// Refuses a command for this reason where the check holds.
+fn refuse_if(check: bool, reason: Refused) -> Result<(), Refused>
+    ensures { result ≡ day.refuse_if check reason }
+{
+    if check { Err(reason) } else { Ok(()) }
+}
+
+// Whether a quantity lies outside 1 to `MAX_QUANTITY` shares.
+fn is_bad_quantity(quantity: u64) -> bool
+    ensures { result ≡ day.is_bad_quantity quantity }
+{
+    quantity == 0 || quantity > MAX_QUANTITY
+}
+
+// Whether a limit is a tick outside the bounds.
+fn is_bad_limit(config: Config, limit: Limit) -> bool
+    ensures { result ≡ day.is_bad_limit config limit }
+{
+    match limit {
+        Limit::Market => false,
+        Limit::At(tick) => tick < config.low || tick > config.high,
+    }
+}
+
+impl Day {
+    /// The day at its opening: no orders, no trades, the reference of the config, with room for all that the day can
+    /// bring. Only want of memory makes it fail.
+    pub(crate) fn open(alloc: Global, config: Config) -> Result<Day, AllocError>
+        requires { open_fault config ≡ None }
+        ensures { IfOk result (λ d. d ≡ opening config) }
     {
-        self.book.get(id).filter(|order| order.member == member)
+        Ok(Day {
+            config,
+            book: Book::open(alloc, config)?,
+            tape: Vec::with_capacity(alloc, 3 * config.max_open as usize)?,
+            reference: config.reference,
+            auction: Some(Kind::Opening),
+            extended: false,
+        })
     }
 
-    /// A call that changes nothing but the count of calls.
-    pub(crate) fn answer(&mut self, reply: Reply) -> Reply
-        requires { self.old.calls < self.old.config.max_calls }
-        ensures state { self.new ≡ record self.old { calls = self.old.calls + 1 } }
-        ensures reply { result ≡ reply }
+    /// What it was opened with.
+    pub(crate) fn config(&self) -> Config
+        ensures { result ≡ self.now.config }
     {
-        self.calls += 1;
-        reply
+        self.config
     }
 
-    /// Puts an order last in time.
-    fn enter(
-        &mut self,
-        member: u8,
-        side: Side,
-        limit: Limit,
-        quantity: u64,
-        peak: Option<u64>,
-        only: Only,
-    ) -> Reply
-        requires call { self.old.calls < self.old.config.max_calls }
-        requires room { length self.old.state.book < self.old.config.max_open }
-        requires quantity { bad_quantity quantity ≡ false }
-        requires limit { bad_limit self.old.config limit ≡ false }
-        ensures state { self.new ≡ record self.old { state = (enter_order self.old.state (record { id = self.old.state.next_id; member = member; side = side; limit = limit; quantity = quantity; peak = peak; only = only })).0; calls = self.old.calls + 1 } }
-        ensures reply { result ≡ Reply.Entered self.old.state.next_id }
+    /// The trades so far.
+    pub(crate) fn tape(&self) -> &[Trade]
+        ensures { result.now ≡ self.now.state.tape }
     {
-        let id = self.book.enter(member, side, limit, quantity, peak, only);
-        self.calls += 1;
-        Reply::Entered { id }
+        &self.tape
     }
 
-    /// Gives an order other terms.
-    fn change(&mut self, member: u8, id: u32, limit: Limit, quantity: u64) -> Reply
-        requires call { self.old.calls < self.old.config.max_calls }
-        requires quantity { bad_quantity quantity ≡ false }
-        requires limit { bad_limit self.old.config limit ≡ false }
-        ensures state { self.new ≡ record self.old { state = (change_order self.old.state limit quantity (own self.old.state member id)).0; calls = self.old.calls + 1 } }
-        ensures reply { result ≡ (change_order self.old.state limit quantity (own self.old.state member id)).1 }
+    /// The quantities of the orders that count, tick by tick over the bounds.
+    pub(crate) fn ladder(&self) -> &Ladder
+        ensures { result.now ≡ ladder_over self.now.config (counting self.now.state) }
     {
-        if self.own_order(member, id).is_none() {
-            return self.answer(Reply::Refused(Refused::UnknownOrder));
-        }
-        let kept = self.book.change(id, limit, quantity);
-        self.calls += 1;
-        Reply::Changed { kept }
+        self.book.ladder()
     }
 
-    /// Takes an order out of the book.
-    fn delete(&mut self, member: u8, id: u32) -> Reply
-        requires call { self.old.calls < self.old.config.max_calls }
-        requires open { IsSome (own self.old.state member id) }
-        ensures state { self.new ≡ record self.old { state = record self.old.state { book = without id self.old.state.book }; calls = self.old.calls + 1 } }
-        ensures reply { result ≡ Reply.Deleted }
+    /// What is shown.
+    #[tactic(auto, unfolding(auction_terms::specs::Day::display))]
+    pub(crate) fn display(&self) -> Display
+        ensures { result ≡ day.display self.now.state }
     {
-        self.book.delete(id);
-        self.calls += 1;
-        Reply::Deleted
+        self.book.display(self.reference)
     }
 
-    /// The trade of the day with this number, from 1 on.
-    fn trade(&self, number: u32) -> Reply
-        requires { 0 < number }
-        ensures { result ≡ trade_reply (slice_get self.now.state.tape (number - 1)) }
+    /// The same, of which the price is kept for the next question.
+    #[tactic(auto, unfolding(auction_terms::specs::Day::display))]
+    pub(crate) fn show(&mut self) -> Display
+        ensures state { self.new ≡ self.old }
+        ensures display { result ≡ day.display self.old.state }
     {
-        match self.tape.get(number as usize - 1) {
-            Some(trade) => Reply::Traded(*trade),
-            None => Reply::Refused(Refused::NoSuchTrade),
-        }
+        self.book.show(self.reference)
     }
 
-    /// What an accepted command does.
-    #[tactic(auto, unfolding(auction_terms::specs::Day::accepted, auction_terms::specs::Day::refusal))]
-    pub(crate) fn accept(&mut self, member: u8, command: Command) -> Reply
-        requires call { self.old.calls < self.old.config.max_calls }
-        requires accepted { refusal_of self.old.config self.old.state member command ≡ None }
-        ensures state { self.new ≡ record self.old { state = (after self.old.config self.old.state member command).0; calls = self.old.calls + 1 } }
-        ensures reply { result ≡ (after self.old.config self.old.state member command).1 }
+    // The current auction. After the day it is refused.
+    fn current(&self) -> Result<Kind, Refused>
+        ensures { result ≡ day.current self.now.state }
     {
-        match command {
+        self.auction.ok_or(Refused::DayOver)
+    }
+
+    // The member's own open order with this id.
+    fn own_order(&self, member: u8, id: u32) -> Result<Order, Refused>
+        ensures order { result ≡ day.own_order self.now.state member id }
+        ensures open { IfOk result (λ order. IsOpenIn self.now.state.book order) }
+    {
+        self.book
+            .get(id)
+            .filter(|order| order.member == member)
+            .ok_or(Refused::UnknownOrder)
+    }
+
+    /// What a member's command comes to: the reply, or why it is refused. A refused command changes nothing.
+    #[tactic(auto, unfolding(auction_terms::specs::Day::decide))]
+    pub(crate) fn decide(&mut self, call: Call) -> Result<Reply, Refused>
+        requires { self.old.stamps < self.old.config.max_calls }
+        ensures outcome { outcome self.new result ≡ day.decide self.old.config self.old.state call.member call.command }
+        ensures refused { OnErr result (self.new ≡ self.old) }
+        ensures one { IsOneCommand self.old self.new }
+    {
+        let member = call.member;
+        match call.command {
             Command::Enter {
                 side,
+                only,
                 limit,
                 quantity,
                 peak,
+            } => self.enter(NewOrder {
+                member,
+                side,
                 only,
-            } => self.enter(member, side, limit, quantity, peak, only),
+                limit,
+                quantity,
+                peak,
+            }),
             Command::Change {
                 id,
                 limit,
                 quantity,
             } => self.change(member, id, limit, quantity),
             Command::Delete { id } => self.delete(member, id),
-            Command::Status { id } => {
-                let reply = status_of(self.own_order(member, id));
-                self.answer(reply)
-            }
-            Command::Ask => {
-                let reply = Reply::Indicated(self.show());
-                self.answer(reply)
-            }
-            Command::Trade { number } => {
-                let reply = self.trade(number);
-                self.answer(reply)
-            }
-            Command::Uncross => self.uncross(),
+            Command::Status { id } => self.status(member, id),
+            Command::Ask => self.ask(),
+            Command::Trade { number } => self.trade(number),
+            Command::Uncross => self.uncross(member),
         }
     }
 }

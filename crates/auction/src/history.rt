@@ -1,6 +1,6 @@
 //! The audit of a recorded history.
 ghost use Rattle.std.specs.Prelude.{◌≡◌, ◌↔◌, IsTrue, IfOk, IfErr, IfSome, Err, None};
-ghost use Rattle.auction.specs.Opening.{open_fault};
+ghost use Rattle.auction.specs.ConfigFault.{open_fault};
 ghost use Rattle.auction.specs.Audits.{Finds};
 
 use crate::{Auction, OpenFault, Verdict};
@@ -14,8 +14,8 @@ fn is_same(reply: Reply, other: Reply) -> bool
     reply == other
 }
 
-/// Says of a recorded history of a day, from its opening on, whether it is one of the auction's own, and where it isn't, its
-/// first entry that breaks it. It opens an auction with the config and gives it the commands one by one.
+/// Says of a recorded history of a day, from its opening on, whether it is one of the auction's own, and where it
+/// isn't, its first entry that breaks it. It opens an auction with the config and gives it the commands one by one.
 ///
 /// It is refused as `Auction::open` is.
 pub fn audit(alloc: Global, config: Config, entries: &[Entry]) -> Result<Verdict, OpenFault>

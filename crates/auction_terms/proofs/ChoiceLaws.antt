@@ -10,9 +10,9 @@ use Rattle.auction_terms.specs.declared.Order.{Order}
 use Rattle.auction_terms.specs.declared.Limit.{Limit}
 use Rattle.auction_terms.specs.declared.Price.{Price}
 use Rattle.auction_terms.specs.Book.{demand, supply, volume, surplus, has_bid_surplus, has_ask_surplus, limits, tick_of, is_bid, is_ask, is_market, is_eligible}
-use Rattle.auction_terms.specs.PriceOf.{highest, lowest, is_empty, priced, is_no_better, is_best, best_limits, lower_kept, upper_kept, held_between, has_market_orders, price_tick, price}
-use Rattle.auction_terms.specs.Leading.{Leaders, has_key, keyed, lower_among, upper_among, NoBetter, Lead, AreBest, tick_between}
-use Rattle.auction_terms.proofs.BestLemmas.{on_bid, on_ask, balanced, side_of}
+use Rattle.auction_terms.specs.AuctionPrice.{highest, lowest, is_empty, priced, is_no_better, is_best, best_limits, lower_kept, upper_kept, held_between, has_market_orders, price_tick, price}
+use Rattle.auction_terms.specs.Devices.Leading.{Leaders, has_key, keyed, lower_among, upper_among, NoBetter, Lead, AreBest}
+use Rattle.auction_terms.proofs.BestLaws.{on_bid, on_ask, balanced, side_of}
 
 -- ---- lists
 
@@ -86,17 +86,17 @@ choice book ps r =
     (cond (list_all (λ p. eqb (surplus book p) 0) ps) (highest ps) (lowest (filter (has_ask_surplus book) ps))) r))
 
 -- no best limit has a surplus
-choice_balanced : (book : List Order) (p : ℕ) (ps : List ℕ) (r : ℕ) → All (λ q. surplus book q ≡ 0) (p ∷ ps) → choice book (p ∷ ps) r ≡ tick_between (lowest (p ∷ ps)) (highest (p ∷ ps)) r
+choice_balanced : (book : List Order) (p : ℕ) (ps : List ℕ) (r : ℕ) → All (λ q. surplus book q ≡ 0) (p ∷ ps) → choice book (p ∷ ps) r ≡ held_between (lowest (p ∷ ps)) (highest (p ∷ ps)) r
 choice_balanced book p ps r even =
     let all : list_all (λ q. eqb (surplus book q) 0) (p ∷ ps) ≡ true =
     list_all-from_AllPass (λ q. eqb (surplus book q) 0) (p ∷ ps) (All-weaker (λ q. surplus book q ≡ 0) (λ q. eqb (surplus book q) 0 ≡ true) (λ q e. eq-eqb (surplus book q) 0 e) (p ∷ ps) even) in
     grind (arith, common_steps, (side_of book p), on_bid, on_ask, balanced)
 
 -- the highest with a bid surplus and the lowest with an ask surplus, where each has the one or the other
-held_of : (ps bids asks : List ℕ) (r : ℕ) → (is_empty asks ≡ true → bids ≡ ps) → (is_empty bids ≡ true → asks ≡ ps) → cond (is_empty asks) (highest ps) (cond (is_empty bids) (lowest ps) (held_between (highest bids) (lowest asks) r)) ≡ tick_between (highest bids) (lowest asks) r
+held_of : (ps bids asks : List ℕ) (r : ℕ) → (is_empty asks ≡ true → bids ≡ ps) → (is_empty bids ≡ true → asks ≡ ps) → cond (is_empty asks) (highest ps) (cond (is_empty bids) (lowest ps) (held_between (highest bids) (lowest asks) r)) ≡ held_between (highest bids) (lowest asks) r
 held_of ps bids asks r only_bids only_asks = grind (arith, common_steps)
 
-choice_uneven : (book : List Order) (p : ℕ) (ps : List ℕ) (r s : ℕ) → 0 < s → All (λ q. surplus book q ≡ s) (p ∷ ps) → choice book (p ∷ ps) r ≡ tick_between (highest (filter (has_bid_surplus book) (p ∷ ps))) (lowest (filter (has_ask_surplus book) (p ∷ ps))) r
+choice_uneven : (book : List Order) (p : ℕ) (ps : List ℕ) (r s : ℕ) → 0 < s → All (λ q. surplus book q ≡ s) (p ∷ ps) → choice book (p ∷ ps) r ≡ held_between (highest (filter (has_bid_surplus book) (p ∷ ps))) (lowest (filter (has_ask_surplus book) (p ∷ ps))) r
 choice_uneven book p ps r s some even =
     let qs = p ∷ ps in
     let bids = filter (has_bid_surplus book) qs in
@@ -127,7 +127,7 @@ choice_uneven book p ps r s some even =
       | balanced side bid ask none ↦ absurd (omega arith)
     ]
 
-choice_is : (book : List Order) (ps : List ℕ) (r s : ℕ) → is_empty ps ≡ false → All (λ q. surplus book q ≡ s) ps → choice book ps r ≡ tick_between (lower_among book s ps) (upper_among book s ps) r
+choice_is : (book : List Order) (ps : List ℕ) (r s : ℕ) → is_empty ps ≡ false → All (λ q. surplus book q ≡ s) ps → choice book ps r ≡ held_between (lower_among book s ps) (upper_among book s ps) r
 choice_is book [] r s some even = absurd (let h : true ≡ false = some in cc)
 choice_is book (p ∷ ps) r s some even = elim (cases_eq s 0) [
   | inl zero ↦ rw (eq-eqb s 0 zero) (choice_balanced book p ps r (All-weaker (λ q. surplus book q ≡ s) (λ q. surplus book q ≡ 0) (λ q e. omega arith) (p ∷ ps) even))
@@ -136,7 +136,7 @@ choice_is book (p ∷ ps) r s some even = elim (cases_eq s 0) [
 
 -- ---- the price
 
-pub tick_found : (book : List Order) (r : ℕ) (leaders : Leaders) → Lead book (limits book) leaders → price_tick book r ≡ tick_between leaders.lower leaders.upper r
+pub tick_found : (book : List Order) (r : ℕ) (leaders : Leaders) → Lead book (limits book) leaders → price_tick book r ≡ held_between leaders.lower leaders.upper r
 unfolding price_tick lower_kept upper_kept
 tick_found book r leaders lead =
     let v = leaders.volume in
@@ -179,7 +179,7 @@ has_market_volume book p none =
 -- the price that the scan gives
 abbrev pub scanned : List Order → ℕ → Option Leaders → Option Price
 scanned book r None = cond (list_any is_limited book) None (cond (ltb 0 (volume book r)) (Some (priced book r)) None)
-scanned book r (Some leaders) = option_map (priced book) (tick_between leaders.lower leaders.upper r)
+scanned book r (Some leaders) = option_map (priced book) (held_between leaders.lower leaders.upper r)
 
 pub price_scanned : (book : List Order) (r : ℕ) (leaders : Option Leaders) → AreBest book (limits book) leaders → price book r ≡ scanned book r leaders
 unfolding price price_tick

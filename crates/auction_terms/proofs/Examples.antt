@@ -10,31 +10,47 @@ use Rattle.auction_terms.specs.declared.Only.TheVariants.{Any, Opening as OnlyOp
 use Rattle.auction_terms.specs.declared.Kind.TheVariants.{Opening, Intraday, Closing}
 use Rattle.auction_terms.specs.declared.Price.{Price}
 use Rattle.auction_terms.specs.declared.Display.TheVariants.{Priced, Unpriced}
+use Rattle.auction_terms.specs.declared.Call.{Call}
 use Rattle.auction_terms.specs.declared.Command.{Command}
 use Rattle.auction_terms.specs.declared.Command.TheVariants.{Enter, Change, Delete, Status, Ask, Trade as AskTrade, Uncross}
 use Rattle.auction_terms.specs.declared.Refused.TheVariants.{BadQuantity, BadLimit, BadPeak, UnknownOrder, NotOperator, DayOver, NoSuchTrade, PastAuction}
 use Rattle.auction_terms.specs.declared.Reply.{Reply}
 use Rattle.auction_terms.specs.declared.Reply.TheVariants.{Entered, Changed, Deleted, Standing, Indicated, Traded, Uncrossed, Interrupted, Refused as IsRefused}
 use Rattle.auction_terms.specs.Book.{demand, supply, volume, surplus, has_bid_surplus, has_ask_surplus, surplus_side, limits}
-use Rattle.auction_terms.specs.PriceOf.{price, price_tick, priced, best_limits, is_best, is_no_better, lower_kept, upper_kept}
+use Rattle.auction_terms.specs.AuctionPrice.{price, price_tick, priced, best_limits, is_best, is_no_better, lower_kept, upper_kept}
 use Rattle.auction_terms.specs.Allotment.{fills_of, trades, rest_in}
-use Rattle.auction_terms.specs.Day.{display, refusal, accepted, step, replay}
+use Rattle.auction_terms.specs.Day.{
+  display,
+  enter,
+  change,
+  delete,
+  status,
+  ask,
+  trade,
+  uncross,
+  decide,
+  step,
+  replay,
+}
 
 abbrev pub config_with : Option ℕ → ℕ → Config
 config_with range reference = record { low = 1; high = 1000; reference = reference; max_open = 4096; max_calls = 65536; range = range }
 
 -- what the day answers from its opening on, with this range and reference
-unfoldable pub answers_with : Option ℕ → ℕ → List (ℕ × Command) → List Reply
+unfoldable pub answers_with : Option ℕ → ℕ → List Call → List Reply
 answers_with range reference calls = (replay (config_with range reference) calls).1
 
-unfoldable pub answers_at : ℕ → List (ℕ × Command) → List Reply
+unfoldable pub answers_at : ℕ → List Call → List Reply
 answers_at reference calls = (replay (config_with None reference) calls).1
 
-abbrev pub enter : ℕ → Side → ℕ → Limit → ℕ × Command
-enter member side quantity limit = (member, Enter side Any limit quantity None)
+abbrev pub call : ℕ → Command → Call
+call member command = record { member = member; command = command }
 
-abbrev pub enter_only : Only → ℕ → Side → ℕ → Limit → ℕ × Command
-enter_only only member side quantity limit = (member, Enter side only limit quantity None)
+abbrev pub enters : ℕ → Side → ℕ → Limit → Call
+enters member side quantity limit = call member (Enter side Any limit quantity None)
+
+abbrev pub enters_only : Only → ℕ → Side → ℕ → Limit → Call
+enters_only only member side quantity limit = call member (Enter side only limit quantity None)
 
 abbrev pub shows : ℕ → ℕ → ℕ → Option Side → Reply
 shows tick volume surplus side = Indicated (Priced (record { tick = tick; volume = volume; surplus = surplus; side = side }))
@@ -47,30 +63,30 @@ traded buy sell quantity tick = Traded (record { buy = buy; sell = sell; tick = 
 
 -- An empty book has no price and shows no limits, before and after an uncross.
 pub empty_book : answers_at 200 (
-    (1, Ask)
-    ∷ (0, Uncross)
-    ∷ (1, Ask)
+    call 1 Ask
+    ∷ call 0 Uncross
+    ∷ call 1 Ask
     ∷ [])
     ≡ Indicated (Unpriced None None)
     ∷ Uncrossed Opening 0 None
     ∷ Indicated (Unpriced None None)
     ∷ []
-unfolding demand supply volume surplus has_bid_surplus has_ask_surplus surplus_side limits price price_tick priced best_limits is_best is_no_better lower_kept upper_kept fills_of trades rest_in display refusal accepted step answers_at answers_with
+unfolding demand supply volume surplus has_bid_surplus has_ask_surplus surplus_side limits price price_tick priced best_limits is_best is_no_better lower_kept upper_kept fills_of trades rest_in display enter change delete status ask trade uncross decide step answers_at answers_with
 empty_book = refl
 
 -- The example that the program is tried with: the limit 200 has the most volume, and three trades follow.
 pub the_stored_example : answers_at 200 (
-    enter 1 Buy 200 (At 202)
-    ∷ enter 1 Buy 200 (At 201)
-    ∷ enter 1 Buy 300 (At 200)
-    ∷ enter 2 Sell 100 (At 200)
-    ∷ enter 2 Sell 200 (At 199)
-    ∷ enter 2 Sell 200 (At 198)
-    ∷ (1, Ask)
-    ∷ (0, Uncross)
-    ∷ (1, AskTrade 1)
-    ∷ (1, AskTrade 2)
-    ∷ (1, AskTrade 3)
+    enters 1 Buy 200 (At 202)
+    ∷ enters 1 Buy 200 (At 201)
+    ∷ enters 1 Buy 300 (At 200)
+    ∷ enters 2 Sell 100 (At 200)
+    ∷ enters 2 Sell 200 (At 199)
+    ∷ enters 2 Sell 200 (At 198)
+    ∷ call 1 Ask
+    ∷ call 0 Uncross
+    ∷ call 1 (AskTrade 1)
+    ∷ call 1 (AskTrade 2)
+    ∷ call 1 (AskTrade 3)
     ∷ [])
     ≡ Entered 1
     ∷ Entered 2
@@ -84,16 +100,16 @@ pub the_stored_example : answers_at 200 (
     ∷ traded 2 5 200 200
     ∷ traded 3 4 100 200
     ∷ []
-unfolding demand supply volume surplus has_bid_surplus has_ask_surplus surplus_side limits price price_tick priced best_limits is_best is_no_better lower_kept upper_kept fills_of trades rest_in display refusal accepted step answers_at answers_with
+unfolding demand supply volume surplus has_bid_surplus has_ask_surplus surplus_side limits price price_tick priced best_limits is_best is_no_better lower_kept upper_kept fills_of trades rest_in display enter change delete status ask trade uncross decide step answers_at answers_with
 the_stored_example = refl
 
 -- Two limits have the same volume and bid surplus: the higher is the price.
 pub bid_surplus_takes_the_highest : answers_at 200 (
-    enter 1 Buy 400 (At 202)
-    ∷ enter 1 Buy 200 (At 201)
-    ∷ enter 2 Sell 300 (At 199)
-    ∷ enter 2 Sell 200 (At 198)
-    ∷ (1, Ask)
+    enters 1 Buy 400 (At 202)
+    ∷ enters 1 Buy 200 (At 201)
+    ∷ enters 2 Sell 300 (At 199)
+    ∷ enters 2 Sell 200 (At 198)
+    ∷ call 1 Ask
     ∷ [])
     ≡ Entered 1
     ∷ Entered 2
@@ -101,16 +117,16 @@ pub bid_surplus_takes_the_highest : answers_at 200 (
     ∷ Entered 4
     ∷ shows 201 500 100 (Some Buy)
     ∷ []
-unfolding demand supply volume surplus has_bid_surplus has_ask_surplus surplus_side limits price price_tick priced best_limits is_best is_no_better lower_kept upper_kept fills_of trades rest_in display refusal accepted step answers_at answers_with
+unfolding demand supply volume surplus has_bid_surplus has_ask_surplus surplus_side limits price price_tick priced best_limits is_best is_no_better lower_kept upper_kept fills_of trades rest_in display enter change delete status ask trade uncross decide step answers_at answers_with
 bid_surplus_takes_the_highest = refl
 
 -- Two limits have the same volume and ask surplus: the lower is the price.
 pub ask_surplus_takes_the_lowest : answers_at 200 (
-    enter 1 Buy 300 (At 202)
-    ∷ enter 1 Buy 200 (At 201)
-    ∷ enter 2 Sell 200 (At 199)
-    ∷ enter 2 Sell 400 (At 198)
-    ∷ (1, Ask)
+    enters 1 Buy 300 (At 202)
+    ∷ enters 1 Buy 200 (At 201)
+    ∷ enters 2 Sell 200 (At 199)
+    ∷ enters 2 Sell 400 (At 198)
+    ∷ call 1 Ask
     ∷ [])
     ≡ Entered 1
     ∷ Entered 2
@@ -118,16 +134,16 @@ pub ask_surplus_takes_the_lowest : answers_at 200 (
     ∷ Entered 4
     ∷ shows 199 500 100 (Some Sell)
     ∷ []
-unfolding demand supply volume surplus has_bid_surplus has_ask_surplus surplus_side limits price price_tick priced best_limits is_best is_no_better lower_kept upper_kept fills_of trades rest_in display refusal accepted step answers_at answers_with
+unfolding demand supply volume surplus has_bid_surplus has_ask_surplus surplus_side limits price price_tick priced best_limits is_best is_no_better lower_kept upper_kept fills_of trades rest_in display enter change delete status ask trade uncross decide step answers_at answers_with
 ask_surplus_takes_the_lowest = refl
 
 -- One limit has a bid surplus, one an ask surplus, and the reference is below both.
 pub mixed_sides-reference_below : answers_at 185 (
-    enter 1 Buy 100 Market
-    ∷ enter 2 Sell 100 Market
-    ∷ enter 1 Buy 50 (At 190)
-    ∷ enter 2 Sell 50 (At 210)
-    ∷ (1, Ask)
+    enters 1 Buy 100 Market
+    ∷ enters 2 Sell 100 Market
+    ∷ enters 1 Buy 50 (At 190)
+    ∷ enters 2 Sell 50 (At 210)
+    ∷ call 1 Ask
     ∷ [])
     ≡ Entered 1
     ∷ Entered 2
@@ -135,16 +151,16 @@ pub mixed_sides-reference_below : answers_at 185 (
     ∷ Entered 4
     ∷ shows 190 100 50 (Some Buy)
     ∷ []
-unfolding demand supply volume surplus has_bid_surplus has_ask_surplus surplus_side limits price price_tick priced best_limits is_best is_no_better lower_kept upper_kept fills_of trades rest_in display refusal accepted step answers_at answers_with
+unfolding demand supply volume surplus has_bid_surplus has_ask_surplus surplus_side limits price price_tick priced best_limits is_best is_no_better lower_kept upper_kept fills_of trades rest_in display enter change delete status ask trade uncross decide step answers_at answers_with
 mixed_sides-reference_below = refl
 
 -- The reference is between the kept limits, and is the price.
 pub mixed_sides-reference_between : answers_at 200 (
-    enter 1 Buy 100 Market
-    ∷ enter 2 Sell 100 Market
-    ∷ enter 1 Buy 50 (At 190)
-    ∷ enter 2 Sell 50 (At 210)
-    ∷ (1, Ask)
+    enters 1 Buy 100 Market
+    ∷ enters 2 Sell 100 Market
+    ∷ enters 1 Buy 50 (At 190)
+    ∷ enters 2 Sell 50 (At 210)
+    ∷ call 1 Ask
     ∷ [])
     ≡ Entered 1
     ∷ Entered 2
@@ -152,16 +168,16 @@ pub mixed_sides-reference_between : answers_at 200 (
     ∷ Entered 4
     ∷ shows 200 100 0 None
     ∷ []
-unfolding demand supply volume surplus has_bid_surplus has_ask_surplus surplus_side limits price price_tick priced best_limits is_best is_no_better lower_kept upper_kept fills_of trades rest_in display refusal accepted step answers_at answers_with
+unfolding demand supply volume surplus has_bid_surplus has_ask_surplus surplus_side limits price price_tick priced best_limits is_best is_no_better lower_kept upper_kept fills_of trades rest_in display enter change delete status ask trade uncross decide step answers_at answers_with
 mixed_sides-reference_between = refl
 
 -- The reference is above both.
 pub mixed_sides-reference_above : answers_at 215 (
-    enter 1 Buy 100 Market
-    ∷ enter 2 Sell 100 Market
-    ∷ enter 1 Buy 50 (At 190)
-    ∷ enter 2 Sell 50 (At 210)
-    ∷ (1, Ask)
+    enters 1 Buy 100 Market
+    ∷ enters 2 Sell 100 Market
+    ∷ enters 1 Buy 50 (At 190)
+    ∷ enters 2 Sell 50 (At 210)
+    ∷ call 1 Ask
     ∷ [])
     ≡ Entered 1
     ∷ Entered 2
@@ -169,68 +185,68 @@ pub mixed_sides-reference_above : answers_at 215 (
     ∷ Entered 4
     ∷ shows 210 100 50 (Some Sell)
     ∷ []
-unfolding demand supply volume surplus has_bid_surplus has_ask_surplus surplus_side limits price price_tick priced best_limits is_best is_no_better lower_kept upper_kept fills_of trades rest_in display refusal accepted step answers_at answers_with
+unfolding demand supply volume surplus has_bid_surplus has_ask_surplus surplus_side limits price price_tick priced best_limits is_best is_no_better lower_kept upper_kept fills_of trades rest_in display enter change delete status ask trade uncross decide step answers_at answers_with
 mixed_sides-reference_above = refl
 
 -- No best limit has a surplus, and the reference is at the lower kept limit.
 pub no_surplus-reference_low : answers_at 190 (
-    enter 1 Buy 100 (At 210)
-    ∷ enter 2 Sell 100 (At 190)
-    ∷ (1, Ask)
+    enters 1 Buy 100 (At 210)
+    ∷ enters 2 Sell 100 (At 190)
+    ∷ call 1 Ask
     ∷ [])
     ≡ Entered 1
     ∷ Entered 2
     ∷ shows 190 100 0 None
     ∷ []
-unfolding demand supply volume surplus has_bid_surplus has_ask_surplus surplus_side limits price price_tick priced best_limits is_best is_no_better lower_kept upper_kept fills_of trades rest_in display refusal accepted step answers_at answers_with
+unfolding demand supply volume surplus has_bid_surplus has_ask_surplus surplus_side limits price price_tick priced best_limits is_best is_no_better lower_kept upper_kept fills_of trades rest_in display enter change delete status ask trade uncross decide step answers_at answers_with
 no_surplus-reference_low = refl
 
 -- The reference is between the kept limits.
 pub no_surplus-reference_between : answers_at 200 (
-    enter 1 Buy 100 (At 210)
-    ∷ enter 2 Sell 100 (At 190)
-    ∷ (1, Ask)
+    enters 1 Buy 100 (At 210)
+    ∷ enters 2 Sell 100 (At 190)
+    ∷ call 1 Ask
     ∷ [])
     ≡ Entered 1
     ∷ Entered 2
     ∷ shows 200 100 0 None
     ∷ []
-unfolding demand supply volume surplus has_bid_surplus has_ask_surplus surplus_side limits price price_tick priced best_limits is_best is_no_better lower_kept upper_kept fills_of trades rest_in display refusal accepted step answers_at answers_with
+unfolding demand supply volume surplus has_bid_surplus has_ask_surplus surplus_side limits price price_tick priced best_limits is_best is_no_better lower_kept upper_kept fills_of trades rest_in display enter change delete status ask trade uncross decide step answers_at answers_with
 no_surplus-reference_between = refl
 
 -- The reference is above the higher kept limit.
 pub no_surplus-reference_above : answers_at 250 (
-    enter 1 Buy 100 (At 210)
-    ∷ enter 2 Sell 100 (At 190)
-    ∷ (1, Ask)
+    enters 1 Buy 100 (At 210)
+    ∷ enters 2 Sell 100 (At 190)
+    ∷ call 1 Ask
     ∷ [])
     ≡ Entered 1
     ∷ Entered 2
     ∷ shows 210 100 0 None
     ∷ []
-unfolding demand supply volume surplus has_bid_surplus has_ask_surplus surplus_side limits price price_tick priced best_limits is_best is_no_better lower_kept upper_kept fills_of trades rest_in display refusal accepted step answers_at answers_with
+unfolding demand supply volume surplus has_bid_surplus has_ask_surplus surplus_side limits price price_tick priced best_limits is_best is_no_better lower_kept upper_kept fills_of trades rest_in display enter change delete status ask trade uncross decide step answers_at answers_with
 no_surplus-reference_above = refl
 
 -- Market orders alone are matched at the reference.
 pub market_orders_alone : answers_at 200 (
-    enter 1 Buy 900 Market
-    ∷ enter 2 Sell 800 Market
-    ∷ (1, Ask)
+    enters 1 Buy 900 Market
+    ∷ enters 2 Sell 800 Market
+    ∷ call 1 Ask
     ∷ [])
     ≡ Entered 1
     ∷ Entered 2
     ∷ shows 200 800 100 (Some Buy)
     ∷ []
-unfolding demand supply volume surplus has_bid_surplus has_ask_surplus surplus_side limits price price_tick priced best_limits is_best is_no_better lower_kept upper_kept fills_of trades rest_in display refusal accepted step answers_at answers_with
+unfolding demand supply volume surplus has_bid_surplus has_ask_surplus surplus_side limits price price_tick priced best_limits is_best is_no_better lower_kept upper_kept fills_of trades rest_in display enter change delete status ask trade uncross decide step answers_at answers_with
 market_orders_alone = refl
 
 -- No order meets another: the best limits are shown, and the book stays.
 pub no_cross : answers_at 200 (
-    enter 1 Buy 80 (At 199)
-    ∷ enter 2 Sell 80 (At 201)
-    ∷ (1, Ask)
-    ∷ (0, Uncross)
-    ∷ (1, Ask)
+    enters 1 Buy 80 (At 199)
+    ∷ enters 2 Sell 80 (At 201)
+    ∷ call 1 Ask
+    ∷ call 0 Uncross
+    ∷ call 1 Ask
     ∷ [])
     ≡ Entered 1
     ∷ Entered 2
@@ -238,20 +254,20 @@ pub no_cross : answers_at 200 (
     ∷ Uncrossed Opening 0 None
     ∷ Indicated (Unpriced (Some 199) (Some 201))
     ∷ []
-unfolding demand supply volume surplus has_bid_surplus has_ask_surplus surplus_side limits price price_tick priced best_limits is_best is_no_better lower_kept upper_kept fills_of trades rest_in display refusal accepted step answers_at answers_with
+unfolding demand supply volume surplus has_bid_surplus has_ask_surplus surplus_side limits price price_tick priced best_limits is_best is_no_better lower_kept upper_kept fills_of trades rest_in display enter change delete status ask trade uncross decide step answers_at answers_with
 no_cross = refl
 
 -- Market orders are executed before limit orders, and a member sees its own orders alone.
 pub market_before_limit : answers_at 200 (
-    enter 1 Buy 100 (At 200)
-    ∷ enter 2 Buy 100 Market
-    ∷ enter 3 Sell 150 (At 200)
-    ∷ (0, Uncross)
-    ∷ (0, AskTrade 1)
-    ∷ (0, AskTrade 2)
-    ∷ (0, AskTrade 3)
-    ∷ (1, Status 1)
-    ∷ (2, Status 2)
+    enters 1 Buy 100 (At 200)
+    ∷ enters 2 Buy 100 Market
+    ∷ enters 3 Sell 150 (At 200)
+    ∷ call 0 Uncross
+    ∷ call 0 (AskTrade 1)
+    ∷ call 0 (AskTrade 2)
+    ∷ call 0 (AskTrade 3)
+    ∷ call 1 (Status 1)
+    ∷ call 2 (Status 2)
     ∷ [])
     ≡ Entered 1
     ∷ Entered 2
@@ -263,17 +279,17 @@ pub market_before_limit : answers_at 200 (
     ∷ Standing Buy (At 200) 50 50
     ∷ IsRefused UnknownOrder
     ∷ []
-unfolding demand supply volume surplus has_bid_surplus has_ask_surplus surplus_side limits price price_tick priced best_limits is_best is_no_better lower_kept upper_kept fills_of trades rest_in display refusal accepted step answers_at answers_with
+unfolding demand supply volume surplus has_bid_surplus has_ask_surplus surplus_side limits price price_tick priced best_limits is_best is_no_better lower_kept upper_kept fills_of trades rest_in display enter change delete status ask trade uncross decide step answers_at answers_with
 market_before_limit = refl
 
 -- A raised quantity gives a new time priority.
 pub raised_quantity_moves : answers_at 200 (
-    enter 1 Buy 100 (At 200)
-    ∷ enter 2 Buy 100 (At 200)
-    ∷ (1, Change 1 (At 200) 120)
-    ∷ enter 3 Sell 100 (At 200)
-    ∷ (0, Uncross)
-    ∷ (0, AskTrade 1)
+    enters 1 Buy 100 (At 200)
+    ∷ enters 2 Buy 100 (At 200)
+    ∷ call 1 (Change 1 (At 200) 120)
+    ∷ enters 3 Sell 100 (At 200)
+    ∷ call 0 Uncross
+    ∷ call 0 (AskTrade 1)
     ∷ [])
     ≡ Entered 1
     ∷ Entered 2
@@ -282,18 +298,18 @@ pub raised_quantity_moves : answers_at 200 (
     ∷ Uncrossed Opening 1 (at_price 200 100 120 (Some Buy))
     ∷ traded 2 3 100 200
     ∷ []
-unfolding demand supply volume surplus has_bid_surplus has_ask_surplus surplus_side limits price price_tick priced best_limits is_best is_no_better lower_kept upper_kept fills_of trades rest_in display refusal accepted step answers_at answers_with
+unfolding demand supply volume surplus has_bid_surplus has_ask_surplus surplus_side limits price price_tick priced best_limits is_best is_no_better lower_kept upper_kept fills_of trades rest_in display enter change delete status ask trade uncross decide step answers_at answers_with
 raised_quantity_moves = refl
 
 -- A lowered quantity keeps the old one.
 pub lowered_quantity_keeps : answers_at 200 (
-    enter 1 Buy 100 (At 200)
-    ∷ enter 2 Buy 100 (At 200)
-    ∷ (1, Change 1 (At 200) 60)
-    ∷ enter 3 Sell 100 (At 200)
-    ∷ (0, Uncross)
-    ∷ (0, AskTrade 1)
-    ∷ (0, AskTrade 2)
+    enters 1 Buy 100 (At 200)
+    ∷ enters 2 Buy 100 (At 200)
+    ∷ call 1 (Change 1 (At 200) 60)
+    ∷ enters 3 Sell 100 (At 200)
+    ∷ call 0 Uncross
+    ∷ call 0 (AskTrade 1)
+    ∷ call 0 (AskTrade 2)
     ∷ [])
     ≡ Entered 1
     ∷ Entered 2
@@ -303,40 +319,40 @@ pub lowered_quantity_keeps : answers_at 200 (
     ∷ traded 1 3 60 200
     ∷ traded 2 3 40 200
     ∷ []
-unfolding demand supply volume surplus has_bid_surplus has_ask_surplus surplus_side limits price price_tick priced best_limits is_best is_no_better lower_kept upper_kept fills_of trades rest_in display refusal accepted step answers_at answers_with
+unfolding demand supply volume surplus has_bid_surplus has_ask_surplus surplus_side limits price price_tick priced best_limits is_best is_no_better lower_kept upper_kept fills_of trades rest_in display enter change delete status ask trade uncross decide step answers_at answers_with
 lowered_quantity_keeps = refl
 
 -- An iceberg order takes part with its overall quantity, and shows at most its peak.
 pub iceberg : answers_at 200 (
-    (1, Enter Buy Any (At 200) 500 (Some 100))
-    ∷ enter 2 Sell 300 (At 200)
-    ∷ (0, Uncross)
-    ∷ (1, Status 1)
+    call 1 (Enter Buy Any (At 200) 500 (Some 100))
+    ∷ enters 2 Sell 300 (At 200)
+    ∷ call 0 Uncross
+    ∷ call 1 (Status 1)
     ∷ [])
     ≡ Entered 1
     ∷ Entered 2
     ∷ Uncrossed Opening 1 (at_price 200 300 200 (Some Buy))
     ∷ Standing Buy (At 200) 200 100
     ∷ []
-unfolding demand supply volume surplus has_bid_surplus has_ask_surplus surplus_side limits price price_tick priced best_limits is_best is_no_better lower_kept upper_kept fills_of trades rest_in display refusal accepted step answers_at answers_with
+unfolding demand supply volume surplus has_bid_surplus has_ask_surplus surplus_side limits price price_tick priced best_limits is_best is_no_better lower_kept upper_kept fills_of trades rest_in display enter change delete status ask trade uncross decide step answers_at answers_with
 iceberg = refl
 
 -- Each refusal, in the order of the checks, to the end of the day.
 pub refusals : answers_at 200 (
-    (1, Enter Buy Any (At 200) 0 None)
-    ∷ (1, Enter Buy Any (At 1001) 5 None)
-    ∷ (1, Enter Buy Any (At 200) 5 (Some 6))
-    ∷ (1, Enter Buy Any Market 5 (Some 5))
-    ∷ enter 1 Buy 5 (At 200)
-    ∷ (2, Delete 1)
-    ∷ (1, Uncross)
-    ∷ (0, AskTrade 1)
-    ∷ (0, Uncross)
-    ∷ (0, Uncross)
-    ∷ (0, Uncross)
-    ∷ (1, Enter Buy Any (At 200) 0 None)
-    ∷ (1, Status 1)
-    ∷ (1, Ask)
+    call 1 (Enter Buy Any (At 200) 0 None)
+    ∷ call 1 (Enter Buy Any (At 1001) 5 None)
+    ∷ call 1 (Enter Buy Any (At 200) 5 (Some 6))
+    ∷ call 1 (Enter Buy Any Market 5 (Some 5))
+    ∷ enters 1 Buy 5 (At 200)
+    ∷ call 2 (Delete 1)
+    ∷ call 1 Uncross
+    ∷ call 0 (AskTrade 1)
+    ∷ call 0 Uncross
+    ∷ call 0 Uncross
+    ∷ call 0 Uncross
+    ∷ call 1 (Enter Buy Any (At 200) 0 None)
+    ∷ call 1 (Status 1)
+    ∷ call 1 Ask
     ∷ [])
     ≡ IsRefused BadQuantity
     ∷ IsRefused BadLimit
@@ -353,24 +369,24 @@ pub refusals : answers_at 200 (
     ∷ Standing Buy (At 200) 5 5
     ∷ IsRefused DayOver
     ∷ []
-unfolding demand supply volume surplus has_bid_surplus has_ask_surplus surplus_side limits price price_tick priced best_limits is_best is_no_better lower_kept upper_kept fills_of trades rest_in display refusal accepted step answers_at answers_with
+unfolding demand supply volume surplus has_bid_surplus has_ask_surplus surplus_side limits price price_tick priced best_limits is_best is_no_better lower_kept upper_kept fills_of trades rest_in display enter change delete status ask trade uncross decide step answers_at answers_with
 refusals = refl
 
 -- Changes, and what Status says after each.
 pub changes : answers_at 200 (
-    (1, Enter Buy Any (At 200) 500 (Some 100))
-    ∷ (1, Status 1)
-    ∷ (1, Change 1 (At 200) 60)
-    ∷ (1, Status 1)
-    ∷ (1, Change 1 (At 200) 60)
-    ∷ (1, Change 1 (At 199) 60)
-    ∷ (1, Change 1 Market 60)
-    ∷ (2, Change 1 Market 60)
-    ∷ (1, Delete 1)
-    ∷ (1, Delete 1)
-    ∷ enter 1 Sell 7 Market
-    ∷ (1, Status 2)
-    ∷ (1, Change 2 (At 150) 7)
+    call 1 (Enter Buy Any (At 200) 500 (Some 100))
+    ∷ call 1 (Status 1)
+    ∷ call 1 (Change 1 (At 200) 60)
+    ∷ call 1 (Status 1)
+    ∷ call 1 (Change 1 (At 200) 60)
+    ∷ call 1 (Change 1 (At 199) 60)
+    ∷ call 1 (Change 1 Market 60)
+    ∷ call 2 (Change 1 Market 60)
+    ∷ call 1 (Delete 1)
+    ∷ call 1 (Delete 1)
+    ∷ enters 1 Sell 7 Market
+    ∷ call 1 (Status 2)
+    ∷ call 1 (Change 2 (At 150) 7)
     ∷ [])
     ≡ Entered 1
     ∷ Standing Buy (At 200) 500 100
@@ -386,46 +402,46 @@ pub changes : answers_at 200 (
     ∷ Standing Sell Market 7 7
     ∷ Changed false
     ∷ []
-unfolding demand supply volume surplus has_bid_surplus has_ask_surplus surplus_side limits price price_tick priced best_limits is_best is_no_better lower_kept upper_kept fills_of trades rest_in display refusal accepted step answers_at answers_with
+unfolding demand supply volume surplus has_bid_surplus has_ask_surplus surplus_side limits price price_tick priced best_limits is_best is_no_better lower_kept upper_kept fills_of trades rest_in display enter change delete status ask trade uncross decide step answers_at answers_with
 changes = refl
 
 -- Market orders of both sides, and one limit with a bid surplus.
 pub bids_in_surplus : answers_at 200 (
-    enter 1 Buy 100 Market
-    ∷ enter 2 Sell 60 Market
-    ∷ enter 1 Buy 40 (At 150)
-    ∷ (1, Ask)
+    enters 1 Buy 100 Market
+    ∷ enters 2 Sell 60 Market
+    ∷ enters 1 Buy 40 (At 150)
+    ∷ call 1 Ask
     ∷ [])
     ≡ Entered 1
     ∷ Entered 2
     ∷ Entered 3
     ∷ shows 150 60 80 (Some Buy)
     ∷ []
-unfolding demand supply volume surplus has_bid_surplus has_ask_surplus surplus_side limits price price_tick priced best_limits is_best is_no_better lower_kept upper_kept fills_of trades rest_in display refusal accepted step answers_at answers_with
+unfolding demand supply volume surplus has_bid_surplus has_ask_surplus surplus_side limits price price_tick priced best_limits is_best is_no_better lower_kept upper_kept fills_of trades rest_in display enter change delete status ask trade uncross decide step answers_at answers_with
 bids_in_surplus = refl
 
 -- Market orders of both sides, and one limit with an ask surplus.
 pub asks_in_surplus : answers_at 200 (
-    enter 1 Sell 100 Market
-    ∷ enter 2 Buy 60 Market
-    ∷ enter 1 Sell 40 (At 250)
-    ∷ (1, Ask)
+    enters 1 Sell 100 Market
+    ∷ enters 2 Buy 60 Market
+    ∷ enters 1 Sell 40 (At 250)
+    ∷ call 1 Ask
     ∷ [])
     ≡ Entered 1
     ∷ Entered 2
     ∷ Entered 3
     ∷ shows 250 60 80 (Some Sell)
     ∷ []
-unfolding demand supply volume surplus has_bid_surplus has_ask_surplus surplus_side limits price price_tick priced best_limits is_best is_no_better lower_kept upper_kept fills_of trades rest_in display refusal accepted step answers_at answers_with
+unfolding demand supply volume surplus has_bid_surplus has_ask_surplus surplus_side limits price price_tick priced best_limits is_best is_no_better lower_kept upper_kept fills_of trades rest_in display enter change delete status ask trade uncross decide step answers_at answers_with
 asks_in_surplus = refl
 
 -- The least surplus is picked before the side is looked at.
 pub least_surplus_first : answers_at 200 (
-    enter 1 Buy 100 (At 202)
-    ∷ enter 1 Buy 50 (At 199)
-    ∷ enter 2 Sell 100 (At 198)
-    ∷ enter 2 Sell 20 (At 201)
-    ∷ (1, Ask)
+    enters 1 Buy 100 (At 202)
+    ∷ enters 1 Buy 50 (At 199)
+    ∷ enters 2 Sell 100 (At 198)
+    ∷ enters 2 Sell 20 (At 201)
+    ∷ call 1 Ask
     ∷ [])
     ≡ Entered 1
     ∷ Entered 2
@@ -433,22 +449,22 @@ pub least_surplus_first : answers_at 200 (
     ∷ Entered 4
     ∷ shows 201 100 20 (Some Sell)
     ∷ []
-unfolding demand supply volume surplus has_bid_surplus has_ask_surplus surplus_side limits price price_tick priced best_limits is_best is_no_better lower_kept upper_kept fills_of trades rest_in display refusal accepted step answers_at answers_with
+unfolding demand supply volume surplus has_bid_surplus has_ask_surplus surplus_side limits price price_tick priced best_limits is_best is_no_better lower_kept upper_kept fills_of trades rest_in display enter change delete status ask trade uncross decide step answers_at answers_with
 least_surplus_first = refl
 
 -- The price of an auction is the reference of the next, and trades are numbered over the day.
 pub three_auctions : answers_at 200 (
-    enter 1 Buy 100 (At 210)
-    ∷ enter 2 Sell 100 (At 206)
-    ∷ (0, Uncross)
-    ∷ enter 1 Buy 30 Market
-    ∷ enter 2 Sell 20 Market
-    ∷ (0, Uncross)
-    ∷ (3, AskTrade 2)
-    ∷ (1, Status 3)
-    ∷ (0, Uncross)
-    ∷ (1, AskTrade 1)
-    ∷ (1, Delete 3)
+    enters 1 Buy 100 (At 210)
+    ∷ enters 2 Sell 100 (At 206)
+    ∷ call 0 Uncross
+    ∷ enters 1 Buy 30 Market
+    ∷ enters 2 Sell 20 Market
+    ∷ call 0 Uncross
+    ∷ call 3 (AskTrade 2)
+    ∷ call 1 (Status 3)
+    ∷ call 0 Uncross
+    ∷ call 1 (AskTrade 1)
+    ∷ call 1 (Delete 3)
     ∷ [])
     ≡ Entered 1
     ∷ Entered 2
@@ -462,18 +478,18 @@ pub three_auctions : answers_at 200 (
     ∷ traded 1 2 100 206
     ∷ IsRefused DayOver
     ∷ []
-unfolding demand supply volume surplus has_bid_surplus has_ask_surplus surplus_side limits price price_tick priced best_limits is_best is_no_better lower_kept upper_kept fills_of trades rest_in display refusal accepted step answers_at answers_with
+unfolding demand supply volume surplus has_bid_surplus has_ask_surplus surplus_side limits price price_tick priced best_limits is_best is_no_better lower_kept upper_kept fills_of trades rest_in display enter change delete status ask trade uncross decide step answers_at answers_with
 three_auctions = refl
 
 -- An order for the closing auction alone counts once the intraday auction has ended.
 pub closing_order_waits : answers_at 200 (
-    enter_only OnlyClosing 1 Buy 100 (At 200)
-    ∷ enter 2 Sell 100 (At 200)
-    ∷ (1, Ask)
-    ∷ (0, Uncross)
-    ∷ (0, Uncross)
-    ∷ (1, Ask)
-    ∷ (0, Uncross)
+    enters_only OnlyClosing 1 Buy 100 (At 200)
+    ∷ enters 2 Sell 100 (At 200)
+    ∷ call 1 Ask
+    ∷ call 0 Uncross
+    ∷ call 0 Uncross
+    ∷ call 1 Ask
+    ∷ call 0 Uncross
     ∷ [])
     ≡ Entered 1
     ∷ Entered 2
@@ -483,31 +499,31 @@ pub closing_order_waits : answers_at 200 (
     ∷ shows 200 100 0 None
     ∷ Uncrossed Closing 1 (at_price 200 100 0 None)
     ∷ []
-unfolding demand supply volume surplus has_bid_surplus has_ask_surplus surplus_side limits price price_tick priced best_limits is_best is_no_better lower_kept upper_kept fills_of trades rest_in display refusal accepted step answers_at answers_with
+unfolding demand supply volume surplus has_bid_surplus has_ask_surplus surplus_side limits price price_tick priced best_limits is_best is_no_better lower_kept upper_kept fills_of trades rest_in display enter change delete status ask trade uncross decide step answers_at answers_with
 closing_order_waits = refl
 
 -- An order for the opening auction alone leaves with it, and none is taken later.
 pub opening_order_leaves : answers_at 200 (
-    enter_only OnlyOpening 1 Buy 100 (At 200)
-    ∷ (0, Uncross)
-    ∷ (1, Status 1)
-    ∷ enter_only OnlyOpening 1 Buy 5 (At 200)
+    enters_only OnlyOpening 1 Buy 100 (At 200)
+    ∷ call 0 Uncross
+    ∷ call 1 (Status 1)
+    ∷ enters_only OnlyOpening 1 Buy 5 (At 200)
     ∷ [])
     ≡ Entered 1
     ∷ Uncrossed Opening 0 None
     ∷ IsRefused UnknownOrder
     ∷ IsRefused PastAuction
     ∷ []
-unfolding demand supply volume surplus has_bid_surplus has_ask_surplus surplus_side limits price price_tick priced best_limits is_best is_no_better lower_kept upper_kept fills_of trades rest_in display refusal accepted step answers_at answers_with
+unfolding demand supply volume surplus has_bid_surplus has_ask_surplus surplus_side limits price price_tick priced best_limits is_best is_no_better lower_kept upper_kept fills_of trades rest_in display enter change delete status ask trade uncross decide step answers_at answers_with
 opening_order_leaves = refl
 
 -- A price outside the range interrupts the first uncross, and not the second.
 pub interruption : answers_with (Some 5) 200 (
-    enter 1 Buy 100 (At 210)
-    ∷ enter 2 Sell 100 (At 206)
-    ∷ (1, Ask)
-    ∷ (0, Uncross)
-    ∷ (0, Uncross)
+    enters 1 Buy 100 (At 210)
+    ∷ enters 2 Sell 100 (At 206)
+    ∷ call 1 Ask
+    ∷ call 0 Uncross
+    ∷ call 0 Uncross
     ∷ [])
     ≡ Entered 1
     ∷ Entered 2
@@ -515,35 +531,35 @@ pub interruption : answers_with (Some 5) 200 (
     ∷ Interrupted (record { tick = 206; volume = 100; surplus = 0; side = None })
     ∷ Uncrossed Opening 1 (at_price 206 100 0 None)
     ∷ []
-unfolding demand supply volume surplus has_bid_surplus has_ask_surplus surplus_side limits price price_tick priced best_limits is_best is_no_better lower_kept upper_kept fills_of trades rest_in display refusal accepted step answers_at answers_with
+unfolding demand supply volume surplus has_bid_surplus has_ask_surplus surplus_side limits price price_tick priced best_limits is_best is_no_better lower_kept upper_kept fills_of trades rest_in display enter change delete status ask trade uncross decide step answers_at answers_with
 interruption = refl
 
 -- A price within the range interrupts nothing.
 pub no_interruption : answers_with (Some 6) 200 (
-    enter 1 Buy 100 (At 210)
-    ∷ enter 2 Sell 100 (At 206)
-    ∷ (1, Ask)
-    ∷ (0, Uncross)
+    enters 1 Buy 100 (At 210)
+    ∷ enters 2 Sell 100 (At 206)
+    ∷ call 1 Ask
+    ∷ call 0 Uncross
     ∷ [])
     ≡ Entered 1
     ∷ Entered 2
     ∷ shows 206 100 0 None
     ∷ Uncrossed Opening 1 (at_price 206 100 0 None)
     ∷ []
-unfolding demand supply volume surplus has_bid_surplus has_ask_surplus surplus_side limits price price_tick priced best_limits is_best is_no_better lower_kept upper_kept fills_of trades rest_in display refusal accepted step answers_at answers_with
+unfolding demand supply volume surplus has_bid_surplus has_ask_surplus surplus_side limits price price_tick priced best_limits is_best is_no_better lower_kept upper_kept fills_of trades rest_in display enter change delete status ask trade uncross decide step answers_at answers_with
 no_interruption = refl
 
 -- An order for the closing auction alone keeps its place in time while it waits.
 pub closing_order_keeps_its_time : answers_at 200 (
-    enter_only OnlyClosing 1 Buy 150 (At 200)
-    ∷ (0, Uncross)
-    ∷ (0, Uncross)
-    ∷ enter 2 Buy 100 (At 200)
-    ∷ enter 3 Sell 100 (At 200)
-    ∷ (0, Uncross)
-    ∷ (0, AskTrade 1)
-    ∷ (1, Status 1)
-    ∷ (2, Status 2)
+    enters_only OnlyClosing 1 Buy 150 (At 200)
+    ∷ call 0 Uncross
+    ∷ call 0 Uncross
+    ∷ enters 2 Buy 100 (At 200)
+    ∷ enters 3 Sell 100 (At 200)
+    ∷ call 0 Uncross
+    ∷ call 0 (AskTrade 1)
+    ∷ call 1 (Status 1)
+    ∷ call 2 (Status 2)
     ∷ [])
     ≡ Entered 1
     ∷ Uncrossed Opening 0 None
@@ -555,19 +571,19 @@ pub closing_order_keeps_its_time : answers_at 200 (
     ∷ IsRefused UnknownOrder
     ∷ Standing Buy (At 200) 100 100
     ∷ []
-unfolding demand supply volume surplus has_bid_surplus has_ask_surplus surplus_side limits price price_tick priced best_limits is_best is_no_better lower_kept upper_kept fills_of trades rest_in display refusal accepted step answers_at answers_with
+unfolding demand supply volume surplus has_bid_surplus has_ask_surplus surplus_side limits price price_tick priced best_limits is_best is_no_better lower_kept upper_kept fills_of trades rest_in display enter change delete status ask trade uncross decide step answers_at answers_with
 closing_order_keeps_its_time = refl
 
 -- An uncross without a price clears the interruption, and the next auction can be interrupted.
 pub interruption_of_two_auctions : answers_with (Some 5) 200 (
-    enter 1 Buy 100 (At 210)
-    ∷ enter 2 Sell 100 (At 206)
-    ∷ (0, Uncross)
-    ∷ (1, Delete 1)
-    ∷ (0, Uncross)
-    ∷ enter 1 Buy 100 (At 210)
-    ∷ (0, Uncross)
-    ∷ (0, Uncross)
+    enters 1 Buy 100 (At 210)
+    ∷ enters 2 Sell 100 (At 206)
+    ∷ call 0 Uncross
+    ∷ call 1 (Delete 1)
+    ∷ call 0 Uncross
+    ∷ enters 1 Buy 100 (At 210)
+    ∷ call 0 Uncross
+    ∷ call 0 Uncross
     ∷ [])
     ≡ Entered 1
     ∷ Entered 2
@@ -578,10 +594,10 @@ pub interruption_of_two_auctions : answers_with (Some 5) 200 (
     ∷ Interrupted (record { tick = 206; volume = 100; surplus = 0; side = None })
     ∷ Uncrossed Intraday 1 (at_price 206 100 0 None)
     ∷ []
-unfolding demand supply volume surplus has_bid_surplus has_ask_surplus surplus_side limits price price_tick priced best_limits is_best is_no_better lower_kept upper_kept fills_of trades rest_in display refusal accepted step answers_at answers_with
+unfolding demand supply volume surplus has_bid_surplus has_ask_surplus surplus_side limits price price_tick priced best_limits is_best is_no_better lower_kept upper_kept fills_of trades rest_in display enter change delete status ask trade uncross decide step answers_at answers_with
 interruption_of_two_auctions = refl
 
 -- The price after an interruption is the next reference.
-pub interruption_keeps_the_reference : (replay (config_with (Some 5) 200) ((enter 1 Buy 100 (At 210)) ∷ (enter 2 Sell 100 (At 206)) ∷ (1, Ask) ∷ (0, Uncross) ∷ (0, Uncross) ∷ [])).0.reference ≡ 206
-unfolding demand supply volume surplus has_bid_surplus has_ask_surplus surplus_side limits price price_tick priced best_limits is_best is_no_better lower_kept upper_kept fills_of trades rest_in display refusal accepted step
+pub interruption_keeps_the_reference : (replay (config_with (Some 5) 200) (enters 1 Buy 100 (At 210) ∷ enters 2 Sell 100 (At 206) ∷ call 1 Ask ∷ call 0 Uncross ∷ call 0 Uncross ∷ [])).0.reference ≡ 206
+unfolding demand supply volume surplus has_bid_surplus has_ask_surplus surplus_side limits price price_tick priced best_limits is_best is_no_better lower_kept upper_kept fills_of trades rest_in display enter change delete status ask trade uncross decide step
 interruption_keeps_the_reference = refl

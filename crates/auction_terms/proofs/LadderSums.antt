@@ -8,7 +8,8 @@ use Rattle.auction_terms.specs.declared.Side.{Side}
 use Rattle.auction_terms.specs.declared.Side.TheVariants.{Buy, Sell}
 use Rattle.auction_terms.specs.declared.Kind.{Kind}
 use Rattle.auction_terms.specs.Book.{counts, counted}
-use Rattle.auction_terms.specs.Edits.{order_with, without, changed_at, moved_to_end, reduced, less_quantity, IdsDiffer}
+use Rattle.auction_terms.specs.Edits.{order_with, without, changed_at, less_quantity}
+use Rattle.auction_terms.specs.Devices.OrderLists.{moved_to_end, reduced, IdsDiffer}
 use Rattle.auction_terms.specs.Ladder.{standing, market, spread, ladder_of, added, taken, IsTickOf}
 use Rattle.auction_terms.proofs.EditSums.{sum-push, sum-counted, sum-without, sum-changed, sum-moved, sum-reduced}
 use Rattle.auction_terms.proofs.LadderLaws.{same_spread, stands_by, market_by, by_order, by_market, standing_is, market_is, ladder_is, view_same, more, fewer}

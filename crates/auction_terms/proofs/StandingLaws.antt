@@ -9,21 +9,21 @@ use Rattle.auction_terms.specs.declared.Limit.{Limit}
 use Rattle.auction_terms.specs.declared.Limit.TheVariants.{Market, At}
 use Rattle.auction_terms.specs.Book.{is_on, limits}
 use Rattle.auction_terms.specs.Ladder.{is_at, standing}
-use Rattle.auction_terms.proofs.Sums.{quantity_of-cons}
-use Rattle.auction_terms.specs.Leading.{has}
-use Rattle.auction_terms.proofs.Members.{has-cases, no_tick}
+use Rattle.auction_terms.proofs.DemandSums.{quantity_of-cons}
+use Rattle.auction_terms.specs.Devices.Leading.{has}
+use Rattle.auction_terms.proofs.TickListLaws.{has-cases, no_tick}
 
 -- the limits with one more in front
 abbrev with_limit : Limit → List ℕ → List ℕ
 with_limit Market ts = ts
 with_limit (At tick) ts = tick ∷ ts
 
-limits_cons : (limit : Limit) (o : Order) (book : List Order) → o.limit ≡ limit → limits (o ∷ book) ≡ with_limit limit (limits book)
+limits-with : (limit : Limit) (o : Order) (book : List Order) → o.limit ≡ limit → limits (o ∷ book) ≡ with_limit limit (limits book)
 unfolding limits
-limits_cons limit o book e = grind (arith, common_steps)
+limits-with limit o book e = grind (arith, common_steps)
 
 side_limits : (s : Side) (o : Order) (book : List Order) → limits (filter (is_on s) (o ∷ book)) ≡ cond (is_on s o) (with_limit o.limit (limits (filter (is_on s) book))) (limits (filter (is_on s) book))
-side_limits s o book = grind (arith, common_steps, limits_cons)
+side_limits s o book = grind (arith, common_steps, limits-with)
 
 standing_cons : (s : Side) (o : Order) (book : List Order) (t : ℕ) → standing s (o ∷ book) t ≡ cond (is_on s o && is_at t o.limit) o.quantity 0 + standing s book t
 standing_cons s o book t = grind (arith, common_steps, quantity_of-cons, zero-add)
@@ -35,7 +35,7 @@ quantity_there b limit t q rest ts some ih e = grind (arith, common_steps, has-c
 pub standing_limit : (s : Side) (book : List Order) (t : ℕ) → 0 < standing s book t → has t (limits (filter (is_on s) book)) ≡ true
 standing_limit s [] t some = absurd (omega arith)
 standing_limit s (o ∷ book) t some =
-    grind (arith, common_steps, limits_cons, (standing_limit s book t))
+    grind (arith, common_steps, limits-with, (standing_limit s book t))
 
 -- and where an order with something left has its limit, a quantity stands
 pub limit_standing : (s : Side) (book : List Order) (t : ℕ) → All (λ o. 0 < o.quantity) book → has t (limits (filter (is_on s) book)) ≡ true → 0 < standing s book t

@@ -1,5 +1,5 @@
-pub mod Prefixes
-pub mod Adding
-pub mod Histories
-pub mod Closings
-pub mod Faults
+pub mod PrefixLaws
+pub mod StoryLaws
+pub mod HistoryLaws
+pub mod AccountLaws
+pub mod FaultLaws

@@ -1,8 +1,9 @@
 -- What a closing owes.
-use Rattle.std.specs.Prelude.{◌≡◌, ℕ, ◌+◌, ◌<◌, ◌≤◌, ◌==◌, List, [], ◌∷◌, All, Contains, Option, None, Some, length, count_by, sum, slice_index, if◌then◌else◌}
+use Rattle.std.specs.Prelude.{◌≡◌, ℕ, ◌+◌, ◌<◌, ◌≤◌, ◌==◌, List, [], ◌∷◌, All, Contains, Option, None, Some, length}
+use Rattle.std.specs.Prelude.{count_by, sum, slice_index, if◌then◌else◌}
 use mathlib.Core.List.{IsPrefix}
 use Rattle.auction_terms.specs.declared.Config.{Config}
-use Rattle.auction_terms.specs.declared.Command.{Command}
+use Rattle.auction_terms.specs.declared.Call.{Call}
 use Rattle.auction_terms.specs.Day.{IsLegal}
 use Rattle.call_board.specs.Standing.{Standing, own}
 use Rattle.call_board.specs.declared.closing.Closing.{Closing}
@@ -12,7 +13,7 @@ abbrev pub EachOnce : ℕ → List Standing → Type 0
 EachOnce n members = (length members ≡ n) × ((k : ℕ) → k < n → count_by (λ (m : Standing). m.number == k) members ≡ 1)
 
 -- what a member brings is an account of this story: its list is a beginning, and its calls are those of its number
-pub record Accounts (story : List (ℕ × Command)) (m : Standing) : Type 0 where
+pub record Accounts (story : List Call) (m : Standing) : Type 0 where
   pub begins : IsPrefix m.seen story
   pub own_calls : own story m.number ≡ m.mine
   pub count : m.calls ≡ length m.mine
@@ -25,12 +26,19 @@ pub record IsClosing (c : Config) (n : ℕ) (members : List Standing) (closing :
   pub each : All (λ (m : Standing). slice_index closing.calls.items m.number ≡ m.calls) members
 
 -- a closing beside a member that was shown more than the history has: it is the first such member by number
-pub record IsLate (c : Config) (n : ℕ) (members : List Standing) (late : Standing) (seen : ℕ) (closing : Closing) : Type 0 where
+pub record IsLate (c : Config) (n : ℕ) (members : List Standing)
+    (late : Standing) (seen : ℕ) (closing : Closing) : Type 0 where
   pub closes : IsClosing c n members closing
   pub one_of : Contains members late
   pub seen_is : seen ≡ length late.seen
   pub more : length closing.history.items < seen
   pub first : All (λ (m : Standing). m.number < late.number → length m.seen ≤ length closing.history.items) members
+
+-- the fault that hands back the first such member, what it has seen, and the closing
+abbrev pub IsLateFault : {F : Type 0} → (Standing → ℕ → Closing → F) → Config → ℕ → List Standing → F → Type 0
+IsLateFault behind c n members fault =
+    (m : Standing) × (seen : ℕ) × (closing : Closing) × (fault ≡ behind m seen closing)
+    × IsLate c n members m seen closing
 
 -- some member with this number has seen more than so many calls
 abbrev pub HasLate : ℕ → ℕ → List Standing → Type 0
@@ -47,7 +55,8 @@ held_parts (Some m) = 1
 
 -- the member that was kept back is the one that was asked for
 abbrev pub KeptBack : Option ℕ → ℕ → List Standing → Option Standing → Type 0
-KeptBack late end members None = (k : ℕ) → late ≡ Some k → All (λ (m : Standing). m.number ≡ k → length m.seen ≤ end) members
+KeptBack late end members None =
+    (k : ℕ) → late ≡ Some k → All (λ (m : Standing). m.number ≡ k → length m.seen ≤ end) members
 KeptBack late end members (Some m) = (late ≡ Some m.number) × (end < length m.seen) × Contains members m
 
 -- the calls that members with this number brought
@@ -56,7 +65,7 @@ brought k [] = 0
 brought k (m ∷ ms) = (if m.number == k then m.calls else 0) + brought k ms
 
 -- what is known of a member that isn't behind
-pub record Follows (n : ℕ) (story : List (ℕ × Command)) (m : Standing) : Type 0 where
+pub record Follows (n : ℕ) (story : List Call) (m : Standing) : Type 0 where
   pub number : m.number < n
   pub begins : IsPrefix m.seen story
   pub mine : IsPrefix m.mine (own m.seen m.number)

@@ -2,11 +2,12 @@
 use Rattle.std.specs.Prelude.{◌≡◌, ◌≢◌, ℕ, ◌+◌, ◌<◌, ◌≤◌, ◌⊎◌, List, [], ◌∷◌, ◌++◌, All, length}
 use mathlib.Core.List.{IsPrefix}
 use Rattle.auction_terms.specs.declared.Config.{Config}
+use Rattle.auction_terms.specs.declared.Call.{Call}
 use Rattle.auction_terms.specs.declared.Command.{Command}
 use Rattle.auction_terms.specs.declared.Reply.{Reply}
 use Rattle.auction_terms.specs.declared.Entry.{Entry}
 use Rattle.auction_terms.specs.Day.{IsLegal, step, replay, calls_of, display}
-use Rattle.call_board.specs.Standing.{Standing, own}
+use Rattle.call_board.specs.Standing.{Standing, own, placed, call_by}
 use Rattle.call_board.specs.declared.floor.CallFault.{CallFault}
 use Rattle.call_board.specs.declared.floor.CallFault.TheVariants.{Behind}
 use Rattle.call_board.specs.declared.floor.Receipt.{Receipt}
@@ -23,20 +24,21 @@ pub record ToldCall (c : Config) (history : List Entry) (member : ℕ) (command 
   pub last : history ≡ before ++ entry member command r.reply ∷ []
 
 -- what is shown is the display after these calls
-pub record ShowsAfter (c : Config) (calls : List (ℕ × Command)) (s : Shown) : Type 0 where
+pub record ShowsAfter (c : Config) (calls : List Call) (s : Shown) : Type 0 where
   pub calls_are : length calls ≡ s.calls
   pub display : s.display ≡ display (replay c calls).0
 
--- the call comes after all that the member had seen and calls of others, is one more of its own, and has the auction's reply there
+-- the call comes after all that the member had seen and calls of others, is one more of its own, and has the auction's
+-- reply there
 pub record CallsOnce (c : Config) (old new : Standing) (command : Command) (r : Receipt) : Type 0 where
   pub number : new.number ≡ old.number
   pub calls : new.calls ≡ old.calls + 1
-  pub between : List (ℕ × Command)
-  pub others : All (λ (x : ℕ × Command). x.0 ≢ old.number) between
-  pub seen : new.seen ≡ (old.seen ++ between) ++ (old.number, command) ∷ []
+  pub between : List Call
+  pub others : All (λ (x : Call). x.member ≢ old.number) between
+  pub seen : new.seen ≡ (old.seen ++ between) ++ call_by old.number command ∷ []
   pub place : r.number ≡ length new.seen
-  pub reply : r.reply ≡ (step c (replay c (old.seen ++ between)).0 old.number command).1
-  pub mine : new.mine ≡ old.mine ++ (r.number, command) ∷ []
+  pub reply : r.reply ≡ (step c (replay c (old.seen ++ between)).0 (call_by old.number command)).1
+  pub mine : new.mine ≡ old.mine ++ placed r.number command ∷ []
   pub all_mine : own new.seen old.number ≡ new.mine
 
 -- the member has seen no less, and what it is shown is the display after all that it has now seen

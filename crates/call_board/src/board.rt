@@ -61,9 +61,10 @@ where
         &self.floor
     }
 
-    // The floor, once its lock is free. A call is far shorter than the sleep of a thread, so the lock is tried for a while,
-    // with longer and longer pauses, in which the one that has it may call again: what a call touches stays where it is.
-    pub(crate) fn enter<R: Wait>(&self, rt: &R) -> MutexGuard<'_, Floor<K>> {
+    // The floor, once its lock is free. A call is far shorter than the sleep of a thread, so the lock is tried for a
+    // while, with longer and longer pauses, in which the one that has it may call again: what a call touches stays
+    // where it is.
+    pub(crate) fn lock<R: Wait>(&self, rt: &R) -> MutexGuard<'_, Floor<K>> {
         let backoff = Backoff::new();
         for tries in 1..=TRIES {
             if let Some(floor) = self.floor.try_lock() {

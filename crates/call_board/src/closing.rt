@@ -1,8 +1,11 @@
 //! The closing: the history is handed out, and each member's account is held against it.
-ghost use Rattle.std.specs.Prelude.{◌≡◌, ◌+◌, ◌<◌, ◌≤◌, ◌==◌, ℕ, All, length, sum, count_by, ◌↔◌, ◌⊎◌, IfOk, IfErr, IfNone, IfSome, Err, IsTrue};
+ghost use Rattle.std.specs.Prelude.{◌≡◌, ◌+◌, ◌<◌, ◌≤◌, ◌==◌, ℕ, All, length, sum, count_by, ◌↔◌, ◌⊎◌, IfOk, IfErr};
+ghost use Rattle.std.specs.Prelude.{IfNone, IfSome, Err, IsTrue};
+ghost use Rattle.auction_terms.specs.declared.limits.TheConstants.{MAX_CALLS};
 ghost use Rattle.auction_terms.specs.Day.{calls_of};
 ghost use Rattle.call_board.specs.Standing.{Standing};
-ghost use Rattle.call_board.specs.Closed.{EachOnce, Gathered, Follows, Accounts, IsClosing, IsLate, HasLate, KeptBack, held, held_parts};
+ghost use Rattle.call_board.specs.Closed.{EachOnce, Gathered, Follows, Accounts, IsClosing, IsLateFault, HasLate};
+ghost use Rattle.call_board.specs.Closed.{KeptBack, held, held_parts};
 
 use crate::board::Board;
 use crate::day::Day;
@@ -75,96 +78,54 @@ fn first_late<K: Day>(n: u8, story: &Front<K>, members: &[Member<K>]) -> Option<
     for i in 0..members.len() {
         let member = &members[i];
         let number = member.number();
-        if u64::from(member.seen_len()) <= story.len() {
-            member.follow(story);
-        } else if number < least {
+        if !member.follows(story) && number < least {
             least = number;
         }
     }
     if least < n { Some(least) } else { None }
 }
 
+// What the members brought: each number's count, the joined shares, and the member that is kept back, with its share.
+struct Gathering<K: Day> {
+    counts: Vec<u32>,
+    joined: Share<K>,
+    kept: Option<Member<K>>,
+}
+
 // Joins the shares and writes down each member's count. The first member with the late number that has seen more
-// than the history is kept back, with its share.
+// than so many calls is kept back.
 fn gather<K: Day>(
     mut counts: Vec<u32>,
     mut joined: Share<K>,
     book: &mut Book<K>,
     members: Vec<Member<K>>,
     late: Option<u8>,
-    end: u64,
-) -> (Vec<u32>, Share<K>, Option<Member<K>>)
+    end: usize,
+) -> Gathering<K>
     requires counts { (length counts.items ≡ K.parts) × (sum counts.items ≡ 0) }
     requires joined { (joined.parts ≡ 0) × (joined.amount ≡ 0) }
-    requires small { book.old.total ≤ 1048576 }
-    ensures parts { result.1.parts + held_parts result.2 ≡ length members.items }
+    requires small { book.old.total ≤ MAX_CALLS }
+    ensures parts { result.joined.parts + held_parts result.kept ≡ length members.items }
     ensures book { book.new.total ≡ book.old.total }
-    ensures counts { Gathered K.parts members.items result.0.items (result.1.amount + held result.2) }
-    ensures kept { KeptBack late end members.items result.2 }
+    ensures counts { Gathered K.parts members.items result.counts.items (result.joined.amount + held result.kept) }
+    ensures kept { KeptBack late end members.items result.kept }
 {
     let mut kept: Option<Member<K>> = None;
-    for member in members {
-        let Member {
-            number,
-            calls,
-            mut share,
-            watch,
-            front,
-            last,
-            shown,
-            reader,
-        } = member;
-        book.audit(&mut share);
-        counts[usize::from(number)] += calls;
-        if kept.is_none() && late == Some(number) && front.len() > end {
-            kept = Some(Member {
-                number,
-                calls,
-                share,
-                watch,
-                front,
-                last,
-                shown,
-                reader,
-            });
+    for mut member in members {
+        let number = member.number();
+        member.audit(book);
+        counts[usize::from(number)] += member.calls();
+        if kept.is_none() && late == Some(number) && member.seen_len() as usize > end {
+            kept = Some(member);
         } else {
-            joined.merge(share);
+            joined.merge(member.into_share());
             book.audit(&mut joined);
         }
     }
-    (counts, joined, kept)
-}
-
-// The book's total is what the others and this member have counted.
-fn settle<K: Day>(book: &mut Book<K>, joined: Share<K>, member: Member<K>) -> Member<K>
-    requires { joined.parts + 1 ≡ K.parts }
-    ensures whole { joined.amount + member.calls ≡ book.old.total }
-    ensures same { result ≡ member }
-{
-    let Member {
-        number,
-        calls,
-        share,
-        watch,
-        front,
-        last,
-        shown,
-        reader,
-    } = member;
-    let mut whole = joined;
-    book.audit(&mut whole);
-    whole.merge(share);
-    book.audit(&mut whole);
-    let share = whole.split_off(1, u64::from(calls));
-    Member {
-        number,
-        calls,
-        share,
-        watch,
-        front,
-        last,
-        shown,
-        reader,
+    Gathering {
+        counts,
+        joined,
+        kept,
     }
 }
 
@@ -185,7 +146,8 @@ where
     ensures closing { IfOk result (IsClosing K.config K.parts members.items) }
     ensures accounts { IfOk result (λ closing. All (Accounts (calls_of closing.history.items)) members.items) }
     ensures missing { (result ≡ Err (CloseFault.MissingMember board members)) ↔ ¬ EachOnce K.parts members.items }
-    ensures fault { IfErr result (λ f. (f ≡ CloseFault.MissingMember board members) ⊎ ((m : Standing) × (seen : ℕ) × (closing : Closing) × (f ≡ CloseFault.Behind m seen closing) × IsLate K.config K.parts members.items m seen closing)) }
+    ensures fault { IfErr result (λ f. (f ≡ CloseFault.MissingMember board members)
+        ⊎ IsLateFault CloseFault.Behind K.config K.parts members.items f) }
 {
     let n = board.members;
     if !are_complete(n, &members) {
@@ -193,27 +155,28 @@ where
     }
     let Board { floor, counts, .. } = board;
     let Floor {
-        auction: _auction,
         history,
         front,
-        head: _head,
-        counted: _counted,
         mut book,
         joined,
         copies,
-        latest: _latest,
+        ..
     } = floor.into_inner();
     copies.end(rt);
     let late = first_late(n, &front, &members);
-    let (calls, mut joined, kept) = gather(counts, joined, &mut book, members, late, front.len());
+    let Gathering {
+        counts: calls,
+        mut joined,
+        kept,
+    } = gather(counts, joined, &mut book, members, late, history.len());
     let closing = Closing { history, calls };
     match kept {
         None => {
             book.audit(&mut joined);
             Ok(closing)
         }
-        Some(member) => {
-            let member = settle(&mut book, joined, member);
+        Some(mut member) => {
+            member.settle(&mut book, joined);
             let seen = member.seen_len();
             Err(CloseFault::Behind {
                 member,

@@ -1,21 +1,22 @@
 //! What the board's lock keeps, and the one event of the day: a call is recorded.
-ghost use Rattle.std.specs.Prelude.{◌≡◌, ◌+◌, ◌<◌, ◌≤◌, ◌≢◌, ◌⊎◌, ◌++◌, ◌∷◌, [], ◌↔◌, ℕ, length, IfOk, IfSome, OnOk, OnErr, Err, Some};
-ghost use mathlib.Core.List.{IsPrefix};
+ghost use Rattle.std.specs.Prelude.{◌≡◌, ◌+◌, ◌<◌, ◌≤◌, ◌≢◌, ◌⊎◌, ◌++◌, ◌∷◌, [], ◌↔◌, ℕ, length};
+ghost use Rattle.std.specs.Prelude.{IfOk, IfNone, IfSome, OnOk, OnErr, Err, Some};
 ghost use Rattle.auction_terms.specs.Day.{IsLegal, calls_of};
 ghost use Rattle.call_board.specs.declared.member.Shown.{Shown};
-ghost use Rattle.call_board.specs.Standing.{own};
+ghost use Rattle.call_board.specs.Closed.{Follows};
+ghost use Rattle.call_board.specs.Standing.{call_by, own};
 ghost use Rattle.call_board.specs.Told.{behind, entry, CallsOnce, IsBehind, Looks, ShowsAfter};
 
 use crate::day::Day;
 use crate::member::{Member, Shown};
 use crate::story::{Front, Head};
-use crate::versions::{Copies, Latest, Update, Version, View};
+use crate::versions::{Copies, Update, Version, View};
 use auction::Auction;
-use auction_terms::{Command, Entry, Reply};
+use auction_terms::{Call, Command, Entry, Reply};
 use left_right::Absorb;
 use std::marker::Model;
+use std::sync::Wait;
 use std::sync::ledger::{Book, Share};
-use std::sync::{Arc, Wait};
 
 /// A recorded call: its place in the history, from 1, and the auction's reply.
 #[derive(Clone, Copy, PartialEq, Eq, Debug)]
@@ -30,7 +31,8 @@ pub struct Receipt {
 pub enum CallFault {
     /// The history has `max_calls` entries.
     HistoryFull,
-    /// Room to show calls to readers was refused. The board's first call asks for it.
+    /// The story of the day took no call more. No run is known to meet it: the floor alone adds to the story, and a
+    /// call takes no memory.
     NoMemory,
     /// The member has seen more than the `history` calls that are recorded, or has counted other than the `counted`
     /// entries with its number.
@@ -38,8 +40,8 @@ pub enum CallFault {
 }
 
 /// What the board's lock keeps: the auction that gives the replies, the history of the day with the story of its
-/// calls, how many entries each number has, the ledger's book, and the writer of the copies that looks read. Contracts
-/// see the history.
+/// calls, how many entries each number has, the ledger's book, and the copies that looks read. Contracts see the
+/// history.
 #[derive(Drop)]
 pub struct Floor<K: Day>
 where
@@ -55,8 +57,6 @@ where
     /// A share without a part, in which the closing joins those of the members.
     pub(crate) joined: Share<K>,
     pub(crate) copies: Copies<K>,
-    /// How many calls the copies show, which members know too.
-    pub(crate) latest: Arc<Latest>,
 }
 
 impl<K: Day> Model for Floor<K>
@@ -65,13 +65,16 @@ where
 {
     ghost use Rattle.std.specs.Prelude.{◌≡◌, List, vec_capacity};
     ghost use Rattle.auction_terms.specs.declared.Entry.{Entry};
-    ghost use Rattle.call_board.specs.Kept.{Kept};
+    ghost use Rattle.call_board.specs.KeptFloor.{KeptFloor};
 
     ghost Value = { List Entry };
 
     ghost view = { λ f. f.history.items };
 
-    ghost invariant = { λ f. Kept K.config K.parts f.auction f.history.items f.front f.counted.items f.book.total (vec_capacity f.history) × (f.joined.parts ≡ 0) × (f.joined.amount ≡ 0) };
+    ghost invariant = { λ f.
+        KeptFloor K.config K.parts f.auction f.history.items f.front f.copies f.counted.items f.book.total
+        (vec_capacity f.history)
+        × (f.joined.parts ≡ 0) × (f.joined.amount ≡ 0) };
 }
 
 impl<K: Day> Floor<K>
@@ -92,38 +95,46 @@ where
         ensures call { IfOk result (λ r. CallsOnce K.config by.old by.new command r) }
         ensures story { OnOk result (by.new.seen ≡ calls_of self.new) }
         ensures full { (result ≡ Err CallFault.HistoryFull) ↔ (length self.old ≡ K.config.max_calls) }
-        ensures behind { IsBehind self.old by.old → length self.old ≢ K.config.max_calls → result ≡ Err (CallFault.Behind (length self.old) (length (own (calls_of self.old) by.old.number))) }
-        ensures behind_only { (h k : ℕ) → result ≡ Err (CallFault.Behind h k) → IsBehind self.old by.old × (h ≡ length self.old) × (k ≡ length (own (calls_of self.old) by.old.number)) }
+        ensures behind { IsBehind self.old by.old → length self.old ≢ K.config.max_calls →
+            result ≡ Err (behind self.old by.old.number) }
+        ensures behind_only { (h k : ℕ) → result ≡ Err (CallFault.Behind h k) →
+            IsBehind self.old by.old × (CallFault.Behind h k ≡ behind self.old by.old.number) }
         ensures fault { OnErr result ((self.new ≡ self.old) × (by.new ≡ by.old)) }
         ensures legal { IsLegal K.config self.new }
     {
         if let Some(fault) = self.refusal(by) {
             return Err(fault);
         }
-        if self.copies.reserve().is_err() {
-            return Err(CallFault::NoMemory);
-        }
         let mut front = self.front.again();
         // The floor alone adds to the story, under its lock, so this adds always.
-        if !front.add(&self.head, (by.number(), command)) {
+        if !front.add(
+            &self.head,
+            Call {
+                member: by.number(),
+                command,
+            },
+        ) {
             return Err(CallFault::NoMemory);
         }
-        by.compare(&self.front);
-        Ok(self.enter(by, rt, command, front))
+        Ok(self.write_down(by, rt, command, front))
     }
 
-    // Why a member's call can't be recorded, if it can't, want of memory aside.
+    // Why a member's call can't be recorded, if it can't.
     fn refusal(&self, by: &Member<K>) -> Option<CallFault>
         ensures full { (result ≡ Some CallFault.HistoryFull) ↔ (length self.now ≡ K.config.max_calls) }
-        ensures behind { IsBehind self.now by.now → length self.now ≢ K.config.max_calls → result ≡ Some (behind self.now by.now.number) }
-        ensures only { IfSome result (λ fault. (fault ≡ CallFault.HistoryFull) ⊎ (IsBehind self.now by.now × (fault ≡ behind self.now by.now.number))) }
+        ensures behind { IsBehind self.now by.now → length self.now ≢ K.config.max_calls →
+            result ≡ Some (behind self.now by.now.number) }
+        ensures only { IfSome result (λ fault. (fault ≡ CallFault.HistoryFull)
+            ⊎ (IsBehind self.now by.now × (fault ≡ behind self.now by.now.number))) }
+        ensures follows { IfNone result (Follows K.parts (calls_of self.now) by.now) }
+        ensures counted { IfNone result (by.now.calls ≡ length (own (calls_of self.now) by.now.number)) }
     {
         if self.auction.is_full() {
             return Some(CallFault::HistoryFull);
         }
         let history = self.auction.calls();
         let counted = self.counted[usize::from(by.number())];
-        if by.seen_len() > history || by.calls() != counted {
+        if !by.follows(&self.front) || by.calls() != counted {
             return Some(CallFault::Behind { history, counted });
         }
         None
@@ -146,7 +157,7 @@ where
         ensures look { (s : Shown) × Looks K.config by.old by.new s }
         ensures all_calls { length self.now ≤ length by.new.seen }
     {
-        by.meet(self.front.again(), self.shown());
+        by.meet(View::of(self.front.again(), self.shown()));
     }
 
     // Gives back the copies.
@@ -155,8 +166,8 @@ where
         copies.end(rt);
     }
 
-    // The part of a recorded call that can't fail.
-    fn enter<R: Wait>(
+    // The part of a recorded call that can't fail: the story with it is there.
+    fn write_down<R: Wait>(
         &mut self,
         by: &mut Member<K>,
         rt: &R,
@@ -164,8 +175,8 @@ where
         front: Front<K>,
     ) -> Receipt
         requires room { length self.old < K.config.max_calls }
-        requires front { front ≡ calls_of self.old ++ (by.old.number, command) ∷ [] }
-        requires seen { IsPrefix by.old.seen (calls_of self.old) }
+        requires front { front ≡ calls_of self.old ++ call_by by.old.number command ∷ [] }
+        requires follows { Follows K.parts (calls_of self.old) by.old }
         requires counted { by.old.calls ≡ length (own (calls_of self.old) by.old.number) }
         ensures history { self.new ≡ self.old ++ entry by.old.number command result.reply ∷ [] }
         ensures call { CallsOnce K.config by.old by.new command result }
@@ -173,29 +184,25 @@ where
         ensures legal { IsLegal K.config self.new }
     {
         let member = by.number();
-        self.book.audit(&mut by.share);
         let reply = self.auction.apply(member, command);
         let display = self.auction.show();
+        let number = self.auction.calls();
+        let view = View::of(
+            front.again(),
+            Shown {
+                calls: number,
+                display,
+            },
+        );
+        by.take_in(&mut self.book, view.again());
+        self.counted[usize::from(member)] += 1;
         self.history.push_reserved(Entry {
             member,
             command,
             reply,
         });
-        self.book.add(&mut by.share, 1);
-        self.counted[usize::from(member)] += 1;
-        by.calls += 1;
-        by.last = self.auction.calls();
-        by.shown = Shown {
-            calls: self.auction.calls(),
-            display,
-        };
-        by.front = front.again();
-        self.copies.publish(rt, View::of(&front, by.shown));
-        self.latest.tell(by.last);
+        self.copies.publish(rt, view);
         self.front = front;
-        Receipt {
-            number: self.auction.calls(),
-            reply,
-        }
+        Receipt { number, reply }
     }
 }

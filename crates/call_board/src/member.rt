@@ -1,20 +1,20 @@
 //! Members: their calls and their looks.
-ghost use Rattle.std.specs.Prelude.{◌≡◌, ◌<◌, ◌≤◌, ◌⊎◌, ◌≢◌, ℕ, List, length, IfOk, IfErr, Err};
-ghost use mathlib.Core.List.{IsPrefix};
+ghost use Rattle.std.specs.Prelude.{◌≡◌, ◌+◌, ◌<◌, ◌≤◌, ◌⊎◌, ◌≢◌, [], ℕ, List, length, IfOk, IfErr, Err, MatchBool};
 ghost use Rattle.auction_terms.specs.declared.Entry.{Entry};
-ghost use Rattle.call_board.specs.Told.{CallsOnce, ToldCall, SeesFull, Looks, ShowsAfter};
+ghost use Rattle.auction_terms.specs.declared.limits.TheConstants.{MAX_CALLS};
+ghost use Rattle.call_board.specs.Standing.{Standing, own, newcomer, after_call};
+ghost use Rattle.call_board.specs.Told.{CallsOnce, ToldCall, SeesFull, Looks};
 
 use crate::board::Board;
 use crate::day::Day;
 use crate::floor::{CallFault, Receipt};
 use crate::story::Front;
-use crate::versions::{CopyReader, Update, Version, Watch, read};
+use crate::versions::{Update, Version, View, Viewer};
 use auction_terms::{Command, Display};
-use core::mem::replace_with;
 use left_right::Absorb;
 use std::marker::Model;
 use std::sync::Wait;
-use std::sync::ledger::Share;
+use std::sync::ledger::{Book, Share};
 
 /// What a look shows: the number of calls so far, and the display of the book after them.
 #[derive(Clone, Copy, PartialEq, Eq, Debug)]
@@ -24,40 +24,55 @@ pub struct Shown {
 }
 
 /// A member of one board, which can't be copied. It has one part of the board's ledger, whose amount is its count of
-/// recorded calls, a reader of the copies, and a beginning of the story: all that it was shown. Contracts see it as a
-/// `Standing`: its number, its count, what it has seen, and its own calls by their places in the history.
+/// recorded calls, what it looks with, and what it was shown last. Contracts see it as a `Standing`: its number, its
+/// count, what it has seen, and its own calls by their places in the history.
 #[derive(Drop)]
 pub struct Member<K: Day> {
-    pub(crate) number: u8,
-    pub(crate) calls: u32,
-    pub(crate) share: Share<K>,
-    pub(crate) watch: Watch,
-    pub(crate) front: Front<K>,
+    number: u8,
+    calls: u32,
+    share: Share<K>,
+    viewer: Viewer<K>,
+    seen: View<K>,
     /// The place of its last recorded call, or 0.
-    pub(crate) last: u32,
-    pub(crate) shown: Shown,
-    pub(crate) reader: CopyReader<K>,
+    last: u32,
 }
 
 impl<K: Day> Model for Member<K> {
-    ghost use Rattle.std.specs.Prelude.{◌≡◌, ◌<◌, ◌≤◌, length, take};
-    ghost use Rattle.call_board.specs.Standing.{Standing, own};
-    ghost use Rattle.call_board.specs.Told.{ShowsAfter};
+    ghost use Rattle.call_board.specs.KeptMember.{KeptMember};
+    ghost use Rattle.auction_terms.specs.declared.limits.TheConstants.{MAX_CALLS};
+    ghost use Rattle.call_board.specs.Standing.{Standing, standing};
 
     ghost Value = { Standing };
 
-    ghost view = { λ m. record { number = m.number; calls = m.calls; seen = m.front; mine = own (take m.last m.front) m.number } };
+    ghost view = { λ m. standing m.number m.calls m.last m.seen };
 
-    ghost invariant = { λ m. (m.share.parts ≡ 1) × (m.share.amount ≡ m.calls) × (m.number < K.parts) × (m.last ≤ length m.front) × (length (own (take m.last m.front) m.number) ≡ m.calls) × ShowsAfter K.config m.front m.shown };
+    ghost invariant = { λ m. KeptMember K.parts m.number m.calls m.last m.seen m.share.parts m.share.amount };
 }
 
 impl<K: Day> Member<K> {
     ghost use Rattle.call_board.specs.Closed.{Follows};
 
+    // A member with this number, which has made no call and was shown none.
+    pub(crate) fn new(number: u8, share: Share<K>, viewer: Viewer<K>, seen: View<K>) -> Member<K>
+        requires number { number < K.parts }
+        requires share { (share.parts ≡ 1) × (share.amount ≡ 0) }
+        requires seen { seen ≡ [] }
+        ensures { result ≡ newcomer number }
+    {
+        Member {
+            number,
+            calls: 0,
+            share,
+            viewer,
+            seen,
+            last: 0,
+        }
+    }
+
     /// Its number on the board, from 0. Member 0 is the operator, who alone may uncross.
     pub fn number(&self) -> u8
         ensures number { result ≡ self.now.number }
-        ensures one_of { self.now.number < K.parts }
+        ensures one_of { result < K.parts }
     {
         self.number
     }
@@ -88,9 +103,10 @@ impl<K: Day> Member<K> {
         ensures told { IfOk result (λ r. (h : List Entry) × ToldCall K.config h self.old.number command r) }
         ensures full { result ≡ Err CallFault.HistoryFull → SeesFull K.config self.old self.new }
         ensures fault { IfErr result (λ e. e ≢ CallFault.HistoryFull → self.new ≡ self.old) }
-        ensures behind { (h k : ℕ) → result ≡ Err (CallFault.Behind h k) → (h < length self.old.seen) ⊎ (self.old.calls ≢ k) }
+        ensures behind { (h k : ℕ) → result ≡ Err (CallFault.Behind h k) →
+            (h < length self.old.seen) ⊎ (self.old.calls ≢ k) }
     {
-        let mut floor = board.enter(rt);
+        let mut floor = board.lock(rt);
         let result = floor.record(self, rt, command);
         if result == Err(CallFault::HistoryFull) {
             floor.hand_on(self);
@@ -107,11 +123,8 @@ impl<K: Day> Member<K> {
     pub fn look(&mut self) -> Shown
         ensures { Looks K.config self.old self.new result }
     {
-        if !self.watch.may_find_more(self.shown.calls) {
-            return self.again();
-        }
-        match replace_with(&mut self.reader, (), read::<K>) {
-            Some((front, shown)) => self.meet(front, shown),
+        match self.viewer.find_after(self.seen.calls()) {
+            Some(view) => self.meet(view),
             None => self.again(),
         }
     }
@@ -119,41 +132,73 @@ impl<K: Day> Member<K> {
     pub(crate) fn seen_len(&self) -> u32
         ensures { result ≡ length self.now.seen }
     {
-        self.shown.calls
+        self.seen.calls()
     }
 
-    // What a closing needs of a member that isn't behind.
-    pub(crate) fn follow(&self, story: &Front<K>)
-        requires { length self.now.seen ≤ length story.now }
-        ensures { Follows K.parts story.now self.now }
+    // Whether it has seen no more than this story, which it then follows.
+    pub(crate) fn follows(&self, story: &Front<K>) -> bool
+        ensures { MatchBool result (Follows K.parts story.now self.now) (length story.now < length self.now.seen) }
     {
-        let _ = story.longer(&self.front);
+        self.seen.front().begins(story)
     }
 
-    // Of what was seen and a longer beginning of the story, the one begins the other.
-    pub(crate) fn compare(&self, longer: &Front<K>)
-        requires { length self.now.seen ≤ length longer.now }
-        ensures { IsPrefix self.now.seen longer.now }
-    {
-        let _ = longer.longer(&self.front);
-    }
-
+    // What it was shown last.
     fn again(&self) -> Shown
         ensures { Looks K.config self.now self.now result }
     {
-        self.shown
+        self.seen.shown()
     }
 
-    // Takes in a copy's story where it is no shorter.
-    pub(crate) fn meet(&mut self, front: Front<K>, shown: Shown) -> Shown
-        requires { ShowsAfter K.config front shown }
+    // Takes in what is shown, where that is no less than it has seen.
+    pub(crate) fn meet(&mut self, view: View<K>) -> Shown
         ensures look { Looks K.config self.old self.new result }
-        ensures at_least { length front ≤ length self.new.seen }
+        ensures at_least { length view ≤ length self.new.seen }
     {
-        if self.front.len() <= front.len() {
-            self.front = front.longer(&self.front);
-            self.shown = shown;
+        if self.seen.front().begins(view.front()) {
+            self.seen = view;
         }
-        self.shown
+        self.seen.shown()
+    }
+
+    // Takes in its own call, which was recorded as the last of those that are shown, and counts it once.
+    pub(crate) fn take_in(&mut self, book: &mut Book<K>, view: View<K>)
+        requires small { book.old.total < MAX_CALLS }
+        requires own { length (own view self.old.number) ≡ self.old.calls + 1 }
+        ensures most { self.new.calls ≤ book.new.total }
+        ensures member { self.new ≡ after_call self.old view }
+        ensures book { book.new.total ≡ book.old.total + 1 }
+    {
+        book.audit(&mut self.share);
+        book.add(&mut self.share, 1);
+        self.calls += 1;
+        self.last = view.calls();
+        self.seen = view;
+    }
+
+    // Its count is no more than the total.
+    pub(crate) fn audit(&mut self, book: &mut Book<K>)
+        ensures most { self.new.calls ≤ book.new.total }
+        ensures same { (self.new ≡ self.old) × (book.new.total ≡ book.old.total) }
+    {
+        book.audit(&mut self.share);
+    }
+
+    // Gives up its part of the ledger, with its count.
+    pub(crate) fn into_share(self) -> Share<K>
+        ensures { (result.parts ≡ 1) × (result.amount ≡ self.calls) }
+    {
+        self.share
+    }
+
+    // With the share of all others the book is whole: its total is what they and this member have counted.
+    pub(crate) fn settle(&mut self, book: &mut Book<K>, mut others: Share<K>)
+        requires { others.parts + 1 ≡ K.parts }
+        ensures whole { others.amount + self.old.calls ≡ book.old.total }
+        ensures same { self.new ≡ self.old }
+    {
+        book.audit(&mut others);
+        self.share.merge(others);
+        book.audit(&mut self.share);
+        self.share = self.share.split_off(1, u64::from(self.calls));
     }
 }

@@ -8,14 +8,14 @@ ghost use mathlib.Core.List.{IsPrefix};
 ghost use Rattle.call_board.specs.Stories.{head_of};
 
 use crate::day::Day;
-use auction_terms::Command;
+use auction_terms::Call;
 use logbook::{Gain, Offer, Plain, Play, Rule, Seen, Start, Word};
 use std::marker::{Model, PhantomData};
 
 /// The rule of the story: one word has its length.
 pub(crate) struct Law;
 
-impl Rule<(u8, Command), u64> for Law {
+impl Rule<Call, u64> for Law {
     ghost use Rattle.std.specs.Prelude.{[]};
     ghost use base.Fml.{ftrue};
     ghost use Rattle.call_board.specs.Stories.{IsStory};
@@ -36,7 +36,7 @@ impl Rule<(u8, Command), u64> for Law {
 /// The floor gains nothing by a step but what it has seen.
 pub(crate) struct Nothing;
 
-impl Gain<(u8, Command), u64> for Nothing {
+impl Gain<Call, u64> for Nothing {
     ghost use base.Fml.{ftrue};
 
     ghost after = { λ names about answer. ftrue };
@@ -45,13 +45,13 @@ impl Gain<(u8, Command), u64> for Nothing {
 /// A step that adds a call.
 pub(crate) struct Add;
 
-impl Play<(u8, Command), u64> for Add {
+impl Play<Call, u64> for Add {
     ghost use Rattle.call_board.specs.Stories.{Adds};
 
     ghost then = { Adds };
 }
 
-impl Plain<(u8, Command), (u8, Command), u64> for Add {
+impl Plain<Call, Call, u64> for Add {
     ghost use Rattle.std.specs.Prelude.{None};
 
     ghost ask = { λ call. call };
@@ -62,8 +62,8 @@ impl Plain<(u8, Command), (u8, Command), u64> for Add {
 /// An empty story, which has no name yet.
 #[derive(Drop)]
 pub(crate) struct Blank {
-    head: Word<(u8, Command), u64, Law>,
-    seen: Seen<(u8, Command), u64, Law>,
+    head: Word<Call, u64, Law>,
+    seen: Seen<Call, u64, Law>,
     pub ghost empty: { seen.log ≡ [] },
     pub ghost head_is: { head ≡ head_of seen.book },
 }
@@ -100,7 +100,7 @@ impl Blank {
 /// The length of the story, in one word.
 #[derive(Drop)]
 pub(crate) struct Head<K: Day> {
-    head: Word<(u8, Command), u64, Law>,
+    head: Word<Call, u64, Law>,
     of: PhantomData<K>,
     ghost head_is: { head ≡ head_of K.story },
 }
@@ -109,15 +109,15 @@ pub(crate) struct Head<K: Day> {
 #[derive(Drop)]
 pub(crate) struct Front<K: Day> {
     count: u64,
-    seen: Seen<(u8, Command), u64, Law>,
+    seen: Seen<Call, u64, Law>,
     of: PhantomData<K>,
 }
 
 impl<K: Day> Model for Front<K> {
-    ghost use Rattle.std.specs.Prelude.{◌≡◌, List, ℕ, length};
-    ghost use Rattle.auction_terms.specs.declared.Command.{Command};
+    ghost use Rattle.std.specs.Prelude.{◌≡◌, List, length};
+    ghost use Rattle.auction_terms.specs.declared.Call.{Call};
 
-    ghost Value = { List (ℕ × Command) };
+    ghost Value = { List Call };
 
     ghost view = { λ f. f.seen.log };
 
@@ -125,13 +125,6 @@ impl<K: Day> Model for Front<K> {
 }
 
 impl<K: Day> Front<K> {
-    /// How many calls it has.
-    pub(crate) fn len(&self) -> u64
-        ensures { result ≡ length self.now }
-    {
-        self.count
-    }
-
     /// A copy.
     pub(crate) fn again(&self) -> Front<K>
         ensures { result ≡ self.now }
@@ -143,28 +136,23 @@ impl<K: Day> Front<K> {
         }
     }
 
-    /// The longer of two beginnings, which the other begins.
-    pub(crate) fn longer(&self, other: &Front<K>) -> Front<K>
-        ensures shorter { length self.now < length other.now → (result ≡ other.now) × IsPrefix self.now other.now }
-        ensures no_shorter { length other.now ≤ length self.now → (result ≡ self.now) × IsPrefix other.now self.now }
+    /// Whether it is no longer than the other, which it then begins.
+    pub(crate) fn begins(&self, other: &Front<K>) -> bool
+        ensures { MatchBool result (IsPrefix self.now other.now) (length other.now < length self.now) }
     {
         let mut both = self.seen.again();
         both.learn(&other.seen);
-        if self.count < other.count {
-            other.again()
-        } else {
-            self.again()
-        }
+        self.count <= other.count
     }
 
     /// Adds a call to all that was seen, and says whether it did. It did not where the story was longer.
-    pub(crate) fn add(&mut self, head: &Head<K>, call: (u8, Command)) -> bool
+    pub(crate) fn add(&mut self, head: &Head<K>, call: Call) -> bool
         requires room { length self.old < 2 ^ 62 }
         ensures { MatchBool result (self.new ≡ self.old ++ call ∷ []) (IsPrefix self.old self.new) }
     {
-        let mut offer: Offer<(u8, Command), u64, Law, Nothing> = self
+        let mut offer: Offer<Call, u64, Law, Nothing> = self
             .seen
-            .plain::<Nothing, (u8, Command), Add>(&call);
+            .plain::<Nothing, Call, Add>(&call);
         let mut pen = self.seen.no_pen();
         let count = self.count;
         let found = head

@@ -1,7 +1,7 @@
 //! The two copies of what the board shows, which looks read, kept by `left_right`: readers take one with no lock while
 //! the floor changes the other, and then the two are swapped. Each copy is a beginning of the story with what is shown
 //! after it.
-ghost use Rattle.std.specs.Prelude.{◌≡◌, ◌^◌, ◌<◌, IfSome};
+ghost use Rattle.std.specs.Prelude.{◌≡◌, ◌^◌, ◌<◌, false, length, IfOk, IsTrue};
 ghost use Rattle.call_board.specs.Told.{ShowsAfter};
 
 use crate::day::Day;
@@ -13,13 +13,14 @@ use left_right::Absorb;
 use left_right::reader::Reader;
 use left_right::writer::Writer;
 use std::alloc::{AllocError, Global};
-use std::marker::Model;
+use std::marker::{Model, PhantomData};
 use std::mem::ManuallyDrop;
 use std::sync::atomic::Ordering::SeqCst;
 use std::sync::atomic::{AtomicBool, AtomicU32};
 use std::sync::{Arc, Wait};
 
-/// What the board shows: a beginning of the story, and what is shown after it. Contracts see the calls of that beginning.
+/// What the board shows: a beginning of the story, and what is shown after it. Contracts see the calls of that
+/// beginning.
 #[derive(Drop)]
 pub(crate) struct View<K: Day> {
     front: Front<K>,
@@ -27,11 +28,11 @@ pub(crate) struct View<K: Day> {
 }
 
 impl<K: Day> Model for View<K> {
-    ghost use Rattle.std.specs.Prelude.{List, ℕ};
-    ghost use Rattle.auction_terms.specs.declared.Command.{Command};
+    ghost use Rattle.std.specs.Prelude.{List};
+    ghost use Rattle.auction_terms.specs.declared.Call.{Call};
     ghost use Rattle.call_board.specs.Told.{ShowsAfter};
 
-    ghost Value = { List (ℕ × Command) };
+    ghost Value = { List Call };
 
     ghost view = { λ v. v.front };
 
@@ -40,29 +41,37 @@ impl<K: Day> Model for View<K> {
 
 impl<K: Day> View<K> {
     // What is shown after a beginning of the story.
-    pub(crate) fn of(front: &Front<K>, shown: Shown) -> View<K>
-        requires { ShowsAfter K.config front.now shown }
-        ensures { result ≡ front.now }
+    pub(crate) fn of(front: Front<K>, shown: Shown) -> View<K>
+        requires { ShowsAfter K.config front shown }
+        ensures { result ≡ front }
+    {
+        View { front, shown }
+    }
+
+    // A copy.
+    pub(crate) fn again(&self) -> View<K>
+        ensures { result ≡ self.now }
     {
         View {
-            front: front.again(),
-            shown,
+            front: self.front.again(),
+            shown: self.shown,
         }
     }
 
-    fn again(&self) -> View<K>
-        ensures { result ≡ self.now }
+    // How many calls it is shown after.
+    pub(crate) fn calls(&self) -> u32
+        ensures { result ≡ length self.now }
     {
-        View::of(self.front(), self.shown())
+        self.shown.calls
     }
 
-    fn shown(&self) -> Shown
+    pub(crate) fn shown(&self) -> Shown
         ensures { ShowsAfter K.config self.now result }
     {
         self.shown
     }
 
-    fn front(&self) -> &Front<K>
+    pub(crate) fn front(&self) -> &Front<K>
         ensures { result.now ≡ self.now }
     {
         &self.front
@@ -101,24 +110,20 @@ impl Latest {
     }
 }
 
-/// A member's watch over what the copies show. It begins with the member's first look, which reads a copy: what that may
-/// miss is shown after it, and so is told.
+/// A member's watch over what the copies show. It begins with the member's first look, which reads a copy: what that
+/// may miss is shown after it, and so is told.
 #[derive(Drop)]
-pub(crate) struct Watch {
+struct Watch {
     latest: Arc<Latest>,
     is_on: bool,
 }
 
 impl Watch {
-    pub(crate) fn new(latest: &Arc<Latest>) -> Result<Watch, AllocError> {
-        Ok(Watch {
-            latest: Arc::try_clone(latest)?,
-            is_on: false,
-        })
-    }
-
     // Whether the copies may show more than so many calls.
-    pub(crate) fn may_find_more(&mut self, calls: u32) -> bool {
+    fn may_find_more(&mut self, calls: u32) -> bool
+        ensures first { self.old.is_on ≡ false → IsTrue result }
+        ensures watches { IsTrue self.new.is_on }
+    {
         if self.is_on {
             return self.latest.calls.load(SeqCst) > calls;
         }
@@ -138,7 +143,9 @@ pub struct Version<K: Day> {
 }
 
 impl<K: Day> Version<K> {
-    fn of(view: View<K>) -> Version<K> {
+    fn of(view: View<K>) -> Version<K>
+        ensures { result.view ≡ view }
+    {
         Version {
             before: APART,
             view,
@@ -147,10 +154,11 @@ impl<K: Day> Version<K> {
     }
 }
 
-/// What the copies are to show next; without a view, what they show.
+/// An operation on a copy, of which there is none: the floor writes what a copy shows whole, so nothing has to be kept
+/// until both copies have it.
 #[derive(Drop)]
 pub struct Update<K: Day> {
-    view: Option<View<K>>,
+    of: PhantomData<K>,
 }
 
 impl<K: Day> Absorb<Update<K>> for Version<K> {
@@ -162,62 +170,76 @@ impl<K: Day> Absorb<Update<K>> for Version<K> {
 
     ghost never_fails = { Unit {0} };
 
-    fn absorb_first(&mut self, update: &Update<K>, _other: &Version<K>) -> Result<(), AllocError> {
-        if let Some(view) = &update.view {
-            self.view = view.again();
-        }
-        Ok(())
-    }
-
-    fn absorb_second(&mut self, update: Update<K>, _other: &Version<K>) -> Result<(), Update<K>> {
-        let Update { view } = update;
-        if let Some(view) = view {
-            self.view = view;
-        }
+    fn absorb_first(&mut self, _update: &Update<K>, _other: &Version<K>) -> Result<(), AllocError> {
         Ok(())
     }
 }
 
-pub(crate) type CopyWriter<K> = Writer<Version<K>, Update<K>, (), Unruled>;
+type CopyWriter<K> = Writer<Version<K>, Update<K>, (), Unruled>;
 
-pub(crate) type CopyReader<K> = Reader<Version<K>, (), Unruled>;
+type CopyReader<K> = Reader<Version<K>, (), Unruled>;
 
 // What a reader finds, if there is a copy. It takes no lock and no memory.
-pub(crate) fn read<K: Day>(
-    reader: CopyReader<K>,
-    _nothing: (),
-) -> (CopyReader<K>, Option<(Front<K>, Shown)>)
-    ensures { IfSome result.1 (λ t. ShowsAfter K.config t.0 t.1) }
-{
+fn read<K: Day>(reader: CopyReader<K>, _nothing: ()) -> (CopyReader<K>, Option<View<K>>) {
     match reader.enter_as::<Unruled>() {
         Ok(reading) => {
-            let view = &reading.get().view;
-            let found = (view.front().again(), view.shown());
-            (reading.leave(), Some(found))
+            let view = reading.get().view.again();
+            (reading.leave(), Some(view))
         }
         Err(reader) => (reader, None),
     }
 }
 
-/// The writer of the copies.
+/// What a member looks with: a reader of the copies, and a watch over how many calls they show.
+#[derive(Drop)]
+pub(crate) struct Viewer<K: Day> {
+    reader: CopyReader<K>,
+    watch: Watch,
+}
+
+impl<K: Day> Viewer<K> {
+    // What a copy shows, where there is one and it may have more than so many calls. It takes no lock and no memory.
+    pub(crate) fn find_after(&mut self, calls: u32) -> Option<View<K>> {
+        if self.watch.may_find_more(calls) {
+            replace_with(&mut self.reader, (), read::<K>)
+        } else {
+            None
+        }
+    }
+}
+
+/// The two copies, and how many calls they show, as the floor has them. Contracts see the calls after which readers are
+/// shown the display.
 pub(crate) struct Copies<K: Day>
 where
     Version<K>: Absorb<Update<K>, State = ()>,
 {
     writer: CopyWriter<K>,
-    /// Whether the writer's line has room for an update, as it has once it had one.
-    has_room: bool,
+    latest: Arc<Latest>,
+}
+
+impl<K: Day> Model for Copies<K>
+where
+    Version<K>: Absorb<Update<K>, State = ()>,
+{
+    ghost use Rattle.std.specs.Prelude.{List};
+    ghost use Rattle.auction_terms.specs.declared.Call.{Call};
+
+    ghost Value = { List Call };
+
+    ghost view = { λ c. c.writer.desk.shown.value.view };
 }
 
 impl<K: Day> Drop for Copies<K>
 where
     Version<K>: Absorb<Update<K>, State = ()>,
 {
-    // Only a writer that may wait for the readers can give the copies back, and a drop may not wait. So they are leaked.
+    // Only a writer that may wait for the readers can give the copies back, and a drop may not wait. So they are
+    // leaked.
     fn drop(self) {
         let Self {
             writer,
-            has_room: _,
+            latest: _latest,
         } = self;
         let _left = unsafe { ManuallyDrop::new_unchecked(writer) };
     }
@@ -230,58 +252,50 @@ where
     // Two copies of what is shown at first, and room for so many readers.
     pub(crate) fn open(
         alloc: Global,
-        front: &Front<K>,
-        shown: Shown,
+        opening: &View<K>,
         readers: usize,
     ) -> Result<Copies<K>, AllocError>
-        requires shown { ShowsAfter K.config front.now shown }
-        requires readers { (0 < readers) × (readers < 2 ^ 32) }
+        requires { (0 < readers) × (readers < 2 ^ 32) }
+        ensures { IfOk result (λ copies. copies ≡ opening.now) }
     {
-        let first = Version::of(View::of(front, shown));
-        let second = Version::of(View::of(front, shown));
+        let first = Version::of(opening.again());
+        let second = Version::of(opening.again());
+        let latest = Arc::new(alloc, Latest::new())?;
         Ok(Copies {
             writer: Writer::new(alloc, first, second, readers)?,
-            has_room: false,
+            latest,
         })
     }
 
-    pub(crate) fn reader(&self) -> Result<CopyReader<K>, AllocError> {
-        self.writer.factory().reader()
+    // What one member looks with.
+    pub(crate) fn viewer(&self) -> Result<Viewer<K>, AllocError> {
+        let watch = Watch {
+            latest: Arc::try_clone(&self.latest)?,
+            is_on: false,
+        };
+        let reader = self.writer.factory().reader()?;
+        Ok(Viewer { reader, watch })
     }
 
     // Waits for the readers, and gives the copies back.
     pub(crate) fn end<R: Wait>(self, rt: &R) {
         let Self {
             writer,
-            has_room: _,
+            latest: _latest,
         } = self;
         drop(writer.take(rt));
     }
 
-    fn append(&mut self, view: Option<View<K>>) -> Result<(), AllocError> {
-        self.writer.append(Update { view }).map_err(|_| AllocError)
+    // Shows readers this. It waits for those that still read the copy that is next, and takes no memory.
+    pub(crate) fn publish<R: Wait>(&mut self, rt: &R, view: View<K>)
+        ensures { self.new ≡ view }
+    {
+        let calls = view.calls();
+        replace_with(&mut self.writer.desk, (rt, view), |desk, (rt, view)| {
+            let (open, mut spare) = desk.open(rt);
+            spare.view = view;
+            (open.show_as::<Unruled>(spare), ())
+        });
+        self.latest.tell(calls);
     }
-
-    // Makes room for the next call. The first update takes room for four, and the line never has more than three: those
-    // of a call or two that the spare copy still lacks, and the next. So the first call alone asks for memory.
-    pub(crate) fn reserve(&mut self) -> Result<(), AllocError> {
-        if !self.has_room {
-            self.append(None)?;
-            self.has_room = true;
-        }
-        Ok(())
-    }
-
-    // Shows readers this. It waits for those that still read the copy that is next.
-    pub(crate) fn publish<R: Wait>(&mut self, rt: &R, view: View<K>) {
-        let _ = self.append(Some(view));
-        let _ = replace_with(&mut self.writer, rt, show::<K, R>);
-    }
-}
-
-fn show<K: Day, R: Wait>(writer: CopyWriter<K>, rt: &R) -> (CopyWriter<K>, Result<(), AllocError>)
-where
-    Version<K>: Absorb<Update<K>, State = ()>,
-{
-    writer.publish_as::<Unruled, R>(rt)
 }

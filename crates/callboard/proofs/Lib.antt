@@ -1,5 +1,5 @@
-pub mod Openings
-pub mod Replies
-pub mod Splits
-pub mod Closings
-pub mod Written
+pub mod OpeningLaws
+pub mod ReplyLaws
+pub mod SplitLaws
+pub mod PlayedDayLaws
+pub mod WrittenLaws

@@ -1,5 +1,6 @@
-pub mod Run
 pub mod Status
-pub mod Floor
-pub mod Played
+pub mod FileRun
+pub mod AuctionRun
+pub mod BoardRun
+pub mod PlayedDay
 pub mod Served

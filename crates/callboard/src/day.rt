@@ -1,13 +1,15 @@
 //! A day on a board, on which each member calls the commands of its script at once with the others.
 
-ghost use Rattle.std.specs.Prelude.{◌≡◌, ◌≤◌, [], All, length, map, vec_capacity, IfOk, IfErr};
+ghost use Rattle.std.specs.Prelude.{◌≡◌, ◌≤◌, [], All, length, map, unwrap_or, vec_capacity, None, IfOk, IfErr};
 ghost use Rattle.auction_terms.specs.Day.{calls_of};
 ghost use Rattle.call_board.specs.Closed.{Accounts, IsClosing};
-ghost use Rattle.call_board.specs.Opening.{newcomers};
+ghost use Rattle.call_board.specs.FreshBoard.{newcomers};
 ghost use Rattle.member_floor.specs.Plays.{Fits};
-ghost use Rattle.callboard.specs.Played.{IsOfBoard, IsOfDay, IsPlayedOut, fault_after, is_in_want, is_kept_open, keeps_open, lacks_room, lacks_thread, wants_memory};
+ghost use Rattle.callboard.specs.PlayedDay.{IsOfBoard, IsOfDay, IsPlayedOut, fault_after, unclosed_fault};
+ghost use Rattle.callboard.specs.PlayedDay.{is_in_want, is_kept_open, keeps_open};
+ghost use Rattle.callboard.specs.PlayedDay.{lacks_room, lacks_thread, wants_memory};
 
-use crate::floor_fault::FloorFault;
+use crate::fault::FloorFault;
 use call_board::{
     Board, CallFault, CloseFault, Closing, Day, Fresh, Member, Update, Version, close,
 };
@@ -131,6 +133,37 @@ where
     }
 }
 
+/// Closes the board after a run, or gives up its room where the run had a fault. There is room for the
+/// members that come back.
+fn close_after<K: Day, T: Wait>(
+    board: Board<K>,
+    outcome: Outcome<K>,
+    room: Vec<Member<K>>,
+    rt: &T,
+) -> Result<Closing, FloorFault>
+where
+    Version<K>: Absorb<Update<K>, State = ()>,
+    requires room { room.items ≡ [] }
+    requires enough { fault_after outcome.fault outcome.played.items ≡ None
+        → length outcome.played.items ≤ vec_capacity room }
+    ensures done { IfOk result (λ _. fault_after outcome.fault outcome.played.items ≡ None) }
+    ensures closing { IfOk result (IsClosing K.config K.parts (map (λ p. p.member) outcome.played.items)) }
+    ensures accounts { IfOk result (λ closing. All (Accounts (calls_of closing.history.items))
+        (map (λ p. p.member) outcome.played.items)) }
+    ensures fault { IfErr result (λ f. f ≡ unclosed_fault outcome.fault outcome.played.items) }
+{
+    let Outcome {
+        played,
+        unplayed: _unplayed,
+        fault,
+    } = outcome;
+    if let Some(fault) = fault_after(fault, played.as_slice()) {
+        board.abandon(rt);
+        return Err(fault);
+    }
+    close_or_abandon(board, members_of(played, room), rt)
+}
+
 /// Plays all scripts on the board, and closes it. Room for the members that come back is taken first.
 fn play_and_close<K: Day + Send + Sync, G: Gate + Sync, T: Wait + Threads + Sync>(
     alloc: Global,
@@ -151,16 +184,8 @@ where
         board.abandon(rt);
         return Err(FloorFault::NoMemory);
     };
-    let Outcome {
-        played,
-        unplayed: _unplayed,
-        fault,
-    } = run(alloc, &board, members, scripts, gate, rt);
-    if let Some(fault) = fault_after(fault, played.as_slice()) {
-        board.abandon(rt);
-        return Err(fault);
-    }
-    close_or_abandon(board, members_of(played, room), rt)
+    let outcome = run(alloc, &board, members, scripts, gate, rt);
+    close_after(board, outcome, room, rt)
 }
 
 /// The closing of the day that `K` names, with a script for each member. It has no bound but `K`'s, so
@@ -172,7 +197,8 @@ pub fn day<K: Day + Send + Sync, G: Gate + Sync, T: Wait + Threads + Sync>(
     gate: &G,
     rt: &T,
 ) -> Result<Closing, FloorFault>
-    requires names { (K.config ≡ fresh.config) × (K.parts ≡ fresh.members) × (K.name ≡ fresh.ledger) × (K.story ≡ fresh.story) }
+    requires names { (K.config ≡ fresh.config) × (K.parts ≡ fresh.members)
+        × (K.name ≡ fresh.ledger) × (K.story ≡ fresh.story) }
     requires fits { Fits (newcomers fresh.members) scripts.items }
     ensures closing { IfOk result (IsPlayedOut fresh.config fresh.members scripts.items) }
     ensures fault { IfErr result IsOfDay }

@@ -1,21 +1,22 @@
 //! The run of an order file on a board, all members at once.
 
-ghost use Rattle.std.specs.Prelude.{◌≡◌, ◌<◌, ◌≤◌, ◌↔◌, All, length, IfErr, IfOk, IfSome, IsErrOf, MatchOption};
-ghost use Rattle.auction.specs.Audits.{IsFirstBad};
-ghost use Rattle.auction_terms.specs.Day.{IsLegal};
-ghost use Rattle.order_file.specs.File.{IsBelow, file};
-ghost use Rattle.callboard.specs.Floor.{IsDayOf, KeepsFloorOut, OpensBoard, RunsFloor};
-ghost use Rattle.callboard.specs.Played.{IsBetween};
+ghost use Rattle.std.specs.Prelude.{◌≡◌, ◌≤◌, All, length, IfErr, IfOk};
+ghost use Rattle.call_board.specs.FreshBoard.{board_fault};
+ghost use Rattle.order_file.specs.File.{IsBelow};
+ghost use Rattle.callboard.specs.BoardRun.{Finds, IsDayOf, RunsOnBoard};
+ghost use Rattle.callboard.specs.FileRun.{Opens, ends_of};
+ghost use Rattle.callboard.specs.PlayedDay.{IsBetween};
 
 use crate::day::day;
-use crate::floor_fault::FloorFault;
+use crate::fault::FloorFault;
 use crate::printing::write_closing;
 use crate::scripts::split;
 use auction::{Verdict, audit};
-use auction_terms::{Command, Config, Entry};
+use auction_terms::{Call, Config, Entry};
+use byte_streams::{Sink, Source};
 use call_board::{Closing, Fresh};
 use member_floor::Gate;
-use order_file::{FileFault, Sink, Source, read_orders};
+use order_file::read_orders;
 use std::alloc::Global;
 use std::marker::Brand;
 use std::sync::Wait;
@@ -26,13 +27,13 @@ fn closing_of<G: Gate + Sync, T: Wait + Threads + Sync>(
     alloc: Global,
     config: Config,
     members: u8,
-    calls: &[(u8, Command)],
+    calls: &[Call],
     gate: &G,
     rt: &T,
 ) -> Result<Closing, FloorFault>
     requires below { All (IsBelow members) calls.now }
     requires few { length calls.now ≤ config.max_calls }
-    ensures opening { OpensBoard config members result }
+    ensures opening { Opens (board_fault config members) result }
     ensures closing { IfOk result (IsDayOf config members calls.now) }
     ensures fault { IfErr result IsBetween }
 {
@@ -48,7 +49,7 @@ fn closing_of<G: Gate + Sync, T: Wait + Threads + Sync>(
 
 /// The place from 0 of the first entry that isn't the auction's own, if there is one.
 fn first_bad(alloc: Global, config: Config, history: &[Entry]) -> Result<Option<u64>, FloorFault>
-    ensures finding { IfOk result (λ place. MatchOption place (IsLegal config history.now) (IsFirstBad config history.now)) }
+    ensures finding { IfOk result (Finds config history.now) }
     ensures fault { IfErr result (λ f. f ≡ FloorFault.NoMemory) }
 {
     match audit(alloc, config, history) {
@@ -77,11 +78,8 @@ pub fn run_floor<R: Source, S: Sink, G: Gate + Sync, T: Wait + Threads + Sync>(
     gate: &G,
     rt: &T,
 ) -> Result<(), FloorFault>
-    ensures read_failed { IsErrOf result (FloorFault.File FileFault.ReadFailed) ↔ (R.failures reader.old < R.failures reader.new) }
-    ensures write_failed { IsErrOf result FloorFault.WriteFailed ↔ (S.failures writer.old < S.failures writer.new) }
-    ensures opening { OpensBoard config members result }
-    ensures ran { IfSome (R.left reader.old) (λ bytes. RunsFloor (S.written writer.old) (S.written writer.new) config members history (file bytes members config.max_calls) result) }
-    ensures refused { IfErr result (KeepsFloorOut (S.written writer.old) (S.written writer.new)) }
+    ensures { RunsOnBoard config members history
+        (ends_of R.Source S.Sink reader.old reader.new writer.old writer.new) result }
 {
     let calls = match read_orders(alloc, reader, members, config.max_calls) {
         Ok(calls) => calls,

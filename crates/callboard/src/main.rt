@@ -3,29 +3,40 @@
 //! commands at once on a board, and prints what the day came to.
 #![tactic(auto)]
 
-ghost use Rattle.std.specs.Prelude.{◌≡◌, ◌<◌};
+ghost use Rattle.std.specs.Prelude.{◌≡◌, ◌<◌, map, string_bytes, IfOk};
+ghost use Rattle.clap.specs.Walk.{texts};
 
 mod day;
 mod fault;
 mod floor;
-mod floor_fault;
 mod printing;
 mod run;
 mod scripts;
 mod serve;
 
-pub use fault::Fault;
+use byte_streams::{Failures, FromRead, ToWrite};
+pub use fault::{Fault, FloorFault};
 pub use floor::run_floor;
-pub use floor_fault::FloorFault;
-use order_file::{Failures, FromRead, ToWrite};
 pub use run::run_file;
 pub use serve::serve;
+use std::alloc::{AllocError, Global};
 use std::marker::Brand;
 use std::process::ExitCode;
 use std::sync::Wait;
 use std::sync::ledger::{Blank, Ledger};
 use std::thread::Threads;
 use std::{env, io};
+
+/// The same words, lent.
+fn lend<'a>(alloc: Global, words: &'a [String]) -> Result<Vec<&'a str>, AllocError>
+    ensures { IfOk result (λ lent. texts lent.items ≡ map string_bytes words.now) }
+{
+    let mut lent = Vec::new(alloc);
+    for word in words {
+        lent.push(word.as_str())?;
+    }
+    Ok(lent)
+}
 
 /// Runs the program on the process's words and its ends, each of which counts its failures in a
 /// ledger of its own. `rt` stands for the same runtime where the program waits and starts threads.
@@ -59,11 +70,8 @@ fn run_program<I: Ledger, O: Ledger, E: Ledger, T: Wait + Threads + Sync>(
         writer: host.stderr(),
         failures: Failures::<E>::new(errors),
     };
-    let texts: Vec<String> = env::args(host)?.collect(alloc)?;
-    let mut words = Vec::new(alloc);
-    for text in &texts {
-        words.push(text.as_str())?;
-    }
+    let owned: Vec<String> = env::args(host)?.collect(alloc)?;
+    let words = lend(alloc, owned.as_slice())?;
     Ok(serve(alloc, words.as_slice(), &mut reader, &mut out, &mut err, rt))
 }
 

@@ -1,33 +1,29 @@
 //! The printed text of a closed day.
 
-ghost use Rattle.std.specs.Prelude.{◌<◌, ◌++◌, length};
-ghost use Rattle.order_file.specs.Ends.{TellsFailure, Writes};
-ghost use Rattle.printed_lines.specs.Floor.{tally};
+ghost use Rattle.byte_streams.specs.Writing.{WritesAll};
 ghost use Rattle.printed_lines.specs.Printing.{Prints};
-ghost use Rattle.callboard.specs.Floor.{story_if};
+ghost use Rattle.callboard.specs.BoardRun.{closing_text};
 
+use byte_streams::{Sink, WriteFailed};
 use call_board::Closing;
-use order_file::Sink;
-use printed_lines::{Page, WriteFailed, print_story, print_tally};
+use printed_lines::{Printer, print_story, print_tally};
 
 /// Prints what a closed day comes to, and its history where that is wanted.
 fn print_closing<S: Sink>(
-    writer: &mut S,
-    page: &mut Page,
+    printer: &mut Printer<'_, S>,
     closing: &Closing,
     first_bad: Option<u64>,
     history: bool,
 ) -> Result<(), WriteFailed>
-    ensures text { Prints (S.written writer.old) (S.written writer.new) page.old page.new result (tally (length closing.now.history.items) closing.now.calls.items first_bad ++ story_if history closing.now.history.items) }
-    ensures failed { TellsFailure (S.failures writer.old) (S.failures writer.new) result }
+    ensures { Prints S.Sink printer.old printer.new result (closing_text closing.now first_bad history) }
 {
     let entries = closing.history.as_slice();
     let calls = closing.calls.as_slice();
-    print_tally(writer, page, entries.len() as u64, calls, first_bad)?;
+    print_tally(printer, entries.len() as u64, calls, first_bad)?;
     if !history {
         return Ok(());
     }
-    print_story(writer, page, entries)
+    print_story(printer, entries)
 }
 
 /// Writes what a closed day comes to. It takes no memory.
@@ -37,10 +33,9 @@ pub fn write_closing<S: Sink>(
     first_bad: Option<u64>,
     history: bool,
 ) -> Result<(), WriteFailed>
-    ensures text { Writes (S.written writer.old) (S.written writer.new) result (tally (length closing.now.history.items) closing.now.calls.items first_bad ++ story_if history closing.now.history.items) }
-    ensures failed { TellsFailure (S.failures writer.old) (S.failures writer.new) result }
+    ensures { WritesAll S.Sink writer.old writer.new result (closing_text closing.now first_bad history) }
 {
-    let mut page = Page::new();
-    print_closing(writer, &mut page, closing, first_bad, history)?;
-    page.write_to(writer)
+    let mut printer = Printer::new(writer);
+    print_closing(&mut printer, closing, first_bad, history)?;
+    printer.flush()
 }

@@ -1,34 +1,31 @@
 //! The run of an order file on an auction.
 
-ghost use Rattle.std.specs.Prelude.{◌<◌, ◌≤◌, ◌+◌, ◌↔◌, length, IfErr, IfSome, IsErrOf};
-ghost use Rattle.auction_terms.specs.Day.{replies_from};
-ghost use Rattle.order_file.specs.Ends.{TellsFailure, Writes};
-ghost use Rattle.order_file.specs.File.{file};
-ghost use Rattle.printed_lines.specs.Line.{lines};
+ghost use Rattle.std.specs.Prelude.{◌≤◌, ◌+◌, length};
+ghost use Rattle.byte_streams.specs.Writing.{WritesAll};
 ghost use Rattle.printed_lines.specs.Printing.{Prints};
-ghost use Rattle.callboard.specs.Run.{KeepsOut, Opens, Runs};
+ghost use Rattle.callboard.specs.AuctionRun.{RunsOnAuction, lines_from};
+ghost use Rattle.callboard.specs.FileRun.{ends_of};
 
 use crate::fault::Fault;
 use auction::Auction;
-use auction_terms::{Command, Config};
-use order_file::{FileFault, Sink, Source, read_orders};
-use printed_lines::{Page, WriteFailed, print_line};
+use auction_terms::{Call, Config};
+use byte_streams::{Sink, Source, WriteFailed};
+use order_file::read_orders;
+use printed_lines::{Printer, print_line};
 use std::alloc::Global;
 
 /// Applies each call, and prints the line of its reply.
 fn print_replies<S: Sink>(
-    writer: &mut S,
-    page: &mut Page,
+    printer: &mut Printer<'_, S>,
     auction: &mut Auction,
-    calls: &[(u8, Command)],
+    calls: &[Call],
 ) -> Result<(), WriteFailed>
     requires { auction.old.calls + length calls.now ≤ auction.old.config.max_calls }
-    ensures text { Prints (S.written writer.old) (S.written writer.new) page.old page.new result (lines (replies_from auction.old.config auction.old.state calls.now)) }
-    ensures failed { TellsFailure (S.failures writer.old) (S.failures writer.new) result }
+    ensures { Prints S.Sink printer.old printer.new result (lines_from auction.old calls.now) }
 {
     for (before, call) in calls.iter().enumerate() {
-        let reply = auction.apply(call.0, call.1);
-        print_line(writer, page, before as u64 + 1, reply)?;
+        let reply = auction.apply(call.member, call.command);
+        print_line(printer, before as u64 + 1, reply)?;
     }
     Ok(())
 }
@@ -37,15 +34,14 @@ fn print_replies<S: Sink>(
 fn run_calls<S: Sink>(
     writer: &mut S,
     auction: &mut Auction,
-    calls: &[(u8, Command)],
+    calls: &[Call],
 ) -> Result<(), WriteFailed>
     requires { auction.old.calls + length calls.now ≤ auction.old.config.max_calls }
-    ensures text { Writes (S.written writer.old) (S.written writer.new) result (lines (replies_from auction.old.config auction.old.state calls.now)) }
-    ensures failed { TellsFailure (S.failures writer.old) (S.failures writer.new) result }
+    ensures { WritesAll S.Sink writer.old writer.new result (lines_from auction.old calls.now) }
 {
-    let mut page = Page::new();
-    print_replies(writer, &mut page, auction, calls)?;
-    page.write_to(writer)
+    let mut printer = Printer::new(writer);
+    print_replies(&mut printer, auction, calls)?;
+    printer.flush()
 }
 
 /// Reads and checks a whole order file, opens an auction, and then applies each call and writes the
@@ -60,11 +56,8 @@ pub fn run_file<R: Source, S: Sink>(
     config: Config,
     members: u8,
 ) -> Result<(), Fault>
-    ensures read_failed { IsErrOf result (Fault.File FileFault.ReadFailed) ↔ (R.failures reader.old < R.failures reader.new) }
-    ensures write_failed { IsErrOf result Fault.WriteFailed ↔ (S.failures writer.old < S.failures writer.new) }
-    ensures opening { Opens config result }
-    ensures ran { IfSome (R.left reader.old) (λ bytes. Runs (S.written writer.old) (S.written writer.new) config (file bytes members config.max_calls) result) }
-    ensures refused { IfErr result (KeepsOut (S.written writer.old) (S.written writer.new)) }
+    ensures { RunsOnAuction config members
+        (ends_of R.Source S.Sink reader.old reader.new writer.old writer.new) result }
 {
     let calls = match read_orders(alloc, reader, members, config.max_calls) {
         Ok(calls) => calls,

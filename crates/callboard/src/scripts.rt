@@ -1,29 +1,25 @@
 //! The calls of a file, split into a script for each member.
 
 ghost use Rattle.std.specs.Prelude.{◌≡◌, IfOk};
-ghost use Rattle.callboard.specs.Floor.{IsSplit, commands_of};
+ghost use Rattle.callboard.specs.BoardRun.{IsSplit, commands_of};
 
-use auction_terms::Command;
+use auction_terms::{Call, Command};
 use member_floor::Script;
 use std::alloc::{AllocError, Global};
 
 /// The commands of one member, in the order of the calls.
-fn commands_of(
-    alloc: Global,
-    calls: &[(u8, Command)],
-    member: u8,
-) -> Result<Vec<Command>, AllocError>
+fn commands_of(alloc: Global, calls: &[Call], member: u8) -> Result<Vec<Command>, AllocError>
     ensures { IfOk result (λ commands. commands.items ≡ commands_of member calls.now) }
 {
     calls
         .iter()
-        .filter(|call| call.0 == member)
-        .map(|call| call.1)
+        .filter(|call| call.member == member)
+        .map(|call| call.command)
         .collect(alloc)
 }
 
 /// A script for each member, by rising numbers, with its commands in the order of the calls.
-pub fn split(alloc: Global, members: u8, calls: &[(u8, Command)]) -> Result<Vec<Script>, AllocError>
+pub fn split(alloc: Global, members: u8, calls: &[Call]) -> Result<Vec<Script>, AllocError>
     ensures { IfOk result (λ scripts. IsSplit members calls.now scripts.items) }
 {
     let mut scripts = Vec::with_capacity(alloc, usize::from(members))?;

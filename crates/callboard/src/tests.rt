@@ -2,10 +2,13 @@
 
 ghost use Rattle.std.specs.Prelude.{◌≡◌, ◌<◌};
 
-use crate::serve;
-use auction::Auction;
-use auction_terms::{Command, Reply};
-use order_file::{Failures, FromMemory, ToMemory};
+use crate::{FloorFault, run_file, run_floor, serve};
+use auction_terms::Config;
+use byte_streams::{Failures, FromMemory, Sink, Source, ToMemory, ToWrite};
+use member_floor::Gate;
+use std::alloc::Global;
+use std::fmt;
+use std::io::Cursor;
 use std::marker::Brand;
 use std::process::Abort;
 use std::str::from_utf8;
@@ -14,19 +17,20 @@ use std::sync::ledger::{Blank, Ledger};
 use std::test::Fail;
 use std::thread::Threads;
 
-mod calls;
+mod days;
 mod devices;
 mod edges;
 mod examples;
 mod files;
 mod floor;
 mod full;
-mod prices;
 mod refused;
-mod trading;
 
 /// The program's name alone.
-const PLAIN: [&str; 1] = ["callboard"];
+const PLAIN: &[&str] = &["callboard"];
+
+/// What an ask of an empty book prints.
+const SHOWN: &str = "1: no price bid - ask -\n";
 
 /// What a run of the program came to.
 #[derive(Drop)]
@@ -36,45 +40,53 @@ struct Printed {
     err: Vec<u8>,
 }
 
-fn served<O: Ledger, E: Ledger, T: AllocGlobal + Wait + Threads + Sync>(
+/// Serves the program on this input and output: its status, and what it told as its error.
+fn served<R: Source, S: Sink, E: Ledger, T: AllocGlobal + Wait + Threads + Sync>(
+    rt: &T,
+    errors: Blank,
+    words: &[&str],
+    reader: &mut R,
+    out: &mut S,
+) -> (u8, Vec<u8>)
+    requires name { errors.name ≡ E.name }
+    requires parts { errors.parts ≡ E.parts }
+    requires backed { 0 < E.parts }
+{
+    let mut err = ToMemory {
+        bytes: Vec::new(rt.alloc()),
+        failures: Failures::<E>::new(errors),
+    };
+    let status = serve(rt.alloc(), words, reader, out, &mut err, rt);
+    let ToMemory { bytes, failures: _ } = err;
+    (status, bytes)
+}
+
+fn run_to_memory<O: Ledger, T: AllocGlobal + Wait + Threads + Sync>(
     rt: &T,
     output: Blank,
-    errors: Blank,
     words: &[&str],
     input: &[u8],
 ) -> Printed
-    requires output_name { output.name ≡ O.name }
-    requires output_parts { output.parts ≡ O.parts }
-    requires output_backed { 0 < O.parts }
-    requires errors_name { errors.name ≡ E.name }
-    requires errors_parts { errors.parts ≡ E.parts }
-    requires errors_backed { 0 < E.parts }
+    requires name { output.name ≡ O.name }
+    requires parts { output.parts ≡ O.parts }
+    requires backed { 0 < O.parts }
 {
-    let alloc = rt.alloc();
     let mut reader = FromMemory { rest: input };
     let mut out = ToMemory {
-        bytes: Vec::new(alloc),
+        bytes: Vec::new(rt.alloc()),
         failures: Failures::<O>::new(output),
     };
-    let mut err = ToMemory {
-        bytes: Vec::new(alloc),
-        failures: Failures::<E>::new(errors),
-    };
-    let status = serve(alloc, words, &mut reader, &mut out, &mut err, rt);
+    let (status, err) = served::<_, _, Brand, T>(rt, Blank::new(1), words, &mut reader, &mut out);
     let ToMemory {
         bytes: out,
         failures: _,
     } = out;
-    let ToMemory {
-        bytes: err,
-        failures: _,
-    } = err;
     Printed { status, out, err }
 }
 
 /// What a file of these bytes, run with these words, comes to.
 fn run<T: AllocGlobal + Wait + Threads + Sync>(rt: &T, words: &[&str], input: &[u8]) -> Printed {
-    served::<Brand, Brand, T>(rt, Blank::new(1), Blank::new(1), words, input)
+    run_to_memory::<Brand, T>(rt, Blank::new(1), words, input)
 }
 
 /// A file of these bytes, run with these words, gives this output, this error and this status.
@@ -92,59 +104,162 @@ fn gives<T: Abort + AllocGlobal + Wait + Threads + Sync>(
     assert_eq!(rt; printed.status, status);
 }
 
-/// The reply to a command of this member, if there is room for it.
-fn reply_to(auction: &mut Auction, member: u8, command: Command) -> Option<Reply> {
-    if auction.calls() < auction.config().max_calls {
-        Some(auction.apply(member, command))
-    } else {
-        None
+/// Words and a file, and the output, the error and the status that they give.
+type Row = (
+    &'static [&'static str],
+    &'static [u8],
+    &'static str,
+    &'static str,
+    u8,
+);
+
+/// Each of these rows is so.
+fn each_gives<T: Abort + AllocGlobal + Wait + Threads + Sync>(rt: &T, rows: &[Row]) {
+    for &(words, input, out, err, status) in rows {
+        gives(rt, words, input, out, err, status);
     }
 }
 
-/// A file and what it should print: what it shows, the words that the program is run with, and a
-/// line for each of the file's records, with an arrow between record and reply, or for a remark.
+/// An order file, and the lines that it should print.
+#[derive(Drop)]
+struct Story {
+    alloc: Global,
+    input: String,
+    lines: String,
+    records: u64,
+}
+
+impl Story {
+    fn new(alloc: Global) -> Story {
+        Story {
+            alloc,
+            input: String::new(alloc),
+            lines: String::new(alloc),
+            records: 0,
+        }
+    }
+
+    /// One more record, with the text of its reply.
+    fn add<T: fmt::Display + Drop>(&mut self, record: &str, text: T) -> Result<(), Fail> {
+        self.records = self.records.saturating_add(1);
+        let line = format!(in self.alloc; "{}: {text}\n", self.records)?;
+        self.input.push_str(record)?;
+        self.input.push_str("\n")?;
+        self.lines.push_str(line.as_str())?;
+        Ok(())
+    }
+
+    /// As many entries of the same terms, which get ids from the first to the last.
+    fn enter_all(&mut self, record: &str, first: u32, last: u32) -> Result<(), Fail> {
+        for id in first..=last {
+            self.add(record, format_args!("entered {id}"))?;
+        }
+        Ok(())
+    }
+
+    /// A record for each line, with an arrow between record and reply, or for a remark.
+    fn add_all(&mut self, rows: &str) -> Result<(), Fail> {
+        for line in rows.lines() {
+            if let Some((record, reply)) = line.split_once(" -> ") {
+                self.add(record, reply)?;
+            } else if !line.starts_with("# ") {
+                return Err("neither a record nor a remark")?;
+            }
+        }
+        Ok(())
+    }
+}
+
+/// A file and what it should print: what it shows, the words that the program is run with, and the
+/// rows of a story.
 struct Example {
     name: &'static str,
     words: &'static [&'static str],
     text: &'static str,
 }
 
-/// The file of this example gives its texts of replies, record by record.
-fn gives_its_lines<T: Abort + AllocGlobal + Wait + Threads + Sync>(
-    rt: &T,
-    example: &Example,
-) -> Result<(), Fail> {
-    let alloc = rt.alloc();
-    let mut input = String::new(alloc);
-    let mut lines = String::new(alloc);
-    let mut number = 0u64;
-    for line in example.text.lines() {
-        let Some((record, reply)) = line.split_once(" -> ") else {
-            assert!(rt; line.starts_with("# "), "{}", example.name);
-            continue;
-        };
-        number = number.saturating_add(1);
-        input.push_str(format!(in alloc; "{record}\n")?.as_str())?;
-        lines.push_str(format!(in alloc; "{number}: {reply}\n")?.as_str())?;
-    }
-    let printed = run(rt, example.words, input.as_str().as_bytes());
-    let out = from_utf8(printed.out.as_slice()).unwrap_or("?");
-    assert_eq!(rt; out, lines.as_str(), "{}", example.name);
-    assert!(rt;
-        number > 0 && printed.err.is_empty() && printed.status == 0,
-        "{}",
-        example.name
-    );
-    Ok(())
-}
-
-/// Each of these files gives its lines.
+/// Each of these files gives its texts of replies, record by record.
 fn each_gives_its_lines<T: Abort + AllocGlobal + Wait + Threads + Sync>(
     rt: &T,
     examples: &[Example],
 ) -> Result<(), Fail> {
     for example in examples {
-        gives_its_lines(rt, example)?;
+        let mut story = Story::new(rt.alloc());
+        story.add_all(example.text)?;
+        let printed = run(rt, example.words, story.input.as_str().as_bytes());
+        let out = from_utf8(printed.out.as_slice()).unwrap_or("?");
+        assert_eq!(rt; out, story.lines.as_str(), "{}", example.name);
+        let is_done = story.records > 0 && printed.err.is_empty() && printed.status == 0;
+        assert!(rt; is_done, "{}", example.name);
     }
     Ok(())
+}
+
+/// What a run came to, and what it wrote, to a writer that takes no memory.
+#[derive(Drop)]
+struct Ran {
+    answer: Result<(), FloorFault>,
+    bytes: [u8; 512],
+    count: u64,
+}
+
+impl Ran {
+    /// The text that was written.
+    fn text(&self) -> &str {
+        let written = self.bytes.get(..self.count as usize).unwrap_or(&[]);
+        from_utf8(written).unwrap_or("?")
+    }
+}
+
+fn filed<O: Ledger, G: Gate + Sync, T: AllocGlobal + Wait + Threads + Sync>(
+    rt: &T,
+    output: Blank,
+    input: &[u8],
+    config: Config,
+    members: u8,
+    gate: Option<&G>,
+) -> Ran
+    requires name { output.name ≡ O.name }
+    requires parts { output.parts ≡ O.parts }
+    requires backed { 0 < O.parts }
+{
+    let alloc = rt.alloc();
+    let mut reader = FromMemory { rest: input };
+    let mut out = ToWrite {
+        writer: Cursor::new([0u8; 512]),
+        failures: Failures::<O>::new(output),
+    };
+    let answer = match gate {
+        Some(gate) => run_floor(
+            alloc,
+            &mut reader,
+            &mut out,
+            config,
+            members,
+            true,
+            gate,
+            rt,
+        ),
+        None => run_file(alloc, &mut reader, &mut out, config, members).map_err(FloorFault::from),
+    };
+    let ToWrite {
+        writer,
+        failures: _,
+    } = out;
+    Ran {
+        answer,
+        count: writer.position(),
+        bytes: writer.into_inner(),
+    }
+}
+
+/// What a file of these bytes comes to: on a board under this gate with its history, or without a gate on an auction.
+fn run_under<G: Gate + Sync, T: AllocGlobal + Wait + Threads + Sync>(
+    rt: &T,
+    input: &[u8],
+    config: Config,
+    members: u8,
+    gate: Option<&G>,
+) -> Ran {
+    filed::<Brand, G, T>(rt, Blank::new(1), input, config, members, gate)
 }

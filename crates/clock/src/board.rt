@@ -5,7 +5,7 @@ ghost use Rattle.std.specs.Prelude.{◌≡◌};
 use crate::commands;
 use crate::tasks::{self, Task, perform};
 use auction::Auction;
-use auction_terms::Config;
+use auction_terms::{Config, MAX_CALLS};
 use call_board::{Board, Day, Fresh, Member, Update, Version, close};
 use left_right::Absorb;
 use std::alloc::{AllocError, AllocGlobal, Global};
@@ -22,7 +22,7 @@ const CONFIG: Config = Config {
     high: 1000,
     reference: 500,
     max_open: 4096,
-    max_calls: 1_048_576,
+    max_calls: MAX_CALLS,
     range: None,
 };
 
@@ -114,7 +114,10 @@ fn day<K: Day + Send + Sync, R: Wait + Threads + Sync + Clock>(
     fresh: Fresh,
     tasks: &[Task],
 ) -> io::Result<Taken>
-    requires names { (K.config ≡ fresh.config) × (K.parts ≡ fresh.members) × (K.name ≡ fresh.ledger) × (K.story ≡ fresh.story) }
+    requires config { K.config ≡ fresh.config }
+    requires parts { K.parts ≡ fresh.members }
+    requires name { K.name ≡ fresh.ledger }
+    requires story { K.story ≡ fresh.story }
 {
     let (board, members) = fresh.begin::<K>().map_err(|_| AllocError)?;
     board_time(rt, alloc, board, members, tasks)

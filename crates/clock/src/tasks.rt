@@ -95,7 +95,7 @@ where
     let mut seen = 0;
     match task {
         Task::Call(count) => call_many(rt, board, &mut member, count, 0, &AtomicBool::new(false)),
-        Task::CallOn { pauses } => call_many(rt, board, &mut member, 1_000_000, pauses, is_done),
+        Task::CallOn { pauses } => call_many(rt, board, &mut member, u32::MAX, pauses, is_done),
         Task::Look(count) => seen = look_many(&mut member, count),
         Task::LookUnderLock(count) => seen = look_under_lock(rt, board, count),
     }

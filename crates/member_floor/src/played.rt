@@ -1,5 +1,6 @@
 //! One script, played.
 ghost use Rattle.std.specs.Prelude.{◌≡◌, ◌+◌, ◌<◌, ◌≤◌, [], length, vec_capacity};
+ghost use Rattle.auction_terms.specs.declared.limits.TheConstants.{MAX_CALLS};
 ghost use Rattle.member_floor.specs.Plays.{Plays};
 
 use crate::gate::Gate;
@@ -19,6 +20,7 @@ pub struct Played<K: Day> {
 }
 
 impl<K: Day> Model for Played<K> {
+    ghost use Rattle.auction_terms.specs.declared.limits.TheConstants.{MAX_CALLS};
     ghost use Rattle.member_floor.specs.Plays.{PlayedScript};
 
     ghost Value = { PlayedScript };
@@ -38,7 +40,7 @@ pub(crate) fn play<K: Day, G: Gate, R: Wait>(
 where
     Version<K>: Absorb<Update<K>, State = ()>,
     requires room { (receipts.items ≡ []) × (length commands.now ≤ vec_capacity receipts) }
-    requires few { length commands.now ≤ 1048576 }
+    requires few { length commands.now ≤ MAX_CALLS }
     ensures { Plays K.config member commands.now result }
 {
     let mut member = member;

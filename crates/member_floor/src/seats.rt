@@ -2,7 +2,7 @@
 ghost use Rattle.std.specs.Prelude.{◌≡◌, ◌≤◌, [], List, All, map, length, vec_capacity, IfOk};
 ghost use Rattle.std.specs.Vec.Iter.{into_iter_items};
 ghost use Rattle.auction_terms.specs.declared.Command.{Command};
-ghost use Rattle.member_floor.specs.Plays.{Plays, Task};
+ghost use Rattle.member_floor.specs.Plays.{IsShort, Plays, Task};
 
 use crate::gate::Gate;
 use crate::played::{Played, play};
@@ -25,12 +25,15 @@ pub(crate) struct Seat {
 impl Model for Seat {
     ghost use Rattle.std.specs.Prelude.{◌≡◌, ◌≤◌, [], List, length, vec_capacity};
     ghost use Rattle.auction_terms.specs.declared.Command.{Command};
+    ghost use Rattle.auction_terms.specs.declared.limits.TheConstants.{MAX_CALLS};
 
     ghost Value = { List Command };
 
     ghost view = { λ s. s.commands.items };
 
-    ghost invariant = { λ s. (s.receipts.items ≡ []) × (length s.commands.items ≤ vec_capacity s.receipts) × (length s.commands.items ≤ 1048576) };
+    ghost invariant = { λ s.
+        (s.receipts.items ≡ []) × (length s.commands.items ≤ vec_capacity s.receipts)
+        × (length s.commands.items ≤ MAX_CALLS) };
 }
 
 /// A member at its seat.
@@ -50,7 +53,7 @@ impl<K: Day> Model for Part<K> {
 
 // Takes the room for the receipts of each script.
 pub(crate) fn take_seats(alloc: Global, scripts: Vec<Script>) -> Result<Vec<Seat>, AllocError>
-    requires few { All (λ s. length s.commands.items ≤ 1048576) scripts.items }
+    requires few { All IsShort scripts.items }
     ensures { IfOk result (λ v. v.items ≡ map (λ s. s.commands.items) scripts.items) }
 {
     let n = scripts.len();

@@ -1,11 +1,11 @@
 //! One scoped thread for each member.
-ghost use Rattle.std.specs.Prelude.{◌≡◌, ◌≢◌, ◌≤◌, ◌+◌, [], ℕ, map, take, drop, length, vec_capacity, None, Some, IfOk};
-ghost use Rattle.member_floor.specs.Plays.{Plays, EachPlays, AllPlay, Fits};
+ghost use Rattle.std.specs.Prelude.{◌≡◌, ◌≢◌, ◌≤◌, [], map, length, vec_capacity, None, Some, IfOk};
+ghost use Rattle.member_floor.specs.Plays.{EachPlays, Fits, Plays, PlayedAll, PlayedSome, TasksAll, TasksSome};
 
 use crate::gate::Gate;
 use crate::played::Played;
 use crate::script::Script;
-use crate::seats::{Part, sit_down, stand_up, take_seats};
+use crate::seats::{Part, Seat, sit_down, stand_up, take_seats};
 use call_board::{Board, Day, Member, Update, Version};
 use left_right::Absorb;
 use std::alloc::{AllocError, Global};
@@ -41,27 +41,55 @@ impl<K: Day> Promise<Played<K>> for Playing<K> {
     ghost kept_by = { λ p r. Plays K.config p.part.value.member p.part.value.commands r };
 }
 
-/// The room that a run of so many threads needs, beside that for the receipts.
+/// The members at their seats, and the room that a run needs beside that for the receipts.
 #[derive(Drop)]
-struct Rooms<K: Day> {
+struct Stage<K: Day> {
     parts: Vec<Part<K>>,
     handles: Vec<PromisedHandle<Played<K>, Playing<K>>>,
     played: Vec<Played<K>>,
     rest: Vec<Member<K>>,
+    ghost handles_fit: { (handles.items ≡ []) × (length parts.items ≤ vec_capacity handles) },
+    ghost played_fit: { (played.items ≡ []) × (length parts.items ≤ vec_capacity played) },
+    ghost rest_fit: { (rest.items ≡ []) × (length parts.items ≤ vec_capacity rest) },
 }
 
-fn take_rooms<K: Day>(alloc: Global, n: usize) -> Result<Rooms<K>, AllocError>
-    ensures parts { IfOk result (λ r. (r.parts.items ≡ []) × (n ≤ vec_capacity r.parts)) }
-    ensures handles { IfOk result (λ r. (r.handles.items ≡ []) × (n ≤ vec_capacity r.handles)) }
-    ensures played { IfOk result (λ r. (r.played.items ≡ []) × (n ≤ vec_capacity r.played)) }
-    ensures rest { IfOk result (λ r. (r.rest.items ≡ []) × (n ≤ vec_capacity r.rest)) }
+// A stage for so many members, on which there is nobody.
+fn empty_stage<K: Day>(alloc: Global, n: usize) -> Result<Stage<K>, AllocError>
+    ensures parts { IfOk result (λ s. (s.parts.items ≡ []) × (n ≤ vec_capacity s.parts)) }
+    ensures handles { IfOk result (λ s. n ≤ vec_capacity s.handles) }
+    ensures played { IfOk result (λ s. n ≤ vec_capacity s.played) }
+    ensures rest { IfOk result (λ s. n ≤ vec_capacity s.rest) }
 {
-    Ok(Rooms {
+    Ok(Stage {
         parts: Vec::with_capacity(alloc, n)?,
         handles: Vec::with_capacity(alloc, n)?,
         played: Vec::with_capacity(alloc, n)?,
         rest: Vec::with_capacity(alloc, n)?,
     })
+}
+
+// Puts the members at their seats on a stage that has room for them.
+fn seat_all<K: Day>(stage: Stage<K>, members: Vec<Member<K>>, seats: Vec<Seat>) -> Stage<K>
+    requires parts { (stage.parts.items ≡ []) × (length members.items ≤ vec_capacity stage.parts) }
+    requires handles { length members.items ≤ vec_capacity stage.handles }
+    requires played { length members.items ≤ vec_capacity stage.played }
+    requires rest { length members.items ≤ vec_capacity stage.rest }
+    requires many { length seats.items ≡ length members.items }
+    ensures members { map (λ p. p.member) result.parts.items ≡ members.items }
+    ensures commands { map (λ p. p.commands) result.parts.items ≡ seats.items }
+{
+    let Stage {
+        parts,
+        handles,
+        played,
+        rest,
+    } = stage;
+    Stage {
+        parts: sit_down(parts, members, seats),
+        handles,
+        played,
+        rest,
+    }
 }
 
 // Joins each thread. The room is there.
@@ -99,7 +127,7 @@ fn refused<K: Day>(alloc: Global, members: Vec<Member<K>>) -> Outcome<K>
 /// under the gate. Room for all receipts and for what is handed back is taken before the first thread starts.
 ///
 /// There are as many scripts as members, the script at each place has the number of the member there, and no script
-/// has more than 1,048,576 commands. Without a fault all members come back in `played`, in their order. At `NoMemory`
+/// has more than `MAX_CALLS` commands. Without a fault all members come back in `played`, in their order. At `NoMemory`
 /// no thread started, and all members come back in `unplayed` as they were. At `NoThread` the scripts before the one
 /// whose thread couldn't be started were played; its member is lost, so that `close` answers `MissingMember`, and
 /// those after it come back in `unplayed` as they were.
@@ -114,35 +142,39 @@ pub fn run<K: Day + Send + Sync, G: Gate + Sync, R: Wait + Threads + Sync>(
 where
     Version<K>: Absorb<Update<K>, State = ()> + Send + Sync,
     requires fits { Fits members.items scripts.items }
-    ensures all { result.fault ≡ None → (result.unplayed.items ≡ []) × AllPlay K.config members.items scripts.items result.played.items }
-    ensures room { result.fault ≡ Some RunFault.NoMemory → (result.unplayed.items ≡ members.items) × (result.played.items ≡ []) }
-    ensures thread { result.fault ≡ Some RunFault.NoThread → (n : ℕ) × AllPlay K.config (take n members.items) (take n scripts.items) result.played.items × (result.unplayed.items ≡ drop (n + 1) members.items) }
+    ensures all { result.fault ≡ None →
+        PlayedAll K.config members.items scripts.items result.played.items result.unplayed.items }
+    ensures room { result.fault ≡ Some RunFault.NoMemory →
+        (result.unplayed.items ≡ members.items) × (result.played.items ≡ []) }
+    ensures thread { result.fault ≡ Some RunFault.NoThread →
+        PlayedSome K.config members.items scripts.items result.played.items result.unplayed.items }
 {
-    let n = members.len();
     let Ok(seats) = take_seats(alloc, scripts) else {
         return refused(alloc, members);
     };
-    let Ok(rooms) = take_rooms(alloc, n) else {
+    let Ok(stage) = empty_stage(alloc, members.len()) else {
         return refused(alloc, members);
     };
-    let Rooms {
-        parts,
-        handles,
-        played,
-        rest,
-    } = rooms;
-    let parts = sit_down(parts, members, seats);
+    let stage = seat_all(stage, members, seats);
     thread::scope(
         thread::scope_env(),
         rt,
         move |scope| -> Outcome<K>
-            requires { (handles.items ≡ []) × (played.items ≡ []) × (rest.items ≡ []) × (length parts.items ≤ vec_capacity handles) × (length parts.items ≤ vec_capacity played) × (length parts.items ≤ vec_capacity rest) }
-            ensures all { result.fault ≡ None → (result.unplayed.items ≡ []) × EachPlays K.config parts.items result.played.items }
+            ensures all { result.fault ≡ None →
+                TasksAll K.config stage.parts.items result.played.items result.unplayed.items }
             ensures room { result.fault ≢ Some RunFault.NoMemory }
-            ensures thread { result.fault ≡ Some RunFault.NoThread → (n : ℕ) × EachPlays K.config (take n parts.items) result.played.items × (result.unplayed.items ≡ map (λ p. p.member) (drop (n + 1) parts.items)) }
+            ensures thread { result.fault ≡ Some RunFault.NoThread →
+                TasksSome K.config stage.parts.items result.played.items result.unplayed.items }
         {
+            // The stage moves in whole, with what its type says of the room.
+            let whole = stage;
+            let Stage {
+                parts,
+                mut handles,
+                played,
+                rest,
+            } = whole;
             let n = parts.len();
-            let mut handles = handles;
             let mut parts = parts.into_iter();
             let mut fault = None;
             for _ in 0..n {

@@ -1,3 +1,3 @@
-pub mod Records
-pub mod CallLists
-pub mod ReadBytes
+pub mod RowLaws
+pub mod CallLaws
+pub mod ReadLaws

@@ -1,5 +1,6 @@
 -- How the fields of a record read.
-use Rattle.std.specs.Prelude.{ℕ, ◌+◌, ◌*◌, ◌-◌, ◌^◌, List, [], ◌∷◌, length, Option, Some, None, option_map, option_and_then, nat_lt, nat_le, ◌&&◌, if◌then◌else◌, codes}
+use Rattle.std.specs.Prelude.{ℕ, ◌+◌, ◌*◌, ◌-◌, ◌^◌, List, [], ◌∷◌, length, nat_lt, nat_le, ◌&&◌, if◌then◌else◌}
+use Rattle.std.specs.Prelude.{Option, Some, None, option_map, option_and_then, codes}
 use Rattle.std.specs.Char.{is_ascii_digit}
 use Rattle.std.specs.Str.{bytes_eq}
 use Rattle.auction_terms.specs.declared.Side.{Side}
@@ -20,7 +21,9 @@ if_small n = if nat_lt n (2 ^ 32) then Some n else None
 -- a number has one to ten digits, and is at most 4294967295
 unfoldable pub number_of : List ℕ → Option ℕ
 number_of field =
-    if nat_le 1 (length field) && nat_le (length field) 10 then option_and_then if_small (digits_after 0 field) else None
+    if nat_le 1 (length field) && nat_le (length field) 10
+    then option_and_then if_small (digits_after 0 field)
+    else None
 
 unfoldable pub side_of : List ℕ → Option Side
 side_of field =

@@ -1,13 +1,12 @@
--- What an order file says: the calls, each a member and a command, or the first fault.
+-- What an order file says: the calls, or the first fault.
 use Rattle.std.specs.Prelude.{◌≡◌, ℕ, ◌+◌, ◌<◌, List, [], ◌∷◌, length, nat_le, nat_lt, if◌then◌else◌, Result, Ok, Err}
 use Rattle.csv.specs.Reading.{default_config, records, strip_bom}
-use Rattle.order_file.specs.Record.{numbered_call, ◌>>=◌}
+use Rattle.order_file.specs.Record.{numbered_call}
 use Rattle.order_file.specs.declared.fault.FileFault.{FileFault}
 use Rattle.order_file.specs.declared.fault.FileFault.TheVariants.{TooLong, ReadFailed, TooManyCommands, NoMemory}
-use Rattle.auction_terms.specs.declared.Command.{Command}
-
-abbrev pub Call : Type 0
-Call = ℕ × Command
+use Rattle.order_file.specs.declared.reading.TheConstants.{MAX_BYTES}
+use Rattle.auction_terms.specs.declared.Call.{Call}
+use Rattle.auction_terms.specs.Results.{◌>>=◌}
 
 -- the calls of the records that come after so many others
 unfoldable pub calls_after : ℕ → ℕ → ℕ → List (List (List ℕ)) → Result (List Call) FileFault
@@ -23,12 +22,8 @@ calls_after members max_calls before (r ∷ rs) =
 abbrev pub calls_of : ℕ → ℕ → List ℕ → Result (List Call) FileFault
 calls_of members max_calls bytes = calls_after members max_calls 0 (records default_config (strip_bom bytes))
 
--- how many bytes an order file may have
-abbrev pub max_bytes : ℕ
-max_bytes = 67108864
-
 unfoldable pub within_limit : List ℕ → Result (List ℕ) FileFault
-within_limit bytes = if nat_lt max_bytes (length bytes) then Err TooLong else Ok bytes
+within_limit bytes = if nat_lt MAX_BYTES (length bytes) then Err TooLong else Ok bytes
 
 unfoldable pub file : List ℕ → ℕ → ℕ → Result (List Call) FileFault
 file bytes members max_calls = within_limit bytes >>= calls_of members max_calls
@@ -45,7 +40,7 @@ Gives view (Err e) wanted = Fails e wanted
 
 -- a call of a member with a number below this
 abbrev pub IsBelow : ℕ → Call → Type 0
-IsBelow members call = call.0 < members
+IsBelow members call = call.member < members
 
 -- a fault that comes after the reading
 abbrev pub IsOfRecord : FileFault → Type 0

@@ -1,7 +1,6 @@
-pub mod Fault
-pub mod Ends
+pub mod FileFault
 pub mod Field
-pub mod Word
+pub mod CommandWord
 pub mod Record
 pub mod File
 pub mod Rows

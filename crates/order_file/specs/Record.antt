@@ -1,28 +1,27 @@
--- A record as a command, or its first fault: the member comes first, then the command word, then the
+-- A record as a call, or its first fault: the member comes first, then the command word, then the
 -- number of fields, then the fields from left to right.
-use Rattle.std.specs.Prelude.{ℕ, ◌+◌, List, length, Option, Some, None, option_and_then, ok_or, nat_lt, nat_le, ◌&&◌, if◌then◌else◌, Result, Ok, Err}
+use Rattle.std.specs.Prelude.{ℕ, ◌+◌, List, length, Option, Some, None, option_and_then, ok_or, nat_lt, nat_le}
+use Rattle.std.specs.Prelude.{◌&&◌, if◌then◌else◌, Result, Ok, Err}
 use Rattle.csv.specs.Records.{field_at}
-use Rattle.order_file.specs.Fault.{in_record}
+use Rattle.order_file.specs.FileFault.{in_record}
 use Rattle.order_file.specs.Field.{number_of, side_of, limit_of, peak_of, only_of}
-use Rattle.order_file.specs.Word.{word_of}
+use Rattle.order_file.specs.CommandWord.{word_of}
 use Rattle.order_file.specs.declared.fault.FileFault.{FileFault}
 use Rattle.order_file.specs.declared.fault.RecordFault.{RecordFault}
 use Rattle.order_file.specs.declared.fault.RecordFault.TheVariants.{BadMember, BadCommand, BadCount, BadField}
 use Rattle.order_file.specs.declared.record.Word.{Word}
 use Rattle.order_file.specs.declared.record.Word.TheVariants as word
+use Rattle.auction_terms.specs.declared.Call.{Call}
 use Rattle.auction_terms.specs.declared.Command.{Command}
 use Rattle.auction_terms.specs.declared.Only.{Only}
 use Rattle.auction_terms.specs.declared.Only.TheVariants.{Any}
 use Rattle.auction_terms.specs.declared.Command.TheVariants as command
-
-infixl 10 ◌>>=◌
-abbrev pub ◌>>=◌ : {E A B : Type 0} → Result A E → (A → Result B E) → Result B E
-(Ok x) >>= f = f x
-(Err e) >>= f = Err e
+use Rattle.auction_terms.specs.Results.{◌>>=◌}
 
 -- the record has from `least` to `most` fields
 unfoldable pub count_within : ℕ → ℕ → List (List ℕ) → Result (Unit {0}) RecordFault
-count_within least most fields = if nat_le least (length fields) && nat_le (length fields) most then Ok tt else Err BadCount
+count_within least most fields =
+    if nat_le least (length fields) && nat_le (length fields) most then Ok tt else Err BadCount
 
 -- A field as `read` reads it. Places count from 0, and the fields of a fault from 1.
 unfoldable pub field_as : {X : Type 0} → (List ℕ → Option X) → ℕ → List (List ℕ) → Result X RecordFault
@@ -85,17 +84,17 @@ command_of word.Trade fields = lone_number fields >>= λ number. Ok (command.Tra
 command_of word.Ask fields = count_within 2 2 fields >>= λ _. Ok command.Ask
 command_of word.Uncross fields = count_within 2 2 fields >>= λ _. Ok command.Uncross
 
-unfoldable pub call_of : ℕ → List (List ℕ) → Result (ℕ × Command) RecordFault
+unfoldable pub call_of : ℕ → List (List ℕ) → Result Call RecordFault
 call_of members fields = do
   member ← member_of members fields
   word ← word_at fields
   command ← command_of word fields
-  Ok (member, command)
+  Ok (record { member = member; command = command })
 
 abbrev pub numbered : {X : Type 0} → ℕ → Result X RecordFault → Result X FileFault
 numbered number (Ok x) = Ok x
 numbered number (Err fault) = Err (in_record number fault)
 
 -- the same, with the number of the record in its fault
-unfoldable pub numbered_call : ℕ → ℕ → List (List ℕ) → Result (ℕ × Command) FileFault
+unfoldable pub numbered_call : ℕ → ℕ → List (List ℕ) → Result Call FileFault
 numbered_call members number fields = numbered number (call_of members fields)

@@ -1,7 +1,7 @@
 //! Why an order file is refused.
 
 ghost use Rattle.std.specs.Prelude.{◌≡◌};
-ghost use Rattle.order_file.specs.Fault.{in_record};
+ghost use Rattle.order_file.specs.FileFault.{in_record};
 
 use thiserror::Error;
 
@@ -9,7 +9,7 @@ use thiserror::Error;
 /// 1 as they are read, and so do the fields of a record.
 #[derive(Clone, Copy, Debug, PartialEq, Eq, Error)]
 pub enum FileFault {
-    /// The file has more than 67,108,864 bytes.
+    /// The file has more than `MAX_BYTES` bytes.
     #[error("file too long")]
     TooLong,
     /// The reader failed.

@@ -1,16 +1,18 @@
 //! Reading an order file.
 
-ghost use Rattle.std.specs.Prelude.{◌≡◌, ◌<◌, ◌≤◌, ◌↔◌, ◌∷◌, ℕ, All, List, [], length, IfErr, IfOk, IfSome, IsErrOf, MatchBool};
-ghost use Rattle.std.specs.Io.KnownBytes.{Consumes};
+ghost use Rattle.std.specs.Prelude.{◌≡◌, ◌<◌, ◌≤◌, ◌↔◌, ◌+◌, ◌∷◌, All, [], length, IfErr, IfOk, IfSome, IsErrOf};
+ghost use Rattle.std.specs.Prelude.{MatchBool};
+ghost use Rattle.byte_streams.specs.Streams.{TakesAtMost};
 ghost use Rattle.csv.specs.Reading.{default_config, records, strip_bom};
 ghost use Rattle.csv.specs.Records.{fields_of};
 ghost use Rattle.order_file.specs.File.{Gives, IsBelow, IsOfRecord, file, calls_after, calls_of, within_limit};
 ghost use Rattle.order_file.specs.Rows.{Stands, rows_left};
+ghost use Rattle.order_file.specs.declared.reading.TheConstants.{MAX_BYTES};
 
 use crate::fault::FileFault;
 use crate::record::numbered_call;
-use crate::source::Source;
-use auction_terms::Command;
+use auction_terms::Call;
+use byte_streams::Source;
 use csv::{ByteRecord, Reader, ReaderBuilder};
 use std::alloc::Global;
 
@@ -24,7 +26,7 @@ const CHUNK: usize = 65_536;
 fn bytes_of<R: Source>(alloc: Global, reader: &mut R) -> Result<Vec<u8>, FileFault>
     ensures failed { IsErrOf result FileFault.ReadFailed ↔ (R.failures reader.old < R.failures reader.new) }
     ensures bytes { IfSome (R.left reader.old) (λ left. Gives (λ v. v.items) result (within_limit left)) }
-    ensures taken { (bytes : List ℕ) × Consumes (R.left reader.old) (R.left reader.new) bytes × (length bytes ≤ 67108865) }
+    ensures taken { TakesAtMost (MAX_BYTES + 1) (R.left reader.old) (R.left reader.new) }
 {
     let mut bytes = Vec::new(alloc);
     let mut chunk = [0u8; CHUNK];
@@ -65,7 +67,7 @@ fn calls_from(
     reader: &mut Reader<&[u8]>,
     members: u8,
     max_calls: u32,
-) -> Result<Vec<(u8, Command)>, FileFault>
+) -> Result<Vec<Call>, FileFault>
     requires { Stands reader.old }
     ensures calls { Gives (λ v. v.items) result (calls_after members max_calls 0 (rows_left reader.old)) }
     ensures parsed { IfErr result IsOfRecord }
@@ -91,8 +93,8 @@ fn calls_from(
     Ok(calls)
 }
 
-/// A reader of the records of a file, with none read yet. It is given a row of headers, so that it keeps no copies of the
-/// first record.
+/// A reader of the records of a file, with none read yet. It is given a row of headers, so that it keeps no copies of
+/// the first record.
 fn reader_of<'a>(alloc: Global, bytes: &'a [u8]) -> Result<Reader<&'a [u8]>, FileFault>
     ensures memory { IfErr result (λ e. e ≡ FileFault.NoMemory) }
     ensures reader { IfOk result (λ r. Stands r × (rows_left r ≡ records default_config (strip_bom bytes.now))) }
@@ -112,7 +114,7 @@ fn calls_of(
     bytes: &[u8],
     members: u8,
     max_calls: u32,
-) -> Result<Vec<(u8, Command)>, FileFault>
+) -> Result<Vec<Call>, FileFault>
     ensures calls { Gives (λ v. v.items) result (calls_of members max_calls bytes.now) }
     ensures parsed { IfErr result IsOfRecord }
     ensures few { IfOk result (λ v. length v.items ≤ max_calls) }
@@ -122,8 +124,7 @@ fn calls_of(
     calls_from(alloc, &mut reader, members, max_calls)
 }
 
-/// Reads an order file to its end, and answers its calls, each a member and a command, in the order
-/// of the records.
+/// Reads an order file to its end, and answers its calls, in the order of the records.
 ///
 /// `members` is how many members the board has, `max_calls` how many commands may be applied. No call
 /// is answered where the file has a fault: that of the first bad record, in a record the member before
@@ -136,7 +137,7 @@ pub fn read_orders<R: Source>(
     reader: &mut R,
     members: u8,
     max_calls: u32,
-) -> Result<Vec<(u8, Command)>, FileFault>
+) -> Result<Vec<Call>, FileFault>
     // A read failed.
     ensures failed { IsErrOf result FileFault.ReadFailed ↔ (R.failures reader.old < R.failures reader.new) }
     // Else, want of memory aside, it is what the file says.
@@ -144,8 +145,8 @@ pub fn read_orders<R: Source>(
     // It is never more calls than may be applied, each of one of the members.
     ensures few { IfOk result (λ v. length v.items ≤ max_calls) }
     ensures below { IfOk result (λ v. All (IsBelow members) v.items) }
-    // However long the file is, so many bytes are taken.
-    ensures taken { (bytes : List ℕ) × Consumes (R.left reader.old) (R.left reader.new) bytes × (length bytes ≤ 67108865) }
+    // However long the file is, at most so many bytes are taken.
+    ensures taken { TakesAtMost (MAX_BYTES + 1) (R.left reader.old) (R.left reader.new) }
 {
     let bytes = bytes_of(alloc, reader)?;
     calls_of(alloc, bytes.as_slice(), members, max_calls)

@@ -1,15 +1,16 @@
-//! A record of the order file as a command.
+//! A record of the order file as a call.
 
 ghost use Rattle.std.specs.Prelude.{◌≡◌, ◌<◌, IfErr, IfOk};
 ghost use Rattle.csv.specs.Records.{fields_of};
 ghost use Rattle.order_file.specs.Field.{number_of, side_of, limit_of, peak_of, only_of};
 ghost use Rattle.order_file.specs.File.{IsOfRecord};
-ghost use Rattle.order_file.specs.Word.{word_of};
-ghost use Rattle.order_file.specs.Record.{field_as, peak_at, only_at, member_of, word_at, count_within, enter_of, change_of, lone_number, command_of, call_of, numbered_call};
+ghost use Rattle.order_file.specs.CommandWord.{word_of};
+ghost use Rattle.order_file.specs.Record.{field_as, peak_at, only_at, member_of, word_at, count_within};
+ghost use Rattle.order_file.specs.Record.{enter_of, change_of, lone_number, command_of, call_of, numbered_call};
 
 use crate::fault::{FileFault, RecordFault};
 use crate::field::{limit_of, number_of, only_of, peak_of, side_of};
-use auction_terms::{Command, Limit, Only, Side};
+use auction_terms::{Call, Command, Limit, Only, Side};
 use csv::ByteRecord;
 
 /// The word of a command.
@@ -24,7 +25,7 @@ enum Word {
     Uncross,
 }
 
-#[tactic(auto, unfolding(crate::specs::Word::word_of))]
+#[tactic(auto, unfolding(crate::specs::CommandWord::word_of))]
 fn word_of(field: &[u8]) -> Option<Word>
     ensures { result ≡ word_of field.now }
 {
@@ -215,28 +216,24 @@ fn command_of(word: Word, fields: &ByteRecord) -> Result<Command, RecordFault>
     }
 }
 
-/// The member and the command of a record, or its first fault.
+/// The call of a record, or its first fault.
 #[tactic(auto, unfolding(crate::specs::Record::call_of))]
-fn call_of(fields: &ByteRecord, members: u8) -> Result<(u8, Command), RecordFault>
+fn call_of(fields: &ByteRecord, members: u8) -> Result<Call, RecordFault>
     ensures call { result ≡ call_of members (fields_of fields.now) }
-    ensures below { IfOk result (λ call. call.0 < members) }
+    ensures below { IfOk result (λ call. call.member < members) }
 {
     let member = member_of(fields, members)?;
     let word = word_at(fields)?;
     let command = command_of(word, fields)?;
-    Ok((member, command))
+    Ok(Call { member, command })
 }
 
 /// The same, with the number of the record in its fault.
 #[tactic(auto, unfolding(crate::specs::Record::numbered_call))]
-pub fn numbered_call(
-    fields: &ByteRecord,
-    number: u64,
-    members: u8,
-) -> Result<(u8, Command), FileFault>
+pub fn numbered_call(fields: &ByteRecord, number: u64, members: u8) -> Result<Call, FileFault>
     ensures call { result ≡ numbered_call members number (fields_of fields.now) }
     ensures parsed { IfErr result IsOfRecord }
-    ensures below { IfOk result (λ call. call.0 < members) }
+    ensures below { IfOk result (λ call. call.member < members) }
 {
     match call_of(fields, members) {
         Ok(call) => Ok(call),

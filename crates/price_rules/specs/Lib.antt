@@ -1,4 +1,4 @@
-pub mod Held
+pub mod HeldPrice
 pub mod Around
-pub mod InLanes
-pub mod Deciding
+pub mod Candidates
+pub mod Decision

@@ -4,10 +4,10 @@ ghost use Rattle.std.specs.Prelude.{◌≡◌, ◌+◌, List, length, sum};
 ghost use Rattle.auction_terms.specs.declared.Order.{Order};
 ghost use Rattle.std.specs.Simd.Lanes.{zip2};
 ghost use Rattle.auction_terms.specs.Ladder.{flag_of};
-ghost use Rattle.tick_ladder.specs.Ladder.{IsLadderOf};
-ghost use Rattle.tick_ladder.specs.Standing.{IsCrossing};
+ghost use Rattle.tick_ladder.specs.TickLadder.{IsLadderOf};
+ghost use Rattle.tick_ladder.specs.OccupiedPlaces.{IsCrossingOf};
 ghost use Rattle.price_rules.specs.Around.{IsAround, here_at, few_limits};
-ghost use Rattle.price_rules.specs.InLanes.{IsCandidate, AreCandidates, AreMarked, in_lanes};
+ghost use Rattle.price_rules.specs.Candidates.{IsCandidate, AreCandidates, AreMarked, in_lanes};
 
 use crate::surroundings::Around;
 use tick_ladder::{Crossing, Ladder};
@@ -71,7 +71,7 @@ fn near_limit(ladder: &Ladder, around: &Around) -> Candidate
 
 /// The crossing, if something stands there.
 fn limit_here(ladder: &Ladder, crossing: Crossing) -> Candidate
-    requires { IsCrossing ladder.now.bids ladder.now.asks 0 (length ladder.now.bids) (ladder.now.market_bids + sum ladder.now.bids) ladder.now.market_asks crossing }
+    requires { IsCrossingOf ladder.now crossing }
     ensures { IsCandidate ladder.now (here_at ladder.now crossing.place) result }
 {
     let asks = ladder.asks_at(crossing.place);

@@ -1,9 +1,8 @@
 //! The choice among candidates in lanes.
 
-ghost use Rattle.std.specs.Prelude.{◌≡◌, ℕ, ◌<◌, List, IfSome, option_map, slice_index};
-ghost use Rattle.auction_terms.specs.declared.Order.{Order};
-ghost use Rattle.auction_terms.specs.Leading.{AreBest, lower_among, upper_among};
-ghost use Rattle.price_rules.specs.InLanes.{AreCandidates, AreMarked, IsWithin, lead_of};
+ghost use Rattle.std.specs.Prelude.{◌≡◌, ◌<◌, IfSome, option_map, slice_index};
+ghost use Rattle.auction_terms.specs.Devices.Leading.{AreBest, lower_among, upper_among};
+ghost use Rattle.price_rules.specs.Candidates.{OfMarked, lead_of};
 
 use crate::candidates::Lanes;
 use lane_select::{
@@ -33,7 +32,7 @@ fn tick_in(lanes: &Lanes, lane: Option<usize>) -> Option<u32>
 
 /// The lower of the two that the price is held between, where `flags` are those of the best.
 fn lower_of(lanes: &Lanes, flags: [u64; 8], surplus: u64) -> Option<u32>
-    ensures { (book : List Order) (best : List ℕ) → AreCandidates book lanes.now → IsWithin flags lanes.now.flags → AreMarked lanes.now.ticks flags best → result ≡ lower_among book surplus best }
+    ensures { OfMarked lanes.now flags (λ book best. result ≡ lower_among book surplus best) }
 {
     if surplus == 0 {
         return tick_in(lanes, first(&flags));
@@ -45,7 +44,7 @@ fn lower_of(lanes: &Lanes, flags: [u64; 8], surplus: u64) -> Option<u32>
 
 /// The upper of the two that the price is held between, where `flags` are those of the best.
 fn upper_of(lanes: &Lanes, flags: [u64; 8], surplus: u64) -> Option<u32>
-    ensures { (book : List Order) (best : List ℕ) → AreCandidates book lanes.now → IsWithin flags lanes.now.flags → AreMarked lanes.now.ticks flags best → result ≡ upper_among book surplus best }
+    ensures { OfMarked lanes.now flags (λ book best. result ≡ upper_among book surplus best) }
 {
     if surplus == 0 {
         return tick_in(lanes, last(&flags));
@@ -58,7 +57,7 @@ fn upper_of(lanes: &Lanes, flags: [u64; 8], surplus: u64) -> Option<u32>
 /// What the best of the candidates have in common, if one has volume: those with the most volume and, among these, the
 /// least surplus.
 pub fn best_of(lanes: &Lanes) -> Option<Leaders>
-    ensures { (book : List Order) (few : List ℕ) → AreCandidates book lanes.now → AreMarked lanes.now.ticks lanes.now.flags few → AreBest book few (option_map lead_of result) }
+    ensures { OfMarked lanes.now lanes.now.flags (λ book few. AreBest book few (option_map lead_of result)) }
 {
     let mut flags = lanes.flags;
     let mut volumes = [0; 8];

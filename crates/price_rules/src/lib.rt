@@ -1,18 +1,16 @@
 //! The auction price of a ladder.
 #![tactic(auto)]
 
-ghost use Rattle.std.specs.Prelude.{◌≡◌, ℕ, ◌+◌, ◌≤◌, ◌<◌, List, IfSome, IfNone, length};
-ghost use Rattle.auction_terms.specs.declared.Order.{Order};
-ghost use Rattle.auction_terms.specs.Book.{volume, surplus};
-ghost use Rattle.auction_terms.specs.PriceOf.{price, lower_kept, upper_kept};
-ghost use Rattle.auction_terms.specs.Ladder.{LadderView, flag_of};
-ghost use Rattle.tick_ladder.specs.Ladder.{IsLadderOf};
-ghost use Rattle.price_rules.specs.Held.{sided, price_from, priced_by, market_priced};
-ghost use Rattle.price_rules.specs.InLanes.{lead_of};
+ghost use Rattle.std.specs.Prelude.{◌≡◌, ◌+◌, ◌≤◌, ◌<◌, length};
+ghost use Rattle.std.specs.Simd.Lanes.{zip2};
+ghost use Rattle.auction_terms.specs.AuctionPrice.{price, HasMostVolume};
+ghost use Rattle.auction_terms.specs.Ladder.{flag_of};
+ghost use Rattle.tick_ladder.specs.TickLadder.{OfEachBook};
+ghost use Rattle.price_rules.specs.HeldPrice.{sided, price_from, priced_by, market_priced};
+ghost use Rattle.price_rules.specs.Candidates.{lead_of};
 ghost use Rattle.price_rules.specs.Around.{IsAround};
 ghost use Rattle.price_rules.specs.declared.surroundings.Around.{Around as AroundView};
-ghost use Rattle.price_rules.specs.Deciding.{IsBookOver, IsSameWithin, IsNear, from_place, to_place};
-ghost use Rattle.std.specs.Simd.Lanes.{zip2};
+ghost use Rattle.price_rules.specs.Decision.{AreDecidingTicks, DecidesPrice, IsPriceNear, from_place, to_place};
 
 mod candidates;
 mod choice;
@@ -101,7 +99,7 @@ fn price_around(ladder: &Ladder, around: &Around, reference: u32) -> Option<Pric
     requires high { reference < ladder.now.low + length ladder.now.bids }
     requires around { IsAround ladder.now around.now }
     requires flags { ladder.now.present ≡ zip2 flag_of ladder.now.bids ladder.now.asks }
-    ensures { (view : LadderView) (book other : List Order) → IsLadderOf ladder.now book → IsLadderOf view other → view.present ≡ zip2 flag_of view.bids view.asks → IsNear ladder.now around.now view → result ≡ price other reference }
+    ensures { IsPriceNear ladder.now around.now reference result }
 {
     let lanes = limits_around(ladder, around);
     match best_of(&lanes) {
@@ -152,13 +150,13 @@ fn highest_deciding(ladder: &Ladder, around: &Around) -> u32
 pub fn decide(ladder: &Ladder, reference: u32) -> Decision
     requires low { ladder.now.low ≤ reference }
     requires high { reference < ladder.now.low + length ladder.now.bids }
-    ensures price { (book : List Order) → IsLadderOf ladder.now book → result.price ≡ price book reference }
+    ensures price { OfEachBook ladder.now (λ book. result.price ≡ price book reference) }
 
     // Any book with the same quantities there has the same price.
-    ensures deciding { (book other : List Order) → IsLadderOf ladder.now book → IsBookOver ladder.now.low (length ladder.now.bids) other → IsSameWithin result.lowest result.highest book other → result.price ≡ price other reference }
+    ensures deciding { DecidesPrice ladder.now reference result }
 
     // They are the ticks of the second limit before the crossing and of the first after it, or the ends of the ladder.
-    ensures ticks { (around : AroundView) × IsAround ladder.now around × (result.lowest ≡ ladder.now.low + from_place around.far) × (result.highest ≡ ladder.now.low + to_place (length ladder.now.bids) around.after) }
+    ensures ticks { (around : AroundView) × AreDecidingTicks ladder.now result around }
 {
     let around = look_around(ladder);
     Decision {
@@ -178,14 +176,10 @@ pub fn decide(ladder: &Ladder, reference: u32) -> Decision
 pub fn determine(ladder: &Ladder, reference: u32) -> Option<Price>
     requires low { ladder.now.low ≤ reference }
     requires high { reference < ladder.now.low + length ladder.now.bids }
-    ensures price { (book : List Order) → IsLadderOf ladder.now book → result ≡ price book reference }
+    ensures price { OfEachBook ladder.now (λ book. result ≡ price book reference) }
 
     // No tick has more volume than the price, and without a price none has any.
-    ensures most { (book : List Order) → IsLadderOf ladder.now book → IfSome result (λ found. (tick : ℕ) → volume book tick ≤ found.volume) }
-    ensures none { (book : List Order) → IsLadderOf ladder.now book → IfNone result ((tick : ℕ) → volume book tick ≡ 0) }
-
-    // A reference strictly between the two limits that it may be held at has no surplus.
-    ensures balanced { (book : List Order) → IsLadderOf ladder.now book → (lower upper : ℕ) → lower_kept book ≡ Some lower → upper_kept book ≡ Some upper → lower < reference → reference < upper → surplus book reference ≡ 0 }
+    ensures most { OfEachBook ladder.now (λ book. HasMostVolume book result) }
 {
     decide(ladder, reference).price
 }

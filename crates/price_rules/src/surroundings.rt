@@ -1,8 +1,6 @@
 //! The limits next to the place where demand and supply cross.
 
-ghost use Rattle.std.specs.Prelude.{◌≡◌};
-ghost use Rattle.std.specs.Simd.Lanes.{zip2};
-ghost use Rattle.auction_terms.specs.Ladder.{flag_of};
+ghost use Rattle.tick_ladder.specs.TickLadder.{IsLadder};
 ghost use Rattle.price_rules.specs.Around.{IsAround};
 
 use tick_ladder::{Crossing, Ladder};
@@ -19,7 +17,7 @@ pub struct Around {
 /// Finds the crossing and the limits next to it.
 pub fn look_around(ladder: &Ladder) -> Around
     ensures value { IsAround ladder.now result }
-    ensures flags { ladder.now.present ≡ zip2 flag_of ladder.now.bids ladder.now.asks }
+    ensures sound { IsLadder ladder.now }
 {
     let crossing = ladder.crossing();
     let near = ladder.last_before(crossing.place);

@@ -1,3 +1,3 @@
 pub mod Lists
-pub mod Texts
-pub mod Written
+pub mod PrinterLaws
+pub mod PageLaws

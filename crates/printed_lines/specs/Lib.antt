@@ -1,4 +1,4 @@
 pub mod Printing
-pub mod Words
-pub mod Line
-pub mod Floor
+pub mod ReplyWords
+pub mod ReplyLines
+pub mod Tally

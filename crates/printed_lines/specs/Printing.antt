@@ -1,14 +1,27 @@
--- What of a text that is printed by way of a page has been written.
-use Rattle.std.specs.Prelude.{◌≡◌, ℕ, ◌++◌, List, Option, Result, MatchResult}
+-- What is printed by way of a page.
+use Rattle.std.specs.Prelude.{◌≡◌, ℕ, [], ◌++◌, List, Option, Result, MatchResult}
+use Rattle.std.specs.Borrow.{MutBor}
 use Rattle.std.specs.Io.KnownBytes.{Appends}
-use Rattle.order_file.specs.Ends.{AppendsBeginning}
+use Rattle.byte_streams.specs.Streams.{AppendsBeginning, TellsFailure}
+use Rattle.byte_streams.specs.declared.sink.Sink.{Ghosts}
+use Rattle.byte_streams.specs.declared.writing.WriteFailed.{WriteFailed}
+use Rattle.printed_lines.specs.declared.printer.Printer.{Printer}
 
--- Some of a text was written, and the rest of it is on the page.
+-- a new printer for a sink, with nothing on its page
+pub record IsFresh {S : Type 0} (sink : MutBor S) (printer : Printer S) : Type 0 where
+  pub sink_is : printer.sink ≡ sink
+  pub page_is : printer.page ≡ []
+
+-- some of a text was written, and the rest of it is on the page
 abbrev pub Keeps : Option (List ℕ) → Option (List ℕ) → List ℕ → List ℕ → Type 0
 Keeps old new page text = (done : List ℕ) × (done ++ page ≡ text) × Appends old new done
 
--- What stood on the page and the text were written but for what is now on the page, or at a failure a
--- beginning of both.
-abbrev pub Prints : {E : Type 0} → Option (List ℕ) → Option (List ℕ) → List ℕ → List ℕ → Result (Unit {0}) E → List ℕ → Type 0
-Prints old new before after r text =
-    MatchResult r (λ _. Keeps old new after (before ++ text)) (λ _. AppendsBeginning old new (before ++ text))
+-- A text was printed: what stood on the page and the text were written but for what is now on the page, or at a failure
+-- a beginning of both. It failed where the count of failures rose.
+pub record Prints {S : Type 0} (sink : Ghosts S) (old new : Printer S) (r : Result (Unit {0}) WriteFailed)
+    (lines : List ℕ) : Type 0 where
+  pub same_sink : new.sink.ghost_name ≡ old.sink.ghost_name
+  pub text : MatchResult r
+      (λ _. Keeps (sink.written old.sink.now) (sink.written new.sink.now) new.page (old.page ++ lines))
+      (λ _. AppendsBeginning (sink.written old.sink.now) (sink.written new.sink.now) (old.page ++ lines))
+  pub failed : TellsFailure (sink.failures old.sink.now) (sink.failures new.sink.now) r

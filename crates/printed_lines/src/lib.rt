@@ -1,19 +1,20 @@
 //! The text that a call auction board prints: a line for each reply, the tally of a closed floor, and
 //! the lines of its history.
 //!
-//! Text goes through a `Page`, so that a day of many lines is a few large writes. Each call says
-//! exactly what was written and what is still on the page; it fails exactly where the writer's count
-//! of failures rose, and what was written is then a beginning of the text.
+//! Text goes through a `Printer`, which puts it together on a page, so that a day of many lines is a
+//! few large writes. Each call says exactly what was written and what is still on the page (`Prints`);
+//! it fails exactly where the writer's count of failures rose, and what was written is then a beginning
+//! of the text.
 #![tactic(auto)]
 
-mod floor;
 mod line;
 mod page;
+mod printer;
 mod reply;
+mod tally;
 mod words;
-mod writing;
 
-pub use floor::{print_story, print_tally};
 pub use line::print_line;
-pub use page::Page;
-pub use writing::{WriteFailed, write_all};
+pub use page::{LONGEST_LINE, LONGEST_NUMBER, Page, ROOM};
+pub use printer::Printer;
+pub use tally::{print_story, print_tally};

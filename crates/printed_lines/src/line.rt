@@ -1,28 +1,24 @@
 //! A printed line.
 
-ghost use Rattle.std.specs.Prelude.{◌<◌};
-ghost use Rattle.order_file.specs.Ends.{TellsFailure};
 ghost use Rattle.printed_lines.specs.Printing.{Prints};
-ghost use Rattle.printed_lines.specs.Line.{line};
+ghost use Rattle.printed_lines.specs.ReplyLines.{line};
 
-use crate::page::Page;
+use crate::printer::Printer;
 use crate::reply::put_reply;
-use crate::writing::WriteFailed;
 use auction_terms::Reply;
-use order_file::Sink;
+use byte_streams::{Sink, WriteFailed};
 
 /// Prints the line of a command's reply: the command's number from 1, a colon, the reply's text.
-#[tactic(auto, unfolding(crate::specs::Line::line))]
+#[tactic(auto, unfolding(crate::specs::ReplyLines::line))]
 pub fn print_line<S: Sink>(
-    sink: &mut S,
-    page: &mut Page,
+    printer: &mut Printer<'_, S>,
     number: u64,
     reply: Reply,
 ) -> Result<(), WriteFailed>
-    ensures text { Prints (S.written sink.old) (S.written sink.new) page.old page.new result (line number reply) }
-    ensures failed { TellsFailure (S.failures sink.old) (S.failures sink.new) result }
+    ensures { Prints S.Sink printer.old printer.new result (line number reply) }
 {
-    page.make_room(sink)?;
+    printer.make_room()?;
+    let page = &mut printer.page;
     page.put_number(number);
     page.put(": ");
     put_reply(page, reply);

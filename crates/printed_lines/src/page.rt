@@ -1,21 +1,21 @@
 //! The page on which text is put together before it is written.
 
-ghost use Rattle.std.specs.Prelude.{◌≡◌, ◌≤◌, ◌+◌, ◌++◌, ℕ, List, [], length, decimal, IfOk, OnErr, OnOk};
-ghost use Rattle.order_file.specs.Ends.{AppendsBeginning, TellsFailure, Writes};
-ghost use Rattle.printed_lines.specs.Printing.{Keeps};
+ghost use Rattle.std.specs.Prelude.{◌≡◌, ◌≤◌, ◌+◌, ◌++◌, [], length, decimal};
+ghost use Rattle.printed_lines.specs.declared.page.TheConstants.{LONGEST_NUMBER, ROOM};
 
-use crate::writing::{WriteFailed, write_all};
 use itoa::Buffer;
-use order_file::Sink;
 use std::marker::Model;
 
 /// How many bytes a page has room for.
-const ROOM: usize = 16_384;
+pub const ROOM: usize = 16_384;
 
 /// How many bytes a line has at most.
-const LONGEST_LINE: usize = 256;
+pub const LONGEST_LINE: usize = 256;
 
-/// Text that is still to be written, up to 16,384 bytes of it. It takes no memory.
+/// How many digits a number has at most.
+pub const LONGEST_NUMBER: usize = 20;
+
+/// Text that is still to be written, up to `ROOM` bytes of it. It takes no memory.
 #[derive(Drop)]
 pub struct Page {
     bytes: [u8; ROOM],
@@ -24,12 +24,13 @@ pub struct Page {
 
 impl Model for Page {
     ghost use Rattle.std.specs.Prelude.{ℕ, List, ◌≤◌, take};
+    ghost use Rattle.printed_lines.specs.declared.page.TheConstants.{ROOM};
 
     ghost Value = { List ℕ };
 
     ghost view = { λ page. take page.len page.bytes };
 
-    ghost invariant = { λ page. page.len ≤ 16384 };
+    ghost invariant = { λ page. page.len ≤ ROOM };
 }
 
 impl Page {
@@ -43,9 +44,31 @@ impl Page {
         }
     }
 
+    /// How many bytes stand on the page.
+    #[inline(always)]
+    pub(crate) fn len(&self) -> usize
+        ensures { result ≡ length self.now }
+    {
+        self.len
+    }
+
+    /// What stands on the page.
+    pub(crate) fn as_slice(&self) -> &[u8]
+        ensures { result.now ≡ self.now }
+    {
+        &self.bytes[..self.len]
+    }
+
+    /// Empties the page.
+    pub(crate) fn clear(&mut self)
+        ensures { self.new ≡ [] }
+    {
+        self.len = 0;
+    }
+
     #[inline(always)]
     fn append(&mut self, text: &[u8])
-        requires { length self.old + length text.now ≤ 16384 }
+        requires { length self.old + length text.now ≤ ROOM }
         ensures { self.new ≡ self.old ++ text.now }
     {
         let len = self.len;
@@ -53,41 +76,10 @@ impl Page {
         self.len = len + text.len();
     }
 
-    fn clear(&mut self)
-        ensures { self.new ≡ [] }
-    {
-        self.len = 0;
-    }
-
-    /// Writes what stands on the page, all of it, or at a failure a beginning. The page is then empty.
-    pub fn write_to<S: Sink>(&mut self, sink: &mut S) -> Result<(), WriteFailed>
-        ensures text { Writes (S.written sink.old) (S.written sink.new) result self.old }
-        ensures failed { TellsFailure (S.failures sink.old) (S.failures sink.new) result }
-        ensures page { self.new ≡ [] }
-    {
-        let written = write_all(sink, &self.bytes[..self.len]);
-        self.clear();
-        written
-    }
-
-    /// Writes what stands on the page where there is no room for one more line.
-    #[inline(always)]
-    pub(crate) fn make_room<S: Sink>(&mut self, sink: &mut S) -> Result<(), WriteFailed>
-        ensures kept { OnOk result (Keeps (S.written sink.old) (S.written sink.new) self.new self.old) }
-        ensures begun { OnErr result ((more : List ℕ) → AppendsBeginning (S.written sink.old) (S.written sink.new) (self.old ++ more)) }
-        ensures failed { TellsFailure (S.failures sink.old) (S.failures sink.new) result }
-        ensures room { IfOk result (λ _. length self.new + 256 ≤ 16384) }
-    {
-        if self.len > ROOM - LONGEST_LINE {
-            return self.write_to(sink);
-        }
-        Ok(())
-    }
-
     /// Puts text behind what stands on the page.
     #[inline(always)]
-    pub(crate) fn put(&mut self, text: &str)
-        requires { length self.old + length text.now ≤ 16384 }
+    pub fn put(&mut self, text: &str)
+        requires { length self.old + length text.now ≤ ROOM }
         ensures text { self.new ≡ self.old ++ text.now }
         ensures longer { length self.new ≡ length self.old + length text.now }
     {
@@ -96,10 +88,10 @@ impl Page {
 
     /// Puts a number behind what stands on the page, in decimal digits without leading zeros.
     #[inline(always)]
-    pub(crate) fn put_number(&mut self, number: u64)
-        requires { length self.old + 20 ≤ 16384 }
+    pub fn put_number(&mut self, number: u64)
+        requires { length self.old + LONGEST_NUMBER ≤ ROOM }
         ensures text { self.new ≡ self.old ++ decimal number }
-        ensures longer { length self.new ≤ length self.old + 20 }
+        ensures longer { length self.new ≤ length self.old + LONGEST_NUMBER }
     {
         let mut buffer = Buffer::new();
         self.append(buffer.format(number).as_bytes());

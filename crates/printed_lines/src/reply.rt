@@ -2,7 +2,8 @@
 
 ghost use Rattle.std.specs.Prelude.{◌≡◌, ◌≤◌, ◌+◌, ◌++◌, ◌∷◌, [], length, decimal};
 ghost use Rattle.auction_terms.specs.declared.Reply.TheVariants as reply;
-ghost use Rattle.printed_lines.specs.Words.{joined, limit_words, number_word, price_words, reply_text};
+ghost use Rattle.printed_lines.specs.declared.page.TheConstants.{LONGEST_NUMBER, ROOM};
+ghost use Rattle.printed_lines.specs.ReplyWords.{joined, limit_words, number_word, price_words, reply_text};
 
 use crate::page::Page;
 use crate::words::{kind_word, place_word, refusal_word, side_word};
@@ -10,9 +11,9 @@ use auction_terms::{Display, Kind, Limit, Price, Reply, Side, Trade};
 
 /// Puts a number on the page, or a dash where there is none.
 fn put_number_word(page: &mut Page, number: Option<u32>)
-    requires { length page.old + 20 ≤ 16384 }
+    requires { length page.old + LONGEST_NUMBER ≤ ROOM }
     ensures text { page.new ≡ page.old ++ number_word number }
-    ensures longer { length page.new ≤ length page.old + 20 }
+    ensures longer { length page.new ≤ length page.old + LONGEST_NUMBER }
 {
     match number {
         Some(number) => page.put_number(u64::from(number)),
@@ -21,7 +22,7 @@ fn put_number_word(page: &mut Page, number: Option<u32>)
 }
 
 fn put_price(page: &mut Page, price: Price)
-    requires { length page.old + 100 ≤ 16384 }
+    requires { length page.old + 100 ≤ ROOM }
     ensures text { page.new ≡ page.old ++ joined (price_words price) }
     ensures longer { length page.new ≤ length page.old + 100 }
 {
@@ -36,7 +37,7 @@ fn put_price(page: &mut Page, price: Price)
 }
 
 fn put_display(page: &mut Page, display: Display)
-    requires { length page.old + 100 ≤ 16384 }
+    requires { length page.old + 100 ≤ ROOM }
     ensures text { page.new ≡ page.old ++ reply_text (reply.Indicated display) }
     ensures longer { length page.new ≤ length page.old + 100 }
 {
@@ -56,7 +57,7 @@ fn put_display(page: &mut Page, display: Display)
 
 /// Puts what stands behind an order's open quantity on the page: its limit, and its visible quantity.
 fn put_limit(page: &mut Page, limit: Limit, visible: u64)
-    requires { length page.old + 60 ≤ 16384 }
+    requires { length page.old + 60 ≤ ROOM }
     ensures text { page.new ≡ page.old ++ joined (limit_words limit ++ (decimal visible ∷ [])) }
     ensures longer { length page.new ≤ length page.old + 60 }
 {
@@ -75,7 +76,7 @@ fn put_limit(page: &mut Page, limit: Limit, visible: u64)
 }
 
 fn put_standing(page: &mut Page, side: Side, limit: Limit, quantity: u64, visible: u64)
-    requires { length page.old + 100 ≤ 16384 }
+    requires { length page.old + 100 ≤ ROOM }
     ensures text { page.new ≡ page.old ++ reply_text (reply.Standing side limit quantity visible) }
     ensures longer { length page.new ≤ length page.old + 100 }
 {
@@ -87,7 +88,7 @@ fn put_standing(page: &mut Page, side: Side, limit: Limit, quantity: u64, visibl
 }
 
 fn put_trade(page: &mut Page, trade: Trade)
-    requires { length page.old + 100 ≤ 16384 }
+    requires { length page.old + 100 ≤ ROOM }
     ensures text { page.new ≡ page.old ++ reply_text (reply.Traded trade) }
     ensures longer { length page.new ≤ length page.old + 100 }
 {
@@ -102,7 +103,7 @@ fn put_trade(page: &mut Page, trade: Trade)
 }
 
 fn put_uncrossed(page: &mut Page, kind: Kind, price: Option<Price>, trades: u32)
-    requires { length page.old + 150 ≤ 16384 }
+    requires { length page.old + 150 ≤ ROOM }
     ensures text { page.new ≡ page.old ++ reply_text (reply.Uncrossed kind trades price) }
     ensures longer { length page.new ≤ length page.old + 150 }
 {
@@ -120,7 +121,7 @@ fn put_uncrossed(page: &mut Page, kind: Kind, price: Option<Price>, trades: u32)
 
 /// Puts the text of a reply on the page.
 pub fn put_reply(page: &mut Page, reply: Reply)
-    requires { length page.old + 150 ≤ 16384 }
+    requires { length page.old + 150 ≤ ROOM }
     ensures text { page.new ≡ page.old ++ reply_text reply }
     ensures longer { length page.new ≤ length page.old + 150 }
 {

@@ -1,7 +1,7 @@
 //! The words of a reply.
 
 ghost use Rattle.std.specs.Prelude.{◌≡◌, ◌≤◌, length};
-ghost use Rattle.printed_lines.specs.Words.{side_word, kind_word, place_word, refusal_word};
+ghost use Rattle.printed_lines.specs.ReplyWords.{side_word, kind_word, place_word, refusal_word};
 
 use auction_terms::{Kind, Refused, Side};
 

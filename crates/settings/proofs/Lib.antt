@@ -1,5 +1,5 @@
 mod Built
-mod Examples
+mod CommandLineExamples
 mod Numbers
 mod Parsed
 mod Places

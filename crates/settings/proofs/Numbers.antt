@@ -8,8 +8,8 @@ use Rattle.std.proofs.lemmas.Str.Parse.{digit_from_value}
 use Rattle.clap.specs.Lexer.{without_minus}
 use Rattle.clap.specs.Matches.{ReadsOne}
 use Rattle.clap.specs.Values.{IsSignedIn}
-use Rattle.settings.specs.Texts.{IsNumberIn}
-use Rattle.settings.specs.Words.{number_in}
+use Rattle.settings.specs.OptionTexts.{IsNumberIn}
+use Rattle.settings.specs.CommandLine.{number_in}
 
 minus_off : (t : List ℕ) → without_minus t ≡ cond (starts_with_minus t) (drop 1 t) t
 minus_off [] = refl

@@ -25,7 +25,7 @@ use Rattle.clap.proofs.CallerLemmas.{default_present, entry_by_id, same_rules_by
 use Rattle.clap.proofs.SimpleLemmas.{ready_simple, simple_groups}
 use Rattle.clap.proofs.WalkLemmas.{one_text-rows}
 use Rattle.settings.specs.Options.{callboard}
-use Rattle.settings.specs.Texts.{IsParsed}
+use Rattle.settings.specs.OptionTexts.{IsParsed}
 use Rattle.settings.proofs.Places.{alone, named, not_auto, only, only_at, place, stands}
 
 -- each argument of the command with this id keeps the rules of `a`

@@ -1,10 +1,10 @@
 -- What the getters read of the options.
 use Rattle.std.proofs.Common.{◌≡◌, ◌∙◌, ◌⊎◌, ◌≤◌, ◌||◌, ap, ℕ, Bool, true, false, refl, sym, subst, arith, List, [], Option, Some, None, Result, codes, inl, inr}
-use Rattle.std.specs.Option.{option_map_or}
 use Rattle.std.specs.Prelude.{IfSome, IsErr, IsErrAnd, IsSomeAnd, option_map, pos, slice_get, unwrap_or}
 use Rattle.std.specs.Str.{bytes_eq}
 use Rattle.std.specs.Str.Parse.{ParsesUnsigned}
 use Rattle.std.proofs.lemmas.Slice.Eq.{bytes_eq-Decides}
+use Rattle.auction_terms.specs.declared.limits.TheConstants.{MAX_CALLS, MAX_MEMBERS, MAX_OPEN_ORDERS, MAX_TICK}
 use Rattle.clap.specs.Faults.{fault_of, is_simple_and_free}
 use Rattle.clap.specs.Kinds.{FailsBy, HasKind}
 use Rattle.clap.specs.Matches.{ReadsOne, found_of, one_text}
@@ -19,8 +19,8 @@ use Rattle.clap.proofs.KindLemmas.{fails_by_from}
 use Rattle.clap.proofs.WalkLemmas.{one_text-rows}
 use Rattle.settings.specs.Options.{callboard, flag, number}
 use Rattle.settings.specs.declared.types.Settings.{Settings}
-use Rattle.settings.specs.Texts.{HasFlag, HasNumber, IsNumberIn, IsParsed, MayHaveNumber}
-use Rattle.settings.specs.Words.{Says, is_given, number_at, number_in}
+use Rattle.settings.specs.OptionTexts.{HasFlag, HasNumber, IsNumberIn, IsParsed, MayHaveNumber}
+use Rattle.settings.specs.CommandLine.{Says, is_given, is_yes, number_at, number_in}
 use Rattle.settings.proofs.Numbers.{number_read, passed_text}
 use Rattle.settings.proofs.Parsed.{IsOption, IsReadBy, option_text, option_there}
 use Rattle.settings.proofs.Places.{stands}
@@ -47,22 +47,19 @@ number_or_none E G f id r has none read parses = go (one_of id (rows_of f)) refl
     go None e is = ap (option_map number_in) e ∙ sym (none (one_text-rows f id ∙ e))
     go (Some t) e is = ap (option_map number_in) e ∙ sym (number_read E G 0 4294967295 t r (read t (one_text-rows f id ∙ e)) (parses t) (omega arith) is)
 
-abbrev shown : Option Text → Bool
-shown o = option_map_or (λ text. bytes_eq text (codes "true")) o false
-
 -- `get_flag`
 pub flag_got : (f : Found) (id : Text) (r : Bool) → HasFlag id (rows_of f) → (one_text f id ≡ None → r ≡ false) → (one_text f id ≡ Some (codes "true") → r ≡ true)
     → (one_text f id ≡ Some (codes "false") → r ≡ false) → is_given id (rows_of f) ≡ r
 flag_got f id r has none yes_flag no_flag = go (one_of id (rows_of f)) refl has
   where
     go : (o : Option Text) → one_of id (rows_of f) ≡ o → IfSome o (λ text. (text ≡ codes "true") ⊎ (text ≡ codes "false")) → is_given id (rows_of f) ≡ r
-    go None e is = ap shown e ∙ sym (none (one_text-rows f id ∙ e))
+    go None e is = ap is_yes e ∙ sym (none (one_text-rows f id ∙ e))
     go (Some t) e (inl is) =
         let text : one_of id (rows_of f) ≡ Some (codes "true") = e ∙ ap (λ (x : Text). Some x) is in
-        ap shown text ∙ sym (yes_flag (one_text-rows f id ∙ text))
+        ap is_yes text ∙ sym (yes_flag (one_text-rows f id ∙ text))
     go (Some t) e (inr is) =
         let text : one_of id (rows_of f) ≡ Some (codes "false") = e ∙ ap (λ (x : Text). Some x) is in
-        ap shown text ∙ sym (no_flag (one_text-rows f id ∙ text))
+        ap is_yes text ∙ sym (no_flag (one_text-rows f id ∙ text))
 
 -- ---- the options
 
@@ -104,26 +101,26 @@ a_flag m k name parsed at alone = go (one_of name (rows_of (found_of m))) refl
         true_or_false t (subst (λ (w : Text). (bytes_eq w (codes "true") || bytes_eq w (codes "false")) ≡ true) (sym read.1) read.2)
 
 pub record HasOptions (rows : List Row) : Type 0 where
-  pub low : HasNumber 1 1000000 (codes "low") rows
-  pub high : HasNumber 1 1000000 (codes "high") rows
-  pub reference : HasNumber 1 1000000 (codes "reference") rows
-  pub max_open : HasNumber 1 65536 (codes "open") rows
-  pub max_calls : HasNumber 1 1048576 (codes "calls") rows
-  pub range : MayHaveNumber 0 1000000 (codes "range") rows
-  pub members : HasNumber 1 64 (codes "members") rows
+  pub low : HasNumber 1 MAX_TICK (codes "low") rows
+  pub high : HasNumber 1 MAX_TICK (codes "high") rows
+  pub reference : HasNumber 1 MAX_TICK (codes "reference") rows
+  pub max_open : HasNumber 1 MAX_OPEN_ORDERS (codes "open") rows
+  pub max_calls : HasNumber 1 MAX_CALLS (codes "calls") rows
+  pub range : MayHaveNumber 0 MAX_TICK (codes "range") rows
+  pub members : HasNumber 1 MAX_MEMBERS (codes "members") rows
   pub floor : HasFlag (codes "floor") rows
   pub history : HasFlag (codes "history") rows
 
 pub has_options : (m : ArgMatches) → IsParsed m → HasOptions (rows_of (found_of m))
 unfolding callboard
 has_options m parsed = record {
-  low = a_number m 0 (codes "low") 1 1000000 (codes "1") parsed refl refl;
-  high = a_number m 1 (codes "high") 1 1000000 (codes "1000") parsed refl refl;
-  reference = a_number m 2 (codes "reference") 1 1000000 (codes "200") parsed refl refl;
-  max_open = a_number m 3 (codes "open") 1 65536 (codes "4096") parsed refl refl;
-  max_calls = a_number m 4 (codes "calls") 1 1048576 (codes "65536") parsed refl refl;
-  range = maybe_number m 5 (codes "range") 0 1000000 parsed refl refl;
-  members = a_number m 6 (codes "members") 1 64 (codes "4") parsed refl refl;
+  low = a_number m 0 (codes "low") 1 MAX_TICK (codes "1") parsed refl refl;
+  high = a_number m 1 (codes "high") 1 MAX_TICK (codes "1000") parsed refl refl;
+  reference = a_number m 2 (codes "reference") 1 MAX_TICK (codes "200") parsed refl refl;
+  max_open = a_number m 3 (codes "open") 1 MAX_OPEN_ORDERS (codes "4096") parsed refl refl;
+  max_calls = a_number m 4 (codes "calls") 1 MAX_CALLS (codes "65536") parsed refl refl;
+  range = maybe_number m 5 (codes "range") 0 MAX_TICK parsed refl refl;
+  members = a_number m 6 (codes "members") 1 MAX_MEMBERS (codes "4") parsed refl refl;
   floor = a_flag m 7 (codes "floor") parsed refl refl;
   history = a_flag m 8 (codes "history") parsed refl refl;
 }

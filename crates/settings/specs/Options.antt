@@ -1,6 +1,7 @@
 -- The options of the command line, as a parse reads them.
 use Rattle.std.specs.Prelude.{ℕ, pos, List, [], ◌∷◌, Option, Some, None, codes}
 use Rattle.std.specs.Option.{option_map_or}
+use Rattle.auction_terms.specs.declared.limits.TheConstants.{MAX_CALLS, MAX_MEMBERS, MAX_OPEN_ORDERS, MAX_TICK}
 use Rattle.clap.specs.Walk.{Rule, Text}
 use Rattle.clap.specs.Simple.{App, new_rule, new_shape}
 use Rattle.clap.specs.declared.builder.action.ArgAction.TheVariants.{Set, SetTrue}
@@ -27,13 +28,13 @@ flag name = record (new_rule name) {
 
 -- in the order of the help
 abbrev pub options : List Rule
-options = number (codes "low") 1 1000000 (Some (codes "1"))
-    ∷ number (codes "high") 1 1000000 (Some (codes "1000"))
-    ∷ number (codes "reference") 1 1000000 (Some (codes "200"))
-    ∷ number (codes "open") 1 65536 (Some (codes "4096"))
-    ∷ number (codes "calls") 1 1048576 (Some (codes "65536"))
-    ∷ number (codes "range") 0 1000000 None
-    ∷ number (codes "members") 1 64 (Some (codes "4"))
+options = number (codes "low") 1 MAX_TICK (Some (codes "1"))
+    ∷ number (codes "high") 1 MAX_TICK (Some (codes "1000"))
+    ∷ number (codes "reference") 1 MAX_TICK (Some (codes "200"))
+    ∷ number (codes "open") 1 MAX_OPEN_ORDERS (Some (codes "4096"))
+    ∷ number (codes "calls") 1 MAX_CALLS (Some (codes "65536"))
+    ∷ number (codes "range") 0 MAX_TICK None
+    ∷ number (codes "members") 1 MAX_MEMBERS (Some (codes "4"))
     ∷ flag (codes "floor")
     ∷ flag (codes "history")
     ∷ []

@@ -4,12 +4,11 @@
 ghost use Rattle.std.specs.Prelude.{◌≡◌, IfOk, Some, codes};
 ghost use Rattle.clap.specs.Kinds.{FailsBy};
 ghost use Rattle.clap.specs.Faults.{fault_of};
-ghost use Rattle.clap.specs.Matches.{found_of};
-ghost use Rattle.clap.specs.Walk.{rows_of, texts};
+ghost use Rattle.clap.specs.Walk.{texts};
 ghost use Rattle.settings.specs.Options.{callboard};
 ghost use Rattle.settings.specs.Ranges.{InRange};
-ghost use Rattle.settings.specs.Texts.{HasFlag, HasNumber, IsParsed, MayHaveNumber};
-ghost use Rattle.settings.specs.Words.{Accepts, Says, is_given, number_at};
+ghost use Rattle.settings.specs.OptionTexts.{HasFlag, HasU32, IsParsed, MayHaveU32, rows_in};
+ghost use Rattle.settings.specs.CommandLine.{Accepts, Says, is_given, number_at};
 
 mod options;
 mod types;
@@ -21,23 +20,23 @@ pub use types::Settings;
 
 /// The number of an option that has a default.
 fn number_of(matches: &ArgMatches<'_>, name: &str) -> u32
-    requires { HasNumber 0 4294967295 name.now (rows_of (found_of matches.now)) }
-    ensures { number_at name.now (rows_of (found_of matches.now)) ≡ Some result }
+    requires { HasU32 name.now (rows_in matches.now) }
+    ensures { number_at name.now (rows_in matches.now) ≡ Some result }
 {
     matches.get_one::<u32>(name).unwrap()
 }
 
 /// The range, which may be left out.
 fn range_of(matches: &ArgMatches<'_>) -> Option<u32>
-    requires { MayHaveNumber 0 4294967295 (codes "range") (rows_of (found_of matches.now)) }
-    ensures { number_at (codes "range") (rows_of (found_of matches.now)) ≡ result }
+    requires { MayHaveU32 (codes "range") (rows_in matches.now) }
+    ensures { number_at (codes "range") (rows_in matches.now) ≡ result }
 {
     matches.get_one::<u32>("range")
 }
 
 fn flag_of(matches: &ArgMatches<'_>, name: &str) -> bool
-    requires { HasFlag name.now (rows_of (found_of matches.now)) }
-    ensures { is_given name.now (rows_of (found_of matches.now)) ≡ result }
+    requires { HasFlag name.now (rows_in matches.now) }
+    ensures { is_given name.now (rows_in matches.now) ≡ result }
 {
     matches.get_flag(name)
 }
@@ -45,7 +44,7 @@ fn flag_of(matches: &ArgMatches<'_>, name: &str) -> bool
 /// The settings in the matches of a parse of the command.
 fn settings_of(matches: &ArgMatches<'_>) -> Settings
     requires { IsParsed matches.now }
-    ensures words { Says (rows_of (found_of matches.now)) result }
+    ensures words { Says (rows_in matches.now) result }
     ensures ranges { InRange result }
 {
     let low = number_of(matches, "low");

@@ -7,6 +7,7 @@ ghost use Rattle.clap.specs.Values.{kind_of};
 ghost use Rattle.settings.specs.Options.{callboard, flag};
 ghost use Rattle.settings.specs.Table.{rule_for, with_rules};
 
+use auction_terms::{MAX_CALLS, MAX_MEMBERS, MAX_OPEN_ORDERS, MAX_TICK};
 use clap::builder::ValueParser;
 use clap::error::ErrorKind;
 use clap::{Arg, ArgAction, Command, Error, value_parser};
@@ -28,49 +29,49 @@ static NUMBERS: [Number; 7] = [
         name: "low",
         help: "The lowest tick",
         least: 1,
-        most: 1_000_000,
+        most: MAX_TICK,
         default: Some("1"),
     },
     Number {
         name: "high",
         help: "The highest tick",
         least: 1,
-        most: 1_000_000,
+        most: MAX_TICK,
         default: Some("1000"),
     },
     Number {
         name: "reference",
         help: "The first reference price",
         least: 1,
-        most: 1_000_000,
+        most: MAX_TICK,
         default: Some("200"),
     },
     Number {
         name: "open",
         help: "How many orders may be open",
         least: 1,
-        most: 65_536,
+        most: MAX_OPEN_ORDERS,
         default: Some("4096"),
     },
     Number {
         name: "calls",
         help: "How many commands may come",
         least: 1,
-        most: 1_048_576,
+        most: MAX_CALLS,
         default: Some("65536"),
     },
     Number {
         name: "range",
         help: "How many ticks a price may lie from the reference without an interruption",
         least: 0,
-        most: 1_000_000,
+        most: MAX_TICK,
         default: None,
     },
     Number {
         name: "members",
         help: "How many members there are",
         least: 1,
-        most: 64,
+        most: MAX_MEMBERS as u32,
         default: Some("4"),
     },
 ];

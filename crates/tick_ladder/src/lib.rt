@@ -1,12 +1,15 @@
 //! The quantities of the open orders, tick by tick.
 #![tactic(auto)]
 
-ghost use Rattle.std.specs.Prelude.{◌≡◌, ◌+◌, ◌-◌, ◌<◌, ◌≤◌, All, List, length, sum, replicate, slice_set, slice_index, option_map, IfOk, IfSome, MatchOption};
-ghost use Rattle.std.specs.Simd.Lanes.{zip2};
+ghost use Rattle.std.specs.Prelude.{◌≡◌, ◌+◌, ◌-◌, ◌<◌, ◌≤◌, length, sum, slice_set, slice_index};
+ghost use Rattle.std.specs.Prelude.{List, option_map, IfOk, IfSome};
+ghost use Rattle.auction_terms.specs.declared.limits.TheConstants.{MAX_TICK, MAX_TICKS, MAX_TOTAL};
+ghost use Rattle.auction_terms.specs.Ladder.{flag_of, standing_at, with_bids, with_asks, with_standing, added, taken};
+ghost use Rattle.auction_terms.specs.Ladder.{AreOpen};
 ghost use Rattle.auction_terms.specs.declared.Order.{Order};
-ghost use Rattle.auction_terms.specs.Ladder.{added, taken, flag_of, with_bids, with_asks};
-ghost use Rattle.tick_ladder.specs.Ladder.{standing_at, all_standing, best_tick, best_limit, IsInBounds, IsLadderOf};
-ghost use Rattle.tick_ladder.specs.Standing.{IsClear, IsLast, IsFirst, IsCrossing};
+ghost use Rattle.tick_ladder.specs.TickLadder.{all_standing, best_tick, best_limit, empty_ladder};
+ghost use Rattle.tick_ladder.specs.TickLadder.{IsInBounds, IsLadder, IsLadderOf};
+ghost use Rattle.tick_ladder.specs.OccupiedPlaces.{IsLastBefore, IsFirstFrom, IsCrossingOf};
 
 mod tally;
 mod walks;
@@ -28,7 +31,7 @@ pub struct Crossing {
 }
 
 /// The quantities of the open orders of a book, in shares: those of the limit orders tick by tick from the lowest tick
-/// on, and those of the market orders. All together are at most 65,536,000,000,000.
+/// on, and those of the market orders. All together are at most `MAX_TOTAL`.
 #[derive(Drop)]
 pub struct Ladder {
     low: u32,
@@ -45,11 +48,11 @@ impl Model for Ladder {
 
     ghost Value = { LadderView };
 
-    ghost use Rattle.tick_ladder.specs.Shape.{view_of, IsSound};
+    ghost use Rattle.tick_ladder.specs.TickLadder.{view_of, IsLadder};
 
     ghost view = { view_of };
 
-    ghost invariant = { IsSound };
+    ghost invariant = { λ a. IsLadder (view_of a) };
 }
 
 /// 1 where bids or asks stand, else 0.
@@ -61,7 +64,7 @@ fn flag(bids: u64, asks: u64) -> u64
 
 /// The tick of a place.
 fn tick_at(low: u32, place: Option<usize>) -> Option<u32>
-    requires { IfSome place (λ i. low + i ≤ 1000000) }
+    requires { IfSome place (λ i. low + i ≤ MAX_TICK) }
     ensures { result ≡ option_map (λ i. low + i) place }
 {
     match place {
@@ -74,9 +77,9 @@ impl Ladder {
     /// An empty ladder with the ticks from `low` to `high`, both of them included. Only want of memory makes it fail.
     pub fn open(alloc: Global, low: u32, high: u32) -> Result<Ladder, AllocError>
         requires ordered { low ≤ high }
-        requires bounded { high ≤ 1000000 }
-        requires few { high - low < 65536 }
-        ensures { IfOk result (λ v. v ≡ record { low = low; bids = replicate (high + 1 - low) 0; asks = replicate (high + 1 - low) 0; present = replicate (high + 1 - low) 0; market_bids = 0; market_asks = 0 }) }
+        requires bounded { high ≤ MAX_TICK }
+        requires few { high - low < MAX_TICKS }
+        ensures { IfOk result (λ ladder. ladder ≡ empty_ladder low high) }
     {
         let ticks = (high - low) as usize + 1;
         Ok(Ladder {
@@ -92,8 +95,7 @@ impl Ladder {
     /// The lowest tick.
     pub fn low(&self) -> u32
         ensures value { result ≡ self.now.low }
-        ensures last { self.now.low + length self.now.bids ≤ 1000001 }
-        ensures flags { self.now.present ≡ zip2 flag_of self.now.bids self.now.asks }
+        ensures sound { IsLadder self.now }
     {
         self.low
     }
@@ -101,7 +103,7 @@ impl Ladder {
     /// The highest tick.
     pub fn high(&self) -> u32
         ensures value { result ≡ self.now.low + length self.now.bids - 1 }
-        ensures some { 0 < length self.now.bids }
+        ensures sound { IsLadder self.now }
     {
         self.low + (self.bids.places().len() as u32 - 1)
     }
@@ -109,7 +111,7 @@ impl Ladder {
     /// The shares bid with a limit at each tick, from the lowest tick on.
     pub fn bids(&self) -> &[u64]
         ensures value { result.now ≡ self.now.bids }
-        ensures total { all_standing self.now ≤ 65536000000000 }
+        ensures sound { IsLadder self.now }
     {
         self.bids.places()
     }
@@ -117,7 +119,7 @@ impl Ladder {
     /// The shares offered with a limit at each tick, from the lowest tick on.
     pub fn asks(&self) -> &[u64]
         ensures value { result.now ≡ self.now.asks }
-        ensures len { length result.now ≡ length self.now.bids }
+        ensures sound { IsLadder self.now }
     {
         self.asks.places()
     }
@@ -125,7 +127,7 @@ impl Ladder {
     /// 1 at each tick where bids or asks stand, and else 0, from the lowest tick on.
     pub fn present(&self) -> &[u64]
         ensures value { result.now ≡ self.now.present }
-        ensures flags { result.now ≡ zip2 flag_of self.now.bids self.now.asks }
+        ensures sound { IsLadder self.now }
     {
         self.present.places()
     }
@@ -144,7 +146,7 @@ impl Ladder {
     /// with shares left, whose ladder this is, it is the highest limit of a bid, the lowest of an ask.
     pub fn best(&self, side: Side) -> Option<u32>
         ensures value { result ≡ best_tick self.now side }
-        ensures book { (book : List Order) → All (λ order. 0 < order.quantity) book → IsLadderOf self.now book → result ≡ best_limit book side }
+        ensures book { (book : List Order) → AreOpen book → IsLadderOf self.now book → result ≡ best_limit book side }
     {
         match side {
             Side::Buy => tick_at(self.low, self.bids.last_before(self.bids.places().len())),
@@ -156,7 +158,7 @@ impl Ladder {
     pub fn bids_at(&self, place: usize) -> u64
         requires { place < length self.now.bids }
         ensures value { result ≡ slice_index self.now.bids place }
-        ensures total { all_standing self.now ≤ 65536000000000 }
+        ensures sound { IsLadder self.now }
     {
         self.bids.at(place)
     }
@@ -165,7 +167,7 @@ impl Ladder {
     pub fn asks_at(&self, place: usize) -> u64
         requires { place < length self.now.bids }
         ensures value { result ≡ slice_index self.now.asks place }
-        ensures total { all_standing self.now ≤ 65536000000000 }
+        ensures sound { IsLadder self.now }
     {
         self.asks.at(place)
     }
@@ -173,7 +175,7 @@ impl Ladder {
     /// The last place before `end` where an order stands.
     pub fn last_before(&self, end: usize) -> Option<usize>
         requires { end ≤ length self.now.bids }
-        ensures { MatchOption result (IsClear self.now.bids self.now.asks 0 end) (IsLast self.now.bids self.now.asks 0 end) }
+        ensures { IsLastBefore self.now end result }
     {
         self.present.last_before(end)
     }
@@ -181,16 +183,15 @@ impl Ladder {
     /// The first place from `start` on where an order stands.
     pub fn first_from(&self, start: usize) -> Option<usize>
         requires { start ≤ length self.now.bids }
-        ensures { MatchOption result (IsClear self.now.bids self.now.asks start (length self.now.bids)) (IsFirst self.now.bids self.now.asks start (length self.now.bids)) }
+        ensures { IsFirstFrom self.now start result }
     {
         self.present.first_from(start)
     }
 
     /// Where demand and supply cross.
     pub fn crossing(&self) -> Crossing
-        ensures few { length self.now.bids ≤ 65536 }
-        ensures flags { self.now.present ≡ zip2 flag_of self.now.bids self.now.asks }
-        ensures value { IsCrossing self.now.bids self.now.asks 0 (length self.now.bids) (self.now.market_bids + sum self.now.bids) self.now.market_asks result }
+        ensures value { IsCrossingOf self.now result }
+        ensures sound { IsLadder self.now }
     {
         let demand = self.market_bids + self.bids.total();
         crossing_of(&self.bids, &self.asks, demand, self.market_asks)
@@ -199,25 +200,11 @@ impl Ladder {
     /// Adds the shares of an order at its side and limit.
     pub fn add(&mut self, side: Side, limit: Limit, quantity: u64)
         requires in_bounds { IsInBounds self.old limit }
-        requires fits { all_standing self.old + quantity ≤ 65536000000000 }
+        requires fits { all_standing self.old + quantity ≤ MAX_TOTAL }
         ensures { self.new ≡ added self.old side limit quantity }
     {
-        match limit {
-            Limit::Market => self.add_market(side, quantity),
-            Limit::At(tick) => {
-                let place = (tick - self.low) as usize;
-                match side {
-                    Side::Buy => {
-                        let bids = self.bids.at(place) + quantity;
-                        self.put_bids(place, bids);
-                    }
-                    Side::Sell => {
-                        let asks = self.asks.at(place) + quantity;
-                        self.put_asks(place, asks);
-                    }
-                }
-            }
-        }
+        let standing = self.standing(side, limit);
+        self.put(side, limit, standing + quantity);
     }
 
     /// Takes shares away that stand at a side and limit.
@@ -226,48 +213,42 @@ impl Ladder {
         requires stands { quantity ≤ standing_at self.old side limit }
         ensures { self.new ≡ taken self.old side limit quantity }
     {
-        match limit {
-            Limit::Market => self.take_market(side, quantity),
-            Limit::At(tick) => {
-                let place = (tick - self.low) as usize;
-                match side {
-                    Side::Buy => {
-                        let bids = self.bids.at(place) - quantity;
-                        self.put_bids(place, bids);
-                    }
-                    Side::Sell => {
-                        let asks = self.asks.at(place) - quantity;
-                        self.put_asks(place, asks);
-                    }
-                }
-            }
+        let standing = self.standing(side, limit);
+        self.put(side, limit, standing - quantity);
+    }
+
+    /// The shares that stand at a side and limit.
+    fn standing(&self, side: Side, limit: Limit) -> u64
+        requires { IsInBounds self.now limit }
+        ensures value { result ≡ standing_at self.now side limit }
+        ensures part { result ≤ all_standing self.now }
+        ensures sound { IsLadder self.now }
+    {
+        match (limit, side) {
+            (Limit::Market, side) => self.market(side),
+            (Limit::At(tick), Side::Buy) => self.bids.at((tick - self.low) as usize),
+            (Limit::At(tick), Side::Sell) => self.asks.at((tick - self.low) as usize),
         }
     }
 
-    fn add_market(&mut self, side: Side, quantity: u64)
-        requires { all_standing self.old + quantity ≤ 65536000000000 }
-        ensures { self.new ≡ added self.old side Limit.Market quantity }
+    /// Makes so many shares stand at a side and limit.
+    fn put(&mut self, side: Side, limit: Limit, quantity: u64)
+        requires in_bounds { IsInBounds self.old limit }
+        requires fits { all_standing self.old + quantity ≤ MAX_TOTAL + standing_at self.old side limit }
+        ensures { self.new ≡ with_standing self.old side limit quantity }
     {
-        match side {
-            Side::Buy => self.market_bids += quantity,
-            Side::Sell => self.market_asks += quantity,
-        }
-    }
-
-    fn take_market(&mut self, side: Side, quantity: u64)
-        requires { quantity ≤ standing_at self.old side Limit.Market }
-        ensures { self.new ≡ taken self.old side Limit.Market quantity }
-    {
-        match side {
-            Side::Buy => self.market_bids -= quantity,
-            Side::Sell => self.market_asks -= quantity,
+        match (limit, side) {
+            (Limit::Market, Side::Buy) => self.market_bids = quantity,
+            (Limit::Market, Side::Sell) => self.market_asks = quantity,
+            (Limit::At(tick), Side::Buy) => self.put_bids((tick - self.low) as usize, quantity),
+            (Limit::At(tick), Side::Sell) => self.put_asks((tick - self.low) as usize, quantity),
         }
     }
 
     /// Puts other bids at a place.
     fn put_bids(&mut self, place: usize, bids: u64)
         requires in_bounds { place < length self.old.bids }
-        requires fits { all_standing self.old + bids ≤ 65536000000000 + slice_index self.old.bids place }
+        requires fits { all_standing self.old + bids ≤ MAX_TOTAL + slice_index self.old.bids place }
         ensures { self.new ≡ with_bids self.old (slice_set self.old.bids place bids) }
     {
         self.bids.put(place, bids);
@@ -277,7 +258,7 @@ impl Ladder {
     /// Puts other asks at a place.
     fn put_asks(&mut self, place: usize, asks: u64)
         requires in_bounds { place < length self.old.bids }
-        requires fits { all_standing self.old + asks ≤ 65536000000000 + slice_index self.old.asks place }
+        requires fits { all_standing self.old + asks ≤ MAX_TOTAL + slice_index self.old.asks place }
         ensures { self.new ≡ with_asks self.old (slice_set self.old.asks place asks) }
     {
         self.asks.put(place, asks);

@@ -1,7 +1,8 @@
 //! Numbers place by place, with sums that lead to them.
 
-ghost use Rattle.std.specs.Prelude.{◌≡◌, ℕ, ◌+◌, ◌-◌, ◌<◌, ◌≤◌, length, sum, replicate, slice_set, slice_index, IfOk, MatchOption};
-ghost use Rattle.tick_ladder.specs.Standing.{IsBlank, IsLastIn, IsFirstIn, IsCrossing};
+ghost use Rattle.std.specs.Prelude.{◌≡◌, ℕ, ◌+◌, ◌-◌, ◌<◌, ◌≤◌, length, sum, replicate, slice_set, slice_index, IfOk};
+ghost use Rattle.auction_terms.specs.declared.limits.TheConstants.{MAX_TICKS, MAX_TOTAL};
+ghost use Rattle.tick_ladder.specs.OccupiedPlaces.{FindsLast, FindsFirst, IsCrossing};
 
 use crate::Crossing;
 use crate::walks::{BLOCK, cross, first_from, last_before};
@@ -19,7 +20,7 @@ pub struct Tally {
 
 impl Model for Tally {
     ghost use Rattle.std.specs.Prelude.{List, ℕ};
-    ghost use Rattle.tick_ladder.specs.Standing.{IsTally};
+    ghost use Rattle.tick_ladder.specs.BlockSums.{IsTally};
 
     ghost Value = { List ℕ };
 
@@ -38,7 +39,7 @@ fn zeros(alloc: Global, places: usize) -> Result<Vec<u64>, AllocError>
 impl Tally {
     /// A 0 at each place.
     pub fn open(alloc: Global, places: usize) -> Result<Tally, AllocError>
-        requires { places ≤ 65536 }
+        requires { places ≤ MAX_TICKS }
         ensures { IfOk result (λ t. t ≡ replicate places 0) }
     {
         let blocks = (places + BLOCK - 1) / BLOCK;
@@ -68,7 +69,7 @@ impl Tally {
     /// Puts another number at a place.
     pub fn put(&mut self, place: usize, number: u64)
         requires within { place < length self.old }
-        requires fits { sum self.old + number ≤ 65536000000000 + slice_index self.old place }
+        requires fits { sum self.old + number ≤ MAX_TOTAL + slice_index self.old place }
         ensures { self.new ≡ slice_set self.old place number }
     {
         let block = place / BLOCK;
@@ -83,7 +84,7 @@ impl Tally {
 
     /// All numbers together.
     pub fn total(&self) -> u64
-        requires { sum self.now ≤ 65536000000000 }
+        requires { sum self.now ≤ MAX_TOTAL }
         ensures { result ≡ sum self.now }
     {
         total(&self.groups)
@@ -92,7 +93,7 @@ impl Tally {
     /// The last place before `end` with a number above 0.
     pub fn last_before(&self, end: usize) -> Option<usize>
         requires { end ≤ length self.now }
-        ensures { MatchOption result (IsBlank self.now 0 end) (IsLastIn self.now 0 end) }
+        ensures { FindsLast self.now 0 end result }
     {
         last_before(&self.places, &self.blocks, &self.groups, end)
     }
@@ -100,7 +101,7 @@ impl Tally {
     /// The first place from `start` on with a number above 0.
     pub fn first_from(&self, start: usize) -> Option<usize>
         requires { start ≤ length self.now }
-        ensures { MatchOption result (IsBlank self.now start (length self.now)) (IsFirstIn self.now start (length self.now)) }
+        ensures { FindsFirst self.now start (length self.now) result }
     {
         first_from(&self.places, &self.blocks, &self.groups, start)
     }
@@ -112,7 +113,7 @@ pub fn crossing_of(bids: &Tally, asks: &Tally, demand: u64, below: u64) -> Cross
     requires same { length asks.now ≡ length bids.now }
     requires some { 0 < length bids.now }
     requires enough { sum bids.now ≤ demand }
-    requires fits { below + sum asks.now ≤ 65536000000000 }
+    requires fits { below + sum asks.now ≤ MAX_TOTAL }
     ensures { IsCrossing bids.now asks.now 0 (length bids.now) demand below result }
 {
     cross(

@@ -1,7 +1,7 @@
 //! Days on a board: what no clause says, and each public call once.
 ghost use Rattle.std.specs.Prelude.{◌≡◌};
 
-use super::{BEST_BID, BID};
+use super::{BEST_BID, BID, bid_entered};
 use auction::OpenFault;
 use auction_terms::{Command, Config, Display, Entry, Kind, Refused, Reply};
 use call_board::{
@@ -94,7 +94,8 @@ impl Scene {
 
 // The day that K names. It has no bound but K's, so that its caller can name the day.
 fn day<K: Day, R: Wait>(rt: &R, fresh: Fresh, scene: Scene) -> Result<Closing, Fail>
-    requires names { (K.config ≡ fresh.config) × (K.parts ≡ fresh.members) × (K.name ≡ fresh.ledger) × (K.story ≡ fresh.story) }
+    requires names { (K.config ≡ fresh.config) × (K.parts ≡ fresh.members)
+        × (K.name ≡ fresh.ledger) × (K.story ≡ fresh.story) }
 {
     let (board, members) = fresh.begin::<K>().map_err(|_| "not begun")?;
     let mut two = pair_of(members).ok_or("not two members")?;
@@ -136,11 +137,7 @@ fn the_closing_has_each_call_with_its_reply(rt: HostRuntime) -> Result<(), Fail>
     let closing = closing_of(&rt, rt.alloc(), CONFIG, Scene::ThreeCalls)?;
     assert_eq!(rt; closing.calls.as_slice(), [1, 2].as_slice());
     let entries = [
-        Entry {
-            member: 1,
-            command: BID,
-            reply: Reply::Entered { id: 1 },
-        },
+        bid_entered(1),
         Entry {
             member: 0,
             command: Command::Uncross,
@@ -160,30 +157,22 @@ fn the_closing_has_each_call_with_its_reply(rt: HostRuntime) -> Result<(), Fail>
     Ok(())
 }
 
-fn fault_of(alloc: Global, config: Config, members: u8) -> Option<OpenFault> {
-    Fresh::open(alloc, config, members).err()
-}
-
 #[test]
 fn boards_that_cannot_be_opened(rt: HostRuntime) {
-    assert_eq!(rt; fault_of(rt.alloc(), CONFIG, 0), Some(OpenFault::BadLimits));
-    assert_eq!(rt;
-        fault_of(rt.alloc(), CONFIG, 65),
-        Some(OpenFault::BadLimits)
-    );
-    let high = Config {
-        low: 1001,
-        ..CONFIG
-    };
-    assert_eq!(rt; fault_of(rt.alloc(), high, 65), Some(OpenFault::BadBounds));
-    let far = Config {
-        reference: 1001,
-        ..CONFIG
-    };
-    assert_eq!(rt;
-        fault_of(rt.alloc(), far, 65),
-        Some(OpenFault::BadReference)
-    );
+    let rows = [
+        (1, 200, 0, OpenFault::BadLimits),
+        (1, 200, 65, OpenFault::BadLimits),
+        (1001, 200, 65, OpenFault::BadBounds),
+        (1, 1001, 65, OpenFault::BadReference),
+    ];
+    for (low, reference, members, fault) in rows {
+        let config = Config {
+            low,
+            reference,
+            ..CONFIG
+        };
+        assert!(rt; Fresh::open(rt.alloc(), config, members).err() == Some(fault));
+    }
 }
 
 // A member sees its own bid, and another the same.
@@ -246,7 +235,8 @@ fn a_full_history(rt: HostRuntime) -> Result<(), Fail> {
 
 // Three of four members, and then a board that is given up.
 fn one_is_missing<K: Day, R: Wait>(rt: &R, fresh: Fresh) -> Option<Closing>
-    requires names { (K.config ≡ fresh.config) × (K.parts ≡ fresh.members) × (K.name ≡ fresh.ledger) × (K.story ≡ fresh.story) }
+    requires names { (K.config ≡ fresh.config) × (K.parts ≡ fresh.members)
+        × (K.name ≡ fresh.ledger) × (K.story ≡ fresh.story) }
 {
     let (board, mut members) = fresh.begin::<K>().ok()?;
     let last = members.pop()?;

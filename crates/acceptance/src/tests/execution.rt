@@ -5,28 +5,6 @@ use auction_terms::{Kind, Limit, Only, Side};
 use order_book::Orders;
 use std::test::Fail;
 
-// A market bid goes before an earlier limit bid.
-#[test]
-fn market_before_limit(rt: HostRuntime) -> Result<(), Fail> {
-    let mut orders = Orders::open(rt.alloc(), 10, 20)?;
-    orders.enter(1, Side::Buy, Limit::At(200), 100, None, Only::Any);
-    orders.enter(2, Side::Buy, Limit::Market, 100, None, Only::Any);
-    orders.enter(3, Side::Sell, Limit::At(200), 150, None, Only::Any);
-    let mut desk = Desk::open(rt.alloc(), 10)?;
-    desk.allocate(&orders, Kind::Opening, 200);
-    let trades = desk.trades();
-    assert_eq!(rt; trades.len(), 2);
-    assert_eq!(rt;
-        (trades[0].buy, trades[0].sell, trades[0].quantity),
-        (2, 3, 100)
-    );
-    assert_eq!(rt;
-        (trades[1].buy, trades[1].sell, trades[1].quantity),
-        (1, 3, 50)
-    );
-    Ok(())
-}
-
 // A raised quantity loses its place.
 #[test]
 fn raised_quantity_moves(rt: HostRuntime) -> Result<(), Fail> {

@@ -2,10 +2,12 @@
 ghost use Rattle.std.specs.Prelude.{◌≡◌, ◌≤◌, length, IfOk};
 ghost use Rattle.member_floor.specs.Plays.{Fits};
 
-use auction_terms::{Command, Config};
-use call_board::{Board, CallFault, Closing, Day, Fresh, Member, Update, Version, close};
+use super::closed;
+use auction::{Verdict, audit};
+use auction_terms::{Command, Config, MAX_CALLS};
+use call_board::{Board, CallFault, Closing, Day, Fresh, Member, Update, Version};
 use left_right::Absorb;
-use member_floor::{Gate, OpenGate, Outcome, Played, Script, run};
+use member_floor::{Gate, OpenGate, Outcome, Played, RunFault, Script, run};
 use std::alloc::{AllocError, Global};
 use std::marker::Brand;
 use std::sync::Wait;
@@ -90,7 +92,7 @@ fn scripts<K: Day>(
     members: &[Member<K>],
     times: usize,
 ) -> Result<Vec<Script>, AllocError>
-    requires few { times ≤ 1048576 }
+    requires few { times ≤ MAX_CALLS }
     ensures { IfOk result (λ scripts. Fits members.now scripts.items) }
 {
     let mut scripts = Vec::new(alloc);
@@ -104,29 +106,31 @@ fn scripts<K: Day>(
     Ok(scripts)
 }
 
-// The members of scripts that were played to their ends, or until the history was full.
+// The members whose scripts were played to their ends, or until a call was refused, and whether one was for want of
+// memory.
 fn back<K: Day>(
-    alloc: Global,
     played: Vec<Played<K>>,
+    room: Vec<Member<K>>,
     times: usize,
-) -> Result<Vec<Member<K>>, Fail> {
-    let mut members = Vec::new(alloc);
+) -> (Vec<Member<K>>, bool) {
+    let mut members = room;
+    let mut is_refused = false;
     for one in played {
         let Played {
             member,
             receipts,
             fault,
         } = one;
-        let is_whole = fault.is_none() && receipts.len() == times;
-        let is_cut = fault == Some(CallFault::HistoryFull) && receipts.len() < times;
-        if !is_whole && !is_cut {
-            return Err("not played as told")?;
+        is_refused = is_refused || fault == Some(CallFault::NoMemory);
+        let is_cut = receipts.len() < times && !matches!(fault, Some(CallFault::Behind { .. }));
+        if (fault.is_none() && receipts.len() == times) || (fault.is_some() && is_cut) {
+            let _ = members.push(member);
         }
-        members.push(member)?;
     }
-    Ok(members)
+    (members, is_refused)
 }
 
+// No closing stands for scripts that weren't played as told.
 fn played_and_closed<K: Day + Send + Sync, G: Gate + Sync, R: Wait + Threads + Sync>(
     rt: &R,
     alloc: Global,
@@ -134,22 +138,27 @@ fn played_and_closed<K: Day + Send + Sync, G: Gate + Sync, R: Wait + Threads + S
     board: Board<K>,
     members: Vec<Member<K>>,
     times: usize,
-) -> Result<Closing, Fail>
+) -> Result<Option<Closing>, AllocError>
 where
     Version<K>: Absorb<Update<K>, State = ()> + Send + Sync,
-    requires few { times ≤ 1048576 }
+    requires few { times ≤ MAX_CALLS }
 {
-    let scripts = scripts(alloc, members.as_slice(), times)?;
+    let Ok(scripts) = scripts(alloc, members.as_slice(), times) else {
+        board.abandon(rt);
+        return Err(AllocError);
+    };
     let Outcome {
         played,
         unplayed,
         fault,
     } = run(alloc, &board, members, scripts, gate, rt);
-    if fault.is_some() || !unplayed.is_empty() {
-        return Err("not run")?;
+    let (members, is_refused) = back(played, unplayed, times);
+    let closing = closed(rt, board, members);
+    let is_short = (is_refused || fault.is_some()) && closing.is_some();
+    if is_short || fault == Some(RunFault::NoThread) {
+        return Err(AllocError);
     }
-    let members = back(alloc, played, times)?;
-    Ok(close(board, members, rt).map_err(|_| "not closed")?)
+    Ok(closing)
 }
 
 // The day that K names. It has no bound but K's, so that its caller can name the day.
@@ -159,62 +168,47 @@ fn day<K: Day + Send + Sync, G: Gate + Sync, R: Wait + Threads + Sync>(
     gate: &G,
     fresh: Fresh,
     times: usize,
-) -> Result<Closing, Fail>
-    requires names { (K.config ≡ fresh.config) × (K.parts ≡ fresh.members) × (K.name ≡ fresh.ledger) × (K.story ≡ fresh.story) }
-    requires few { times ≤ 1048576 }
+) -> Result<Option<Closing>, AllocError>
+    requires names { (K.config ≡ fresh.config) × (K.parts ≡ fresh.members)
+        × (K.name ≡ fresh.ledger) × (K.story ≡ fresh.story) }
+    requires few { times ≤ MAX_CALLS }
 {
-    let (board, members) = fresh.begin::<K>().map_err(|_| "not begun")?;
+    let (board, members) = fresh.begin::<K>().map_err(|_| AllocError)?;
     played_and_closed(rt, alloc, gate, board, members, times)
 }
 
-// The members of the history's entries, in order, after each of two members has asked so often under the gate.
-fn order<G: Gate + Sync, R: Wait + Threads + Sync>(
+// The closing of a day on which each of two members asks so often under the gate.
+pub(super) fn asked<G: Gate + Sync, R: Wait + Threads + Sync>(
     rt: &R,
     alloc: Global,
     gate: &G,
     times: usize,
-) -> Result<Vec<u8>, Fail>
-    requires few { times ≤ 1048576 }
+) -> Result<Option<Closing>, AllocError>
+    requires few { times ≤ MAX_CALLS }
 {
-    let fresh = Fresh::open(alloc, TEN_CALLS, 2).map_err(|_| "not opened")?;
-    let closing = day::<Brand, G, R>(rt, alloc, gate, fresh, times)?;
-    let mut order = Vec::new(alloc);
-    for entry in closing.history.iter() {
-        order.push(entry.member)?;
+    let fresh = Fresh::open(alloc, TEN_CALLS, 2).map_err(|_| AllocError)?;
+    day::<Brand, G, R>(rt, alloc, gate, fresh, times)
+}
+
+// Both are inside at once; or one is answered first.
+#[test]
+fn two_members_meet_or_wait(rt: HostRuntime) -> Result<(), Fail> {
+    for (waits, first) in [(None, None), (Some(0), Some(1)), (Some(1), Some(0))] {
+        let gate = Meeting::new(waits);
+        let closing = asked(&rt, rt.alloc(), &gate, 1)?.ok_or("not closed")?;
+        assert_eq!(rt; closing.history.len(), 2);
+        let member = closing.history.first().map(|entry| entry.member);
+        assert!(rt; first.is_none() || member == first);
+        assert!(rt; !gate.ran_out.load(SeqCst));
     }
-    Ok(order)
-}
-
-#[test]
-fn both_are_inside_at_once(rt: HostRuntime) -> Result<(), Fail> {
-    let gate = Meeting::new(None);
-    let order = order(&rt, rt.alloc(), &gate, 1)?;
-    assert_eq!(rt; order.len(), 2);
-    assert!(rt; !gate.ran_out.load(SeqCst));
-    Ok(())
-}
-
-#[test]
-fn the_second_is_answered_first(rt: HostRuntime) -> Result<(), Fail> {
-    let gate = Meeting::new(Some(0));
-    let order = order(&rt, rt.alloc(), &gate, 1)?;
-    assert_eq!(rt; order.as_slice(), [1, 0].as_slice());
-    assert!(rt; !gate.ran_out.load(SeqCst));
-    Ok(())
-}
-
-#[test]
-fn the_first_is_answered_first(rt: HostRuntime) -> Result<(), Fail> {
-    let gate = Meeting::new(Some(1));
-    let order = order(&rt, rt.alloc(), &gate, 1)?;
-    assert_eq!(rt; order.as_slice(), [0, 1].as_slice());
-    assert!(rt; !gate.ran_out.load(SeqCst));
     Ok(())
 }
 
 #[test]
 fn scripts_that_fill_the_history(rt: HostRuntime) -> Result<(), Fail> {
-    let order = order(&rt, rt.alloc(), &OpenGate, 10)?;
-    assert_eq!(rt; order.len(), 10);
+    let closing = asked(&rt, rt.alloc(), &OpenGate, 10)?.ok_or("not closed")?;
+    assert_eq!(rt; closing.history.len(), 10);
+    let verdict = audit(rt.alloc(), TEN_CALLS, closing.history.as_slice())?;
+    assert!(rt; verdict == Verdict::Legal);
     Ok(())
 }

@@ -2,10 +2,10 @@
 
 ghost use Rattle.std.specs.Prelude.{◌≡◌, ◌<◌};
 
-use super::{BEST_BID, BID};
+use super::{BEST_BID, bid_entered};
 use auction_terms::{Command, Entry, Reply};
-use order_file::{Failures, ToMemory};
-use printed_lines::{Page, print_line, print_story, print_tally};
+use byte_streams::{Failures, ToMemory};
+use printed_lines::{Printer, print_line, print_story, print_tally};
 use std::alloc::Global;
 use std::marker::Brand;
 use std::str::from_utf8;
@@ -36,58 +36,51 @@ fn floor_text<L: Ledger>(
     requires backed { 0 < L.parts }
 {
     let mut sink = memory::<L>(alloc, blank);
-    let mut page = Page::new();
-    let _ = print_tally(&mut sink, &mut page, entries.len() as u64, calls, first_bad);
-    let _ = print_story(&mut sink, &mut page, entries);
-    let _ = page.write_to(&mut sink);
+    let mut printer = Printer::new(&mut sink);
+    let _ = print_tally(&mut printer, entries.len() as u64, calls, first_bad);
+    let _ = print_story(&mut printer, entries);
+    let _ = printer.flush();
     sink.bytes
 }
 
-#[test]
-fn a_floor_is_printed(rt: HostRuntime) {
-    let entries = [
-        Entry {
-            member: 1,
-            command: BID,
-            reply: Reply::Entered { id: 1 },
-        },
-        Entry {
-            member: 1,
-            command: Command::Ask,
-            reply: Reply::Indicated(BEST_BID),
-        },
-        Entry {
-            member: 1,
-            command: Command::Delete { id: 1 },
-            reply: Reply::Deleted,
-        },
-    ];
-    let calls = [0, 3, 0, 0];
-    let text = floor_text::<Brand>(
-        rt.alloc(),
-        Blank::new(1),
-        entries.as_slice(),
-        calls.as_slice(),
-        None,
-    );
-    let wanted =
-        "entries 3\nmember 0 calls 0\nmember 1 calls 3\nmember 2 calls 0\nmember 3 calls 0\naudit legal\n1: member 1 entered 1\n2: member 1 no price bid 200 ask -\n3: member 1 deleted\n";
-    assert_eq!(rt; from_utf8(text.as_slice()).unwrap_or("?"), wanted);
+/// The text of these entries and counts.
+fn text_of(alloc: Global, entries: &[Entry], calls: &[u32], first_bad: Option<u64>) -> Vec<u8> {
+    floor_text::<Brand>(alloc, Blank::new(1), entries, calls, first_bad)
 }
 
 #[test]
-fn a_bad_entry_is_named(rt: HostRuntime) {
-    let text = floor_text::<Brand>(
+fn floors_are_printed(rt: HostRuntime) {
+    let asked = Entry {
+        member: 1,
+        command: Command::Ask,
+        reply: Reply::Indicated(BEST_BID),
+    };
+    let deleted = Entry {
+        member: 1,
+        command: Command::Delete { id: 1 },
+        reply: Reply::Deleted,
+    };
+    let text = text_of(
         rt.alloc(),
-        Blank::new(1),
-        [].as_slice(),
-        [0].as_slice(),
-        Some(7),
+        &[bid_entered(1), asked, deleted],
+        &[0, 3, 0, 0],
+        None,
     );
-    assert_eq!(rt;
-        from_utf8(text.as_slice()).unwrap_or("?"),
-        "entries 0\nmember 0 calls 0\naudit bad 7\n"
-    );
+    let wanted = "\
+entries 3
+member 0 calls 0
+member 1 calls 3
+member 2 calls 0
+member 3 calls 0
+audit legal
+1: member 1 entered 1
+2: member 1 no price bid 200 ask -
+3: member 1 deleted
+";
+    assert_eq!(rt; from_utf8(text.as_slice()).unwrap_or("?"), wanted);
+    let text = text_of(rt.alloc(), &[], &[0], Some(7));
+    let wanted = "entries 0\nmember 0 calls 0\naudit bad 7\n";
+    assert_eq!(rt; from_utf8(text.as_slice()).unwrap_or("?"), wanted);
 }
 
 /// So many lines, which are more than a page.
@@ -97,11 +90,11 @@ fn many_lines<L: Ledger>(alloc: Global, blank: Blank, count: u64) -> Vec<u8>
     requires backed { 0 < L.parts }
 {
     let mut sink = memory::<L>(alloc, blank);
-    let mut page = Page::new();
+    let mut printer = Printer::new(&mut sink);
     for number in 0..count {
-        let _ = print_line(&mut sink, &mut page, number, Reply::Deleted);
+        let _ = print_line(&mut printer, number, Reply::Deleted);
     }
-    let _ = page.write_to(&mut sink);
+    let _ = printer.flush();
     sink.bytes
 }
 

@@ -1,13 +1,18 @@
 //! The order file: what its records say, and its ends.
 
-use auction_terms::{Command, Limit, Only, Side};
-use order_file::{FileFault, FromMemory, Source, SourceFailed, read_orders};
+use auction_terms::{Call, Command, Limit, Only, Side};
+use byte_streams::{FromMemory, Source, SourceFailed};
+use order_file::{FileFault, read_orders};
 use std::alloc::Global;
 use std::test::Fail;
 
-fn read(alloc: Global, text: &[u8]) -> Result<Vec<(u8, Command)>, FileFault> {
+fn read(alloc: Global, text: &[u8]) -> Result<Vec<Call>, FileFault> {
     let mut source = FromMemory { rest: text };
     read_orders(alloc, &mut source, 4, 8)
+}
+
+fn call(member: u8, command: Command) -> Call {
+    Call { member, command }
 }
 
 fn entered(side: Side, limit: Limit, quantity: u64, peak: Option<u64>, only: Only) -> Command {
@@ -51,7 +56,7 @@ fn orders_are_entered(rt: HostRuntime) -> Result<(), Fail> {
     ];
     for (record, command) in rows {
         let calls = read(rt.alloc(), record.as_bytes())?;
-        assert!(rt; calls.as_slice() == [(1, command)].as_slice());
+        assert!(rt; calls.as_slice() == [call(1, command)].as_slice());
     }
     Ok(())
 }
@@ -60,20 +65,18 @@ fn orders_are_entered(rt: HostRuntime) -> Result<(), Fail> {
 fn each_command_is_read(rt: HostRuntime) -> Result<(), Fail> {
     let text = b"0,change,3,4,market\r\n\n1,delete,9\n1,status,9\n2,trade,0\n3,ask\n0,uncross";
     let calls = read(rt.alloc(), text)?;
+    let change = Command::Change {
+        id: 3,
+        limit: Limit::Market,
+        quantity: 4,
+    };
     let wanted = [
-        (
-            0,
-            Command::Change {
-                id: 3,
-                limit: Limit::Market,
-                quantity: 4,
-            },
-        ),
-        (1, Command::Delete { id: 9 }),
-        (1, Command::Status { id: 9 }),
-        (2, Command::Trade { number: 0 }),
-        (3, Command::Ask),
-        (0, Command::Uncross),
+        call(0, change),
+        call(1, Command::Delete { id: 9 }),
+        call(1, Command::Status { id: 9 }),
+        call(2, Command::Trade { number: 0 }),
+        call(3, Command::Ask),
+        call(0, Command::Uncross),
     ];
     assert!(rt; calls.as_slice() == wanted.as_slice());
     Ok(())

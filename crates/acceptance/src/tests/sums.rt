@@ -14,16 +14,21 @@ fn ones(alloc: Global, length: usize) -> Result<Vec<u64>, AllocError>
     vec![in alloc; 1; length]
 }
 
-/// The sums of so many ones, from the front over 5 and from the back over 0, and all together.
-#[tactic(auto, using(lane_prefix::proofs::Running::sum_ones))]
-fn sums_of_ones(rt: &impl Abort, alloc: Global, length: usize) -> Result<(), Fail>
-    requires { length ≤ 65536 }
+/// The sums of so many ones, from the front over a start and from the back over 0, and all together.
+#[tactic(auto, using(lane_prefix::proofs::RunningSumLaws::sum_ones))]
+fn sums_of_ones(rt: &impl Abort, alloc: Global, start: u64, length: usize) -> Result<(), Fail>
+    requires few { length ≤ 65536 }
+    requires low { start ≤ 5 }
 {
     let src = ones(alloc, length)?;
     let mut out = ones(alloc, length)?;
-    rising(5, &src, &mut out);
+    rising(start, &src, &mut out);
     for (place, &sum) in out.iter().enumerate() {
-        assert_eq!(rt; sum, 6 + place as u64, "rising, place {place} of {length}");
+        assert_eq!(rt;
+            sum,
+            start + 1 + place as u64,
+            "rising, place {place} of {length}"
+        );
     }
     falling(0, &src, &mut out);
     for (place, &sum) in out.iter().rev().enumerate() {
@@ -38,7 +43,7 @@ fn sums_of_ones(rt: &impl Abort, alloc: Global, length: usize) -> Result<(), Fai
 }
 
 /// From as high as the ones are many and from 0, ones fall and rise: they meet half way.
-#[tactic(auto, using(lane_prefix::proofs::Running::sum_ones))]
+#[tactic(auto, using(lane_prefix::proofs::RunningSumLaws::sum_ones))]
 fn meeting_of_ones(rt: &impl Abort, alloc: Global, length: usize) -> Result<(), Fail>
     requires some { 1 ≤ length }
     requires few { length ≤ 65536 }
@@ -57,13 +62,15 @@ fn meeting_of_ones(rt: &impl Abort, alloc: Global, length: usize) -> Result<(), 
 
 #[test]
 fn sums_at_each_length(rt: HostRuntime) -> Result<(), Fail> {
-    sums_of_ones(&rt, rt.alloc(), 0)?;
-    sums_of_ones(&rt, rt.alloc(), 1)?;
-    sums_of_ones(&rt, rt.alloc(), 7)?;
-    sums_of_ones(&rt, rt.alloc(), 8)?;
-    sums_of_ones(&rt, rt.alloc(), 9)?;
-    sums_of_ones(&rt, rt.alloc(), 16)?;
-    sums_of_ones(&rt, rt.alloc(), 65536)?;
+    sums_of_ones(&rt, rt.alloc(), 5, 0)?;
+    sums_of_ones(&rt, rt.alloc(), 5, 1)?;
+    sums_of_ones(&rt, rt.alloc(), 5, 7)?;
+    sums_of_ones(&rt, rt.alloc(), 5, 8)?;
+    sums_of_ones(&rt, rt.alloc(), 5, 9)?;
+    sums_of_ones(&rt, rt.alloc(), 5, 16)?;
+    sums_of_ones(&rt, rt.alloc(), 5, 65536)?;
+    // From 0 the last sum is their count.
+    sums_of_ones(&rt, rt.alloc(), 0, 65536)?;
     meeting_of_ones(&rt, rt.alloc(), 1)?;
     meeting_of_ones(&rt, rt.alloc(), 7)?;
     meeting_of_ones(&rt, rt.alloc(), 8)?;

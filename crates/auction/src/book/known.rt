@@ -1,26 +1,40 @@
-//! What was shown, as long as no order that decides it comes or goes.
-ghost use Rattle.std.specs.Prelude.{◌≡◌, ◌+◌, ◌<◌, ◌≤◌, List, IfSome, IfNone, length};
-ghost use Rattle.auction_terms.specs.declared.Order.{Order};
-ghost use Rattle.tick_ladder.specs.Ladder.{IsLadderOf};
-ghost use Rattle.price_rules.specs.Deciding.{IsBookOver};
-ghost use Rattle.auction.specs.Known.{is_beyond as beyond, still_known as still, IsKnown};
+//! The price, as long as no order that decides it comes or goes.
+ghost use Rattle.std.specs.Prelude.{◌≡◌, ◌≤◌, IfSome, IfNone};
+ghost use Rattle.auction_terms.specs.declared.Limit.TheVariants.{At};
+ghost use Rattle.tick_ladder.specs.TickLadder.{IsInBounds};
+ghost use Rattle.auction.specs.KnownPrice.{is_beyond as beyond, still_known, shown, IsKnownIn};
 
-use auction_terms::{Display, Limit, Side};
+use auction_terms::{Display, Kind, Limit, Order, Price, Side};
 use price_rules::decide;
 use tick_ladder::Ladder;
 
-/// What was shown at a reference price, and which orders decide it: bids below `lowest` and asks above `highest`, in
-/// ticks, change nothing of it.
+/// The price at a reference, and which orders decide it: bids below `lowest` and asks above `highest`, in ticks, change
+/// nothing of it. The best limits of both sides are known where there is no price, and shown then.
 #[derive(Clone, Copy, Debug, PartialEq, Eq)]
-pub(super) struct Shown {
+pub(super) struct KnownPrice {
     pub reference: u32,
-    pub display: Display,
     pub lowest: u32,
     pub highest: u32,
+    pub best_buy: Option<u32>,
+    pub best_sell: Option<u32>,
+    pub price: Option<Price>,
 }
 
-impl Shown {
-    /// Whether an order with this side and limit changes nothing of what is shown.
+impl KnownPrice {
+    /// What is shown: the price, or the best limits where there is none.
+    pub(super) fn display(&self) -> Display
+        ensures { result ≡ shown self.now.price self.now.best_buy self.now.best_sell }
+    {
+        match self.price {
+            Some(price) => Display::Priced(price),
+            None => Display::Unpriced {
+                best_buy: self.best_buy,
+                best_sell: self.best_sell,
+            },
+        }
+    }
+
+    // Whether an order with this side and limit changes nothing of the price.
     fn is_beyond(&self, side: Side, limit: Limit) -> bool
         ensures { result ≡ beyond self.now side limit }
     {
@@ -32,24 +46,19 @@ impl Shown {
     }
 }
 
-/// What is still known of what was shown, where an order with this side and limit came or went, if it counts.
-pub(super) fn still_known(
-    shown: Option<Shown>,
-    counts: bool,
-    side: Side,
-    limit: Limit,
-) -> Option<Shown>
-    ensures { result ≡ still shown counts side limit }
+/// Forgets the price where an order came or went that counts in the auction and decides it.
+pub(super) fn forget(known: &mut Option<KnownPrice>, kind: Kind, order: Order)
+    ensures { known.new ≡ still_known known.old kind order }
 {
-    let shown = shown?;
-    if counts && !shown.is_beyond(side, limit) {
-        None
-    } else {
-        Some(shown)
+    let Some(price) = known else {
+        return;
+    };
+    if order.counts(kind) && !price.is_beyond(order.side, order.limit) {
+        *known = None;
     }
 }
 
-/// The first tick from which on bids decide what is shown without a price: not above the highest bid limit.
+// The first tick from which on bids decide what is shown without a price: not above the highest bid limit.
 fn lowest_unpriced(best: Option<u32>, lowest: u32) -> u32
     ensures lowest { result ≤ lowest }
     ensures best { IfSome best (λ tick. result ≤ tick) }
@@ -61,7 +70,7 @@ fn lowest_unpriced(best: Option<u32>, lowest: u32) -> u32
     }
 }
 
-/// The last tick up to which asks decide what is shown without a price: not below the lowest ask limit.
+// The last tick up to which asks decide what is shown without a price: not below the lowest ask limit.
 fn highest_unpriced(best: Option<u32>, highest: u32, last: u32) -> u32
     ensures highest { highest ≤ result }
     ensures best { IfSome best (λ tick. tick ≤ result) }
@@ -70,34 +79,33 @@ fn highest_unpriced(best: Option<u32>, highest: u32, last: u32) -> u32
     best.unwrap_or(last).max(highest)
 }
 
-/// What is shown of the orders whose ladder this is: the price at this reference, or the best limits of both sides where
-/// there is none.
-pub(super) fn find(ladder: &Ladder, reference: u32) -> Shown
-    requires low { ladder.now.low ≤ reference }
-    requires high { reference < ladder.now.low + length ladder.now.bids }
+/// The price at a reference of the orders whose ladder this is.
+pub(super) fn find(ladder: &Ladder, reference: u32) -> KnownPrice
+    requires { IsInBounds ladder.now (At reference) }
     ensures reference { result.reference ≡ reference }
-    ensures known { (book : List Order) → IsLadderOf ladder.now book → IsBookOver ladder.now.low (length ladder.now.bids) book → IsKnown ladder.now.low (length ladder.now.bids) book result }
+    ensures known { IsKnownIn ladder.now result }
 {
     let decision = decide(ladder, reference);
     match decision.price {
-        Some(price) => Shown {
+        Some(price) => KnownPrice {
             reference,
-            display: Display::Priced(price),
             lowest: decision.lowest,
             highest: decision.highest,
+            best_buy: None,
+            best_sell: None,
+            price: Some(price),
         },
         None => {
             let best_buy = ladder.best(Side::Buy);
             let best_sell = ladder.best(Side::Sell);
             let last = ladder.low() + (ladder.bids().len() - 1) as u32;
-            Shown {
+            KnownPrice {
                 reference,
-                display: Display::Unpriced {
-                    best_buy,
-                    best_sell,
-                },
                 lowest: lowest_unpriced(best_buy, decision.lowest),
                 highest: highest_unpriced(best_sell, decision.highest, last),
+                best_buy,
+                best_sell,
+                price: None,
             }
         }
     }

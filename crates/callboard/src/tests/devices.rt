@@ -2,8 +2,8 @@
 
 ghost use Rattle.std.specs.Prelude.{◌≡◌, ◌<◌};
 
-use crate::serve;
-use order_file::{Failures, FromRead, ToMemory, ToWrite};
+use super::{Printed, served};
+use byte_streams::{Failures, FromRead, ToWrite};
 use std::io;
 use std::io::{ErrorKind, Read, Write};
 use std::marker::Brand;
@@ -15,14 +15,34 @@ use std::thread::Threads;
 
 const INPUT: &str = "0,enter,bid,100,200\n0,enter,ask,60,200\n0,uncross\n0,status,1\n";
 
-const LINES: &str =
-    "1: entered 1\n2: entered 2\n3: opening price 200 volume 60 surplus 40 bid trades 1\n4: order bid 40 at 200 visible 40\n";
+const LINES: &str = "\
+1: entered 1
+2: entered 2
+3: opening price 200 volume 60 surplus 40 bid trades 1
+4: order bid 40 at 200 visible 40
+";
 
-const TALLY: &str =
-    "entries 4\nmember 0 calls 4\nmember 1 calls 0\nmember 2 calls 0\nmember 3 calls 0\naudit legal\n";
+const TALLY: &str = "\
+entries 4
+member 0 calls 4
+member 1 calls 0
+member 2 calls 0
+member 3 calls 0
+audit legal
+";
 
-const TALLY_AND_HISTORY: &str =
-    "entries 4\nmember 0 calls 4\nmember 1 calls 0\nmember 2 calls 0\nmember 3 calls 0\naudit legal\n1: member 0 entered 1\n2: member 0 entered 2\n3: member 0 opening price 200 volume 60 surplus 40 bid trades 1\n4: member 0 order bid 40 at 200 visible 40\n";
+const TALLY_AND_HISTORY: &str = "\
+entries 4
+member 0 calls 4
+member 1 calls 0
+member 2 calls 0
+member 3 calls 0
+audit legal
+1: member 0 entered 1
+2: member 0 entered 2
+3: member 0 opening price 200 volume 60 surplus 40 bid trades 1
+4: member 0 order bid 40 at 200 visible 40
+";
 
 /// The words of each kind of run, and what it writes where no device fails.
 const RUNS: [(&[&str], &str); 4] = [
@@ -83,32 +103,20 @@ impl Write for Taker {
     }
 }
 
-/// What a run on such devices came to.
-#[derive(Drop)]
-struct Written {
-    status: u8,
-    out: Vec<u8>,
-    err: Vec<u8>,
-}
-
-fn serve_devices<I: Ledger, O: Ledger, E: Ledger, T: AllocGlobal + Wait + Threads + Sync>(
+fn printed_by<I: Ledger, O: Ledger, T: AllocGlobal + Wait + Threads + Sync>(
     rt: &T,
-    blanks: (Blank, Blank, Blank),
+    blanks: (Blank, Blank),
     words: &[&str],
     giver: Giver<'_>,
     taker: Taker,
-) -> Written
+) -> Printed
     requires input_name { blanks.0.name ≡ I.name }
     requires input_parts { blanks.0.parts ≡ I.parts }
     requires input_backed { 0 < I.parts }
     requires output_name { blanks.1.name ≡ O.name }
     requires output_parts { blanks.1.parts ≡ O.parts }
     requires output_backed { 0 < O.parts }
-    requires errors_name { blanks.2.name ≡ E.name }
-    requires errors_parts { blanks.2.parts ≡ E.parts }
-    requires errors_backed { 0 < E.parts }
 {
-    let alloc = rt.alloc();
     let mut reader = FromRead {
         reader: giver,
         failures: Failures::<I>::new(blanks.0),
@@ -117,20 +125,12 @@ fn serve_devices<I: Ledger, O: Ledger, E: Ledger, T: AllocGlobal + Wait + Thread
         writer: taker,
         failures: Failures::<O>::new(blanks.1),
     };
-    let mut err = ToMemory {
-        bytes: Vec::new(alloc),
-        failures: Failures::<E>::new(blanks.2),
-    };
-    let status = serve(alloc, words, &mut reader, &mut out, &mut err, rt);
+    let (status, err) = served::<_, _, Brand, T>(rt, Blank::new(1), words, &mut reader, &mut out);
     let ToWrite {
         writer,
         failures: _,
     } = out;
-    let ToMemory {
-        bytes: err,
-        failures: _,
-    } = err;
-    Written {
+    Printed {
         status,
         out: writer.bytes,
         err,
@@ -145,7 +145,7 @@ fn run_devices<T: AllocGlobal + Wait + Threads + Sync>(
     reads: usize,
     writes: usize,
     fails: bool,
-) -> Written {
+) -> Printed {
     let giver = Giver {
         rest: INPUT.as_bytes(),
         step,
@@ -157,12 +157,12 @@ fn run_devices<T: AllocGlobal + Wait + Threads + Sync>(
         writes,
         fails,
     };
-    let blanks = (Blank::new(1), Blank::new(1), Blank::new(1));
-    serve_devices::<Brand, Brand, Brand, T>(rt, blanks, words, giver, taker)
+    let blanks = (Blank::new(1), Blank::new(1));
+    printed_by::<Brand, Brand, T>(rt, blanks, words, giver, taker)
 }
 
 /// What a failing device ends with: status 3, this line, and so much of the output as was taken.
-fn ends_with<T: Abort>(rt: &T, written: &Written, line: &str, taken: Option<&[u8]>) {
+fn ends_with<T: Abort>(rt: &T, written: &Printed, line: &str, taken: Option<&[u8]>) {
     assert_eq!(rt; written.status, 3);
     assert_eq!(rt; from_utf8(written.err.as_slice()).unwrap_or("?"), line);
     assert!(rt; Some(written.out.as_slice()) == taken);
@@ -179,18 +179,12 @@ fn one_byte_at_a_time_is_enough(rt: HostRuntime) {
 }
 
 #[test]
-fn a_read_that_fails_stops_the_run(rt: HostRuntime) {
-    for (words, _) in RUNS {
+fn a_device_that_fails_stops_the_run(rt: HostRuntime) {
+    for (words, out) in RUNS {
         for reads in 0..=INPUT.len().div_ceil(8) {
             let written = run_devices(&rt, words, 8, reads, 10_000, true);
             ends_with(&rt, &written, "read failed\n", Some(&[]));
         }
-    }
-}
-
-#[test]
-fn a_write_that_fails_leaves_a_beginning(rt: HostRuntime) {
-    for (words, out) in RUNS {
         for writes in 0..out.len().div_ceil(8) {
             let taken = out.as_bytes().get(..writes.saturating_mul(8));
             for fails in [true, false] {

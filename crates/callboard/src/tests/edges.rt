@@ -1,21 +1,27 @@
 //! Each limit at its value, one below and one above: in files and on the command line.
 
-use super::{Example, PLAIN, each_gives_its_lines, gives, run};
+use super::{Example, PLAIN, SHOWN, each_gives_its_lines, gives, run};
+use std::process::Abort;
+use std::str::from_utf8;
+use std::sync::Wait;
 use std::test::Fail;
+use std::thread::Threads;
 
-// From 10 to 20 there are eleven ticks, and without --members there are members 0 to 3.
-static EXAMPLES: [Example; 18] = [
+/// The words of a board from 10 to 20. Without --members it has members 0 to 3.
+const ELEVEN_TICKS: &[&str] = &[
+    "callboard",
+    "--low",
+    "10",
+    "--high",
+    "20",
+    "--reference",
+    "15",
+];
+
+static EXAMPLES: [Example; 6] = [
     Example {
         name: "terms of an order",
-        words: &[
-            "callboard",
-            "--low",
-            "10",
-            "--high",
-            "20",
-            "--reference",
-            "15",
-        ],
+        words: ELEVEN_TICKS,
         text: "\
 # A quantity is 1 to 1,000,000,000.
 1,enter,bid,0,15 -> refused 1 BadQuantity
@@ -55,15 +61,7 @@ static EXAMPLES: [Example; 18] = [
     },
     Example {
         name: "terms of a change",
-        words: &[
-            "callboard",
-            "--low",
-            "10",
-            "--high",
-            "20",
-            "--reference",
-            "15",
-        ],
+        words: ELEVEN_TICKS,
         text: "\
 1,enter,bid,5,15 -> entered 1
 1,change,1,0,15 -> refused 1 BadQuantity
@@ -94,15 +92,7 @@ static EXAMPLES: [Example; 18] = [
     },
     Example {
         name: "numbers of orders",
-        words: &[
-            "callboard",
-            "--low",
-            "10",
-            "--high",
-            "20",
-            "--reference",
-            "15",
-        ],
+        words: ELEVEN_TICKS,
         text: "\
 # The first order has the number 1, and no order has the number 0.
 1,status,0 -> refused 5 UnknownOrder
@@ -135,15 +125,7 @@ static EXAMPLES: [Example; 18] = [
     },
     Example {
         name: "numbers of trades",
-        words: &[
-            "callboard",
-            "--low",
-            "10",
-            "--high",
-            "20",
-            "--reference",
-            "15",
-        ],
+        words: ELEVEN_TICKS,
         text: "\
 1,trade,0 -> refused 8 NoSuchTrade
 1,trade,1 -> refused 8 NoSuchTrade
@@ -181,210 +163,28 @@ static EXAMPLES: [Example; 18] = [
 ",
     },
     Example {
-        name: "as far as the range from the reference",
-        words: &[
-            "callboard",
-            "--high",
-            "65536",
-            "--reference",
-            "1",
-            "--range",
-            "65535",
-        ],
+        name: "a book for one order",
+        words: &["callboard", "--open", "1"],
         text: "\
-1,enter,bid,1,65536 -> entered 1
-2,enter,ask,1,65536 -> entered 2
-0,ask -> price 65536 volume 1 surplus 0 none
-0,uncross -> opening price 65536 volume 1 surplus 0 none trades 1
-",
-    },
-    Example {
-        name: "one tick past the range from the reference",
-        words: &[
-            "callboard",
-            "--high",
-            "65536",
-            "--reference",
-            "1",
-            "--range",
-            "65534",
-        ],
-        text: "\
-1,enter,bid,1,65536 -> entered 1
-2,enter,ask,1,65536 -> entered 2
-0,ask -> price 65536 volume 1 surplus 0 none
-0,uncross -> interrupted price 65536 volume 1 surplus 0 none
-",
-    },
-    Example {
-        name: "as far as the range from the reference",
-        words: &[
-            "callboard",
-            "--high",
-            "65536",
-            "--reference",
-            "65536",
-            "--range",
-            "65535",
-        ],
-        text: "\
-1,enter,bid,1,1 -> entered 1
-2,enter,ask,1,1 -> entered 2
-0,ask -> price 1 volume 1 surplus 0 none
-0,uncross -> opening price 1 volume 1 surplus 0 none trades 1
-",
-    },
-    Example {
-        name: "one tick past the range from the reference",
-        words: &[
-            "callboard",
-            "--high",
-            "65536",
-            "--reference",
-            "65536",
-            "--range",
-            "65534",
-        ],
-        text: "\
-1,enter,bid,1,1 -> entered 1
-2,enter,ask,1,1 -> entered 2
-0,ask -> price 1 volume 1 surplus 0 none
-0,uncross -> interrupted price 1 volume 1 surplus 0 none
-",
-    },
-    Example {
-        name: "as far as the range from the reference",
-        words: &[
-            "callboard",
-            "--high",
-            "65536",
-            "--reference",
-            "200",
-            "--range",
-            "1",
-        ],
-        text: "\
-1,enter,bid,1,201 -> entered 1
-2,enter,ask,1,201 -> entered 2
-0,ask -> price 201 volume 1 surplus 0 none
-0,uncross -> opening price 201 volume 1 surplus 0 none trades 1
-",
-    },
-    Example {
-        name: "one tick past the range from the reference",
-        words: &[
-            "callboard",
-            "--high",
-            "65536",
-            "--reference",
-            "200",
-            "--range",
-            "0",
-        ],
-        text: "\
-1,enter,bid,1,201 -> entered 1
-2,enter,ask,1,201 -> entered 2
-0,ask -> price 201 volume 1 surplus 0 none
-0,uncross -> interrupted price 201 volume 1 surplus 0 none
-",
-    },
-    Example {
-        name: "as far as the range from the reference",
-        words: &[
-            "callboard",
-            "--high",
-            "65536",
-            "--reference",
-            "201",
-            "--range",
-            "1",
-        ],
-        text: "\
-1,enter,bid,1,200 -> entered 1
-2,enter,ask,1,200 -> entered 2
-0,ask -> price 200 volume 1 surplus 0 none
-0,uncross -> opening price 200 volume 1 surplus 0 none trades 1
-",
-    },
-    Example {
-        name: "one tick past the range from the reference",
-        words: &[
-            "callboard",
-            "--high",
-            "65536",
-            "--reference",
-            "201",
-            "--range",
-            "0",
-        ],
-        text: "\
-1,enter,bid,1,200 -> entered 1
-2,enter,ask,1,200 -> entered 2
-0,ask -> price 200 volume 1 surplus 0 none
-0,uncross -> interrupted price 200 volume 1 surplus 0 none
-",
-    },
-    Example {
-        name: "as far as the range from the reference",
-        words: &[
-            "callboard",
-            "--high",
-            "65536",
-            "--reference",
-            "65536",
-            "--range",
-            "1",
-        ],
-        text: "\
-1,enter,bid,1,65535 -> entered 1
-2,enter,ask,1,65535 -> entered 2
-0,ask -> price 65535 volume 1 surplus 0 none
-0,uncross -> opening price 65535 volume 1 surplus 0 none trades 1
-",
-    },
-    Example {
-        name: "one tick past the range from the reference",
-        words: &[
-            "callboard",
-            "--high",
-            "65536",
-            "--reference",
-            "65536",
-            "--range",
-            "0",
-        ],
-        text: "\
-1,enter,bid,1,65535 -> entered 1
-2,enter,ask,1,65535 -> entered 2
-0,ask -> price 65535 volume 1 surplus 0 none
-0,uncross -> interrupted price 65535 volume 1 surplus 0 none
-",
-    },
-    Example {
-        name: "a price at the reference is in every range",
-        words: &["callboard", "--range", "0"],
-        text: "\
-1,enter,bid,1,200 -> entered 1
-2,enter,ask,1,200 -> entered 2
-0,uncross -> opening price 200 volume 1 surplus 0 none trades 1
-",
-    },
-    Example {
-        name: "a price at the reference is in every range",
-        words: &["callboard", "--range", "1"],
-        text: "\
-1,enter,bid,1,200 -> entered 1
-2,enter,ask,1,200 -> entered 2
-0,uncross -> opening price 200 volume 1 surplus 0 none trades 1
-",
-    },
-    Example {
-        name: "a price at the reference is in every range",
-        words: &["callboard", "--range", "1000000"],
-        text: "\
-1,enter,bid,1,200 -> entered 1
-2,enter,ask,1,200 -> entered 2
-0,uncross -> opening price 200 volume 1 surplus 0 none trades 1
+1,enter,bid,5,200 -> entered 1
+2,enter,ask,5,200 -> refused 4 BookFull
+0,ask -> no price bid 200 ask -
+1,change,1,6,201 -> changed moved
+0,ask -> no price bid 201 ask -
+0,uncross -> opening no price
+# A full book is the last check of an order.
+2,enter,ask,5,200,,opening -> refused 9 PastAuction
+2,enter,ask,5,200,6,closing -> refused 3 BadPeak
+2,enter,ask,5,200,5,closing -> refused 4 BookFull
+1,delete,1 -> deleted
+2,enter,ask,5,market -> entered 2
+0,ask -> no price bid - ask -
+0,uncross -> intraday no price
+2,delete,2 -> deleted
+1,enter,bid,5,200,,closing -> entered 3
+1,enter,bid,5,200 -> refused 4 BookFull
+0,uncross -> closing no price
+1,status,3 -> refused 5 UnknownOrder
 ",
     },
 ];
@@ -392,6 +192,62 @@ static EXAMPLES: [Example; 18] = [
 #[test]
 fn each_limit_at_its_ends(rt: HostRuntime) -> Result<(), Fail> {
     each_gives_its_lines(&rt, EXAMPLES.as_slice())
+}
+
+/// A reference, a range, a tick at which one bid meets one ask, and whether the uncross is interrupted.
+static RANGES: [(&str, &str, &str, bool); 13] = [
+    // Up to the range from the reference it goes through, and one tick past it doesn't.
+    ("1", "65535", "65536", false),
+    ("1", "65534", "65536", true),
+    ("65536", "65535", "1", false),
+    ("65536", "65534", "1", true),
+    ("200", "1", "201", false),
+    ("200", "0", "201", true),
+    ("201", "1", "200", false),
+    ("201", "0", "200", true),
+    ("65536", "1", "65535", false),
+    ("65536", "0", "65535", true),
+    // A price at the reference is in every range.
+    ("200", "0", "200", false),
+    ("200", "1", "200", false),
+    ("200", "1000000", "200", false),
+];
+
+#[test]
+fn prices_at_the_ends_of_the_range(rt: HostRuntime) -> Result<(), Fail> {
+    let alloc = rt.alloc();
+    for &(first, range, tick, interrupted) in RANGES.as_slice() {
+        let words = [
+            "callboard",
+            "--high",
+            "65536",
+            "--reference",
+            first,
+            "--range",
+            range,
+        ];
+        let price = format!(in alloc; "price {tick} volume 1 surplus 0 none")?;
+        let (kind, trades) = if interrupted {
+            ("interrupted", "")
+        } else {
+            ("opening", " trades 1")
+        };
+        let out = format!(in alloc;
+            "1: entered 1\n2: entered 2\n3: {price}\n4: {kind} {price}{trades}\n"
+        )?;
+        let input = format!(in alloc;
+            "1,enter,bid,1,{tick}\n2,enter,ask,1,{tick}\n0,ask\n0,uncross\n"
+        )?;
+        gives(
+            &rt,
+            words.as_slice(),
+            input.as_str().as_bytes(),
+            out.as_str(),
+            "",
+            0,
+        );
+    }
+    Ok(())
 }
 
 static MEMBERS: [(&str, &str, bool); 11] = [
@@ -411,10 +267,9 @@ static MEMBERS: [(&str, &str, bool); 11] = [
 #[test]
 fn members_at_both_ends(rt: HostRuntime) {
     let bad = "record 1: bad member\n";
-    let shown = "1: no price bid - ask -\n";
     for &(members, record, good) in MEMBERS.as_slice() {
         let words = ["callboard", "--members", members];
-        let (out, err, status) = if good { (shown, "", 0) } else { ("", bad, 1) };
+        let (out, err, status) = if good { (SHOWN, "", 0) } else { ("", bad, 1) };
         gives(&rt, words.as_slice(), record.as_bytes(), out, err, status);
     }
 }
@@ -451,14 +306,7 @@ fn numbers_that_are_too_long(rt: HostRuntime) -> Result<(), Fail> {
         for &number in LONG_NUMBERS.as_slice() {
             let input = format!(in alloc; "{front}{number}{back}\n")?;
             let err = format!(in alloc; "record 1: {fault}\n")?;
-            gives(
-                &rt,
-                PLAIN.as_slice(),
-                input.as_str().as_bytes(),
-                "",
-                err.as_str(),
-                1,
-            );
+            gives(&rt, PLAIN, input.as_str().as_bytes(), "", err.as_str(), 1);
         }
     }
     Ok(())
@@ -556,21 +404,6 @@ static OPTIONS: [(&str, &str, bool); 33] = [
     ("--reference", "1000001", false),
 ];
 
-#[test]
-fn options_at_their_ends(rt: HostRuntime) {
-    for &(option, number, good) in OPTIONS.as_slice() {
-        let words = ["callboard", option, number];
-        let printed = run(&rt, words.as_slice(), b"");
-        assert_eq!(rt;
-            printed.status,
-            if good { 0 } else { 2 },
-            "{option} {number}"
-        );
-        assert!(rt; printed.out.is_empty());
-        assert_eq!(rt; printed.err.is_empty(), good, "{option} {number}");
-    }
-}
-
 static NAMES: [&str; 7] = [
     "--low",
     "--high",
@@ -594,15 +427,37 @@ static OTHER_WORDS: [&str; 10] = [
     "18446744073709551617",
 ];
 
+/// Whether the program takes these words. Where it doesn't, it says so, and reads and prints nothing.
+fn takes<T: Abort + AllocGlobal + Wait + Threads + Sync>(rt: &T, words: &[&str]) -> bool {
+    let printed = run(rt, words, b"0,ask");
+    let taken = printed.status == 0;
+    let (out, status) = if taken { (SHOWN, 0) } else { ("", 2) };
+    assert_eq!(rt; from_utf8(printed.out.as_slice()).unwrap_or("?"), out);
+    assert_eq!(rt; (printed.status, printed.err.is_empty()), (status, taken));
+    taken
+}
+
 #[test]
-fn no_option_takes_other_words(rt: HostRuntime) {
-    for &option in NAMES.as_slice() {
-        for &number in OTHER_WORDS.as_slice() {
-            let printed = run(&rt, ["callboard", option, number].as_slice(), b"1,ask");
-            assert_eq!(rt; printed.status, 2, "{option} '{number}'");
-            assert!(rt; printed.out.is_empty() && !printed.err.is_empty());
-        }
-        let alone = run(&rt, ["callboard", option].as_slice(), b"1,ask");
-        assert_eq!(rt; alone.status, 2, "{option}");
+fn options_and_what_they_take(rt: HostRuntime) {
+    for &(option, number, good) in OPTIONS.as_slice() {
+        let words = ["callboard", option, number];
+        assert_eq!(rt; takes(&rt, words.as_slice()), good, "{option} {number}");
     }
+    for &option in NAMES.as_slice() {
+        assert!(rt; !takes(&rt, ["callboard", option].as_slice()), "{option}");
+        for &number in OTHER_WORDS.as_slice() {
+            let words = ["callboard", option, number];
+            assert!(rt; !takes(&rt, words.as_slice()), "{option} '{number}'");
+        }
+    }
+    assert!(rt; !takes(&rt, &["callboard", "--nothing", "1"]));
+}
+
+#[test]
+fn help_is_printed(rt: HostRuntime) {
+    let printed = run(&rt, &["callboard", "--help"], b"x");
+    assert_eq!(rt; printed.status, 0);
+    assert!(rt; printed.err.is_empty());
+    let text = from_utf8(printed.out.as_slice()).unwrap_or("");
+    assert!(rt; text.contains("--reference <N>"));
 }

@@ -1,13 +1,10 @@
 //! What is a file, and what is said of a bad one.
 
-use super::{PLAIN, gives, run};
-use crate::Fault;
+use super::{PLAIN, Row, SHOWN, each_gives, gives};
+use crate::{Fault, FloorFault};
 use auction::OpenFault;
 use order_file::FileFault;
 use std::fmt::InlineText;
-use std::str::from_utf8;
-
-const SHOWN: &str = "1: no price bid - ask -\n";
 
 static GOOD: [(&str, &str); 12] = [
     ("", ""),
@@ -24,106 +21,101 @@ static GOOD: [(&str, &str); 12] = [
     ("1,enter,bid,4294967295,200", "1: refused 1 BadQuantity\n"),
 ];
 
-#[test]
-fn files_that_are_good(rt: HostRuntime) {
-    for &(input, out) in GOOD.as_slice() {
-        gives(&rt, PLAIN.as_slice(), input.as_bytes(), out, "", 0);
-    }
-}
-
-static BAD: [(&str, &str); 21] = [
-    ("1,ask\n1,enter,bid,abc,200", "record 2: bad field 4\n"),
-    ("7,ask", "record 1: bad member\n"),
-    ("4,ask", "record 1: bad member\n"),
-    ("\"\"", "record 1: bad member\n"),
-    ("1,enter,bid", "record 1: wrong number of fields\n"),
-    ("1,enter,bid,5,200,,,", "record 1: wrong number of fields\n"),
-    ("1,enter,bid,4294967296,200", "record 1: bad field 4\n"),
-    ("1,enter,bid,00000000005,200", "record 1: bad field 4\n"),
-    ("1,enter,bid,,200", "record 1: bad field 4\n"),
-    ("1,enter,bid,+5,200", "record 1: bad field 4\n"),
-    ("1,enter,bid,5, 200", "record 1: bad field 5\n"),
-    ("1,enter,buy,x,200", "record 1: bad field 3\n"),
-    ("1,enter,bid,5,200,x", "record 1: bad field 6\n"),
-    ("1,enter,bid,5,200,,intraday", "record 1: bad field 7\n"),
-    ("1,change,1,5", "record 1: wrong number of fields\n"),
-    ("1,change,x,5,200", "record 1: bad field 3\n"),
-    ("1,delete,", "record 1: bad field 3\n"),
-    ("1,ASK", "record 1: bad command\n"),
-    ("1", "record 1: bad command\n"),
-    ("1,ask,", "record 1: wrong number of fields\n"),
-    ("9,nonsense", "record 1: bad member\n"),
+static BAD: [(&[u8], &str); 23] = [
+    (b"1,ask\n1,enter,bid,abc,200", "record 2: bad field 4\n"),
+    (b"7,ask", "record 1: bad member\n"),
+    (b"4,ask", "record 1: bad member\n"),
+    (b"\"\"", "record 1: bad member\n"),
+    (b"\xff,ask", "record 1: bad member\n"),
+    (b"9,nonsense", "record 1: bad member\n"),
+    (b"1", "record 1: bad command\n"),
+    (b"1,\xff", "record 1: bad command\n"),
+    (b"1,ASK", "record 1: bad command\n"),
+    (b"1,ask,", "record 1: wrong number of fields\n"),
+    (b"1,change,1,5", "record 1: wrong number of fields\n"),
+    (b"1,enter,bid", "record 1: wrong number of fields\n"),
+    (
+        b"1,enter,bid,5,200,,,",
+        "record 1: wrong number of fields\n",
+    ),
+    (b"1,enter,bid,4294967296,200", "record 1: bad field 4\n"),
+    (b"1,enter,bid,00000000005,200", "record 1: bad field 4\n"),
+    (b"1,enter,bid,,200", "record 1: bad field 4\n"),
+    (b"1,enter,bid,+5,200", "record 1: bad field 4\n"),
+    (b"1,enter,bid,5, 200", "record 1: bad field 5\n"),
+    (b"1,enter,buy,x,200", "record 1: bad field 3\n"),
+    (b"1,enter,bid,5,200,x", "record 1: bad field 6\n"),
+    (b"1,enter,bid,5,200,,intraday", "record 1: bad field 7\n"),
+    (b"1,change,x,5,200", "record 1: bad field 3\n"),
+    (b"1,delete,", "record 1: bad field 3\n"),
 ];
 
 #[test]
-fn files_that_are_bad(rt: HostRuntime) {
+fn files_that_are_good_and_bad(rt: HostRuntime) {
+    for &(input, out) in GOOD.as_slice() {
+        gives(&rt, PLAIN, input.as_bytes(), out, "", 0);
+    }
     for &(input, err) in BAD.as_slice() {
-        gives(&rt, PLAIN.as_slice(), input.as_bytes(), "", err, 1);
+        gives(&rt, PLAIN, input, "", err, 1);
     }
 }
 
-#[test]
-fn bytes_that_are_no_text(rt: HostRuntime) {
-    gives(
-        &rt,
-        PLAIN.as_slice(),
-        b"\xff,ask",
-        "",
-        "record 1: bad member\n",
-        1,
-    );
-    gives(
-        &rt,
-        PLAIN.as_slice(),
-        b"1,\xff",
-        "",
-        "record 1: bad command\n",
-        1,
-    );
-}
+const WHOLE: &[u8] = b"1,ask\n1,enter,bid,12,200\n";
+
+/// Up to which byte the file is cut, and what it gives then. A beginning of the last number is a number too.
+static CUTS: [(usize, &str, &str); 7] = [
+    (0, "", ""),
+    (4, "", "record 1: bad command\n"),
+    (6, SHOWN, ""),
+    (12, "", "record 2: bad command\n"),
+    (20, "", "record 2: wrong number of fields\n"),
+    (21, "", "record 2: bad field 5\n"),
+    (25, "1: no price bid - ask -\n2: entered 1\n", ""),
+];
 
 #[test]
-fn a_file_that_was_cut_short(rt: HostRuntime) {
-    let cut =
-        b"1,enter,bid,200,202\n1,enter,bid,200,201\n1,enter,bid,300,200\n2,enter,ask,100,200\n2,enter,ask,200,199\n2,enter,ask,200,198\n1,ask\n0,unc";
-    gives(&rt, PLAIN.as_slice(), cut, "", "record 8: bad command\n", 1);
+fn a_file_cut_after_each_byte(rt: HostRuntime) {
+    for count in 0..=WHOLE.len() {
+        let cut = CUTS.iter().copied().find(|cut| count <= cut.0);
+        let (_, out, err) = cut.unwrap_or((0, "?", "?"));
+        let status = if err.is_empty() { 0 } else { 1 };
+        gives(&rt, PLAIN, &WHOLE[..count], out, err, status);
+    }
 }
 
-#[test]
-fn more_records_than_calls(rt: HostRuntime) {
-    let words = ["callboard", "--calls", "1"];
-    gives(
-        &rt,
-        words.as_slice(),
+const ONE_CALL: &[&str] = &["callboard", "--calls", "1"];
+
+const BAD_BOUNDS: &[&str] = &["callboard", "--low", "5", "--high", "4"];
+
+const MANY_TICKS: &[&str] = &["callboard", "--high", "70000"];
+
+const HIGH_REFERENCE: &[&str] = &["callboard", "--reference", "2000"];
+
+const LOW_REFERENCE: &[&str] = &["callboard", "--low", "300"];
+
+static ROWS: [Row; 10] = [
+    (ONE_CALL, b"1,ask\n", SHOWN, "", 0),
+    (
+        ONE_CALL,
         b"1,ask\nx",
         "",
         "record 2: too many commands\n",
         1,
-    );
-    gives(
-        &rt,
-        words.as_slice(),
-        b"1,ask\n",
-        "1: no price bid - ask -\n",
-        "",
-        0,
-    );
-}
-
-static BAD_WORDS: [(&str, &str, &str, &str, &str); 4] = [
-    ("--low", "5", "--high", "4", "bad bounds\n"),
-    ("--high", "70000", "--low", "1", "bad bounds\n"),
-    ("--reference", "2000", "--low", "1", "bad reference\n"),
-    ("--low", "300", "--high", "1000", "bad reference\n"),
+    ),
+    // A fault of the file comes before one of the config.
+    (BAD_BOUNDS, b"", "", "bad bounds\n", 2),
+    (BAD_BOUNDS, b"x", "", "record 1: bad member\n", 1),
+    (MANY_TICKS, b"", "", "bad bounds\n", 2),
+    (MANY_TICKS, b"x", "", "record 1: bad member\n", 1),
+    (HIGH_REFERENCE, b"", "", "bad reference\n", 2),
+    (HIGH_REFERENCE, b"x", "", "record 1: bad member\n", 1),
+    (LOW_REFERENCE, b"", "", "bad reference\n", 2),
+    (LOW_REFERENCE, b"x", "", "record 1: bad member\n", 1),
 ];
 
 #[test]
-fn words_that_are_bad_together(rt: HostRuntime) {
-    for &(first, one, second, other, err) in BAD_WORDS.as_slice() {
-        let words = ["callboard", first, one, second, other];
-        gives(&rt, words.as_slice(), b"", "", err, 2);
-        gives(&rt, words.as_slice(), b"x", "", "record 1: bad member\n", 1);
-    }
+fn limits_and_files(rt: HostRuntime) {
+    each_gives(&rt, ROWS.as_slice());
 }
 
 #[test]
@@ -138,28 +130,21 @@ fn each_fault_has_its_line(rt: HostRuntime) {
     ];
     for (fault, text, status) in rows {
         assert_eq!(rt; InlineText::<64>::of(fault).as_str(), text);
-        assert_eq!(rt; fault.status(), status);
+        assert_eq!(rt;
+            InlineText::<64>::of(FloorFault::from(fault)).as_str(),
+            text
+        );
+        assert_eq!(rt;
+            (fault.status(), FloorFault::from(fault).status()),
+            (status, status)
+        );
     }
-}
-
-#[test]
-fn words_that_are_refused(rt: HostRuntime) {
-    let bad = [["--members", "0"], ["--range", "x"], ["--nothing", "1"]];
-    for words in bad.as_slice() {
-        let printed = run(&rt, ["callboard", words[0], words[1]].as_slice(), b"1,ask");
-        assert_eq!(rt; printed.status, 2);
-        assert!(rt; printed.out.is_empty() && !printed.err.is_empty());
+    let rows = [
+        (FloorFault::NoMemory, "out of memory"),
+        (FloorFault::NotClosed, "floor not closed"),
+    ];
+    for (fault, text) in rows {
+        assert_eq!(rt; InlineText::<64>::of(fault).as_str(), text);
+        assert_eq!(rt; fault.status(), 3);
     }
-}
-
-#[test]
-fn help_is_printed(rt: HostRuntime) {
-    let printed = run(&rt, ["callboard", "--help"].as_slice(), b"x");
-    assert_eq!(rt; printed.status, 0);
-    assert!(rt; printed.err.is_empty());
-    assert!(rt;
-        from_utf8(printed.out.as_slice())
-            .unwrap_or("")
-            .contains("--reference <N>")
-    );
 }

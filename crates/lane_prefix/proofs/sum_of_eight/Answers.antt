@@ -1,7 +1,7 @@
 use Rattle.std.proofs.Common.{arith}
 use Rattle.std.proofs.lemmas.Simd.{length-chunk}
 use Rattle.lane_prefix.proofs.Eight.{eight}
-use Rattle.lane_prefix.proofs.Running.{sum_take_chunk}
+use Rattle.lane_prefix.proofs.RunningSumLaws.{sum_take_chunk}
 use Rattle.lane_prefix.proofs.sum_of_eight.Goals as goal
 use Rattle.std.proofs.lemmas.Grind.{common_steps}
 

@@ -1,8 +1,8 @@
 use Rattle.std.proofs.Common.{Some, None, sym, ◌∙◌, arith}
-use Rattle.price_rules.specs.InLanes.{lead_of}
-use Rattle.price_rules.proofs.Curves.{tells}
-use Rattle.price_rules.proofs.Deciding.{around_there, best_there, marked_there, market_there}
-use Rattle.price_rules.proofs.Points.{price_some, price_none_some, price_market}
+use Rattle.price_rules.specs.Candidates.{lead_of}
+use Rattle.price_rules.proofs.CurveLaws.{tells}
+use Rattle.price_rules.proofs.DecidingLaws.{around_there, best_there, marked_there, market_there}
+use Rattle.price_rules.proofs.PointLaws.{price_some, price_none_some, price_market}
 use Rattle.price_rules.proofs.price_around.Goals as goal
 
 pub returns-in-Some : goal.returns-in-Some

@@ -176,7 +176,8 @@ fn day<K: Day + Send + Sync, R: Wait + Threads + Sync>(
     alloc: Global,
     fresh: Fresh,
 ) -> Result<(Closing, Vec<Vec<Receipt>>), Fail>
-    requires names { (K.config ≡ fresh.config) × (K.parts ≡ fresh.members) × (K.name ≡ fresh.ledger) × (K.story ≡ fresh.story) }
+    requires names { (K.config ≡ fresh.config) × (K.parts ≡ fresh.members)
+        × (K.name ≡ fresh.ledger) × (K.story ≡ fresh.story) }
 {
     let (board, members) = fresh.begin::<K>().map_err(|_| "not begun")?;
     four_members(rt, alloc, board, members)

@@ -26,7 +26,7 @@ loop-place-preserved c =
     let place = c.loop-place.place in
     let entry = get_or entries place no_entry in
     subst (λ es. IsAudited c.args.config es c.apply-reply.new.self) (sym (take_more entries place no_entry c.loop-place-test.true))
-    (audited_more c.args.config (take place entries) entry c.loop-place.auction c.apply-reply.new.self c.loop-place.invariant (sym c.if-is_full.ensures) c.apply-reply.ensures.state (c.if-not-is_same.ensures.0 refl ∙ c.apply-reply.ensures.reply))
+    (audited_more c.args.config (take place entries) entry c.loop-place.auction c.apply-reply.new.self c.loop-place.invariant (sym c.if-is_full.ensures.value) c.apply-reply.ensures.state (c.if-not-is_same.ensures.0 refl ∙ c.apply-reply.ensures.reply))
 
 pub returns-then-is_full-clause-finding : goal.returns-then-is_full-clause-finding
 returns-then-is_full-clause-finding c = search (arith, full_at)

@@ -1,6 +1,6 @@
 use Rattle.std.proofs.Common.{sym, ◌∙◌, ap}
-use Rattle.call_board.specs.Opening.{fault_before}
-use Rattle.call_board.proofs.Faults.{refused_beside}
+use Rattle.call_board.specs.FreshBoard.{fault_before}
+use Rattle.call_board.proofs.FaultLaws.{refused_beside}
 use Rattle.call_board.proofs.fresh.first_auction.Goals as goal
 
 pub returns-clause-refused : goal.returns-clause-refused

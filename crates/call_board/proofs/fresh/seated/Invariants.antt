@@ -1,5 +1,5 @@
 use Rattle.std.proofs.Common.{◌≡◌, ◌+◌, ◌≤◌, vec_capacity}
-use Rattle.call_board.specs.Opening.{newcomers}
+use Rattle.call_board.specs.FreshBoard.{newcomers}
 use Rattle.call_board.proofs.fresh.seated.Given as goal
 
 abbrev pub invariant-loop-number : goal.invariant-loop-number

@@ -3,7 +3,7 @@ use Rattle.std.specs.List.{list_any}
 use Rattle.std.proofs.lemmas.Iterator.{YieldsList-from_slice}
 use Rattle.std.proofs.lemmas.Iterator.Search.{any_from_yields_List}
 use Rattle.member_floor.specs.Plays.{PlayedScript}
-use Rattle.callboard.specs.Played.{lacks_room, wants_memory}
+use Rattle.callboard.specs.PlayedDay.{lacks_room, wants_memory}
 use Rattle.callboard.proofs.day.is_in_want.Goals as goal
 
 pub returns-else-lacks_room : goal.returns-else-lacks_room

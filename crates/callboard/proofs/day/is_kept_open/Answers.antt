@@ -3,7 +3,7 @@ use Rattle.std.specs.List.{list_any}
 use Rattle.std.proofs.lemmas.Iterator.{YieldsList-from_slice}
 use Rattle.std.proofs.lemmas.Iterator.Search.{any_from_yields_List}
 use Rattle.member_floor.specs.Plays.{PlayedScript}
-use Rattle.callboard.specs.Played.{keeps_open, lacks_thread}
+use Rattle.callboard.specs.PlayedDay.{keeps_open, lacks_thread}
 use Rattle.callboard.proofs.day.is_kept_open.Goals as goal
 
 pub returns-else-lacks_thread : goal.returns-else-lacks_thread

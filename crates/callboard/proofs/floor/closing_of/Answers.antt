@@ -1,22 +1,23 @@
 use Rattle.std.proofs.Common.{◌≡◌, ◌≤◌, ℕ, None, length, arith, subst, sym}
 use Rattle.member_floor.specs.Plays.{Fits}
-use Rattle.call_board.specs.Opening.{board_fault, newcomers}
-use Rattle.callboard.proofs.Closings.{days_of}
-use Rattle.callboard.proofs.Openings.{few_calls, none_refused, opens_board}
-use Rattle.callboard.proofs.Splits.{fits}
+use Rattle.auction_terms.specs.declared.limits.TheConstants.{MAX_CALLS}
+use Rattle.call_board.specs.FreshBoard.{board_fault, newcomers}
+use Rattle.callboard.proofs.PlayedDayLaws.{days_of}
+use Rattle.callboard.proofs.OpeningLaws.{few_calls, none_refused, opens_board}
+use Rattle.callboard.proofs.SplitLaws.{fits}
 use Rattle.callboard.proofs.floor.closing_of.Goals as goal
 
 pub day-requires-clause-fits : goal.day-requires-clause-fits
 day-requires-clause-fits g c κs within =
     let opened : board_fault c.args.config c.args.members ≡ None = none_refused (board_fault c.args.config c.args.members) c.open.result c.in-Ok.fresh c.in-Ok.is c.open.ensures.refused in
-    let few : length c.args.calls.now ≤ 1048576 = omega (arith, few_calls c.args.config c.args.members opened) in
+    let few : length c.args.calls.now ≤ MAX_CALLS = omega (arith, few_calls c.args.config c.args.members opened) in
     let ss = c.in-Ok-split.scripts.items in
     subst (λ (n : ℕ). Fits (newcomers n) ss) (sym c.in-Ok.ensures.opening.1) (fits c.args.members c.args.calls.now ss c.in-Ok-split.ensures few)
 
 pub returns-clause-opening : goal.returns-clause-opening
 returns-clause-opening g c =
     let opened : board_fault c.args.config c.args.members ≡ None = none_refused (board_fault c.args.config c.args.members) c.open.result c.in-Ok.fresh c.in-Ok.is c.open.ensures.refused in
-    opens_board c.args.config c.args.members c.day.result opened c.day.ensures.fault
+    opens_board (board_fault c.args.config c.args.members) c.day.result opened c.day.ensures.fault
 
 pub returns-clause-closing : goal.returns-clause-closing
 returns-clause-closing g c =

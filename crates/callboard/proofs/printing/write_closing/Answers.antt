@@ -1,13 +1,9 @@
-use Rattle.std.proofs.lemmas.Result.{err_from_is_err_and}
-use Rattle.printed_lines.proofs.Written.{written-page}
+use Rattle.std.proofs.Common.{rules}
+use Rattle.printed_lines.proofs.PrinterLaws.{writes_all, writes_begun}
 use Rattle.callboard.proofs.printing.write_closing.Goals as goal
 
-pub returns-in_err-print_closing-clause-text : goal.returns-in_err-print_closing-clause-text
-returns-in_err-print_closing-clause-text g c =
-    let p = err_from_is_err_and c.from_residual.result c.from_residual.ensures.1 in
-    rw p.1 (rw c.new-page.ensures at c.in_err-print_closing.ensures.text)
+pub returns-in_err-print_closing : goal.returns-in_err-print_closing
+returns-in_err-print_closing g c = writes_begun c.from_residual.ensures.0 c.new-printer.ensures c.in_err-print_closing.ensures (search rules)
 
-pub returns-clause-text : goal.returns-clause-text
-returns-clause-text g c =
-    let kept = rw c.new-page.ensures at c.in_ok-print_closing.ensures.text in
-    written-page _ _ _ _ _ c.write_to.result kept c.write_to.ensures.text
+pub returns : goal.returns
+returns g c = writes_all c.new-printer.ensures c.in_ok-print_closing.ensures c.flush.ensures.printed c.flush.ensures.page (search rules)

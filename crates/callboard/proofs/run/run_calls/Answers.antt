@@ -1,7 +1,9 @@
-use Rattle.printed_lines.proofs.Written.{written-page}
+use Rattle.std.proofs.Common.{rules}
+use Rattle.printed_lines.proofs.PrinterLaws.{writes_all, writes_begun}
 use Rattle.callboard.proofs.run.run_calls.Goals as goal
 
-pub returns-clause-text : goal.returns-clause-text
-returns-clause-text g c =
-    let kept = rw c.new-page.ensures at c.in_ok-print_replies.ensures.text in
-    written-page _ _ _ _ _ c.write_to.result kept c.write_to.ensures.text
+pub returns-in_err-print_replies : goal.returns-in_err-print_replies
+returns-in_err-print_replies g c = writes_begun c.from_residual.ensures.0 c.new-printer.ensures c.in_err-print_replies.ensures (search rules)
+
+pub returns : goal.returns
+returns g c = writes_all c.new-printer.ensures c.in_ok-print_replies.ensures c.flush.ensures.printed c.flush.ensures.page (search rules)

@@ -1,6 +1,6 @@
 use Rattle.std.proofs.Common.{rules, arith, refl, ◌+◌}
 use Rattle.member_floor.specs.declared.script.Script.{Script}
-use Rattle.callboard.proofs.Splits.{split_next}
+use Rattle.callboard.proofs.SplitLaws.{split_next}
 use Rattle.callboard.proofs.scripts.split.Goals as goal
 
 pub loop-member-preserved : goal.loop-member-preserved

@@ -1,5 +1,5 @@
 use Rattle.std.proofs.Common.{◌≡◌, ◌≤◌, vec_capacity}
-use Rattle.callboard.specs.Floor.{IsSplit}
+use Rattle.callboard.specs.BoardRun.{IsSplit}
 use Rattle.callboard.proofs.scripts.split.Given as goal
 
 -- the members so far have their scripts, and there is room for the others'

@@ -1,15 +1,9 @@
-use Rattle.std.proofs.Common.{◌≡◌, ◌≤◌, ◌-◌, ℕ, length}
-use Rattle.auction_terms.specs.Ladder.{LadderView}
-use Rattle.tick_ladder.specs.Ladder.{all_standing}
+use Rattle.std.proofs.Common.{◌-◌}
+use Rattle.clock.specs.Filling.{IsFilled}
 use Rattle.clock.proofs.price.fill.Given as goal
 
-pub record Going (v w : LadderView) (most : ℕ) : Type 0 where
-  pub total : all_standing v ≤ most
-  pub low : v.low ≡ w.low
-  pub len : length v.bids ≡ length w.bids
-
 abbrev pub invariant-limits : goal.invariant-limits
-invariant-limits l = Going l.ladder l.fn.ladder l.total
+invariant-limits l = IsFilled l.fn.ladder l.ladder l.total
 
 abbrev pub decreases-limits : goal.decreases-limits
 decreases-limits l = l.shape.count - l.limit

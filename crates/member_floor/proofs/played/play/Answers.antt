@@ -1,5 +1,5 @@
 use Rattle.std.proofs.Common.{arith, ap, ◌∙◌, ◌∷◌, [], length, length-append}
-use Rattle.member_floor.proofs.Recorded.{recorded-next, Answered-next}
+use Rattle.member_floor.proofs.ReceiptLaws.{recorded-next, Answered-next}
 use Rattle.member_floor.proofs.played.play.Goals as goal
 
 pub loop-i-preserved : goal.loop-i-preserved

@@ -1,23 +1,22 @@
-use Rattle.std.proofs.Common.{rules, arith, ap, sym, subst, ◌≡◌, ◌≤◌, ◌∙◌, ◌∷◌, [], ◌++◌, All, List, map, length, append_assoc}
+use Rattle.std.proofs.Common.{rules, arith, ap, sym, subst, ◌≡◌, ◌∙◌, ◌∷◌, [], ◌++◌, All, List, map, length, append_assoc}
 use Rattle.std.proofs.lemmas.List.Elements.{All-head, All-tail}
 use Rattle.std.specs.Vec.Iter.{into_iter_items}
 use Rattle.auction_terms.specs.declared.Command.{Command}
 use Rattle.member_floor.specs.declared.script.Script.{Script}
+use Rattle.member_floor.specs.Plays.{IsShort}
 use Rattle.member_floor.proofs.seats.take_seats.Goals as goal
 
 pub invariant_of-push_reserved : goal.invariant_of-push_reserved
 invariant_of-push_reserved c =
     let s : Script = c.unwrap-commands.result in
-    let Short : Script → Type 0 = λ x. length x.commands.items ≤ 1048576 in
     let step : into_iter_items c.loop.scripts ≡ s ∷ into_iter_items c.next.new.self = search rules in
-    let few : Short s = All-head Short s (into_iter_items c.next.new.self) (subst (All Short) step c.loop.invariant.few) in
+    let few : IsShort s = All-head IsShort s (into_iter_items c.next.new.self) (subst (All IsShort) step c.loop.invariant.few) in
     (search rules, search rules, few)
 
 pub loop-preserved : goal.loop-preserved
 loop-preserved c =
     let s : Script = c.unwrap-commands.result in
     let was = c.loop.invariant in
-    let Short : Script → Type 0 = λ x. length x.commands.items ≤ 1048576 in
     let commands : Script → List Command = λ x. x.commands.items in
     let rest = into_iter_items c.next.new.self in
     let step : into_iter_items c.loop.scripts ≡ s ∷ rest = search rules in
@@ -25,6 +24,6 @@ loop-preserved c =
       count = search rules;
       left = omega (arith, was.left, ap length step);
       room = search rules;
-      few = All-tail Short s rest (subst (All Short) step was.few);
+      few = All-tail IsShort s rest (subst (All IsShort) step was.few);
       seats = ap (λ t. t ++ map commands rest) c.push_reserved.ensures.items ∙ append_assoc c.loop.seats.items (s.commands.items ∷ []) (map commands rest) ∙ (λ i. c.loop.seats.items ++ map commands (sym step i)) ∙ was.seats;
     }

@@ -1,6 +1,6 @@
 use Rattle.std.proofs.Common.{rules, arith, ap, ◌≡◌, ◌∷◌, length}
 use Rattle.std.specs.Vec.Iter.{into_iter_items}
-use Rattle.member_floor.proofs.Playings.{plays-next, plays-end}
+use Rattle.member_floor.proofs.PlayingLaws.{plays-next, plays-end}
 use Rattle.member_floor.proofs.threads.join_all.Goals as goal
 
 pub loop-preserved : goal.loop-preserved

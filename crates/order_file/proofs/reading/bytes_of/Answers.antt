@@ -1,6 +1,6 @@
 use Rattle.std.proofs.Common.{arith, rules, length-append, take}
 use Rattle.std.proofs.lemmas.List.{length-take}
-use Rattle.order_file.proofs.ReadBytes.{consumes-more, read-all, read-too-much}
+use Rattle.order_file.proofs.ReadLaws.{consumes-more, read-all, read-too-much}
 use Rattle.order_file.proofs.reading.bytes_of.Goals as goal
 
 pub returns-then-count-eq0-clause-bytes : goal.returns-then-count-eq0-clause-bytes

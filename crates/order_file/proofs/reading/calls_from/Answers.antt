@@ -3,7 +3,7 @@ use Rattle.std.proofs.lemmas.Result.{err_from_is_err_and}
 use Rattle.std.proofs.lemmas.List.Elements.{All-push}
 use Rattle.std.specs.Result.{is_ok}
 use Rattle.order_file.specs.File.{IsBelow}
-use Rattle.order_file.proofs.CallLists.{at-end, at-fault, at-limit, at-call, fails-at}
+use Rattle.order_file.proofs.CallLaws.{at-end, at-fault, at-too_many, at-call, fails-at}
 use Rattle.order_file.proofs.reading.calls_from.Goals as goal
 
 pub returns-then-not-branch-clause-calls : goal.returns-then-not-branch-clause-calls
@@ -38,7 +38,7 @@ pub returns-then-branch-clause-calls : goal.returns-then-branch-clause-calls
 returns-then-branch-clause-calls c =
     let found = rw c.if-branch.true at c.in_ok-next_row-2.ensures.row in
     let last : c.from-then-branch.result ≡ c.loop-before.before = omega arith in
-    rw last (at-limit _ _ _ _ _ _ _ _ c.loop-before.invariant.1 found.0 c.loop-before-test.false)
+    rw last (at-too_many _ _ _ _ _ _ _ _ c.loop-before.invariant.1 found.0 c.loop-before-test.false)
 
 pub returns-clause-calls : goal.returns-clause-calls
 returns-clause-calls c =

@@ -1,7 +1,7 @@
 use Rattle.std.proofs.Common.{◌≡◌, All, length}
 use Rattle.order_file.specs.File.{IsBelow, calls_after}
 use Rattle.order_file.specs.Rows.{Stands, rows_left}
-use Rattle.order_file.proofs.CallLists.{after}
+use Rattle.order_file.proofs.CallLaws.{after}
 use Rattle.order_file.proofs.reading.calls_from.Given as goal
 
 -- there are as many calls as records were read, each of one of the members; the calls so far, and then those of the records that are left, are those of all

@@ -1,4 +1,4 @@
-use Rattle.order_file.proofs.Records.{row-found}
+use Rattle.order_file.proofs.RowLaws.{row-found}
 use Rattle.order_file.proofs.reading.next_row.Goals as goal
 
 pub returns-clause-row : goal.returns-clause-row

@@ -1,5 +1,5 @@
 use Rattle.std.proofs.Common.{rules}
-use Rattle.order_file.proofs.Records.{with-headers}
+use Rattle.order_file.proofs.RowLaws.{with-headers}
 use Rattle.order_file.proofs.reading.reader_of.Goals as goal
 
 pub returns-clause-reader : goal.returns-clause-reader

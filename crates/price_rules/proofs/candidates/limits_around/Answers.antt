@@ -1,10 +1,13 @@
 use Rattle.std.proofs.Common.{arith}
-use Rattle.price_rules.proofs.Curves.{tells}
-use Rattle.price_rules.proofs.Filled.{are_candidates, are_marked}
+use Rattle.price_rules.proofs.CurveLaws.{tells}
+use Rattle.price_rules.proofs.CandidateLaws.{are_candidates, are_marked}
 use Rattle.price_rules.proofs.candidates.limits_around.Goals as goal
 
 pub returns-clause-candidates : goal.returns-clause-candidates
-returns-clause-candidates c book h = search (arith, are_candidates, tells)
+returns-clause-candidates c book h =
+    let v = c.args.ladder.now in
+    let a = c.args.around.now in
+    rw c.side_by_side.ensures (are_candidates v a _ _ _ _ c.requires.around c.far_limit-far.ensures c.near_limit-near.ensures c.limit_here-here.ensures c.limit_after-after.ensures book (tells v book h c.requires.flags))
 
 pub returns-clause-marked : goal.returns-clause-marked
 returns-clause-marked c = search (arith, are_marked)

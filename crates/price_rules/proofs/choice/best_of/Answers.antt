@@ -1,26 +1,26 @@
 use Rattle.std.proofs.Common.{◌≡◌, length, arith}
 use Rattle.std.proofs.lemmas.Grind.{common_steps}
-use Rattle.auction_terms.specs.Leading.{keyed}
-use Rattle.price_rules.proofs.Selected.{AreEven, none_flagged, none_positive, some_left, best_within, best_marked, best_lead}
+use Rattle.auction_terms.specs.Devices.Leading.{keyed}
+use Rattle.price_rules.proofs.SelectedLaws.{AreEven, none_flagged, none_positive, some_left, best_within, best_marked, best_lead}
 use Rattle.price_rules.proofs.choice.best_of.Goals as goal
 
 pub returns-in_default : goal.returns-in_default
-returns-in_default c book few cand marked =
+returns-in_default c book few cand all marked =
     let lanes = c.args.lanes.now in
     let even : AreEven lanes = record { demands = omega arith; supplies = omega arith } in
     none_flagged book lanes even cand few c.lesser.new.out marked c.lesser.ensures c.in_default.ensures
 
 pub returns-then-volume-eq0 : goal.returns-then-volume-eq0
-returns-then-volume-eq0 c book few cand marked = grind (arith, common_steps, none_positive)
+returns-then-volume-eq0 c book few cand all marked = grind (arith, common_steps, none_positive)
 
 pub returns-in_default-least_where : goal.returns-in_default-least_where
-returns-in_default-least_where c book few cand marked =
+returns-in_default-least_where c book few cand all marked =
     let lanes = c.args.lanes.now in
     let even : AreEven lanes = record { demands = omega arith; supplies = omega arith } in
     absurd (some_left book lanes even cand few c.lesser.new.out marked c.lesser.ensures c.in-Some.volume c.keep_equal.new.flags c.in-Some.ensures c.keep_equal.ensures c.in_default-least_where.ensures)
 
 pub returns : goal.returns
-returns c book few cand marked =
+returns c book few cand all marked =
     let lanes = c.args.lanes.now in
     let even : AreEven lanes = record { demands = omega arith; supplies = omega arith } in
     let m = c.in-Some.volume in

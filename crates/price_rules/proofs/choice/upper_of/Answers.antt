@@ -1,8 +1,8 @@
 use Rattle.std.proofs.Common.{◌≡◌, ◌∙◌, length, arith}
 use Rattle.std.proofs.lemmas.Bool.{ne_eqb}
-use Rattle.lane_select.specs.Select.{kept_if_above}
-use Rattle.price_rules.proofs.Marks.{highest_at, lowest_at}
-use Rattle.price_rules.proofs.Selected.{AreEven, rising_within, rising_asks, asks_marked}
+use Rattle.lane_select.specs.Selection.{kept_if_above}
+use Rattle.price_rules.proofs.MarkLaws.{highest_at, lowest_at}
+use Rattle.price_rules.proofs.SelectedLaws.{AreEven, rising_within, rising_asks, asks_marked}
 use Rattle.price_rules.proofs.choice.upper_of.Goals as goal
 
 pub returns-then-surplus-eq0 : goal.returns-then-surplus-eq0

@@ -1,6 +1,6 @@
 use Rattle.std.proofs.Common.{[], ◌∷◌, codes}
-use Rattle.printed_lines.specs.Words.{number_word}
-use Rattle.printed_lines.proofs.Texts.{put-last, put-more}
+use Rattle.printed_lines.specs.ReplyWords.{number_word}
+use Rattle.printed_lines.proofs.PageLaws.{put-last, put-more}
 use Rattle.printed_lines.proofs.reply.put_display.Goals as goal
 
 pub returns-in-Unpriced-clause-text : goal.returns-in-Unpriced-clause-text

@@ -1,5 +1,5 @@
 use Rattle.std.proofs.Common.{[], ◌∷◌, codes, decimal}
-use Rattle.printed_lines.proofs.Texts.{put-last, put-more}
+use Rattle.printed_lines.proofs.PageLaws.{put-last, put-more}
 use Rattle.printed_lines.proofs.reply.put_limit.Goals as goal
 
 pub returns-in-Market-clause-text : goal.returns-in-Market-clause-text

@@ -1,6 +1,6 @@
 use Rattle.std.proofs.Common.{codes}
-use Rattle.printed_lines.specs.Words.{price_words}
-use Rattle.printed_lines.proofs.Texts.{put-more}
+use Rattle.printed_lines.specs.ReplyWords.{price_words}
+use Rattle.printed_lines.proofs.PageLaws.{put-more}
 use Rattle.printed_lines.proofs.reply.put_reply.Goals as goal
 
 pub returns-in-Interrupted-clause-text : goal.returns-in-Interrupted-clause-text

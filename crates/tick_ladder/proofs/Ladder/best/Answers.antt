@@ -1,7 +1,7 @@
 use Rattle.std.proofs.Common.{ap, sym, ◌∙◌}
 use Rattle.auction_terms.specs.declared.Side.TheVariants.{Buy, Sell}
-use Rattle.tick_ladder.specs.Ladder.{best_tick, best_limit}
-use Rattle.tick_ladder.proofs.Best.{highest_found, lowest_found, best_of_book}
+use Rattle.tick_ladder.specs.TickLadder.{best_tick, best_limit}
+use Rattle.tick_ladder.proofs.BestTickLaws.{highest_found, lowest_found, best_of_book}
 use Rattle.tick_ladder.proofs.Ladder.best.Goals as goal
 
 pub returns-in-Buy-clause-value : goal.returns-in-Buy-clause-value

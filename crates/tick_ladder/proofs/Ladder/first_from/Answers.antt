@@ -1,6 +1,6 @@
 use Rattle.std.proofs.Common.{arith}
 use Rattle.std.proofs.lemmas.Grind.{common_steps}
-use Rattle.tick_ladder.proofs.Flags.{length-flags, first_found}
+use Rattle.tick_ladder.proofs.PresenceLaws.{length-flags, first_found}
 use Rattle.tick_ladder.proofs.Ladder.first_from.Goals as goal
 
 pub first_from-requires : goal.first_from-requires

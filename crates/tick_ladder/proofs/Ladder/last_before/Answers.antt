@@ -1,6 +1,6 @@
 use Rattle.std.proofs.Common.{arith}
 use Rattle.std.proofs.lemmas.Grind.{common_steps}
-use Rattle.tick_ladder.proofs.Flags.{length-flags, last_found}
+use Rattle.tick_ladder.proofs.PresenceLaws.{length-flags, last_found}
 use Rattle.tick_ladder.proofs.Ladder.last_before.Goals as goal
 
 pub last_before-requires : goal.last_before-requires

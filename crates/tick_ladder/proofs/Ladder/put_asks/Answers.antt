@@ -1,7 +1,7 @@
 use Rattle.std.proofs.Common.{arith}
 use Rattle.std.proofs.lemmas.List.{length-set}
 use Rattle.std.proofs.lemmas.Grind.{common_steps}
-use Rattle.tick_ladder.proofs.Flags.{length-flags, flag_small, sum_flags, flags_right, sum-set, asks_put}
+use Rattle.tick_ladder.proofs.PresenceLaws.{length-flags, flag_small, sum_flags, flags_right, sum-set, asks_put}
 use Rattle.tick_ladder.proofs.Ladder.put_asks.Goals as goal
 
 pub put-requires-2-clause-within : goal.put-requires-2-clause-within

@@ -1,4 +1,4 @@
-use Rattle.tick_ladder.proofs.Slices.{first_is, none_is}
+use Rattle.tick_ladder.proofs.SliceLaws.{first_is, none_is}
 use Rattle.tick_ladder.proofs.walks.first_in.Goals as goal
 
 pub returns-in-Some : goal.returns-in-Some

@@ -1,4 +1,4 @@
-use Rattle.tick_ladder.proofs.Slices.{last_is, none_is}
+use Rattle.tick_ladder.proofs.SliceLaws.{last_is, none_is}
 use Rattle.tick_ladder.proofs.walks.last_in.Goals as goal
 
 pub returns-in-Some : goal.returns-in-Some

@@ -1,6 +1,6 @@
 use Rattle.std.proofs.Common.{◌≡◌, ◌≤◌, ◌-◌, ℕ, length}
 use Rattle.auction_terms.specs.Ladder.{LadderView}
-use Rattle.tick_ladder.specs.Ladder.{all_standing}
+use Rattle.tick_ladder.specs.TickLadder.{all_standing}
 use Rattle.acceptance.proofs.tests.prices.add_all.Given as goal
 
 pub record Going (v w : LadderView) (most : ℕ) : Type 0 where

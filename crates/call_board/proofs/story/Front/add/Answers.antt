@@ -1,5 +1,5 @@
 use Rattle.std.proofs.Common.{sym, ◌∙◌, ap}
-use Rattle.call_board.proofs.Adding.{adds_moves}
+use Rattle.call_board.proofs.StoryLaws.{adds_moves}
 use Rattle.call_board.proofs.story.Front.add.Goals as goal
 
 pub compare_exchange-found-requires : goal.compare_exchange-found-requires

@@ -1,7 +1,7 @@
 use Rattle.std.proofs.Common.{arith}
 use Rattle.std.proofs.lemmas.List.{length-set}
 use Rattle.std.proofs.lemmas.Grind.{common_steps, get_or_default_zero}
-use Rattle.tick_ladder.proofs.Blocks.{in_block, coarse_set, coarse_sum}
+use Rattle.tick_ladder.proofs.BlockSumLaws.{in_block, coarse_set, coarse_sum}
 use Rattle.tick_ladder.proofs.tally.Tally.put.Goals as goal
 
 pub overflow_sub-block_sum : goal.overflow_sub-block_sum

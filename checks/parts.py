@@ -1,0 +1,163 @@
+#!/usr/bin/env python3
+"""Runs the parts of the test command (`./check`): prints a line for each with its seconds, and the
+counts at the end.
+
+A part is a command, run at the top of the repository. Where its last line is `N passed, N failed`
+it counts as many; else it counts one, by its status. Its output goes to out/check/NAME.log, and is
+printed too where it failed, or with --show. A part that fails keeps no other from running. The
+status is 0 where all passed, 1 where something failed, and 2 where a part, or a tool that the
+parts need, doesn't exist; then no part runs.
+"""
+import argparse
+import dataclasses
+import re
+import shutil
+import subprocess
+import sys
+import time
+
+import built
+
+PROGRAM, TESTS = "PROGRAM", "TESTS"  # words of a command that stand for the built files
+COUNTS = re.compile(r"(\d+) passed, (\d+) failed")
+LOGS = built.TOP / "out/check"
+
+
+@dataclasses.dataclass(frozen=True)
+class Part:
+    """A part of the test command: its name, what it looks at, its command, and the tools beside
+    python3 that it needs.
+    """
+
+    name: str
+    what: str
+    command: str
+    tools: str = ""
+
+
+COMPARE = "checks/compare --fresh --short 480 --long 20"
+PARTS = [
+    Part("layout", "columns, names of files and lemmas, limits by their names", "checks/layout"),
+    Part("edits", "wrong bodies fit their files and are listed", "checks/wrong-bodies --fit"),
+    Part("ci", "proofs from nothing, wrong bodies, tests, runs", "rt ci", "rt setpriv"),
+    Part("examples", "examples/ and the copies in the tests", f"checks/examples {PROGRAM}"),
+    Part("compare", "random order files by the rules", f"{COMPARE} --program {PROGRAM}"),
+    Part("hostile", "bad files, failing ends, full boards", f"checks/hostile {PROGRAM}", "bash"),
+    Part("refusals", "refused memory", f"checks/refusals {PROGRAM} {TESTS}", "cc"),
+]
+PACKAGES = {"bash": "bash", "cc": "gcc and libc6-dev", "setpriv": "util-linux"}
+
+
+def missing_tools(parts: list[Part]) -> list[str]:
+    """What to say of each tool that these parts need and that isn't there."""
+    wanted = sorted({tool for part in parts for tool in part.tools.split()})
+    lacking = [tool for tool in wanted if shutil.which(tool) is None]
+    packages = {tool: f"Debian has it in {PACKAGES[tool]}" for tool in PACKAGES}
+    return [
+        f"there is no {tool}: {packages.get(tool, 'the toolchain has it')}" for tool in lacking
+    ]
+
+
+def words_of(part: Part, is_from_gate: bool) -> list[str]:
+    """The words of its command, with the paths of the built files. Raises built.NotBuilt where
+    there is none.
+    """
+    files = {PROGRAM: built.PROGRAM, TESTS: built.TESTS}
+    words = part.command.split()
+    return [built.ensure(files[word], is_from_gate) if word in files else word for word in words]
+
+
+def run(part: Part, words: list[str], shows: bool) -> tuple[int, int]:
+    """Runs a part's command: how many passed, how many failed."""
+    last = ""
+    with open(LOGS / f"{part.name}.log", "w+", encoding="utf-8") as log:
+        child = subprocess.Popen(
+            words,
+            cwd=built.TOP,
+            stdin=subprocess.DEVNULL,
+            stdout=subprocess.PIPE,
+            stderr=subprocess.STDOUT,
+            text=True,
+            errors="replace",
+        )
+        assert child.stdout is not None
+        for line in child.stdout:
+            log.write(line)
+            last = line.strip() or last
+            if shows:
+                print(f"{part.name}: {line.rstrip()}", flush=True)
+        status = child.wait()
+        counts = COUNTS.fullmatch(last)
+        passed, failed = (
+            map(int, counts.groups()) if counts else (int(status == 0), int(status != 0))
+        )
+        failed += status != 0 and failed == 0
+        if failed and not shows:
+            log.seek(0)
+            print("".join(f"{part.name}: {line.rstrip()}\n" for line in log), end="")
+    return passed, failed
+
+
+def run_all(parts: list[Part], shows: bool) -> tuple[int, int]:
+    """Runs parts in turn: how many passed, how many failed."""
+    passed = failed = 0
+    is_from_gate = False
+    for part in parts:
+        if shows or sys.stderr.isatty():
+            print(f"check: {part.name}: {part.what}", file=sys.stderr, flush=True)
+        begin = time.perf_counter()
+        try:
+            counts = run(part, words_of(part, is_from_gate), shows)
+        except (built.NotBuilt, OSError) as fault:
+            print(f"{part.name}: {fault}")
+            counts = 0, 1
+        seconds = time.perf_counter() - begin
+        verdict = "FAILED" if counts[1] else "ok"
+        print(
+            f"check: {part.name}: {verdict}: {counts[0]} of {sum(counts)} passed, {seconds:.1f} s",
+            flush=True,
+        )
+        passed, failed = passed + counts[0], failed + counts[1]
+        is_from_gate |= part.name == "ci"
+    return passed, failed
+
+
+def chosen(names: list[str]) -> list[Part]:
+    """The parts with these names, all where there is none, in the order of the table. Raises
+    KeyError for another name.
+    """
+    for name in names:
+        if name not in [part.name for part in PARTS]:
+            raise KeyError(name)
+    return [part for part in PARTS if not names or part.name in names]
+
+
+def main() -> int:
+    parser = argparse.ArgumentParser(prog="check", description="The test command.")
+    parser.add_argument(
+        "parts", nargs="*", metavar="PART", help="the parts to run (all, where none is named)"
+    )
+    parser.add_argument("--list", action="store_true", help="print the parts, and run none")
+    parser.add_argument("--show", action="store_true", help="print all that the parts print")
+    asked = parser.parse_args()
+    if asked.list:
+        for part in PARTS:
+            print(f"{part.name:10} {part.what}")
+        return 0
+    try:
+        parts = chosen(asked.parts)
+        faults = missing_tools(parts)
+    except KeyError as fault:
+        faults = [f"there is no part {fault}; ./check --list has them"]
+    if faults:
+        print("".join(f"check: {fault}\n" for fault in faults), end="", file=sys.stderr)
+        print("0 passed, 1 failed")
+        return 2
+    LOGS.mkdir(parents=True, exist_ok=True)
+    passed, failed = run_all(parts, asked.show)
+    print(f"{passed} passed, {failed} failed")
+    return 1 if failed else 0
+
+
+if __name__ == "__main__":
+    sys.exit(main())

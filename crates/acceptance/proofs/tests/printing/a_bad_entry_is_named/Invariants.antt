@@ -1,5 +1,0 @@
-use Rattle.acceptance.proofs.tests.printing.a_bad_entry_is_named.Given as goal
-
--- the sink counts its failures in the ledger of the blank
-abbrev pub ghosts-floor_text : goal.ghosts-floor_text
-ghosts-floor_text g a = record { name = a.blank.name; parts = a.blank.parts }

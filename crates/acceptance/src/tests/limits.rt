@@ -1,0 +1,203 @@
+//! Numbers at the edges of their limits, in calls of an auction.
+
+use super::{order, reply_to};
+use auction::{Auction, OpenFault, Verdict, audit};
+use auction_terms::{Command, Config, Limit, Only, Refused, Reply, Side};
+use std::test::Fail;
+
+const DAY: Config = Config {
+    low: 10,
+    high: 20,
+    reference: 15,
+    max_open: 8,
+    max_calls: 64,
+    range: None,
+};
+
+#[test]
+fn configs_with_bounds_and_reference(rt: HostRuntime) {
+    let bounds = Some(OpenFault::BadBounds);
+    let reference = Some(OpenFault::BadReference);
+    let rows = [
+        (0, 0, 0, bounds),
+        (0, 20, 15, bounds),
+        (1, 20, 15, None),
+        (21, 20, 15, bounds),
+        (20, 20, 20, None),
+        (1, 65_536, 1, None),
+        (1, 65_537, 1, bounds),
+        (1, 1_000_000, 1, bounds),
+        (1, u32::MAX, 1, bounds),
+        (934_464, 1_000_000, 1_000_000, bounds),
+        (934_465, 1_000_000, 1_000_000, None),
+        (1_000_000, 1_000_000, 1_000_000, None),
+        (1_000_000, 1_000_001, 1_000_000, bounds),
+        (1_000_001, 1_000_001, 1_000_001, bounds),
+        (u32::MAX, u32::MAX, u32::MAX, bounds),
+        (u32::MAX, 1, 1, bounds),
+        (10, 20, 0, reference),
+        (10, 20, 9, reference),
+        (10, 20, 10, None),
+        (10, 20, 20, None),
+        (10, 20, 21, reference),
+        (10, 20, u32::MAX, reference),
+    ];
+    for (low, high, first, fault) in rows {
+        let config = Config {
+            low,
+            high,
+            reference: first,
+            ..DAY
+        };
+        let opened = Auction::open(rt.alloc(), config);
+        assert!(rt; opened.err() == fault, "{low} {high} {first}");
+        let found = audit(rt.alloc(), config, &[]);
+        assert!(rt; found == fault.map_or(Ok(Verdict::Legal), |fault| Err(fault)));
+    }
+}
+
+#[test]
+fn configs_with_limits(rt: HostRuntime) {
+    let limits = Some(OpenFault::BadLimits);
+    let rows = [
+        (0, 64, limits),
+        (1, 64, None),
+        (65_535, 64, None),
+        (65_536, 64, None),
+        (65_537, 64, limits),
+        (u32::MAX, 64, limits),
+        (8, 0, limits),
+        (8, 1, None),
+        (8, 1_048_575, None),
+        (8, 1_048_576, None),
+        (8, 1_048_577, limits),
+        (8, u32::MAX, limits),
+        (65_536, 1_048_576, None),
+        (0, 0, limits),
+    ];
+    for (max_open, max_calls, fault) in rows {
+        let config = Config {
+            max_open,
+            max_calls,
+            ..DAY
+        };
+        // A bad reference is found before them, and bad bounds before that. Any range will do.
+        let faults = [
+            (15, 10, None, fault),
+            (15, 10, Some(0), fault),
+            (15, 10, Some(u32::MAX), fault),
+            (9, 10, None, Some(OpenFault::BadReference)),
+            (9, 21, None, Some(OpenFault::BadBounds)),
+        ];
+        for (reference, low, range, fault) in faults {
+            let config = Config {
+                reference,
+                low,
+                range,
+                ..config
+            };
+            let opened = Auction::open(rt.alloc(), config);
+            assert!(rt; opened.err() == fault, "{max_open} {max_calls} {reference}");
+        }
+    }
+}
+
+fn entering(limit: Limit, quantity: u64, peak: Option<u64>) -> Command {
+    Command::Enter {
+        side: Side::Buy,
+        limit,
+        quantity,
+        peak,
+        only: Only::Any,
+    }
+}
+
+fn changing(id: u32, limit: Limit, quantity: u64) -> Command {
+    Command::Change {
+        id,
+        limit,
+        quantity,
+    }
+}
+
+// Quantities and peaks of a call have 64 bits: those that would be good in their last 32 bits are bad.
+#[test]
+fn numbers_that_no_file_has(rt: HostRuntime) -> Result<(), Fail> {
+    let at = Limit::At(15);
+    let far = Limit::At(u32::MAX);
+    let past = 1u64 << 32;
+    let refused = |reason| Reply::Refused(reason);
+    let rows = [
+        (1, entering(at, 5, Some(5)), Reply::Entered { id: 1 }),
+        (
+            1,
+            entering(at, past + 5, None),
+            refused(Refused::BadQuantity),
+        ),
+        (
+            1,
+            entering(at, u64::MAX, None),
+            refused(Refused::BadQuantity),
+        ),
+        (
+            1,
+            entering(at, 5, Some(past + 5)),
+            refused(Refused::BadPeak),
+        ),
+        (1, entering(at, 5, Some(past)), refused(Refused::BadPeak)),
+        (
+            1,
+            entering(at, 5, Some(u64::MAX)),
+            refused(Refused::BadPeak),
+        ),
+        (
+            1,
+            entering(Limit::At(0), 5, None),
+            refused(Refused::BadLimit),
+        ),
+        (1, entering(far, 5, None), refused(Refused::BadLimit)),
+        (1, changing(1, at, past + 5), refused(Refused::BadQuantity)),
+        (1, changing(1, far, 5), refused(Refused::BadLimit)),
+        (1, changing(u32::MAX, at, 5), refused(Refused::UnknownOrder)),
+        (
+            1,
+            Command::Delete { id: u32::MAX },
+            refused(Refused::UnknownOrder),
+        ),
+        (1, Command::Status { id: 0 }, refused(Refused::UnknownOrder)),
+        (
+            1,
+            Command::Trade { number: u32::MAX },
+            refused(Refused::NoSuchTrade),
+        ),
+        // Any member may call, the last number of all too, but only member 0 may uncross.
+        (255, order(Side::Buy, 5, 15), Reply::Entered { id: 2 }),
+        (
+            255,
+            Command::Delete { id: 1 },
+            refused(Refused::UnknownOrder),
+        ),
+        (255, Command::Uncross, refused(Refused::NotOperator)),
+        (255, Command::Delete { id: 2 }, Reply::Deleted),
+    ];
+    let mut auction = Auction::open(rt.alloc(), DAY)?;
+    for (member, command, reply) in rows {
+        assert!(rt; reply_to(&mut auction, member, command) == Some(reply));
+    }
+    assert_eq!(rt; auction.calls(), 18);
+    Ok(())
+}
+
+#[test]
+fn the_last_call(rt: HostRuntime) -> Result<(), Fail> {
+    for max_calls in [1, 2, 3] {
+        let mut auction = Auction::open(rt.alloc(), Config { max_calls, ..DAY })?;
+        for before in 0..max_calls {
+            assert!(rt; auction.calls() == before && !auction.is_full());
+            // A refused call is counted too.
+            assert!(rt; reply_to(&mut auction, 1, Command::Uncross).is_some());
+        }
+        assert!(rt; auction.calls() == max_calls && auction.is_full());
+    }
+    Ok(())
+}

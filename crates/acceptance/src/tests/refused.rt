@@ -1,0 +1,74 @@
+//! Each call that takes memory, once, and what it answers where a request for memory is refused.
+//!
+//! A test can have no allocator of its own: a `Global` holds a `Memory` of the runtime, which only the process has. So
+//! `checks/refusals` runs these tests as built, with the first, the second and each later request refused, one a run.
+//! There each of them returns the fault that its call documents, or fails; in the run that meets no refusal, as here,
+//! it looks at the right answer.
+
+use super::{DAY, bid_entered};
+use allocation::Desk;
+use auction::{Auction, OpenFault, Verdict, audit};
+use auction_terms::{Call, Command, Side};
+use byte_streams::FromMemory;
+use clap::error::ErrorKind;
+use order_book::Orders;
+use order_file::{FileFault, read_orders};
+use settings::settings;
+use std::alloc::AllocError;
+use tick_ladder::Ladder;
+
+mod board;
+
+#[test]
+fn the_parts_of_an_auction_are_opened(rt: HostRuntime) -> Result<(), AllocError> {
+    let ladder = Ladder::open(rt.alloc(), 1, 1000)?;
+    assert_eq!(rt; ladder.bids().len(), 1000);
+    assert_eq!(rt; ladder.best(Side::Buy), None);
+    let orders = Orders::open(rt.alloc(), 8, 16)?;
+    assert!(rt; !orders.full() && orders.get(1) == None);
+    let desk = Desk::open(rt.alloc(), 8)?;
+    assert!(rt; desk.fills().is_empty() && desk.trades().is_empty());
+    Ok(())
+}
+
+#[test]
+fn an_auction_is_opened(rt: HostRuntime) -> Result<(), OpenFault> {
+    let auction = Auction::open(rt.alloc(), DAY)?;
+    assert!(rt; auction.config() == DAY && auction.calls() == 0);
+    Ok(())
+}
+
+#[test]
+fn a_history_is_audited(rt: HostRuntime) -> Result<(), OpenFault> {
+    let history = [bid_entered(1), bid_entered(1)];
+    assert!(rt; audit(rt.alloc(), DAY, history.as_slice())? == Verdict::BadAt(1));
+    Ok(())
+}
+
+#[test]
+fn an_order_file_is_read(rt: HostRuntime) -> Result<(), FileFault> {
+    let mut source = FromMemory {
+        rest: b"1,ask\n0,uncross\n",
+    };
+    let calls = read_orders(rt.alloc(), &mut source, 4, 8)?;
+    let wanted = [(1, Command::Ask), (0, Command::Uncross)].map(|(member, command)| Call {
+        member,
+        command,
+    });
+    assert!(rt; calls.as_slice() == wanted.as_slice());
+    Ok(())
+}
+
+#[test]
+fn the_words_are_read(rt: HostRuntime) -> Result<(), AllocError> {
+    match settings(rt.alloc(), &["callboard", "--range", "5"]) {
+        Ok(settings) => {
+            assert_eq!(rt; settings.config.range, Some(5));
+            Ok(())
+        }
+        Err(error) => {
+            assert!(rt; error.kind() == ErrorKind::OutOfMemory);
+            Err(AllocError)
+        }
+    }
+}

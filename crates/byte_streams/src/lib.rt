@@ -1,0 +1,20 @@
+//! Where bytes come from and where text goes: a source that is read, a sink that is written to, each
+//! with its count of failures.
+//!
+//! `FromRead` and `ToWrite` are readers and writers of std, `FromMemory` and `ToMemory` bytes in
+//! memory. `write_all` writes a whole text, however few bytes each write takes.
+#![tactic(auto)]
+
+mod ends;
+mod failures;
+mod memory;
+mod sink;
+mod source;
+mod writing;
+
+pub use ends::{FromRead, ToWrite};
+pub use failures::Failures;
+pub use memory::{FromMemory, ToMemory};
+pub use sink::{Sink, SinkFailed};
+pub use source::{Source, SourceFailed};
+pub use writing::{WriteFailed, write_all};

@@ -1,0 +1,4 @@
+use Rattle.callboard.proofs.day.close_after.Goals as goal
+
+pub returns-clause-accounts : goal.returns-clause-accounts
+returns-clause-accounts g c = rw c.members_of.ensures at c.close_or_abandon.ensures.accounts

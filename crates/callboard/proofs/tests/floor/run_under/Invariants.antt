@@ -1,5 +1,0 @@
-use Rattle.callboard.proofs.tests.floor.run_under.Given as goal
-
--- the writer counts its failures in the ledger of its blank
-abbrev pub ghosts-run_to_memory : goal.ghosts-run_to_memory
-ghosts-run_to_memory g a = record { name = a.output.name; parts = a.output.parts }

@@ -1,0 +1,87 @@
+-- Command lines, as the definitions read them.
+use Rattle.std.proofs.Common.{◌≡◌, true, false, refl, List, [], ◌∷◌, Some, None, codes}
+use Rattle.clap.specs.Walk.{Text}
+use Rattle.clap.specs.Faults.{fault_of}
+use Rattle.clap.specs.Kinds.{Kinds}
+use Rattle.clap.specs.declared.error.kind.ErrorKind.TheVariants as kind
+use Rattle.clap.proofs.OnLiterals.{clap_on_literals}
+use Rattle.settings.specs.Options.{callboard}
+use Rattle.settings.specs.CommandLine.{Accepts}
+use Rattle.settings.specs.declared.types.Settings.{Settings}
+
+-- the settings where no word is given
+abbrev plain : Settings
+plain = record {
+  config = record { low = 1; high = 1000; reference = 200; max_open = 4096; max_calls = 65536; range = None };
+  members = 4;
+  floor = false;
+  history = false;
+}
+
+-- no word
+no_words : Accepts (codes "callboard" ∷ []) plain
+unfolding callboard clap_on_literals
+no_words = (refl, record { low = refl; high = refl; reference = refl; max_open = refl; max_calls = refl; range = refl; members = refl; floor = refl; history = refl })
+
+-- `--low 5 --floor`
+low_and_floor : Accepts (codes "callboard" ∷ codes "--low" ∷ codes "5" ∷ codes "--floor" ∷ []) (record plain { config = record plain.config { low = 5 }; floor = true })
+unfolding callboard clap_on_literals
+low_and_floor = (refl, record { low = refl; high = refl; reference = refl; max_open = refl; max_calls = refl; range = refl; members = refl; floor = refl; history = refl })
+
+-- `--range 0`
+range_of_zero : Accepts (codes "callboard" ∷ codes "--range" ∷ codes "0" ∷ []) (record plain { config = record plain.config { range = Some 0 } })
+unfolding callboard clap_on_literals
+range_of_zero = (refl, record { low = refl; high = refl; reference = refl; max_open = refl; max_calls = refl; range = refl; members = refl; floor = refl; history = refl })
+
+-- each option
+every_option : Accepts (codes "callboard" ∷ codes "--low" ∷ codes "5" ∷ codes "--high=6" ∷ codes "--reference" ∷ codes "1000000" ∷ codes "--members=64" ∷ codes "--open" ∷ codes "65536"
+    ∷ codes "--calls" ∷ codes "1048576" ∷ codes "--range=7" ∷ codes "--floor" ∷ codes "--history" ∷ [])
+    (record {
+      config = record { low = 5; high = 6; reference = 1000000; max_open = 65536; max_calls = 1048576; range = Some 7 };
+      members = 64;
+      floor = true;
+      history = true;
+    })
+unfolding callboard clap_on_literals
+every_option = (refl, record { low = refl; high = refl; reference = refl; max_open = refl; max_calls = refl; range = refl; members = refl; floor = refl; history = refl })
+
+-- ---- words that are refused
+
+-- the kinds of fault of the words after the program's name
+abbrev faults : List Text → Kinds
+faults words = fault_of callboard (codes "callboard" ∷ words)
+
+-- one member too many
+members_65 : faults (codes "--members" ∷ codes "65" ∷ []) ≡ kind.ValueValidation ∷ []
+unfolding callboard clap_on_literals
+members_65 = refl
+
+-- no tick is 0
+low_0 : faults (codes "--low=0" ∷ []) ≡ kind.ValueValidation ∷ []
+unfolding callboard clap_on_literals
+low_0 = refl
+
+-- an option without its number
+low_alone : faults (codes "--low" ∷ []) ≡ kind.InvalidValue ∷ []
+unfolding callboard clap_on_literals
+low_alone = refl
+
+-- a flag takes no word
+floor_x : faults (codes "--floor" ∷ codes "x" ∷ []) ≡ kind.UnknownArgument ∷ []
+unfolding callboard clap_on_literals
+floor_x = refl
+
+-- an option that there is not
+nonsense : faults (codes "--nonsense" ∷ []) ≡ kind.UnknownArgument ∷ []
+unfolding callboard clap_on_literals
+nonsense = refl
+
+-- an option twice
+low_twice : faults (codes "--low" ∷ codes "5" ∷ codes "--low" ∷ codes "6" ∷ []) ≡ kind.ArgumentConflict ∷ []
+unfolding callboard clap_on_literals
+low_twice = refl
+
+-- the help
+help : faults (codes "--help" ∷ []) ≡ kind.DisplayHelp ∷ []
+unfolding callboard clap_on_literals
+help = refl
