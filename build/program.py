@@ -214,11 +214,17 @@ class Build:
         self.progress.end()
 
 
+def interrupt(number: int, frame: object) -> None:
+    """Ends the build as Ctrl-C does, so that nothing of it is left running."""
+    raise KeyboardInterrupt
+
+
 def main() -> int:
     parser = argparse.ArgumentParser(
         prog="build/program.py", description="Proves and builds the program."
     )
     parser.parse_args()
+    signal.signal(signal.SIGTERM, interrupt)
     try:
         if shutil.which("rt") is None:
             raise CannotBuild("there is no rt: put the toolchain on the path")
