@@ -188,7 +188,7 @@ class Build:
         """Writes down how long a crate took, where it was more than a look at what was kept."""
         if seconds > self.known.get(name, 0.0) / 2:
             self.known[name] = seconds
-            rows = [f"{name} {self.known[name]:.1f}\n" for name in self.crates if name in self.known]
+            rows = [f"{it} {self.known[it]:.1f}\n" for it in self.crates if it in self.known]
             SECONDS.write_text("".join(rows), encoding="utf-8")
 
     def stop(self) -> None:
