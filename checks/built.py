@@ -3,9 +3,9 @@ import pathlib
 import subprocess
 
 TOP = pathlib.Path(__file__).resolve().parent.parent
-PROGRAM = TOP / "crates/callboard/out/callboard"
-TESTS = TOP / "crates/callboard/out/callboard_tests"  # those of the program
-LIBRARY_TESTS = TOP / "crates/acceptance/out/acceptance_tests"  # those of the crates below it
+FOLDER = TOP / "crates/callboard"
+PROGRAM = FOLDER / "out/callboard"
+TESTS = FOLDER / "out/callboard_tests"
 
 
 class NotBuilt(Exception):
@@ -26,7 +26,7 @@ def is_current(file: pathlib.Path) -> bool:
 
 
 def ensure(file: pathlib.Path, is_from_gate: bool) -> str:
-    """The path of PROGRAM, TESTS or LIBRARY_TESTS.
+    """The path of PROGRAM or TESTS.
 
     Where the gate has just run (`is_from_gate`), the file is the one that it proved and built, and
     nothing else is taken for it. Else it is proved and built here (`rt run`, `rt test`) unless a
@@ -39,12 +39,11 @@ def ensure(file: pathlib.Path, is_from_gate: bool) -> str:
             raise NotBuilt(f"rt ci built no {file.name}")
         return str(file)
     if not is_current(file):
-        verb = "run" if file == PROGRAM else "test"
-        folder = file.parent.parent
+        verb = "test" if file == TESTS else "run"
         ran = subprocess.run(
-            ["rt", verb], cwd=folder, stdin=subprocess.DEVNULL, capture_output=True, text=True
+            ["rt", verb], cwd=FOLDER, stdin=subprocess.DEVNULL, capture_output=True, text=True
         )
         if ran.returncode != 0 or not file.is_file():
             last = " / ".join((ran.stdout + ran.stderr).strip().splitlines()[-3:])
-            raise NotBuilt(f"rt {verb} in crates/{folder.name} built no {file.name}: {last}")
+            raise NotBuilt(f"rt {verb} in crates/callboard built no {file.name}: {last}")
     return str(file)

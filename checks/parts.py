@@ -18,8 +18,7 @@ import time
 
 import built
 
-# words of a command that stand for the built files
-PROGRAM, TESTS, LIBRARY_TESTS = "PROGRAM", "TESTS", "LIBRARY_TESTS"
+PROGRAM, TESTS = "PROGRAM", "TESTS"  # words of a command that stand for the built files
 COUNTS = re.compile(r"(\d+) passed, (\d+) failed")
 LOGS = built.TOP / "out/check"
 
@@ -44,12 +43,7 @@ PARTS = [
     Part("examples", "examples/ and the copies in the tests", f"checks/examples {PROGRAM}"),
     Part("compare", "random order files by the rules", f"{COMPARE} --program {PROGRAM}"),
     Part("hostile", "bad files, failing ends, full boards", f"checks/hostile {PROGRAM}", "bash"),
-    Part(
-        "refusals",
-        "refused memory",
-        f"checks/refusals {PROGRAM} {TESTS} {LIBRARY_TESTS}",
-        "cc",
-    ),
+    Part("refusals", "refused memory", f"checks/refusals {PROGRAM} {TESTS}", "cc"),
 ]
 PACKAGES = {"bash": "bash", "cc": "gcc and libc6-dev", "setpriv": "util-linux"}
 
@@ -68,11 +62,7 @@ def words_of(part: Part, is_from_gate: bool) -> list[str]:
     """The words of its command, with the paths of the built files. Raises built.NotBuilt where
     there is none.
     """
-    files = {
-        PROGRAM: built.PROGRAM,
-        TESTS: built.TESTS,
-        LIBRARY_TESTS: built.LIBRARY_TESTS,
-    }
+    files = {PROGRAM: built.PROGRAM, TESTS: built.TESTS}
     words = part.command.split()
     return [built.ensure(files[word], is_from_gate) if word in files else word for word in words]
 
