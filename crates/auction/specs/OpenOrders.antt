@@ -36,6 +36,10 @@ no_orders config = record {
   max_calls = config.max_calls;
 }
 
+-- the same room with no orders and none entered, in the opening auction
+abbrev pub emptied : OpenOrders → OpenOrders
+emptied book = record book { orders = []; kind = Opening; entered = 0; stamps = 0 }
+
 -- the orders that count
 abbrev pub counting : OpenOrders → List Order
 counting book = counted book.orders book.kind

@@ -7,11 +7,13 @@ ghost use Rattle.auction_terms.specs.AuctionPrice.{price as auction_price};
 ghost use Rattle.auction_terms.specs.Allotment.{trades};
 ghost use Rattle.auction_terms.specs.Ladder.{ladder_of};
 ghost use Rattle.auction_terms.specs.Day.{display_at, is_bad_quantity};
+ghost use Rattle.tick_ladder.specs.TickLadder.{IsLadderOf};
 ghost use Rattle.auction.specs.ConfigFault.{open_fault};
 ghost use Rattle.auction.specs.OpenOrders.{no_orders, counting, IsTickIn, IsLimitIn, IsOpenIn};
 ghost use Rattle.auction.specs.OpenOrders.{with_order, with_change, without_order, executed_at, in_next_auction};
 ghost use Rattle.auction.specs.KnownPrice.{IsPriceAt};
 
+mod copying;
 mod counted;
 mod known;
 
@@ -87,7 +89,8 @@ impl Book {
 
     /// The ladder of the orders that count.
     pub(crate) fn ladder(&self) -> &Ladder
-        ensures { result.now ≡ ladder_of self.now.low self.now.ticks (counting self.now) }
+        ensures value { result.now ≡ ladder_of self.now.low self.now.ticks (counting self.now) }
+        ensures book { IsLadderOf result.now (counting self.now) }
     {
         self.counted.ladder()
     }

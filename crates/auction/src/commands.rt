@@ -1,12 +1,14 @@
 //! The day of an auction, and what each command comes to.
 ghost use Rattle.std.specs.Prelude.{◌≡◌, ◌<◌, None, IfOk, OnErr};
 ghost use Rattle.auction_terms.specs.Day as day;
+ghost use Rattle.tick_ladder.specs.TickLadder.{IsLadderOf};
 ghost use Rattle.auction.specs.ConfigFault.{open_fault};
 ghost use Rattle.auction.specs.OpenOrders.{IsOpenIn};
 ghost use Rattle.auction.specs.AuctionState.{opening, counting, ladder_over, outcome, IsOneCommand};
 
 mod ask;
 mod change;
+mod copying;
 mod delete;
 mod enter;
 mod status;
@@ -113,9 +115,17 @@ impl Day {
         &self.tape
     }
 
+    /// The auction whose call phase it is; none after the day.
+    pub(crate) fn auction(&self) -> Option<Kind>
+        ensures { result ≡ self.now.state.auction }
+    {
+        self.auction
+    }
+
     /// The quantities of the orders that count, tick by tick over the bounds.
     pub(crate) fn ladder(&self) -> &Ladder
-        ensures { result.now ≡ ladder_over self.now.config (counting self.now.state) }
+        ensures value { result.now ≡ ladder_over self.now.config (counting self.now.state) }
+        ensures book { IsLadderOf result.now (counting self.now.state) }
     {
         self.book.ladder()
     }

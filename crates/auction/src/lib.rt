@@ -4,22 +4,24 @@
 //! effect on the open orders, the trades, the reference price and the current auction, and it is answered. The opening,
 //! the intraday and the closing auction follow one another, each with its call phase and its uncross.
 //!
-//! All memory is taken by [`Auction::open`].
+//! All memory is taken by [`Auction::open`] and [`Auction::copied`].
 #![tactic(auto)]
 
 ghost use Rattle.std.specs.Prelude.{◌≡◌, ◌<◌, ◌≤◌, IfOk, IfErr, IfSome, Err, None, nat_eq};
 ghost use Rattle.auction_terms.specs.Day.{display, step};
 ghost use Rattle.auction_terms.specs.Devices.Running.{opened, called};
+ghost use Rattle.tick_ladder.specs.TickLadder.{IsLadderOf};
 ghost use Rattle.auction.specs.ConfigFault.{open_fault};
 ghost use Rattle.auction.specs.AuctionState.{counting, ladder_over, call_by};
 
 mod book;
 mod commands;
+mod copying;
 mod history;
 
 pub use auction_terms::Config;
 use auction_terms::{
-    Call, Command, Display, MAX_CALLS, MAX_OPEN_ORDERS, MAX_TICK, MAX_TICKS, Reply, Trade,
+    Call, Command, Display, Kind, MAX_CALLS, MAX_OPEN_ORDERS, MAX_TICK, MAX_TICKS, Reply, Trade,
 };
 use commands::Day;
 pub use history::audit;
@@ -59,13 +61,13 @@ pub struct Auction {
 impl Model for Auction {
     ghost use Rattle.std.specs.Prelude.{◌≤◌};
     ghost use Rattle.auction_terms.specs.Devices.Running.{Running};
-    ghost use Rattle.auction.specs.AuctionState.{CountsCalls};
+    ghost use Rattle.auction.specs.AuctionState.{CountsCalls, IsBoundedBy};
 
     ghost Value = { Running };
 
     ghost view = { λ a. record { config = a.day.config; state = a.day.state; calls = a.calls } };
 
-    ghost invariant = { λ a. CountsCalls a.day a.calls };
+    ghost invariant = { λ a. CountsCalls a.day a.calls × IsBoundedBy a.day.config a.day.config.reference };
 }
 
 #[tactic(auto, unfolding(crate::specs::ConfigFault::open_fault))]
@@ -159,9 +161,18 @@ impl Auction {
         self.day.show()
     }
 
-    /// The quantities of the orders that count in the current auction, tick by tick over the bounds.
+    /// The auction whose call phase it is; none after the day.
+    pub fn current(&self) -> Option<Kind>
+        ensures { result ≡ self.now.state.auction }
+    {
+        self.day.auction()
+    }
+
+    /// The quantities of the orders that count in the current auction, tick by tick over the bounds, among which are
+    /// all limits of these orders.
     pub fn ladder(&self) -> &Ladder
-        ensures { result.now ≡ ladder_over self.now.config (counting self.now.state) }
+        ensures value { result.now ≡ ladder_over self.now.config (counting self.now.state) }
+        ensures book { IsLadderOf result.now (counting self.now.state) }
     {
         self.day.ladder()
     }

@@ -60,6 +60,10 @@ with_change orders id limit quantity kept =
 abbrev pub with_less : OrdersView → ℕ → ℕ → List Stamped
 with_less orders id quantity = left_by order_of (changed_by order_of id (on_order (less_quantity quantity)) orders.line)
 
+-- no orders, and none entered
+abbrev pub emptied : OrdersView → OrdersView
+emptied orders = record orders { line = []; slots = []; stamps = 0; entered = 0 }
+
 -- nothing has changed but the line, and the places of the walk
 abbrev pub OnlyLineChanges : OrdersView → OrdersView → Type 0
 OnlyLineChanges old new = new ≡ record old { line = new.line; slots = new.slots }

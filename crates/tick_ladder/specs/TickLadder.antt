@@ -47,6 +47,17 @@ empty_ladder low high = record {
   market_asks = 0;
 }
 
+-- the ladder with the same ticks, and no order
+abbrev pub emptied : LadderView → LadderView
+emptied view = record {
+  low = view.low;
+  bids = replicate (length view.bids) 0;
+  asks = replicate (length view.bids) 0;
+  present = replicate (length view.bids) 0;
+  market_bids = 0;
+  market_asks = 0;
+}
+
 -- the limit is a tick of the ladder
 abbrev pub IsInBounds : LadderView → Limit → Type 0
 IsInBounds view limit = IsTickOf view.low (length view.bids) limit

@@ -11,6 +11,7 @@ ghost use Rattle.tick_ladder.specs.TickLadder.{all_standing, best_tick, best_lim
 ghost use Rattle.tick_ladder.specs.TickLadder.{IsInBounds, IsLadder, IsLadderOf};
 ghost use Rattle.tick_ladder.specs.OccupiedPlaces.{IsLastBefore, IsFirstFrom, IsCrossingOf};
 
+mod copying;
 mod tally;
 mod walks;
 

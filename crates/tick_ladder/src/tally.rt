@@ -36,6 +36,22 @@ fn zeros(alloc: Global, places: usize) -> Result<Vec<u64>, AllocError>
     vec![in alloc; 0; places]
 }
 
+/// The same numbers, in memory of their own.
+fn copied(alloc: Global, numbers: &[u64]) -> Result<Vec<u64>, AllocError>
+    ensures { IfOk result (λ v. v.items ≡ numbers.now) }
+{
+    let mut copy = Vec::with_capacity(alloc, numbers.len())?;
+    copy.extend_from_slice(numbers)?;
+    Ok(copy)
+}
+
+/// Puts a 0 at each place.
+fn blank(numbers: &mut Vec<u64>)
+    ensures { numbers.new.items ≡ replicate (length numbers.old.items) 0 }
+{
+    numbers.fill(0);
+}
+
 impl Tally {
     /// A 0 at each place.
     pub fn open(alloc: Global, places: usize) -> Result<Tally, AllocError>
@@ -48,6 +64,26 @@ impl Tally {
             places: zeros(alloc, places)?,
             blocks: zeros(alloc, blocks)?,
             groups: zeros(alloc, groups)?,
+        })
+    }
+
+    /// Puts a 0 at each place. It takes no memory.
+    pub fn reset(&mut self)
+        ensures { self.new ≡ replicate (length self.old) 0 }
+    {
+        blank(&mut self.places);
+        blank(&mut self.blocks);
+        blank(&mut self.groups);
+    }
+
+    /// The same numbers, with sums of their own. Only want of memory makes it fail.
+    pub fn copied(&self, alloc: Global) -> Result<Tally, AllocError>
+        ensures { IfOk result (λ t. t ≡ self.now) }
+    {
+        Ok(Tally {
+            places: copied(alloc, &self.places)?,
+            blocks: copied(alloc, &self.blocks)?,
+            groups: copied(alloc, &self.groups)?,
         })
     }
 

@@ -4,12 +4,14 @@ ghost use Rattle.auction_terms.specs.Book.{entered_as};
 ghost use Rattle.auction_terms.specs.Edits.{order_with, keeps_place, with_terms};
 ghost use Rattle.auction_terms.specs.Ladder.{ladder_of};
 ghost use Rattle.auction_terms.specs.Day.{is_bad_quantity};
+ghost use Rattle.tick_ladder.specs.TickLadder.{IsLadderOf};
 ghost use Rattle.auction.specs.ConfigFault.{open_fault};
 ghost use Rattle.auction.specs.OpenOrders.{no_orders, counting, IsTickIn, IsLimitIn, IsOpenIn};
 ghost use Rattle.auction.specs.OpenOrders.{with_order, with_change, without_order};
 ghost use Rattle.auction.specs.CountedBook.{IsWalk, StandsStill, IsGone};
 ghost use Rattle.auction.specs.KnownPrice.{IsKnownOf, IsPriceAt, KeepsKnown, forgets, forgets_both};
 
+mod copying;
 mod counting;
 mod ending;
 mod executing;
@@ -80,7 +82,8 @@ impl CountedBook {
 
     /// The ladder of the orders that count.
     pub(super) fn ladder(&self) -> &Ladder
-        ensures { result.now ≡ ladder_of self.now.book.low self.now.book.ticks (counting self.now.book) }
+        ensures value { result.now ≡ ladder_of self.now.book.low self.now.book.ticks (counting self.now.book) }
+        ensures book { IsLadderOf result.now (counting self.now.book) }
     {
         &self.ladder
     }

@@ -7,9 +7,14 @@ use Rattle.auction.proofs.Auction.open.Goals as goal
 pub invariant_of-result : goal.invariant_of-result
 invariant_of-result c =
     let within = terms_within c.args.config (sym c.fault_of.ensures ∙ c.in_default.is) in
-    let new = c.in-Ok.ensures in
-    record {
-      stamps = omega (arith, ap (λ (a : AuctionState). a.stamps) new);
-      within = omega arith;
-      few = omega (arith, within.calls, ap (λ (a : AuctionState). a.config.max_calls) new);
-    }
+    let new = c.in-Ok.ensures in (
+      record {
+        stamps = omega (arith, ap (λ (a : AuctionState). a.stamps) new);
+        within = omega arith;
+        few = omega (arith, within.calls, ap (λ (a : AuctionState). a.config.max_calls) new);
+      },
+      (
+        omega (arith, within.low, ap (λ (a : AuctionState). a.config.low) new, ap (λ (a : AuctionState). a.config.reference) new),
+        omega (arith, within.high, ap (λ (a : AuctionState). a.config.reference) new, ap (λ (a : AuctionState). a.config.high) new),
+      ),
+    )

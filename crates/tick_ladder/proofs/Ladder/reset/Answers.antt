@@ -1,0 +1,12 @@
+use Rattle.std.proofs.Common.{arith}
+use Rattle.std.proofs.lemmas.Simd.{length-replicate}
+use Rattle.std.proofs.lemmas.List.Folds.{sum_by-replicate}
+use Rattle.std.proofs.lemmas.Grind.{common_steps}
+use Rattle.tick_ladder.proofs.PresenceLaws.{no_flags, length-flags}
+use Rattle.tick_ladder.proofs.Ladder.reset.Goals as goal
+
+pub invariant_of-self : goal.invariant_of-self
+invariant_of-self c = grind (arith, common_steps, length-replicate, sum_by-replicate, no_flags, length-flags)
+
+pub returns : goal.returns
+returns c = grind (arith, common_steps, length-flags)
