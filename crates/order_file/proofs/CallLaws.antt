@@ -63,4 +63,5 @@ fails-at (file.BadCommand n) wanted h = h
 fails-at (file.BadCount n) wanted h = h
 fails-at (file.BadField n f) wanted h = h
 fails-at (file.TooManyCommands n) wanted h = h
+fails-at file.NotADay wanted h = h
 fails-at file.NoMemory wanted h = tt

@@ -4,7 +4,6 @@ use Rattle.std.proofs.lemmas.List.{append-nil}
 use Rattle.std.specs.Prelude.{IfSome}
 use Rattle.std.specs.Io.KnownBytes.{Consumes, IsAtEnd}
 use Rattle.order_file.specs.File.{within_limit}
-use Rattle.order_file.specs.declared.reading.TheConstants.{MAX_BYTES}
 use Rattle.order_file.specs.declared.fault.FileFault.TheVariants.{TooLong}
 use Rattle.std.proofs.lemmas.Grind.{common_steps}
 
@@ -16,20 +15,20 @@ consumes-more (Some p) (Some q) None x y h k = k
 consumes-more (Some p) (Some q) (Some r) x y h k = rw (h, k) (sym (append_assoc x y r))
 
 -- a read that gave nothing was at the end, so this is all
-pub read-all : (a b c : Option (List ℕ)) (x buffer : List ℕ) (n : ℕ) → Consumes a b x → Consumes b c (take n buffer) → n ≡ 0 → IsAtEnd c
-    → length x ≤ MAX_BYTES → IfSome a (λ left. within_limit left ≡ Ok x)
+pub read-all : (most : ℕ) (a b c : Option (List ℕ)) (x buffer : List ℕ) (n : ℕ) → Consumes a b x → Consumes b c (take n buffer) → n ≡ 0 → IsAtEnd c
+    → length x ≤ most → IfSome a (λ left. within_limit most left ≡ Ok x)
 unfolding within_limit
-read-all None b c x buffer n h k z end short = tt
-read-all (Some p) None c x buffer n h k z end short = absurd h
-read-all (Some p) (Some q) None x buffer n h k z end short = absurd k
-read-all (Some p) (Some q) (Some r) x buffer n h k z end short = grind (arith, common_steps, append-nil)
+read-all most None b c x buffer n h k z end short = tt
+read-all most (Some p) None c x buffer n h k z end short = absurd h
+read-all most (Some p) (Some q) None x buffer n h k z end short = absurd k
+read-all most (Some p) (Some q) (Some r) x buffer n h k z end short = grind (arith, common_steps, append-nil)
 
-long_test : (n m : ℕ) → MAX_BYTES < n → n ≤ m → nat_lt MAX_BYTES m ≡ true
-long_test n m h k = search rules
+long_test : (most n m : ℕ) → most < n → n ≤ m → nat_lt most m ≡ true
+long_test most n m h k = search rules
 
 -- more was read than a file may have
-pub read-too-much : (a b : Option (List ℕ)) (x : List ℕ) → Consumes a b x → MAX_BYTES < length x → IfSome a (λ left. within_limit left ≡ Err TooLong)
+pub read-too-much : (most : ℕ) (a b : Option (List ℕ)) (x : List ℕ) → Consumes a b x → most < length x → IfSome a (λ left. within_limit most left ≡ Err TooLong)
 unfolding within_limit
-read-too-much None b x h long = tt
-read-too-much (Some p) None x h long = absurd h
-read-too-much (Some p) (Some q) x h long = grind (arith, common_steps, long_test)
+read-too-much most None b x h long = tt
+read-too-much most (Some p) None x h long = absurd h
+read-too-much most (Some p) (Some q) x h long = grind (arith, common_steps, long_test)

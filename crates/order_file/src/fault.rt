@@ -5,11 +5,12 @@ ghost use Rattle.order_file.specs.FileFault.{in_record};
 
 use thiserror::Error;
 
-/// The first fault of an order file; its text is the line that the program prints. Records count from
-/// 1 as they are read, and so do the fields of a record.
+/// The first fault of an order file, or of a journal, of which the first record is the day's; its text
+/// is the line that the program prints. Records count from 1 as they are read, and so do the fields of
+/// a record.
 #[derive(Clone, Copy, Debug, PartialEq, Eq, Error)]
 pub enum FileFault {
-    /// The file has more than `MAX_BYTES` bytes.
+    /// The file has more bytes than it may have.
     #[error("file too long")]
     TooLong,
     /// The reader failed.
@@ -30,6 +31,9 @@ pub enum FileFault {
     /// There is a record more than commands may be applied, whatever it holds.
     #[error("record {number}: too many commands")]
     TooManyCommands { number: u64 },
+    /// A journal was asked for, and the first record is missing or isn't that of a day.
+    #[error("record 1: not a day record")]
+    NotADay,
     /// Memory was refused.
     #[error("out of memory")]
     NoMemory,

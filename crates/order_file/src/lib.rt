@@ -1,7 +1,8 @@
 //! What the order file of a call auction board says.
 //!
 //! `read_orders` reads a whole file, and answers its calls, each a member and a command, or the
-//! file's first fault; no command is handed out of a file that has one.
+//! file's first fault; no command is handed out of a file that has one. What it is made of is public, for
+//! other files in the same form: the bytes up to a limit, the records one by one, and the parts of a record.
 #![tactic(auto)]
 
 mod fault;
@@ -9,5 +10,7 @@ mod field;
 mod reading;
 mod record;
 
-pub use fault::FileFault;
-pub use reading::{MAX_BYTES, read_orders};
+pub use fault::{FileFault, RecordFault};
+pub use field::number_of;
+pub use reading::{MAX_BYTES, bytes_of, calls_of, next_row, read_orders, reader_of};
+pub use record::{Word, command_of, count_within, member_of, number_at, word_at};

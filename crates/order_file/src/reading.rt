@@ -22,16 +22,18 @@ pub const MAX_BYTES: usize = 67_108_864;
 // How many bytes are asked for at a time.
 const CHUNK: usize = 65_536;
 
-/// Everything that is left to read.
-fn bytes_of<R: Source>(alloc: Global, reader: &mut R) -> Result<Vec<u8>, FileFault>
+/// Everything that is left to read, which may be `most` bytes: more is `FileFault::TooLong`, a read that fails
+/// `ReadFailed`, and where memory is refused it is `NoMemory`. However much is left, at most `most` bytes and one are
+/// taken.
+pub fn bytes_of<R: Source>(alloc: Global, reader: &mut R, most: usize) -> Result<Vec<u8>, FileFault>
     ensures failed { IsErrOf result FileFault.ReadFailed ↔ (R.failures reader.old < R.failures reader.new) }
-    ensures bytes { IfSome (R.left reader.old) (λ left. Gives (λ v. v.items) result (within_limit left)) }
-    ensures taken { TakesAtMost (MAX_BYTES + 1) (R.left reader.old) (R.left reader.new) }
+    ensures bytes { IfSome (R.left reader.old) (λ left. Gives (λ v. v.items) result (within_limit most left)) }
+    ensures taken { TakesAtMost (most + 1) (R.left reader.old) (R.left reader.new) }
 {
     let mut bytes = Vec::new(alloc);
     let mut chunk = [0u8; CHUNK];
-    'reads: while bytes.len() <= MAX_BYTES {
-        let room = (MAX_BYTES + 1 - bytes.len()).min(CHUNK);
+    'reads: while bytes.len() <= most {
+        let room = (most - bytes.len()).saturating_add(1).min(CHUNK);
         let buffer = &mut chunk[..room];
         let Ok(count) = reader.read(buffer) else {
             return Err(FileFault::ReadFailed);
@@ -46,8 +48,8 @@ fn bytes_of<R: Source>(alloc: Global, reader: &mut R) -> Result<Vec<u8>, FileFau
     Err(FileFault::TooLong)
 }
 
-/// The next record of the file, and whether there was one.
-fn next_row(reader: &mut Reader<&[u8]>, row: &mut ByteRecord) -> Result<bool, FileFault>
+/// The next record of a file, and whether there was one. The fault is want of memory.
+pub fn next_row(reader: &mut Reader<&[u8]>, row: &mut ByteRecord) -> Result<bool, FileFault>
     requires { Stands reader.old }
     ensures memory { IfErr result (λ e. e ≡ FileFault.NoMemory) }
     ensures row { IfOk result (λ found. MatchBool found
@@ -94,8 +96,8 @@ fn calls_from(
 }
 
 /// A reader of the records of a file, with none read yet. It is given a row of headers, so that it keeps no copies of
-/// the first record.
-fn reader_of<'a>(alloc: Global, bytes: &'a [u8]) -> Result<Reader<&'a [u8]>, FileFault>
+/// the first record. The fault is want of memory.
+pub fn reader_of<'a>(alloc: Global, bytes: &'a [u8]) -> Result<Reader<&'a [u8]>, FileFault>
     ensures memory { IfErr result (λ e. e ≡ FileFault.NoMemory) }
     ensures reader { IfOk result (λ r. Stands r × (rows_left r ≡ records default_config (strip_bom bytes.now))) }
 {
@@ -108,8 +110,9 @@ fn reader_of<'a>(alloc: Global, bytes: &'a [u8]) -> Result<Reader<&'a [u8]>, Fil
     Ok(reader)
 }
 
-/// The calls of a file that was read.
-fn calls_of(
+/// The calls of a file that was read, or its first fault; `members` is how many members there are, `max_calls` how
+/// many commands may be applied.
+pub fn calls_of(
     alloc: Global,
     bytes: &[u8],
     members: u8,
@@ -148,6 +151,6 @@ pub fn read_orders<R: Source>(
     // However long the file is, at most so many bytes are taken.
     ensures taken { TakesAtMost (MAX_BYTES + 1) (R.left reader.old) (R.left reader.new) }
 {
-    let bytes = bytes_of(alloc, reader)?;
+    let bytes = bytes_of(alloc, reader, MAX_BYTES)?;
     calls_of(alloc, bytes.as_slice(), members, max_calls)
 }

@@ -15,7 +15,7 @@ use csv::ByteRecord;
 
 /// The word of a command.
 #[derive(Clone, Copy, Debug, PartialEq, Eq)]
-enum Word {
+pub enum Word {
     Enter,
     Change,
     Delete,
@@ -48,9 +48,9 @@ fn word_of(field: &[u8]) -> Option<Word>
     }
 }
 
-/// Whether the record has so many fields.
+/// Whether the record has from `least` to `most` fields.
 #[tactic(auto, unfolding(crate::specs::Record::count_within))]
-fn count_within(fields: &ByteRecord, least: usize, most: usize) -> Result<(), RecordFault>
+pub fn count_within(fields: &ByteRecord, least: usize, most: usize) -> Result<(), RecordFault>
     ensures { result ≡ count_within least most (fields_of fields.now) }
 {
     let count = fields.len();
@@ -60,8 +60,9 @@ fn count_within(fields: &ByteRecord, least: usize, most: usize) -> Result<(), Re
     Ok(())
 }
 
+/// The number at a place, from 0.
 #[tactic(auto, unfolding(crate::specs::Record::field_as))]
-fn number_at(fields: &ByteRecord, place: usize) -> Result<u32, RecordFault>
+pub fn number_at(fields: &ByteRecord, place: usize) -> Result<u32, RecordFault>
     requires { place < 64 }
     ensures { result ≡ field_as number_of place (fields_of fields.now) }
 {
@@ -117,8 +118,9 @@ fn only_at(fields: &ByteRecord, place: usize) -> Result<Only, RecordFault>
     }
 }
 
+/// The member in the first field: a number below the count of members.
 #[tactic(auto, unfolding(crate::specs::Record::member_of))]
-fn member_of(fields: &ByteRecord, members: u8) -> Result<u8, RecordFault>
+pub fn member_of(fields: &ByteRecord, members: u8) -> Result<u8, RecordFault>
     ensures member { result ≡ member_of members (fields_of fields.now) }
     ensures below { IfOk result (λ member. member < members) }
 {
@@ -132,8 +134,9 @@ fn member_of(fields: &ByteRecord, members: u8) -> Result<u8, RecordFault>
     Ok(member as u8)
 }
 
+/// The command word in the second field.
 #[tactic(auto, unfolding(crate::specs::Record::word_at))]
-fn word_at(fields: &ByteRecord) -> Result<Word, RecordFault>
+pub fn word_at(fields: &ByteRecord) -> Result<Word, RecordFault>
     ensures { result ≡ word_at (fields_of fields.now) }
 {
     fields
@@ -185,9 +188,9 @@ fn lone_number(fields: &ByteRecord) -> Result<u32, RecordFault>
     number_at(fields, 2)
 }
 
-/// What stands behind a command word.
+/// The command of a record with this word: the number of fields is looked at first, then the fields from left to right.
 #[tactic(auto, unfolding(crate::specs::Record::command_of))]
-fn command_of(word: Word, fields: &ByteRecord) -> Result<Command, RecordFault>
+pub fn command_of(word: Word, fields: &ByteRecord) -> Result<Command, RecordFault>
     ensures { result ≡ command_of word (fields_of fields.now) }
 {
     match word {

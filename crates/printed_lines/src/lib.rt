@@ -11,10 +11,14 @@ mod line;
 mod page;
 mod printer;
 mod reply;
+mod same;
 mod tally;
 mod words;
 
 pub use line::print_line;
 pub use page::{LONGEST_LINE, LONGEST_NUMBER, Page, ROOM};
 pub use printer::Printer;
-pub use tally::{print_story, print_tally};
+pub use reply::put_reply;
+pub use same::is_text_of;
+pub use tally::{print_audit, print_entries, print_story, print_tally};
+pub use words::{kind_word, side_word};

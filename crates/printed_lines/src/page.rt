@@ -1,6 +1,7 @@
 //! The page on which text is put together before it is written.
 
 ghost use Rattle.std.specs.Prelude.{◌≡◌, ◌≤◌, ◌+◌, ◌++◌, [], length, decimal};
+ghost use Rattle.std.specs.Str.{bytes_eq};
 ghost use Rattle.printed_lines.specs.declared.page.TheConstants.{LONGEST_NUMBER, ROOM};
 
 use itoa::Buffer;
@@ -66,10 +67,19 @@ impl Page {
         self.len = 0;
     }
 
+    /// Whether this text stands on the page, and nothing else.
+    pub(crate) fn is_text(&self, text: &[u8]) -> bool
+        ensures { result ≡ bytes_eq text.now self.now }
+    {
+        text == self.as_slice()
+    }
+
+    /// Puts bytes behind what stands on the page.
     #[inline(always)]
-    fn append(&mut self, text: &[u8])
+    pub fn put_bytes(&mut self, text: &[u8])
         requires { length self.old + length text.now ≤ ROOM }
-        ensures { self.new ≡ self.old ++ text.now }
+        ensures text { self.new ≡ self.old ++ text.now }
+        ensures longer { length self.new ≡ length self.old + length text.now }
     {
         let len = self.len;
         self.bytes[len..len + text.len()].copy_from_slice(text);
@@ -83,7 +93,7 @@ impl Page {
         ensures text { self.new ≡ self.old ++ text.now }
         ensures longer { length self.new ≡ length self.old + length text.now }
     {
-        self.append(text.as_bytes());
+        self.put_bytes(text.as_bytes());
     }
 
     /// Puts a number behind what stands on the page, in decimal digits without leading zeros.
@@ -94,6 +104,6 @@ impl Page {
         ensures longer { length self.new ≤ length self.old + LONGEST_NUMBER }
     {
         let mut buffer = Buffer::new();
-        self.append(buffer.format(number).as_bytes());
+        self.put_bytes(buffer.format(number).as_bytes());
     }
 }

@@ -119,7 +119,7 @@ fn put_uncrossed(page: &mut Page, kind: Kind, price: Option<Price>, trades: u32)
     }
 }
 
-/// Puts the text of a reply on the page.
+/// Puts the text of a reply on the page, at most 150 bytes.
 pub fn put_reply(page: &mut Page, reply: Reply)
     requires { length page.old + 150 ≤ ROOM }
     ensures text { page.new ≡ page.old ++ reply_text reply }

@@ -12,8 +12,9 @@ use crate::reply::put_reply;
 use auction_terms::Entry;
 use byte_streams::{Sink, WriteFailed};
 
+/// Prints how many entries there are.
 #[tactic(auto, unfolding(crate::specs::Tally::entries_line))]
-fn print_entries<S: Sink>(printer: &mut Printer<'_, S>, entries: u64) -> Result<(), WriteFailed>
+pub fn print_entries<S: Sink>(printer: &mut Printer<'_, S>, entries: u64) -> Result<(), WriteFailed>
     ensures { Prints S.Sink printer.old printer.new result (entries_line entries) }
 {
     printer.make_room()?;
@@ -66,7 +67,8 @@ fn put_audit(page: &mut Page, first_bad: Option<u64>)
     }
 }
 
-fn print_audit<S: Sink>(
+/// Prints what an audit says: legal, or `first_bad`, the place from 0 of the first entry that breaks the rules.
+pub fn print_audit<S: Sink>(
     printer: &mut Printer<'_, S>,
     first_bad: Option<u64>,
 ) -> Result<(), WriteFailed>

@@ -1,0 +1,14 @@
+pub mod EntryLaws
+pub mod JournalTextLaws
+pub mod CallFieldLaws
+pub mod RecordLineLaws
+pub mod SpacedWordLaws
+pub mod ReplyPartLaws
+pub mod ReplyTextLaws
+pub mod ReplyLengthLaws
+pub mod JournalReadLaws
+pub mod ReplayTextLaws
+pub mod JournalSizeLaws
+pub mod FileFitLaws
+pub mod GivenFitLaws
+pub mod WideReplyLaws

@@ -1,0 +1,5 @@
+use Rattle.journal.proofs.JournalSizeLaws.{gives-day}
+use Rattle.journal.proofs.laws.gives_day.Goals as goal
+
+pub returns : goal.returns
+returns c = gives-day

@@ -1,0 +1,10 @@
+pub mod PlainLines
+pub mod CallFields
+pub mod DayRecord
+pub mod EntryRecord
+pub mod JournalFile
+pub mod GivenDay
+pub mod JournalText
+pub mod PrintedJournal
+pub mod WideReplies
+pub mod JournalPromises

@@ -1,0 +1,124 @@
+//! The record of a call with its reply.
+
+ghost use Rattle.std.specs.Prelude.{◌≡◌, ◌<◌, ◌++◌, ◌∷◌, [], length, true, IfErr, IfOk, MatchResult, OnOk};
+ghost use Rattle.std.specs.List.{list_all};
+ghost use Rattle.csv.specs.Records.{fields_of, partial_of};
+ghost use Rattle.order_file.specs.File.{Fails, IsOfRecord};
+ghost use Rattle.order_file.specs.Record.{numbered};
+ghost use Rattle.journal.specs.EntryRecord.{IsReplyText, call_with, fields_of_call, head_of, is_printable};
+ghost use Rattle.journal.specs.EntryRecord.{is_reply_text, reply_of_fields, said_of};
+
+use auction_terms::Call;
+use csv::ByteRecord;
+use order_file::{FileFault, RecordFault, Word, command_of, member_of, word_at};
+
+/// How many bytes a recorded reply may have.
+pub const MAX_REPLY: usize = 256;
+
+/// What a record of a call begins with.
+#[derive(Clone, Copy)]
+pub(crate) struct Head {
+    member: u8,
+    word: Word,
+}
+
+/// Printable ASCII.
+fn is_printable(byte: u8) -> bool
+    ensures { result ≡ is_printable byte }
+{
+    32 <= byte && byte <= 126
+}
+
+fn is_all_printable(text: &[u8]) -> bool
+    ensures { result ≡ list_all is_printable text.now }
+{
+    text.iter().all(|byte| is_printable(*byte))
+}
+
+/// Whether this may stand for a reply.
+#[tactic(auto, unfolding(crate::specs::EntryRecord::is_reply_text))]
+fn is_reply_text(text: &[u8]) -> bool
+    ensures { result ≡ is_reply_text text.now }
+{
+    text.len() <= MAX_REPLY && is_all_printable(text)
+}
+
+#[tactic(auto, unfolding(crate::specs::EntryRecord::head_of))]
+fn head_of(fields: &ByteRecord, members: u8) -> Result<Head, RecordFault>
+    ensures head { result ≡ head_of members (fields_of fields.now) }
+    ensures below { IfOk result (λ head. head.member < members) }
+{
+    let member = member_of(fields, members)?;
+    let word = word_at(fields)?;
+    Ok(Head { member, word })
+}
+
+/// The call of the fields before a reply, which is well formed or not, and has this place, from 1 on.
+#[tactic(auto, unfolding(crate::specs::EntryRecord::call_with))]
+fn call_with(head: Head, fields: &ByteRecord, fine: bool, place: usize) -> Result<Call, RecordFault>
+    ensures call { result ≡ call_with head (fields_of fields.now) fine place }
+    ensures member { IfOk result (λ call. call.member ≡ head.member) }
+    ensures fine { OnOk result (fine ≡ true) }
+{
+    let command = command_of(head.word, fields)?;
+    if !fine {
+        return Err(RecordFault::BadField { field: place });
+    }
+    Ok(Call {
+        member: head.member,
+        command,
+    })
+}
+
+/// Takes the last field of a record off, and puts it behind the texts; answers whether it may stand for a reply. The
+/// fault is want of memory.
+fn take_reply(row: &mut ByteRecord, texts: &mut ByteRecord) -> Result<bool, FileFault>
+    requires { partial_of texts.old ≡ [] }
+    ensures fine { IfOk result (λ fine. fine ≡ is_reply_text (reply_of_fields (fields_of row.old))) }
+    ensures row { OnOk result (fields_of row.new ≡ fields_of_call (fields_of row.old)) }
+    ensures texts { OnOk result
+        (fields_of texts.new ≡ fields_of texts.old ++ reply_of_fields (fields_of row.old) ∷ []) }
+    ensures partial { OnOk result (partial_of texts.new ≡ []) }
+    ensures memory { IfErr result (λ e. e ≡ FileFault.NoMemory) }
+{
+    let place = row.len().saturating_sub(1);
+    let text = row.get(place).unwrap_or(b"".as_slice());
+    let fine = is_reply_text(text);
+    if texts.push_field(text).is_err() {
+        return Err(FileFault::NoMemory);
+    }
+    row.truncate(place);
+    Ok(fine)
+}
+
+/// The call of a record, or the record's first fault, with its number; the text of the reply is put behind the texts.
+/// The record is used up.
+pub(crate) fn call_of(
+    row: &mut ByteRecord,
+    texts: &mut ByteRecord,
+    number: u64,
+    members: u8,
+) -> Result<Call, FileFault>
+    requires { partial_of texts.old ≡ [] }
+    ensures call { MatchResult result
+        (λ call. numbered number (said_of members (fields_of row.old))
+        ≡ Ok (record { call = call; text = reply_of_fields (fields_of row.old) }))
+        (λ e. Fails e (numbered number (said_of members (fields_of row.old)))) }
+    ensures texts { OnOk result
+        (fields_of texts.new ≡ fields_of texts.old ++ reply_of_fields (fields_of row.old) ∷ []) }
+    ensures partial { OnOk result (partial_of texts.new ≡ []) }
+    ensures parsed { IfErr result IsOfRecord }
+    ensures below { IfOk result (λ call. call.member < members) }
+    ensures fine { OnOk result (IsReplyText (reply_of_fields (fields_of row.old))) }
+{
+    let head = match head_of(row, members) {
+        Ok(head) => head,
+        Err(fault) => return Err(fault.in_record(number)),
+    };
+    let place = row.len();
+    let fine = take_reply(row, texts)?;
+    match call_with(head, row, fine, place) {
+        Ok(call) => Ok(call),
+        Err(fault) => Err(fault.in_record(number)),
+    }
+}

@@ -1,0 +1,43 @@
+//! Laws of journals. Each is what the function's contract says; the functions do nothing.
+
+ghost use Rattle.journal.specs.JournalPromises.{AreApart, AreFieldTexts, GivenFits, GivesDay, JournalCallsFit};
+ghost use Rattle.journal.specs.JournalPromises.{LegalTellsReplay, OrderCallsFit, ReadsBack, ReadsHistory};
+ghost use Rattle.journal.specs.JournalPromises.{ReplayIsLegal};
+
+/// What is written as a journal is read back, and so is a history's journal, however long its lines are.
+pub fn reads_back()
+    ensures texts { ReadsBack }
+    ensures history { ReadsHistory }
+{}
+
+/// To a run a history's journal gives its day and its calls.
+pub fn gives_day()
+    ensures { GivesDay }
+{}
+
+/// Replies with the same text are the same, and each text of a reply can stand in a record.
+pub fn replies_are_told()
+    ensures apart { AreApart }
+    ensures texts { AreFieldTexts }
+{}
+
+/// A legal history's journal tells the replay's replies.
+pub fn legal_tells_replay()
+    ensures { LegalTellsReplay }
+{}
+
+/// A history whose journal tells the replay's replies is legal.
+pub fn replay_is_legal()
+    ensures { ReplayIsLegal }
+{}
+
+/// A call that an order file or a journal says is one that a record can hold.
+pub fn file_calls_fit()
+    ensures orders { OrderCallsFit }
+    ensures journals { JournalCallsFit }
+{}
+
+/// What a run is given, by a journal or by an order file, can stand in a journal.
+pub fn given_fits()
+    ensures { GivenFits }
+{}

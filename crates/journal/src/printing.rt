@@ -1,0 +1,246 @@
+//! A history printed as a journal.
+
+ghost use Rattle.std.specs.Prelude.{◌≡◌, ◌≤◌, ◌+◌, ◌++◌, ◌∷◌, length, decimal};
+ghost use Rattle.printed_lines.specs.declared.page.TheConstants.{LONGEST_LINE, ROOM};
+ghost use Rattle.printed_lines.specs.Printing.{Prints};
+ghost use Rattle.journal.specs.CallFields.{command_fields, enter_ending, limit_field, number_field, side_field};
+ghost use Rattle.journal.specs.JournalText.{journal_text};
+ghost use Rattle.journal.specs.PrintedJournal.{call_line, call_lines, day_line, each_behind, sizes_text, ticks_text};
+ghost use Rattle.journal.specs.WideReplies.{AreWide};
+
+use crate::day::Day;
+use crate::wide::see_replies;
+use auction_terms::{Command, Config, Entry, Limit, Only, Side};
+use byte_streams::{Sink, WriteFailed};
+use printed_lines::{Page, Printer, put_reply};
+
+fn put_number_field(page: &mut Page, number: u64)
+    requires { length page.old + 21 ≤ ROOM }
+    ensures text { page.new ≡ page.old ++ (44 ∷ decimal number) }
+    ensures longer { length page.new ≤ length page.old + 21 }
+{
+    page.put(",");
+    page.put_number(number);
+}
+
+fn put_optional_field(page: &mut Page, number: Option<u64>)
+    requires { length page.old + 21 ≤ ROOM }
+    ensures text { page.new ≡ page.old ++ (44 ∷ number_field number) }
+    ensures longer { length page.new ≤ length page.old + 21 }
+{
+    page.put(",");
+    if let Some(number) = number {
+        page.put_number(number);
+    }
+}
+
+fn put_range_field(page: &mut Page, range: Option<u32>)
+    requires { length page.old + 21 ≤ ROOM }
+    ensures text { page.new ≡ page.old ++ (44 ∷ number_field range) }
+    ensures longer { length page.new ≤ length page.old + 21 }
+{
+    match range {
+        None => put_optional_field(page, None),
+        Some(range) => put_number_field(page, u64::from(range)),
+    }
+}
+
+fn put_limit_field(page: &mut Page, limit: Limit)
+    requires { length page.old + 21 ≤ ROOM }
+    ensures text { page.new ≡ page.old ++ (44 ∷ limit_field limit) }
+    ensures longer { length page.new ≤ length page.old + 21 }
+{
+    match limit {
+        Limit::Market => page.put(",market"),
+        Limit::At(tick) => put_number_field(page, u64::from(tick)),
+    }
+}
+
+/// Puts a quantity and a limit.
+fn put_terms(page: &mut Page, quantity: u64, limit: Limit)
+    requires { length page.old + 42 ≤ ROOM }
+    ensures text { page.new ≡ page.old ++ (44 ∷ (decimal quantity ++ (44 ∷ limit_field limit))) }
+    ensures longer { length page.new ≤ length page.old + 42 }
+{
+    put_number_field(page, quantity);
+    put_limit_field(page, limit);
+}
+
+fn put_side_field(page: &mut Page, side: Side)
+    requires { length page.old + 4 ≤ ROOM }
+    ensures text { page.new ≡ page.old ++ (44 ∷ side_field side) }
+    ensures longer { length page.new ≤ length page.old + 4 }
+{
+    match side {
+        Side::Buy => page.put(",bid"),
+        Side::Sell => page.put(",ask"),
+    }
+}
+
+/// Puts the fields that may be left out at the end.
+fn put_ending(page: &mut Page, only: Only, peak: Option<u64>)
+    requires { length page.old + 30 ≤ ROOM }
+    ensures text { page.new ≡ page.old ++ each_behind (enter_ending only peak) }
+    ensures longer { length page.new ≤ length page.old + 30 }
+{
+    match (only, peak) {
+        (Only::Any, None) => {}
+        (Only::Any, Some(peak)) => put_number_field(page, peak),
+        (Only::Opening, peak) => {
+            put_optional_field(page, peak);
+            page.put(",opening");
+        }
+        (Only::Closing, peak) => {
+            put_optional_field(page, peak);
+            page.put(",closing");
+        }
+    }
+}
+
+/// Puts a word and a number behind it.
+fn put_lone(page: &mut Page, word: &str, number: u32)
+    requires { length page.old + length word.now + 21 ≤ ROOM }
+    ensures text { page.new ≡ page.old ++ (word.now ++ (44 ∷ decimal number)) }
+    ensures longer { length page.new ≤ length page.old + length word.now + 21 }
+{
+    page.put(word);
+    put_number_field(page, u64::from(number));
+}
+
+fn put_enter(
+    page: &mut Page,
+    side: Side,
+    only: Only,
+    limit: Limit,
+    quantity: u64,
+    peak: Option<u64>,
+)
+    requires { length page.old + 82 ≤ ROOM }
+    ensures text { page.new ≡ page.old ++ each_behind (command_fields (Command.Enter side only limit quantity peak)) }
+    ensures longer { length page.new ≤ length page.old + 82 }
+{
+    page.put(",enter");
+    put_side_field(page, side);
+    put_terms(page, quantity, limit);
+    put_ending(page, only, peak);
+}
+
+fn put_change(page: &mut Page, id: u32, limit: Limit, quantity: u64)
+    requires { length page.old + 82 ≤ ROOM }
+    ensures text { page.new ≡ page.old ++ each_behind (command_fields (Command.Change id limit quantity)) }
+    ensures longer { length page.new ≤ length page.old + 82 }
+{
+    put_lone(page, ",change", id);
+    put_terms(page, quantity, limit);
+}
+
+/// Puts the fields of a command behind those of its member.
+fn put_command(page: &mut Page, command: Command)
+    requires { length page.old + 82 ≤ ROOM }
+    ensures text { page.new ≡ page.old ++ each_behind (command_fields command) }
+    ensures longer { length page.new ≤ length page.old + 82 }
+{
+    match command {
+        Command::Enter {
+            side,
+            only,
+            limit,
+            quantity,
+            peak,
+        } => put_enter(page, side, only, limit, quantity, peak),
+        Command::Change {
+            id,
+            limit,
+            quantity,
+        } => put_change(page, id, limit, quantity),
+        Command::Delete { id } => put_lone(page, ",delete", id),
+        Command::Status { id } => put_lone(page, ",status", id),
+        Command::Ask => page.put(",ask"),
+        Command::Trade { number } => put_lone(page, ",trade", number),
+        Command::Uncross => page.put(",uncross"),
+    }
+}
+
+/// Puts the fields of an entry and the end of its line.
+fn put_entry(page: &mut Page, entry: Entry)
+    requires { length page.old + LONGEST_LINE ≤ ROOM }
+    ensures { page.new ≡ page.old ++ call_line entry }
+{
+    page.put_number(u64::from(entry.member));
+    put_command(page, entry.command);
+    page.put(",");
+    put_reply(page, entry.reply);
+    page.put("\n");
+}
+
+fn print_call<S: Sink>(printer: &mut Printer<'_, S>, entry: Entry) -> Result<(), WriteFailed>
+    ensures { Prints S.Sink printer.old printer.new result (call_line entry) }
+{
+    printer.make_room()?;
+    put_entry(&mut printer.page, entry);
+    Ok(())
+}
+
+fn put_ticks(page: &mut Page, config: Config)
+    requires { length page.old + 63 ≤ ROOM }
+    ensures text { page.new ≡ page.old ++ ticks_text config }
+    ensures longer { length page.new ≤ length page.old + 63 }
+{
+    put_number_field(page, u64::from(config.low));
+    put_number_field(page, u64::from(config.high));
+    put_number_field(page, u64::from(config.reference));
+}
+
+fn put_sizes(page: &mut Page, day: Day)
+    requires { length page.old + 84 ≤ ROOM }
+    ensures text { page.new ≡ page.old ++ sizes_text day }
+    ensures longer { length page.new ≤ length page.old + 84 }
+{
+    put_number_field(page, u64::from(day.members));
+    put_number_field(page, u64::from(day.config.max_open));
+    put_number_field(page, u64::from(day.config.max_calls));
+    put_range_field(page, day.config.range);
+}
+
+/// Puts the record of the day.
+fn put_day(page: &mut Page, day: Day)
+    requires { length page.old + LONGEST_LINE ≤ ROOM }
+    ensures { page.new ≡ page.old ++ day_line day }
+{
+    page.put("day");
+    put_ticks(page, day.config);
+    put_sizes(page, day);
+    page.put("\n");
+}
+
+fn print_day<S: Sink>(printer: &mut Printer<'_, S>, day: Day) -> Result<(), WriteFailed>
+    ensures { Prints S.Sink printer.old printer.new result (day_line day) }
+{
+    printer.make_room()?;
+    put_day(&mut printer.page, day);
+    Ok(())
+}
+
+fn print_calls<S: Sink>(printer: &mut Printer<'_, S>, entries: &[Entry]) -> Result<(), WriteFailed>
+    ensures { Prints S.Sink printer.old printer.new result (call_lines 0 entries.now) }
+{
+    for entry in entries {
+        print_call(printer, *entry)?;
+    }
+    Ok(())
+}
+
+/// Prints the journal of a history: the record of its day, and of each entry the fields of its command, in the shortest
+/// form, and the text of its reply. Each number of a reply is below 2 ^ 64.
+pub fn print_journal<S: Sink>(
+    printer: &mut Printer<'_, S>,
+    day: Day,
+    entries: &[Entry],
+) -> Result<(), WriteFailed>
+    ensures text { Prints S.Sink printer.old printer.new result (journal_text day entries.now) }
+    ensures wide { AreWide entries.now }
+{
+    see_replies(entries);
+    print_day(printer, day)?;
+    print_calls(printer, entries)
+}

@@ -1,0 +1,125 @@
+//! Reading a journal.
+
+ghost use Rattle.std.specs.Prelude.{◌≡◌, ◌<◌, ◌≤◌, ◌↔◌, ◌+◌, All, length, IfErr, IfOk, IfSome, IsErrOf};
+ghost use Rattle.std.specs.Prelude.{MatchResult};
+ghost use Rattle.byte_streams.specs.Streams.{TakesAtMost};
+ghost use Rattle.order_file.specs.File.{Fails, Gives, IsBelow, IsOfRecord};
+ghost use Rattle.order_file.specs.Rows.{Stands, rows_left};
+ghost use Rattle.csv.specs.Records.{fields_of};
+ghost use Rattle.journal.specs.EntryRecord.{IsReplyText};
+ghost use Rattle.journal.specs.JournalFile.{journal, journal_of, journal_of_rows, recorded, recorded_in};
+ghost use Rattle.journal.specs.declared.reading.TheConstants.{MAX_JOURNAL_BYTES};
+
+use crate::day::{Day, day_of, is_day_row};
+use crate::entry::call_of;
+use auction_terms::Call;
+use byte_streams::Source;
+use csv::{ByteRecord, Reader};
+use order_file::{FileFault, bytes_of, next_row, reader_of};
+use std::alloc::Global;
+
+/// How many bytes a journal may have at most.
+pub const MAX_JOURNAL_BYTES: usize = 268_435_456;
+
+/// What a journal says.
+#[derive(Drop)]
+pub struct Journal {
+    /// The day of its first record.
+    pub day: Day,
+    /// The calls of the others, in their order.
+    pub calls: Vec<Call>,
+    /// Of each call the recorded text of its reply, as one field; it is empty where no reply was recorded.
+    pub texts: ByteRecord,
+}
+
+/// The calls and replies of the records that a reader has left, behind that of this day.
+fn entries_from(alloc: Global, rows: &mut Reader<&[u8]>, day: Day) -> Result<Journal, FileFault>
+    requires { Stands rows.old }
+    ensures said { Gives recorded result (recorded_in day (rows_left rows.old)) }
+    ensures parsed { IfErr result IsOfRecord }
+    ensures few { IfOk result (λ j. length j.calls.items ≤ j.day.config.max_calls) }
+    ensures below { IfOk result (λ j. All (IsBelow j.day.members) j.calls.items) }
+    ensures even { IfOk result (λ j. length (fields_of j.texts) ≡ length j.calls.items) }
+    ensures texts { IfOk result (λ j. All IsReplyText (fields_of j.texts)) }
+{
+    let mut row = ByteRecord::new(alloc);
+    let mut calls = Vec::new(alloc);
+    let mut texts = ByteRecord::new(alloc);
+    let max_calls = day.config.max_calls;
+    for before in 0..max_calls {
+        if !next_row(rows, &mut row)? {
+            return Ok(Journal { day, calls, texts });
+        }
+        let call = call_of(&mut row, &mut texts, u64::from(before) + 2, day.members)?;
+        if calls.push(call).is_err() {
+            return Err(FileFault::NoMemory);
+        }
+    }
+    if next_row(rows, &mut row)? {
+        return Err(FileFault::TooManyCommands {
+            number: u64::from(max_calls) + 2,
+        });
+    }
+    Ok(Journal { day, calls, texts })
+}
+
+/// The day of the first record.
+fn day_from(alloc: Global, rows: &mut Reader<&[u8]>) -> Result<Day, FileFault>
+    requires { Stands rows.old }
+    ensures day { MatchResult result
+        (λ day. Stands rows.new × (journal_of_rows (rows_left rows.old) ≡ recorded_in day (rows_left rows.new)))
+        (λ e. Fails e (journal_of_rows (rows_left rows.old))) }
+    ensures parsed { IfErr result IsOfRecord }
+{
+    let mut row = ByteRecord::new(alloc);
+    if !next_row(rows, &mut row)? {
+        return Err(FileFault::NotADay);
+    }
+    if !is_day_row(&row) {
+        return Err(FileFault::NotADay);
+    }
+    match day_of(&row) {
+        Ok(day) => Ok(day),
+        Err(fault) => Err(fault.in_record(1)),
+    }
+}
+
+/// What bytes say as a journal.
+#[tactic(auto, unfolding(crate::specs::JournalFile::journal_of))]
+pub(crate) fn journal_of(alloc: Global, bytes: &[u8]) -> Result<Journal, FileFault>
+    ensures said { Gives recorded result (journal_of bytes.now) }
+    ensures parsed { IfErr result IsOfRecord }
+    ensures few { IfOk result (λ j. length j.calls.items ≤ j.day.config.max_calls) }
+    ensures below { IfOk result (λ j. All (IsBelow j.day.members) j.calls.items) }
+    ensures even { IfOk result (λ j. length (fields_of j.texts) ≡ length j.calls.items) }
+    ensures texts { IfOk result (λ j. All IsReplyText (fields_of j.texts)) }
+{
+    let mut rows = reader_of(alloc, bytes)?;
+    let day = day_from(alloc, &mut rows)?;
+    entries_from(alloc, &mut rows, day)
+}
+
+/// Reads a journal to its end, and answers what it says.
+///
+/// Its first record is that of the day, else the fault is `NotADay`; each other one is a call with its reply. The
+/// faults of a record are those of an order file, in the same order, but that the reply is counted among its fields
+/// and looked at last: it has at most `MAX_REPLY` bytes, each printable ASCII, or it is a bad field. A journal that is
+/// too long and a read that fails are found before any record is looked at.
+#[tactic(auto, unfolding(crate::specs::JournalFile::journal))]
+pub fn read_journal<R: Source>(alloc: Global, reader: &mut R) -> Result<Journal, FileFault>
+    // A read failed.
+    ensures failed { IsErrOf result FileFault.ReadFailed ↔ (R.failures reader.old < R.failures reader.new) }
+    // Else, want of memory aside, it is what the bytes say.
+    ensures answer { IfSome (R.left reader.old) (λ bytes. Gives recorded result (journal bytes)) }
+    // It is never more calls than may be applied, each of one of the members.
+    ensures few { IfOk result (λ j. length j.calls.items ≤ j.day.config.max_calls) }
+    ensures below { IfOk result (λ j. All (IsBelow j.day.members) j.calls.items) }
+    // There are as many texts, each of which may stand for a reply.
+    ensures even { IfOk result (λ j. length (fields_of j.texts) ≡ length j.calls.items) }
+    ensures texts { IfOk result (λ j. All IsReplyText (fields_of j.texts)) }
+    // However long the file is, at most so many bytes are taken.
+    ensures taken { TakesAtMost (MAX_JOURNAL_BYTES + 1) (R.left reader.old) (R.left reader.new) }
+{
+    let bytes = bytes_of(alloc, reader, MAX_JOURNAL_BYTES)?;
+    journal_of(alloc, bytes.as_slice())
+}
