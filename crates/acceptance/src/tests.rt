@@ -8,6 +8,7 @@ use std::sync::Wait;
 
 mod board;
 mod execution;
+mod journals;
 mod ladder;
 mod largest;
 mod limits;

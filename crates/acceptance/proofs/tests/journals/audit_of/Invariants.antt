@@ -1,0 +1,5 @@
+use Rattle.acceptance.proofs.tests.journals.audit_of.Given as goal
+
+-- the sink counts its failures in the ledger of the blank
+abbrev pub ghosts-audited : goal.ghosts-audited
+ghosts-audited a = record { name = a.blank.name; parts = a.blank.parts }

@@ -1,0 +1,5 @@
+use Rattle.acceptance.proofs.tests.journals.journal_of.Given as goal
+
+-- the sink counts its failures in the ledger of the blank
+abbrev pub ghosts-printed : goal.ghosts-printed
+ghosts-printed a = record { name = a.blank.name; parts = a.blank.parts }

@@ -1,0 +1,454 @@
+//! Journals: what they say, their faults, what is printed of a history, and audits.
+
+ghost use Rattle.std.specs.Prelude.{◌≡◌, ◌<◌};
+
+use super::DAY;
+use auction::OpenFault;
+use auction_terms::{Call, Command, Config, Entry, Kind, Limit, Only, Refused, Reply, Side};
+use byte_streams::{Failures, FromMemory, ToMemory};
+use day_audit::{AuditFault, Counts, audit_journal};
+use journal::{Day, Given, Journal, print_journal, read_given, read_journal};
+use order_file::FileFault;
+use printed_lines::Printer;
+use std::alloc::Global;
+use std::marker::Brand;
+use std::str::from_utf8;
+use std::sync::ledger::{Blank, Ledger};
+use std::test::Fail;
+
+fn journal_in(alloc: Global, text: &[u8]) -> Result<Journal, FileFault> {
+    let mut source = FromMemory { rest: text };
+    read_journal(alloc, &mut source)
+}
+
+fn given_by(alloc: Global, text: &[u8]) -> Result<Given, FileFault> {
+    let mut source = FromMemory { rest: text };
+    let day = Day {
+        config: DAY,
+        members: 4,
+    };
+    read_given(alloc, &mut source, day)
+}
+
+fn fault_of(alloc: Global, text: &[u8]) -> Option<FileFault> {
+    match journal_in(alloc, text) {
+        Ok(_) => None,
+        Err(fault) => Some(fault),
+    }
+}
+
+#[test]
+fn journals_are_read(rt: HostRuntime) -> Result<(), Fail> {
+    let texts = [
+        "day,1,9,5,3,4,9,\n2,ask,price 5\n0,delete,7,\n",
+        "day,1,9,5,3,4,9,\r\n2,ask,price 5\r\n0,delete,7,\r\n",
+        "\"day\",01,9,\"5\",3,4,9,\n2,\"ask\",\"price 5\"\n0,delete,0007,\"\"",
+        "\n\nday,1,9,5,3,4,9,\n\n2,ask,price 5\n0,delete,7,",
+    ];
+    let calls = [
+        Call {
+            member: 2,
+            command: Command::Ask,
+        },
+        Call {
+            member: 0,
+            command: Command::Delete { id: 7 },
+        },
+    ];
+    for text in texts {
+        let journal = journal_in(rt.alloc(), text.as_bytes())?;
+        assert!(rt; journal.day.config.high == 9);
+        assert!(rt; journal.day.config.range == None);
+        assert!(rt; journal.day.members == 3);
+        assert!(rt; journal.calls.as_slice() == calls.as_slice());
+        assert!(rt; journal.texts.len() == 2);
+        assert!(rt; journal.texts.get(0) == Some(b"price 5".as_slice()));
+        assert!(rt; journal.texts.get(1) == Some(b"".as_slice()));
+        let given = given_by(rt.alloc(), text.as_bytes())?;
+        assert!(rt; given.day == journal.day);
+        assert!(rt; given.calls.as_slice() == calls.as_slice());
+    }
+    Ok(())
+}
+
+#[test]
+fn what_is_no_journal_is_an_order_file(rt: HostRuntime) -> Result<(), Fail> {
+    let given = given_by(rt.alloc(), b"3,ask\n0,uncross\n".as_slice())?;
+    assert!(rt; given.day.config == DAY);
+    assert!(rt; given.day.members == 4);
+    assert!(rt; given.calls.len() == 2);
+    let nothing = given_by(rt.alloc(), b"".as_slice())?;
+    assert!(rt; nothing.calls.is_empty());
+    Ok(())
+}
+
+#[test]
+fn day_records_have_faults(rt: HostRuntime) {
+    let count = FileFault::BadCount { number: 1 };
+    let rows = [
+        ("", FileFault::NotADay),
+        ("0,ask\n", FileFault::NotADay),
+        ("Day,1,9,5,3,4,9,\n", FileFault::NotADay),
+        ("day", count),
+        ("day,1,9,5,3,4,9\n", count),
+        ("day,1,9,5,3,4,9,,\n", count),
+    ];
+    for (text, fault) in rows {
+        assert!(rt; fault_of(rt.alloc(), text.as_bytes()) == Some(fault));
+    }
+    let fields = [
+        ("day,0,9,5,3,4,9,", 2),
+        ("day,1,1000001,5,3,4,9,", 3),
+        ("day,1,9,x,3,4,9,", 4),
+        ("day,1,9,5,0,4,9,", 5),
+        ("day,1,9,5,65,4,9,", 5),
+        ("day,1,9,5,3,65537,9,", 6),
+        ("day,1,9,5,3,4,1048577,", 7),
+        ("day,1,9,5,3,4,9,1000001", 8),
+        ("day,1,9,5,3,4,9,-1", 8),
+    ];
+    for (text, field) in fields {
+        let fault = FileFault::BadField { number: 1, field };
+        assert!(rt; fault_of(rt.alloc(), text.as_bytes()) == Some(fault));
+    }
+}
+
+#[test]
+fn records_of_calls_have_faults(rt: HostRuntime) {
+    let rows = [
+        (
+            "day,1,9,5,3,4,9,\n3,ask,\n",
+            FileFault::BadMember { number: 2 },
+        ),
+        ("day,1,9,5,3,4,9,\n2\n", FileFault::BadCommand { number: 2 }),
+        (
+            "day,1,9,5,3,4,9,\n2,sell,\n",
+            FileFault::BadCommand { number: 2 },
+        ),
+        (
+            "day,1,9,5,3,4,9,\n2,ask\n",
+            FileFault::BadCount { number: 2 },
+        ),
+        (
+            "day,1,9,5,3,4,9,\n2,ask,,\n",
+            FileFault::BadCount { number: 2 },
+        ),
+        (
+            "day,1,9,5,3,4,9,\n2,ask,\n0,enter,bid,100,7\n",
+            FileFault::BadCount { number: 3 },
+        ),
+        (
+            "day,1,9,5,3,4,9,\n0,enter,bid,x,7,\x07\n",
+            FileFault::BadField {
+                number: 2,
+                field: 4,
+            },
+        ),
+        (
+            "day,1,9,5,3,4,9,\n0,delete,1,\x07\n",
+            FileFault::BadField {
+                number: 2,
+                field: 4,
+            },
+        ),
+        (
+            "day,1,9,5,3,4,1,\n0,ask,\n0,bad,\n",
+            FileFault::TooManyCommands { number: 3 },
+        ),
+    ];
+    for (text, fault) in rows {
+        assert!(rt; fault_of(rt.alloc(), text.as_bytes()) == Some(fault));
+    }
+}
+
+/// A journal of one call whose recorded reply has so many bytes.
+fn with_reply(alloc: Global, length: usize) -> Result<Option<FileFault>, Fail> {
+    let mut text = Vec::new(alloc);
+    text.extend_from_slice(b"day,1,9,5,3,4,9,\n0,ask,".as_slice())?;
+    for _ in 0..length {
+        text.push(b'x')?;
+    }
+    Ok(fault_of(alloc, text.as_slice()))
+}
+
+#[test]
+fn replies_have_a_form(rt: HostRuntime) -> Result<(), Fail> {
+    let fault = FileFault::BadField {
+        number: 2,
+        field: 3,
+    };
+    assert!(rt; with_reply(rt.alloc(), 256)? == None);
+    assert!(rt; with_reply(rt.alloc(), 257)? == Some(fault));
+    for (byte, found) in [
+        (31u8, Some(fault)),
+        (32, None),
+        (126, None),
+        (127, Some(fault)),
+    ] {
+        let mut text = Vec::new(rt.alloc());
+        text.extend_from_slice(b"day,1,9,5,3,4,9,\n0,ask,".as_slice())?;
+        text.push(byte)?;
+        assert!(rt; fault_of(rt.alloc(), text.as_slice()) == found);
+    }
+    Ok(())
+}
+
+/// What is read of the first bytes of `day,1,9,5,3,4,9,\n0,ask,x\n`: a fault, or how many calls.
+fn cut_at(bytes: usize) -> Result<usize, FileFault> {
+    match bytes {
+        0..=2 => Err(FileFault::NotADay),
+        3..=15 => Err(FileFault::BadCount { number: 1 }),
+        16 | 17 => Ok(0),
+        18..=21 => Err(FileFault::BadCommand { number: 2 }),
+        22 => Err(FileFault::BadCount { number: 2 }),
+        _ => Ok(1),
+    }
+}
+
+#[test]
+fn a_journal_is_cut(rt: HostRuntime) {
+    let text = b"day,1,9,5,3,4,9,\n0,ask,x\n".as_slice();
+    for bytes in 0..text.len() + 1 {
+        let found = match journal_in(rt.alloc(), &text[..bytes]) {
+            Ok(journal) => Ok(journal.calls.len()),
+            Err(fault) => Err(fault),
+        };
+        assert!(rt; found == cut_at(bytes));
+    }
+}
+
+fn memory<L: Ledger>(alloc: Global, blank: Blank) -> ToMemory<L>
+    requires name { blank.name ≡ L.name }
+    requires parts { blank.parts ≡ L.parts }
+    requires backed { 0 < L.parts }
+{
+    ToMemory {
+        bytes: Vec::new(alloc),
+        failures: Failures::<L>::new(blank),
+    }
+}
+
+fn printed<L: Ledger>(alloc: Global, blank: Blank, day: Day, entries: &[Entry]) -> Vec<u8>
+    requires name { blank.name ≡ L.name }
+    requires parts { blank.parts ≡ L.parts }
+    requires backed { 0 < L.parts }
+{
+    let mut sink = memory::<L>(alloc, blank);
+    let mut printer = Printer::new(&mut sink);
+    let _ = print_journal(&mut printer, day, entries);
+    let _ = printer.flush();
+    sink.bytes
+}
+
+fn journal_of(alloc: Global, day: Day, entries: &[Entry]) -> Vec<u8> {
+    printed::<Brand>(alloc, Blank::new(1), day, entries)
+}
+
+fn entry(member: u8, command: Command, reply: Reply) -> Entry {
+    Entry {
+        member,
+        command,
+        reply,
+    }
+}
+
+fn enter(side: Side, only: Only, limit: Limit, quantity: u64, peak: Option<u64>) -> Command {
+    Command::Enter {
+        side,
+        only,
+        limit,
+        quantity,
+        peak,
+    }
+}
+
+#[test]
+fn enters_are_written(rt: HostRuntime) -> Result<(), Fail> {
+    let day = Day {
+        config: DAY,
+        members: 4,
+    };
+    let at = Limit::At(202);
+    let entries = [
+        entry(
+            1,
+            enter(Side::Buy, Only::Any, at, 200, None),
+            Reply::Entered { id: 1 },
+        ),
+        entry(
+            2,
+            enter(Side::Sell, Only::Any, at, 200, Some(50)),
+            Reply::Entered { id: 2 },
+        ),
+        entry(
+            3,
+            enter(Side::Sell, Only::Opening, Limit::Market, 7, None),
+            Reply::Entered { id: 3 },
+        ),
+        entry(
+            0,
+            enter(Side::Buy, Only::Closing, at, 7, Some(6)),
+            Reply::Refused(Refused::BadLimit),
+        ),
+    ];
+    let wanted = "\
+day,1,1000,200,4,4096,65536,
+1,enter,bid,200,202,entered 1
+2,enter,ask,200,202,50,entered 2
+3,enter,ask,7,market,,opening,entered 3
+0,enter,bid,7,202,6,closing,refused 2 BadLimit
+";
+    let text = journal_of(rt.alloc(), day, entries.as_slice());
+    assert!(rt; from_utf8(text.as_slice()) == Ok(wanted));
+    let journal = journal_in(rt.alloc(), text.as_slice())?;
+    assert!(rt; journal.calls.len() == 4);
+    assert!(rt; journal.day == day);
+    Ok(())
+}
+
+#[test]
+fn other_commands_are_written(rt: HostRuntime) {
+    let day = Day {
+        config: Config {
+            range: Some(5),
+            ..DAY
+        },
+        members: 1,
+    };
+    let change = Command::Change {
+        id: 1,
+        limit: Limit::Market,
+        quantity: 9,
+    };
+    let entries = [
+        entry(0, change, Reply::Changed { kept: false }),
+        entry(0, Command::Delete { id: 1 }, Reply::Deleted),
+        entry(
+            0,
+            Command::Status { id: 12 },
+            Reply::Refused(Refused::UnknownOrder),
+        ),
+        entry(
+            0,
+            Command::Trade { number: 4 },
+            Reply::Refused(Refused::NoSuchTrade),
+        ),
+        entry(
+            0,
+            Command::Uncross,
+            Reply::Uncrossed {
+                kind: Kind::Opening,
+                trades: 0,
+                price: None,
+            },
+        ),
+    ];
+    let wanted = "\
+day,1,1000,200,1,4096,65536,5
+0,change,1,9,market,changed moved
+0,delete,1,deleted
+0,status,12,refused 5 UnknownOrder
+0,trade,4,refused 8 NoSuchTrade
+0,uncross,opening no price
+";
+    let text = journal_of(rt.alloc(), day, entries.as_slice());
+    assert!(rt; from_utf8(text.as_slice()) == Ok(wanted));
+}
+
+/// What an audit comes to, and what it writes.
+fn audited<L: Ledger>(
+    alloc: Global,
+    blank: Blank,
+    text: &[u8],
+) -> (Result<Counts, AuditFault>, Vec<u8>)
+    requires name { blank.name ≡ L.name }
+    requires parts { blank.parts ≡ L.parts }
+    requires backed { 0 < L.parts }
+{
+    let mut source = FromMemory { rest: text };
+    let mut sink = memory::<L>(alloc, blank);
+    let found = audit_journal(alloc, &mut source, &mut sink);
+    (found, sink.bytes)
+}
+
+fn audit_of(alloc: Global, text: &str) -> (Result<Counts, AuditFault>, Vec<u8>) {
+    audited::<Brand>(alloc, Blank::new(1), text.as_bytes())
+}
+
+#[test]
+fn differences_are_told(rt: HostRuntime) {
+    let text = "\
+day,1,1000,200,3,4096,65536,
+0,enter,bid,100,200,entered 1
+1,enter,ask,50,200,entered 9
+2,ask,
+2,ask,price 200
+0,uncross,opening price 200 volume 50 surplus 50 bid trades 1
+1,trade,1,trade 1 2 50 at 200
+0,status,1,order bid 50 at 200 visible 50 and more
+";
+    let wanted = "\
+2: recorded \"entered 9\", lawful \"entered 2\"
+4: recorded \"price 200\", lawful \"price 200 volume 50 surplus 50 bid\"
+7: recorded \"order bid 50 at 200 visible 50 and more\", lawful \"order bid 50 at 200 visible 50\"
+entries 7
+compared 6
+unlawful 3
+audit bad 1
+";
+    let counts = Counts {
+        entries: 7,
+        compared: 6,
+        unlawful: 3,
+        first_unlawful: Some(1),
+    };
+    let (found, written) = audit_of(rt.alloc(), text);
+    assert!(rt; found == Ok(counts));
+    assert!(rt; counts.status() == 4);
+    assert!(rt; from_utf8(written.as_slice()) == Ok(wanted));
+}
+
+#[test]
+fn a_legal_day_is_told(rt: HostRuntime) {
+    let text =
+        "day,1,1000,200,3,4096,65536,\n0,enter,bid,100,200,entered 1\n1,ask,\n2,uncross,refused 6 NotOperator";
+    let wanted = "entries 3\ncompared 2\nunlawful 0\naudit legal\n";
+    let counts = Counts {
+        entries: 3,
+        compared: 2,
+        unlawful: 0,
+        first_unlawful: None,
+    };
+    let (found, written) = audit_of(rt.alloc(), text);
+    assert!(rt; found == Ok(counts));
+    assert!(rt; counts.status() == 0);
+    assert!(rt; from_utf8(written.as_slice()) == Ok(wanted));
+}
+
+#[test]
+fn what_is_bad_is_not_audited(rt: HostRuntime) {
+    let rows = [
+        ("", AuditFault::File(FileFault::NotADay), 1),
+        (
+            "day,9,1,5,3,4,9,\n3,ask,\n",
+            AuditFault::File(FileFault::BadMember { number: 2 }),
+            1,
+        ),
+        (
+            "day,9,1,5,3,4,9,\n2,ask,\n",
+            AuditFault::Open(OpenFault::BadBounds),
+            2,
+        ),
+        (
+            "day,1,9,10,3,4,9,\n",
+            AuditFault::Open(OpenFault::BadReference),
+            2,
+        ),
+    ];
+    for (text, fault, status) in rows {
+        let (found, written) = audit_of(rt.alloc(), text);
+        assert!(rt; found == Err(fault));
+        assert!(rt; fault.status() == status);
+        assert!(rt; written.is_empty());
+    }
+}

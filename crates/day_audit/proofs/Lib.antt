@@ -1,0 +1,3 @@
+pub mod AnswerLaws
+pub mod JournalAuditLaws
+pub mod LegalAuditLaws

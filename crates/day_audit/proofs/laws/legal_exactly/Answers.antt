@@ -1,0 +1,5 @@
+use Rattle.day_audit.proofs.LegalAuditLaws.{legal-exactly}
+use Rattle.day_audit.proofs.laws.legal_exactly.Goals as goal
+
+pub returns : goal.returns
+returns c = legal-exactly

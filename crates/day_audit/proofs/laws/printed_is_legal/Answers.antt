@@ -1,0 +1,5 @@
+use Rattle.day_audit.proofs.LegalAuditLaws.{printed-legal}
+use Rattle.day_audit.proofs.laws.printed_is_legal.Goals as goal
+
+pub returns : goal.returns
+returns c = printed-legal

@@ -1,0 +1,6 @@
+pub mod Answers
+pub mod AuditCounts
+pub mod AuditText
+pub mod AuditStatus
+pub mod JournalAudit
+pub mod AuditPromises

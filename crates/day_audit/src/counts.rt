@@ -1,0 +1,92 @@
+//! What an audit counts.
+
+ghost use Rattle.std.specs.Prelude.{◌≡◌, ◌<◌, ◌≤◌, ◌-◌, ◌^◌};
+ghost use Rattle.day_audit.specs.AuditCounts.{counted, first_or, no_counts};
+ghost use Rattle.day_audit.specs.AuditStatus.{counts_status};
+
+/// What is found of an entry.
+#[derive(Clone, Copy)]
+pub(crate) enum Finding {
+    /// No reply was recorded.
+    Silent,
+    /// The recorded reply is the lawful one.
+    Lawful,
+    /// It is another.
+    Unlawful,
+}
+
+/// What an audit has counted.
+#[derive(Clone, Copy, Debug, PartialEq, Eq)]
+pub struct Counts {
+    /// The entries.
+    pub entries: u64,
+    /// Those with a recorded reply.
+    pub compared: u64,
+    /// Those whose recorded reply isn't the lawful one.
+    pub unlawful: u64,
+    /// The place, from 0, of the first of these.
+    pub first_unlawful: Option<u64>,
+}
+
+fn first_or(first: Option<u64>, place: u64) -> Option<u64>
+    ensures { result ≡ first_or first place }
+{
+    match first {
+        Some(first) => Some(first),
+        None => Some(place),
+    }
+}
+
+impl Counts {
+    /// Nothing so far.
+    pub(crate) fn none() -> Counts
+        ensures { result ≡ no_counts }
+    {
+        Counts {
+            entries: 0,
+            compared: 0,
+            unlawful: 0,
+            first_unlawful: None,
+        }
+    }
+
+    /// With one more entry.
+    pub(crate) fn with(self, finding: Finding) -> Counts
+        requires entries { self.entries < 2 ^ 64 - 1 }
+        requires compared { self.compared ≤ self.entries }
+        requires unlawful { self.unlawful ≤ self.entries }
+        ensures { result ≡ counted self finding }
+    {
+        let entries = self.entries + 1;
+        match finding {
+            Finding::Silent => Counts {
+                entries,
+                compared: self.compared,
+                unlawful: self.unlawful,
+                first_unlawful: self.first_unlawful,
+            },
+            Finding::Lawful => Counts {
+                entries,
+                compared: self.compared + 1,
+                unlawful: self.unlawful,
+                first_unlawful: self.first_unlawful,
+            },
+            Finding::Unlawful => Counts {
+                entries,
+                compared: self.compared + 1,
+                unlawful: self.unlawful + 1,
+                first_unlawful: first_or(self.first_unlawful, self.entries),
+            },
+        }
+    }
+
+    /// The status that a program ends with: 0 where every recorded reply is the lawful one, else 4.
+    pub fn status(self) -> u8
+        ensures { result ≡ counts_status self }
+    {
+        match self.first_unlawful {
+            None => 0,
+            Some(_) => 4,
+        }
+    }
+}
