@@ -1,0 +1,13 @@
+use Rattle.std.proofs.Common.{◌≡◌, ◌≤◌, List, ℕ, ◌++◌, Ok, length}
+use Rattle.printed_lines.specs.Printing.{Prints}
+use Rattle.day_tables.specs.TableRows.{rows_below}
+use Rattle.day_tables.proofs.book.print_places.Given as goal
+
+-- the rows so far were printed, and they and those below are all
+abbrev pub invariant-places : goal.invariant-places
+invariant-places g l = (l.place ≤ length l.table.bids.now) × (front : List ℕ)
+    × (front ++ rows_below l.table l.place ≡ rows_below l.table (length l.table.bids.now))
+    × Prints g.S.Sink l.fn.printer l.printer (Ok tt) front
+
+abbrev pub decreases-places : goal.decreases-places
+decreases-places g l = l.place

@@ -1,0 +1,5 @@
+use Rattle.day_tables.proofs.RuleLaws.{rule_prices}
+use Rattle.day_tables.proofs.laws.rule_decides.Goals as goal
+
+pub returns : goal.returns
+returns c = λ book reference. rule_prices book reference

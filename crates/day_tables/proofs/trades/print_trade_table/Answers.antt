@@ -1,0 +1,8 @@
+use Rattle.printed_lines.proofs.PrinterLaws.{prints_begun, prints_more}
+use Rattle.day_tables.proofs.trades.print_trade_table.Goals as goal
+
+pub returns-in_err-print_header : goal.returns-in_err-print_header
+returns-in_err-print_header g c = prints_begun _ c.from_residual.ensures.0 c.in_err-print_header.ensures
+
+pub returns : goal.returns
+returns g c = prints_more c.in_ok-print_header.ensures c.print_tape.ensures

@@ -1,0 +1,7 @@
+pub mod DecidingRule
+pub mod TableRecords
+pub mod TradeTable
+pub mod TableMembers
+pub mod BookTable
+pub mod TableCurves
+pub mod TableRows

@@ -1,0 +1,88 @@
+-- A table of the book, row by row, as the code has it.
+use Rattle.std.specs.Prelude.{◌≡◌, ℕ, ◌+◌, ◌≤◌, zero, suc, ◌==◌, Bool, ◌||◌, false, List, [], ◌∷◌, ◌++◌}
+use Rattle.std.specs.Prelude.{Option, Some, None}
+use Rattle.std.specs.Prelude.{if◌then◌else◌, nat_lt, decimal, codes, length, slice_index}
+use Rattle.std.specs.Option.{option_map_or}
+use Rattle.auction_terms.specs.declared.limits.TheConstants.{MAX_TICK, MAX_TICKS}
+use Rattle.auction_terms.specs.declared.Display.{Display}
+use Rattle.auction_terms.specs.declared.Display.TheVariants.{Priced, Unpriced}
+use Rattle.auction_terms.specs.declared.Side.{Side}
+use Rattle.auction_terms.specs.declared.Side.TheVariants.{Buy, Sell}
+use Rattle.auction_terms.specs.Ladder.{standing, market, presence, spread}
+use Rattle.auction_terms.specs.AuctionPrice.{price_tick}
+use Rattle.printed_lines.specs.ReplyWords.{kind_word, side_word}
+use Rattle.day_tables.specs.declared.book.Table.{Table}
+use Rattle.day_tables.specs.TableRecords.{csv_record}
+use Rattle.day_tables.specs.BookTable.{Shown, rule_word, best_word}
+use Rattle.day_tables.specs.TableCurves.{HasRoom, AreCurves, TellsRule}
+
+-- as many places in each list, which are ticks
+pub record HasPlaces (table : Table) : Type 0 where
+  pub present : length table.present.now ≡ length table.bids.now
+  pub asks : length table.asks.now ≡ length table.bids.now
+  pub curves : HasRoom (length table.bids.now) table.curves.now
+  pub few : length table.bids.now ≤ MAX_TICKS
+  pub last : table.low + length table.bids.now ≤ MAX_TICK + 1
+
+-- the tick of the price that is shown
+abbrev pub tick_shown : Display → Option ℕ
+tick_shown (Priced price) = Some price.tick
+tick_shown (Unpriced best_buy best_sell) = None
+
+abbrev pub is_at_price : Table → ℕ → Bool
+is_at_price table tick = option_map_or (λ price. price == tick) table.price false
+
+-- an order has its limit at the place, or it is the price
+abbrev pub is_row : Table → ℕ → Bool
+is_row table place = (slice_index table.present.now place == 1) || is_at_price table (table.low + place)
+
+abbrev pub side_between : ℕ → ℕ → Option Side
+side_between demands supplies =
+    if nat_lt supplies demands then Some Buy else (if nat_lt demands supplies then Some Sell else None)
+
+abbrev pub rule_at : Table → ℕ → List ℕ
+rule_at table tick = if is_at_price table tick then rule_word table.rule else []
+
+-- demand and supply at a place
+abbrev pub demand_in : Table → ℕ → ℕ
+demand_in table place = slice_index table.curves.now.demands.items place
+
+abbrev pub supply_in : Table → ℕ → ℕ
+supply_in table place = slice_index table.curves.now.supplies.items place
+
+unfoldable pub row : Table → ℕ → List ℕ
+row table place =
+    csv_record (decimal table.command ∷ kind_word table.kind ∷ decimal (table.low + place)
+    ∷ decimal (slice_index table.bids.now place) ∷ decimal (slice_index table.asks.now place)
+    ∷ decimal (demand_in table place) ∷ decimal (supply_in table place)
+    ∷ decimal (slice_index table.curves.now.volumes.items place)
+    ∷ decimal (slice_index table.curves.now.surpluses.items place)
+    ∷ side_word (side_between (demand_in table place) (supply_in table place))
+    ∷ best_word (slice_index table.curves.now.best.items place == 1)
+    ∷ rule_at table (table.low + place) ∷ [])
+
+abbrev pub row_if : Table → ℕ → List ℕ
+row_if table place = if is_row table place then row table place else []
+
+-- the rows of the places below one, the highest first
+unfoldable pub rows_below : Table → ℕ → List ℕ
+rows_below table zero = []
+rows_below table (suc place) = row_if table place ++ rows_below table place
+
+unfoldable pub market_row : Table → List ℕ
+market_row table =
+    csv_record (decimal table.command ∷ kind_word table.kind ∷ codes "market"
+    ∷ decimal table.market_bids ∷ decimal table.market_asks ∷ [] ∷ [] ∷ [] ∷ [] ∷ [] ∷ [] ∷ [] ∷ [])
+
+-- the table is that of a book
+pub record IsTableOf (shown : Shown) (table : Table) : Type 0 where
+  pub command : table.command ≡ shown.command
+  pub kind : table.kind ≡ shown.auction
+  pub market_bids : table.market_bids ≡ market Buy shown.book
+  pub market_asks : table.market_asks ≡ market Sell shown.book
+  pub bids : table.bids.now ≡ spread (standing Buy shown.book) table.low (length table.bids.now)
+  pub asks : table.asks.now ≡ spread (standing Sell shown.book) table.low (length table.bids.now)
+  pub present : table.present.now ≡ spread (presence shown.book) table.low (length table.bids.now)
+  pub curves : AreCurves table.low (length table.bids.now) table.curves.now shown.book
+  pub price : table.price ≡ price_tick shown.book shown.reference
+  pub rule : TellsRule shown.book table.rule

@@ -1,0 +1,356 @@
+//! The book behind each price of the day.
+
+ghost use Rattle.std.specs.Prelude.{◌≡◌, ◌<◌, ◌≤◌, ◌+◌, ◌-◌, ◌++◌, length, None, Err, IfErr, IfSome};
+ghost use Rattle.auction_terms.specs.Day.{IsLegal};
+ghost use Rattle.auction.specs.ConfigFault.{open_fault};
+ghost use Rattle.printed_lines.specs.Printing.{Prints};
+ghost use Rattle.printed_lines.specs.declared.page.TheConstants.{LONGEST_LINE, ROOM};
+ghost use Rattle.day_tables.specs.BookTable.{book_header, book_text, best_word, is_uncross};
+ghost use Rattle.day_tables.specs.BookTable.{table_before, tables_after, text_before};
+ghost use Rattle.day_tables.specs.TableCurves.{HasRoom};
+ghost use Rattle.day_tables.specs.TableRecords.{PrintsTable, WantsMemory};
+ghost use Rattle.day_tables.specs.TableRows.{HasPlaces, side_between, is_row, row, row_if, rows_below, market_row};
+ghost use Rattle.day_tables.specs.TableRows.{is_at_price, rule_at, tick_shown};
+ghost use Rattle.day_tables.specs.declared.fault.TableFault.TheVariants as fault;
+
+use crate::curves::Curves;
+use crate::fault::TableFault;
+use crate::record::{put_number, put_word};
+use crate::rule::{Rule, rule_word};
+use auction::{Auction, OpenFault};
+use auction_terms::{Config, Display, Entry, Kind, Reply, Side};
+use byte_streams::{Sink, WriteFailed};
+use printed_lines::{Page, Printer, kind_word, side_word};
+use std::alloc::Global;
+
+/// A table that is printed, with its numbers tick by tick from the lowest tick on.
+#[derive(Clone, Copy)]
+pub(crate) struct Table<'a> {
+    /// The number of the command before which it stands.
+    pub command: u64,
+    pub kind: Kind,
+    pub market_bids: u64,
+    pub market_asks: u64,
+    /// The lowest tick.
+    pub low: u32,
+    pub bids: &'a [u64],
+    pub asks: &'a [u64],
+    /// 1 where an order has its limit.
+    pub present: &'a [u64],
+    pub curves: &'a Curves,
+    /// The tick of the price, if there is one, and then the rule that decides it.
+    pub price: Option<u32>,
+    pub rule: Rule,
+}
+
+/// The side of a surplus.
+fn side_of(demand: u64, supply: u64) -> Option<Side>
+    ensures { result ≡ side_between demand supply }
+{
+    if supply < demand {
+        return Some(Side::Buy);
+    }
+    if demand < supply {
+        return Some(Side::Sell);
+    }
+    None
+}
+
+/// The word for a best limit, or for another tick.
+fn best_word(best: bool) -> &'static str
+    ensures word { result.now ≡ best_word best }
+    ensures short { length result.now ≤ 1 }
+{
+    if best { "1" } else { "0" }
+}
+
+/// The tick at a place.
+fn tick_at(table: &Table<'_>, place: usize) -> u32
+    requires places { HasPlaces table.now }
+    requires place { place < length table.now.bids.now }
+    ensures { result ≡ table.now.low + place }
+{
+    table.low + place as u32
+}
+
+/// Whether the price is at a tick.
+fn is_at_price(table: &Table<'_>, tick: u32) -> bool
+    ensures { result ≡ is_at_price table.now tick }
+{
+    match table.price {
+        Some(price) => price == tick,
+        None => false,
+    }
+}
+
+/// Whether an order has its limit at a place, or it is the price.
+fn is_row(table: &Table<'_>, place: usize) -> bool
+    requires places { HasPlaces table.now }
+    requires place { place < length table.now.bids.now }
+    ensures { result ≡ is_row table.now place }
+{
+    table.present[place] == 1 || is_at_price(table, tick_at(table, place))
+}
+
+/// The word of the rule, at the price.
+fn rule_word_at(table: &Table<'_>, tick: u32) -> &'static str
+    ensures word { result.now ≡ rule_at table.now tick }
+    ensures short { length result.now ≤ 9 }
+{
+    if is_at_price(table, tick) {
+        rule_word(table.rule)
+    } else {
+        ""
+    }
+}
+
+fn put_row(page: &mut Page, table: &Table<'_>, place: usize)
+    requires places { HasPlaces table.now }
+    requires place { place < length table.now.bids.now }
+    requires room { length page.old + LONGEST_LINE ≤ ROOM }
+    ensures { page.new ≡ page.old ++ row table.now place }
+{
+    let tick = tick_at(table, place);
+    let demand = table.curves.demands[place];
+    let supply = table.curves.supplies[place];
+    put_number(page, table.command);
+    put_word(page, kind_word(table.kind));
+    put_number(page, u64::from(tick));
+    put_number(page, table.bids[place]);
+    put_number(page, table.asks[place]);
+    put_number(page, demand);
+    put_number(page, supply);
+    put_number(page, table.curves.volumes[place]);
+    put_number(page, table.curves.surpluses[place]);
+    put_word(page, side_word(side_of(demand, supply)));
+    put_word(page, best_word(table.curves.best[place] == 1));
+    page.put(rule_word_at(table, tick));
+    page.put("\n");
+}
+
+fn put_market(page: &mut Page, table: &Table<'_>)
+    requires { length page.old + LONGEST_LINE ≤ ROOM }
+    ensures { page.new ≡ page.old ++ market_row table.now }
+{
+    put_number(page, table.command);
+    put_word(page, kind_word(table.kind));
+    put_word(page, "market");
+    put_number(page, table.market_bids);
+    page.put_number(table.market_asks);
+    page.put(",,,,,,,\n");
+}
+
+/// Prints the record of the market orders.
+fn print_market<S: Sink>(printer: &mut Printer<'_, S>, table: &Table<'_>) -> Result<(), WriteFailed>
+    ensures { Prints S.Sink printer.old printer.new result (market_row table.now) }
+{
+    printer.make_room()?;
+    put_market(&mut printer.page, table);
+    Ok(())
+}
+
+fn print_row<S: Sink>(
+    printer: &mut Printer<'_, S>,
+    table: &Table<'_>,
+    place: usize,
+) -> Result<(), WriteFailed>
+    requires places { HasPlaces table.now }
+    requires place { place < length table.now.bids.now }
+    ensures { Prints S.Sink printer.old printer.new result (row table.now place) }
+{
+    printer.make_room()?;
+    put_row(&mut printer.page, table, place);
+    Ok(())
+}
+
+/// Prints the record of a place, if an order has its limit there or it is the price.
+fn print_place<S: Sink>(
+    printer: &mut Printer<'_, S>,
+    table: &Table<'_>,
+    place: usize,
+) -> Result<(), WriteFailed>
+    requires places { HasPlaces table.now }
+    requires place { place < length table.now.bids.now }
+    ensures { Prints S.Sink printer.old printer.new result (row_if table.now place) }
+{
+    if !is_row(table, place) {
+        return Ok(());
+    }
+    print_row(printer, table, place)
+}
+
+/// Prints the records of all places, the highest first.
+fn print_places<S: Sink>(printer: &mut Printer<'_, S>, table: &Table<'_>) -> Result<(), WriteFailed>
+    requires { HasPlaces table.now }
+    ensures { Prints S.Sink printer.old printer.new result (rows_below table.now (length table.now.bids.now)) }
+{
+    let mut place = table.bids.len();
+    'places: while place > 0 {
+        place -= 1;
+        print_place(printer, table, place)?;
+    }
+    Ok(())
+}
+
+/// Prints all records of a table.
+fn print_rows<S: Sink>(printer: &mut Printer<'_, S>, table: &Table<'_>) -> Result<(), WriteFailed>
+    requires { HasPlaces table.now }
+    ensures { Prints S.Sink printer.old printer.new result
+        (market_row table.now ++ rows_below table.now (length table.now.bids.now)) }
+{
+    print_market(printer, table)?;
+    print_places(printer, table)
+}
+
+/// The tick of the price that is shown, if one is.
+fn price_shown(display: Display) -> Option<u32>
+    ensures { result ≡ tick_shown display }
+{
+    match display {
+        Display::Priced(price) => Some(price.tick),
+        Display::Unpriced { .. } => None,
+    }
+}
+
+/// Prints the table of the current auction when a command comes, until the day is over.
+fn print_table<S: Sink>(
+    printer: &mut Printer<'_, S>,
+    auction: &mut Auction,
+    curves: &mut Curves,
+    command: u64,
+) -> Result<(), WriteFailed>
+    requires { HasRoom (auction.old.config.high + 1 - auction.old.config.low) curves.old }
+    ensures printed { Prints S.Sink printer.old printer.new result
+        (table_before auction.old.config command auction.old.state) }
+    ensures auction { auction.new ≡ auction.old }
+    ensures room { HasRoom (auction.old.config.high + 1 - auction.old.config.low) curves.new }
+{
+    let Some(kind) = auction.current() else {
+        return Ok(());
+    };
+    let price = price_shown(auction.show());
+    let ladder = auction.ladder();
+    curves.follow(ladder);
+    let rule = curves.rule();
+    let table = Table {
+        command,
+        kind,
+        market_bids: ladder.market(Side::Buy),
+        market_asks: ladder.market(Side::Sell),
+        low: ladder.low(),
+        bids: ladder.bids(),
+        asks: ladder.asks(),
+        present: ladder.present(),
+        curves,
+        price,
+        rule,
+    };
+    print_rows(printer, &table)
+}
+
+/// Whether an uncross was accepted, an interrupted one too.
+fn is_uncross(reply: Reply) -> bool
+    ensures { result ≡ is_uncross reply }
+{
+    matches!(reply, Reply::Uncrossed { .. } | Reply::Interrupted(_))
+}
+
+/// Prints the table before a command that was answered so, if it is an uncross that was accepted.
+fn print_before<S: Sink>(
+    printer: &mut Printer<'_, S>,
+    auction: &mut Auction,
+    curves: &mut Curves,
+    command: u64,
+    reply: Reply,
+) -> Result<(), WriteFailed>
+    requires { HasRoom (auction.old.config.high + 1 - auction.old.config.low) curves.old }
+    ensures printed { Prints S.Sink printer.old printer.new result
+        (text_before auction.old.config command auction.old.state reply) }
+    ensures auction { auction.new ≡ auction.old }
+    ensures room { HasRoom (auction.old.config.high + 1 - auction.old.config.low) curves.new }
+{
+    if !is_uncross(reply) {
+        return Ok(());
+    }
+    print_table(printer, auction, curves, command)
+}
+
+fn print_header<S: Sink>(printer: &mut Printer<'_, S>) -> Result<(), WriteFailed>
+    ensures { Prints S.Sink printer.old printer.new result book_header }
+{
+    printer.make_room()?;
+    let page = &mut printer.page;
+    page.put("command,auction,limit,bid,ask,demand,supply,volume,surplus,side,best,price\n");
+    Ok(())
+}
+
+/// Prints the tables of a history: before each uncross that was accepted, and at its end.
+fn print_tables<S: Sink>(
+    printer: &mut Printer<'_, S>,
+    auction: &mut Auction,
+    curves: &mut Curves,
+    entries: &[Entry],
+) -> Result<(), WriteFailed>
+    requires calls { auction.old.calls + length entries.now ≤ auction.old.config.max_calls }
+    requires room { HasRoom (auction.old.config.high + 1 - auction.old.config.low) curves.old }
+    ensures { Prints S.Sink printer.old printer.new result
+        (tables_after auction.old.config 0 auction.old.state entries.now) }
+{
+    for (before, entry) in entries.iter().enumerate() {
+        print_before(printer, auction, curves, before as u64 + 1, entry.reply)?;
+        auction.apply(entry.member, entry.command);
+    }
+    print_table(printer, auction, curves, entries.len() as u64 + 1)
+}
+
+/// Prints the header, and the tables of a history.
+fn print_book_tables<S: Sink>(
+    printer: &mut Printer<'_, S>,
+    auction: &mut Auction,
+    curves: &mut Curves,
+    entries: &[Entry],
+) -> Result<(), WriteFailed>
+    requires calls { auction.old.calls + length entries.now ≤ auction.old.config.max_calls }
+    requires room { HasRoom (auction.old.config.high + 1 - auction.old.config.low) curves.old }
+    ensures { Prints S.Sink printer.old printer.new result
+        (book_header ++ tables_after auction.old.config 0 auction.old.state entries.now) }
+{
+    print_header(printer)?;
+    print_tables(printer, auction, curves, entries)
+}
+
+/// Prints the book behind each price of a lawful history: the header, and a table before each uncross that was
+/// accepted, an interrupted one too, and at the end if the day isn't over. A table is of the orders that count in the
+/// current auction. Its records begin with the number of the command that comes next, from 1, and the auction.
+///
+/// - A record with the limit `market` has the shares of the market bids and asks.
+/// - From the highest tick down there is a record for each tick that is the limit of an order or the price: the shares
+///   bid and offered with that limit, demand, supply, volume and surplus there in shares, the surplus's side, 1 for a
+///   best limit and else 0, and at the price the rule that decides it.
+///
+/// It fails with the first fault of the config, for want of memory, or at a failing write. Where it isn't a write that
+/// fails nothing is printed.
+pub fn print_book<S: Sink>(
+    alloc: Global,
+    printer: &mut Printer<'_, S>,
+    config: Config,
+    entries: &[Entry],
+) -> Result<(), TableFault>
+    requires legal { IsLegal config entries.now }
+    ensures printed { PrintsTable S.Sink printer.old printer.new result (book_text config entries.now) }
+    ensures refused { IfSome (open_fault config) (λ unopened. result ≡ Err (fault.Open unopened)) }
+    ensures memory { open_fault config ≡ None → IfErr result WantsMemory }
+{
+    let mut auction = match Auction::open(alloc, config) {
+        Ok(auction) => auction,
+        Err(fault) => return Err(TableFault::Open(fault)),
+    };
+    let ticks = auction.ladder().bids().len();
+    let Ok(mut curves) = Curves::open(alloc, ticks) else {
+        return Err(TableFault::Open(OpenFault::NoMemory));
+    };
+    match print_book_tables(printer, &mut auction, &mut curves, entries) {
+        Ok(()) => Ok(()),
+        Err(failed) => Err(TableFault::Write(failed)),
+    }
+}
