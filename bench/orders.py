@@ -12,6 +12,9 @@ delete names one that is, by its own member, and the book never fills.
 - `trading`: three auctions of a third of the commands each. Bids and asks of the same quantity all
   in all, in an order of their own, meet at one tick, and all are filled whole by the uncross.
 - `asks`: nothing but asks for the indicative price, on an empty book.
+- `ladder`: three auctions, with an order at each tick before each uncross: bids at the even ticks,
+  asks at the odd ones, all of the same quantity. Half of them are filled whole by the uncross, and
+  before the next one others come in their place. 131,075 commands make 65,536 ticks.
 """
 import random
 import sys
@@ -22,6 +25,8 @@ MOST_SHARES = 1_000
 RECENT = 3_000
 BOOKS = {"mixed-1000": (1_000, 3_000), "mixed-65536": (65_536, 60_000)}  # ticks, open orders
 TRADING_TICK = 500
+LADDER_SHARES = 100
+MOST_TICKS = 65_536
 MOST_OPEN = 65_536
 
 
@@ -105,17 +110,48 @@ def trading(count: int, dice: random.Random) -> Iterator[str]:
         yield "0,trade,1"
 
 
+def ladder_orders(ticks: list[int], dice: random.Random) -> Iterator[str]:
+    """An order at each of these ticks, in an order of their own."""
+    dice.shuffle(ticks)
+    for tick in ticks:
+        side = "ask" if tick % 2 else "bid"
+        yield f"{dice.randrange(MEMBERS)},enter,{side},{LADDER_SHARES},{tick}"
+
+
+def ladder(count: int, dice: random.Random) -> Iterator[str]:
+    """Three auctions with an order at each tick, and asks before the last uncross where the count
+    isn't that of such a file.
+
+    Demand and supply meet in the middle of the ticks, of which there are a multiple of four: the
+    bids above it and the asks below it are filled, whatever the reference.
+    """
+    ticks = min(MOST_TICKS, (count - 3) // 8 * 4)
+    filled = [tick for tick in range(1, ticks + 1) if (tick > ticks // 2) == (tick % 2 == 0)]
+    yield from ladder_orders(list(range(1, ticks + 1)), dice)
+    yield "0,uncross"
+    yield from ladder_orders(filled, dice)
+    yield "0,uncross"
+    yield from ladder_orders(filled, dice)
+    for _ in range(count - 3 - 2 * ticks):
+        yield "0,ask"
+    yield "0,uncross"
+
+
 def records(kind: str, count: int) -> Iterator[str]:
     """The records of a file, without their line ends.
 
-    Raises KeyError for another kind, and ValueError for a count of trading that is too small for
-    three auctions, or has more orders in one than may be open.
+    Raises KeyError for another kind, and ValueError for a count of trading or of ladder that is
+    too small for three auctions, or of trading that has more orders in one than may be open.
     """
     dice = random.Random(20261122)
     if kind == "trading":
         if not 9 <= count <= 3 * MOST_OPEN:
             raise ValueError(f"{count} commands of trading")
         return trading(count, dice)
+    if kind == "ladder":
+        if count < 11:
+            raise ValueError(f"{count} commands of ladder")
+        return ladder(count, dice)
     if kind == "asks":
         return ("1,ask" for _ in range(count))
     ticks, size = BOOKS[kind]

@@ -41,7 +41,7 @@ PARTS = [
     Part("edits", "wrong bodies fit their files and are listed", "checks/wrong-bodies --fit"),
     Part("ci", "proofs from nothing, wrong bodies, tests, runs", "rt ci", "rt setpriv"),
     Part("examples", "examples/ and the copies in the tests", f"checks/examples {PROGRAM}"),
-    Part("compare", "random order files by the rules", f"{COMPARE} --program {PROGRAM}"),
+    Part("compare", "random files by the rules", f"{COMPARE} --program {PROGRAM}"),
     Part("hostile", "bad files, failing ends, full boards", f"checks/hostile {PROGRAM}", "bash"),
     Part("refusals", "refused memory", f"checks/refusals {PROGRAM} {TESTS}", "cc"),
 ]

@@ -7,21 +7,21 @@ file.
 
 Books of few and of many ticks (1 to 65,536, at either end of what is allowed), with room for one
 order or for many, with and without a price range; all commands, all three auctions, bids and asks
-with limits and without, icebergs, orders for one auction, a single order, and now and then a
-number at the edge of what is allowed. Changes, deletes and questions mostly name an order that is
-open, as the plain auction knows, which plays the file while it is written.
+with limits and without, many market orders or few, quantities that are often the same, icebergs,
+orders for one auction, a single order, and now and then a number at the edge of what is allowed.
+Changes, deletes and questions mostly name an order that is open, as the plain auction knows, which
+plays the file while it is written.
 """
 import random
 import sys
-from typing import Any
 
-import plain_auction
+from plain_auction import DEFAULTS
+from plain_day import MOST_QUANTITY, MOST_TICKS, Options, opened
+from plain_files import MOST_NUMBER, RANGES, command
 
 MOST_COMMANDS = {"short": 60, "long": 3_000}
-MOST_TICK = 1_000_000
-MOST_TICKS = 65_536
-MOST_CALLS = 1_048_576
-MOST_NUMBER = 4_294_967_295
+MOST_TICK = RANGES["high"][1]
+MOST_CALLS = RANGES["calls"][1]
 SIZES = {"short": [1, 2, 5, 20, 40, 60, 60], "long": [200, 1_000, 3_000]}
 WEIGHTS = {"enter": 45, "change": 14, "delete": 8, "status": 6, "ask": 12, "trade": 4}
 
@@ -32,13 +32,16 @@ class Author:
     def __init__(self, kind: str, seed: int) -> None:
         self.dice = random.Random(f"{kind} {seed}")
         self.count = self.dice.choice(SIZES[kind])
-        self.options = plain_auction.DEFAULTS | self.random_options(kind)
-        self.day = plain_auction.opened(self.options)
+        self.options = DEFAULTS | self.random_options(kind)
+        self.day = opened(self.options)
         self.most_entries = 1 if self.dice.random() < 0.05 else self.count
         self.levels = self.random_levels()
         self.large = self.dice.random() < 0.1
+        self.market = self.dice.choice([0.13, 0.13, 0.13, 0.13, 0.13, 0.5, 0.95])
+        self.quantities = self.dice.choice([[10, 20, 30, 50, 100], [10, 20], [10]])
+        self.common = self.dice.choice([0.7, 0.7, 1.0])
 
-    def random_options(self, kind: str) -> dict[str, Any]:
+    def random_options(self, kind: str) -> Options:
         """The options of the program: ticks, a reference among them, members, room, a range."""
         dice = self.dice
         ticks = dice.choice(
@@ -70,7 +73,7 @@ class Author:
         blocks of 64 end.
         """
         low, high = self.options["low"], self.options["high"]
-        middle = self.dice.randint(low, high)
+        middle = self.dice.choice([self.options["reference"], self.dice.randint(low, high)])
         spread = self.dice.choice([2, 6, 30, 300])
         found = [
             middle + self.dice.randint(-spread, spread)
@@ -84,26 +87,25 @@ class Author:
         ]
 
     def limit(self) -> str:
+        if self.dice.random() < self.market:
+            return "market"
         roll = self.dice.random()
         low, high = self.options["low"], self.options["high"]
-        if roll < 0.13:
-            return "market"
-        if roll < 0.15:
+        if roll < 0.02:
             return str(self.dice.choice([low - 1, high + 1, 0, MOST_NUMBER]))
         return str(self.dice.choice(self.levels) if roll < 0.9 else self.dice.randint(low, high))
 
     def quantity(self) -> str:
         roll = self.dice.random()
-        most = plain_auction.MOST_QUANTITY
+        most = MOST_QUANTITY
         if roll < 0.02 or self.large and roll < 0.4:
             return str(
                 self.dice.choice(
                     [0, most, most, most + 1, MOST_NUMBER] if roll < 0.02 else [most, most - 1]
                 )
             )
-        return str(
-            self.dice.choice([10, 20, 30, 50, 100]) if roll < 0.7 else self.dice.randint(1, 120)
-        )
+        is_common = self.dice.random() < self.common
+        return str(self.dice.choice(self.quantities) if is_common else self.dice.randint(1, 120))
 
     def order(self) -> tuple[int, int]:
         """A member and an order's id: mostly of one of the open orders and its own member."""
@@ -154,18 +156,18 @@ class Author:
         for place in range(1, self.count + 1):
             member, fields = self.record()
             found.append(",".join([str(member), *fields]) + "\n")
-            record = plain_auction.command(place, [str(member), *fields], self.options["members"])
-            self.day.apply(*record)
+            call = command(place, [str(member), *fields], self.options["members"])
+            self.day.apply(*call)
         return "".join(found)
 
 
-def order_file(kind: str, seed: int) -> tuple[dict[str, Any], str]:
+def order_file(kind: str, seed: int) -> tuple[Options, str]:
     """The options and the text of the random order file of this kind with this seed."""
     author = Author(kind, seed)
     return author.options, author.text()
 
 
-def option_words(options: dict[str, Any]) -> list[str]:
+def option_words(options: Options) -> list[str]:
     """Options as words of the program's command line."""
     said = [(name, value) for name, value in options.items() if value is not None]
     return [word for name, value in said for word in (f"--{name}", str(value))]

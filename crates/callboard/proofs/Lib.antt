@@ -2,4 +2,6 @@ pub mod OpeningLaws
 pub mod ReplyLaws
 pub mod SplitLaws
 pub mod PlayedDayLaws
-pub mod WrittenLaws
+pub mod EntriesLaws
+pub mod OwedLaws
+pub mod PassedOnLaws

@@ -4,12 +4,12 @@ use Rattle.std.proofs.Common.{◌≡◌, ◌≤◌, ◌||◌, ◌==◌, ℕ, nat
 use Rattle.std.proofs.lemmas.Bool.{ltb-false, or_parts}
 use Rattle.auction.specs.declared.OpenFault.{OpenFault}
 use Rattle.auction.specs.declared.OpenFault.TheVariants.{BadBounds, BadReference, BadLimits, NoMemory}
-use Rattle.auction.specs.ConfigFault.{has_bad_bounds, has_bad_limits, has_bad_reference}
+use Rattle.auction.specs.ConfigFault.{has_bad_bounds, has_bad_limits, has_bad_reference, open_fault}
 use Rattle.auction_terms.specs.declared.Config.{Config}
 use Rattle.auction_terms.specs.declared.limits.TheConstants.{MAX_CALLS, MAX_OPEN_ORDERS}
 use Rattle.call_board.specs.FreshBoard.{board_fault, has_bad_members}
-use Rattle.callboard.specs.declared.fault.FloorFault.{FloorFault}
-use Rattle.callboard.specs.declared.fault.FloorFault.TheVariants as fault
+use Rattle.callboard.specs.declared.fault.Fault.{Fault}
+use Rattle.callboard.specs.declared.fault.Fault.TheVariants as fault
 use Rattle.callboard.specs.FileRun.{Opens}
 use Rattle.callboard.specs.PlayedDay.{IsOfDay}
 
@@ -25,7 +25,7 @@ none_refused None r x is refused = refl
 none_refused (Some fault) r x is refused = absurd cc
 
 -- what was opened had nothing against it, whatever came of its day
-pub opens_board : {X : Type 0} (reason : Option OpenFault) (r : Result X FloorFault) → reason ≡ None → IfErr r IsOfDay → Opens reason r
+pub opens_board : {X : Type 0} (reason : Option OpenFault) (r : Result X Fault) → reason ≡ None → IfErr r IsOfDay → Opens reason r
 opens_board reason (Ok x) none h = none
 opens_board reason (Err (fault.File f)) none h = tt
 opens_board reason (Err (fault.Open f)) none h = h ∙ ap (λ o. unwrap_or o NoMemory) (sym none)
@@ -47,3 +47,15 @@ few_calls config members none =
     let all = or_parts (has_bad_limits config) (has_bad_members members) limits in
     let last = or_parts ((config.max_open == 0) || nat_lt MAX_OPEN_ORDERS config.max_open || (config.max_calls == 0)) (nat_lt MAX_CALLS config.max_calls) all.0 in
     ltb-false MAX_CALLS config.max_calls last.1
+
+auction_opens : (b r l m : Bool) → (if b then Some BadBounds else if r then Some BadReference else if l || m then Some BadLimits else None) ≡ None
+    → (if b then Some BadBounds else if r then Some BadReference else if l then Some BadLimits else None) ≡ None
+auction_opens true r l m e = absurd cc
+auction_opens false true l m e = absurd cc
+auction_opens false false true m e = absurd cc
+auction_opens false false false m e = refl
+
+-- what a board can be opened with, an auction can
+pub opens_auction : (config : Config) (members : ℕ) → board_fault config members ≡ None → open_fault config ≡ None
+unfolding board_fault open_fault
+opens_auction config members none = auction_opens (has_bad_bounds config) (has_bad_reference config) (has_bad_limits config) (has_bad_members members) none

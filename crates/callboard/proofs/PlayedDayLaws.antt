@@ -22,10 +22,10 @@ use Rattle.member_floor.specs.declared.script.Script.{Script}
 use Rattle.member_floor.specs.declared.threads.RunFault.{RunFault}
 use Rattle.member_floor.specs.declared.threads.RunFault.TheVariants as run
 use Rattle.member_floor.specs.Plays.{AllPlay, Fits, PlayedScript, Plays, SameNumbers, recorded}
-use Rattle.callboard.specs.declared.fault.FloorFault.{FloorFault}
-use Rattle.callboard.specs.declared.fault.FloorFault.TheVariants as fault
+use Rattle.callboard.specs.declared.fault.Fault.{Fault}
+use Rattle.callboard.specs.declared.fault.Fault.TheVariants as fault
 use Rattle.callboard.specs.BoardRun.{IsDayOf, IsSplit, commands_of, counts_of}
-use Rattle.callboard.specs.PlayedDay.{IsOfBoard, IsPlayedOut, fault_after, is_in_want, is_kept_open, keeps_open, lacks_room, lacks_thread, wants_memory}
+use Rattle.callboard.specs.PlayedDay.{IsPlayedOut, fault_after, is_in_want, is_kept_open, keeps_open, lacks_room, lacks_thread, wants_memory}
 use Rattle.callboard.proofs.SplitLaws.{IsNew, all_new, at_each, from, none_beyond, none_from, own_commands, recorded_commands, sum_counts}
 
 -- ---- a run without a fault
@@ -125,7 +125,7 @@ played_out c n ms ss rs closing is_new fit plays whole closed accounts =
       commands = λ j d lt. (all j d lt).1;
     }
 
-pub closed_out : {U : Type 0} (c : Config) (n : ℕ) (ms : List Standing) (ss : List Script) (f : Option RunFault) (rs : List PlayedScript) (r : Result Closing FloorFault)
+pub closed_out : {U : Type 0} (c : Config) (n : ℕ) (ms : List Standing) (ss : List Script) (f : Option RunFault) (rs : List PlayedScript) (r : Result Closing Fault)
     → ms ≡ newcomers n → Fits ms ss → (f ≡ None → U × AllPlay c ms ss rs) → IfOk r (λ _. fault_after f rs ≡ None)
     → IfOk r (IsClosing c n (map (λ (p : PlayedScript). p.member) rs)) → IfOk r (λ closing. All (Accounts (calls_of closing.history.items)) (map (λ (p : PlayedScript). p.member) rs))
     → IfOk r (IsPlayedOut c n ss)
@@ -172,7 +172,7 @@ day_of c n calls ss closing split below out =
       counts = is_counts;
     }
 
-pub days_of : (c c' : Config) (n n' : ℕ) (calls : List Call) (ss : List Script) (r : Result Closing FloorFault) → c' ≡ c → n' ≡ n → IsSplit n calls ss → All (IsBelow n) calls → IfOk r (IsPlayedOut c' n' ss) → IfOk r (IsDayOf c n calls)
+pub days_of : (c c' : Config) (n n' : ℕ) (calls : List Call) (ss : List Script) (r : Result Closing Fault) → c' ≡ c → n' ≡ n → IsSplit n calls ss → All (IsBelow n) calls → IfOk r (IsPlayedOut c' n' ss) → IfOk r (IsDayOf c n calls)
 days_of c c' n n' calls ss (Ok closing) same many split below out = day_of c n calls ss closing split below (subst (λ (m : ℕ). IsPlayedOut c m ss closing) many (subst (λ (d : Config). IsPlayedOut d n' ss closing) same out))
 days_of c c' n n' calls ss (Err f) same many split below out = tt
 

@@ -1,40 +1,48 @@
--- What a run of an order file on an auction writes.
-use Rattle.std.specs.Prelude.{◌≡◌, ℕ, List, Result}
-use Rattle.order_file.specs.File.{file}
+-- What a run of commands on an auction writes.
+use Rattle.std.specs.Prelude.{◌≡◌, ℕ, List}
 use Rattle.auction_terms.specs.declared.Call.{Call}
-use Rattle.auction_terms.specs.declared.Config.{Config}
-use Rattle.auction_terms.specs.Day.{replay, replies_from}
+use Rattle.auction_terms.specs.Day.{replies_from}
 use Rattle.auction_terms.specs.Devices.Running.{Running}
 use Rattle.auction.specs.ConfigFault.{open_fault}
+use Rattle.journal.specs.GivenDay.{GivenDay, given}
+use Rattle.journal.specs.declared.day.Day.{Day}
 use Rattle.printed_lines.specs.ReplyLines.{lines}
+use Rattle.settings.specs.declared.types.Form.{Form}
 use Rattle.callboard.specs.declared.fault.Fault.{Fault}
-use Rattle.callboard.specs.declared.fault.FloorFault.{FloorFault}
-use Rattle.callboard.specs.declared.fault.FloorFault.TheVariants as fault
+use Rattle.callboard.specs.declared.fault.Fault.TheVariants as fault
+use Rattle.callboard.specs.declared.fault.Finish.TheVariants.{Lawful}
 use Rattle.callboard.specs.FileRun.{Ends, Job, Runs}
-use Rattle.callboard.specs.Status.{ran_of}
+use Rattle.callboard.specs.Printed.{IsOfPrinting, IsWideForm, history_of, printed}
+use Rattle.callboard.specs.Status.{Ran}
 
 -- the lines of the replies to these calls, the first of them being line 1
 abbrev pub lines_from : Running → List Call → List ℕ
 lines_from auction calls = lines (replies_from auction.config auction.state calls)
 
--- the lines of the replies to these calls, from the opening on
-abbrev pub out : Config → List Call → List ℕ
-out config calls = lines (replay config calls).1
+-- what is printed of a day on which these calls come
+abbrev pub run_text : Form → GivenDay → List ℕ
+run_text form given = printed form given.day (history_of given.day.config given.calls)
 
--- a fault that a run on an auction has too
-abbrev pub IsOfAuction : FloorFault → Type 0
-IsOfAuction fault.NoMemory = ⊥
-IsOfAuction fault.NotClosed = ⊥
-IsOfAuction f = Unit {0}
+-- the text of the calls that were given
+abbrev pub IsRunText : Form → GivenDay → List ℕ → Type 0
+IsRunText form given text =
+    (text ≡ run_text form given) × IsWideForm form (history_of given.day.config given.calls)
 
--- the calls of a file, applied to an auction one after the other
-abbrev pub auction_job : Config → ℕ → Job
-auction_job config members = record {
-  opening = open_fault config;
-  says = λ bytes. file bytes members config.max_calls;
-  Text = λ calls text. text ≡ out config calls;
-  Fault = IsOfAuction;
+-- a fault that a run on an auction may have
+abbrev pub IsOfAuction : Form → Fault → Type 0
+IsOfAuction form (fault.File f) = Unit {0}
+IsOfAuction form (fault.Open f) = Unit {0}
+IsOfAuction form f = IsOfPrinting form f
+
+-- the commands of an input, applied to an auction one after the other; it is of this day where it says no other
+abbrev pub auction_job : Day → Form → Job
+auction_job day form = record {
+  Given = GivenDay;
+  says = given day;
+  opening = λ given. open_fault given.day.config;
+  Text = λ given finish text. (finish ≡ Lawful) × IsRunText form given text;
+  Faults = IsOfAuction form;
 }
 
-abbrev pub RunsOnAuction : Config → ℕ → Ends → Result (Unit {0}) Fault → Type 0
-RunsOnAuction config members ends r = Runs (auction_job config members) ends (ran_of r)
+abbrev pub RunsOnAuction : Day → Form → Ends → Ran → Type 0
+RunsOnAuction day form = Runs (auction_job day form)

@@ -1,8 +1,7 @@
--- What a run of an order file on a board writes.
+-- What a run of commands on a board writes.
 use Rattle.std.specs.Prelude.{◌≡◌, ℕ, ◌++◌, ◌==◌, List, [], All, filter, length, map, Bool, if◌then◌else◌}
 use Rattle.std.specs.Prelude.{Option, None, MatchOption}
 use Rattle.std.specs.List.{range_with_len}
-use Rattle.order_file.specs.File.{file}
 use Rattle.auction_terms.specs.declared.Call.{Call}
 use Rattle.auction_terms.specs.declared.Command.{Command}
 use Rattle.auction_terms.specs.declared.Config.{Config}
@@ -12,8 +11,14 @@ use Rattle.auction.specs.Audits.{IsFirstBad}
 use Rattle.call_board.specs.FreshBoard.{board_fault}
 use Rattle.call_board.specs.declared.closing.Closing.{Closing}
 use Rattle.member_floor.specs.declared.script.Script.{Script}
+use Rattle.journal.specs.GivenDay.{GivenDay, given}
+use Rattle.journal.specs.declared.day.Day.{Day}
 use Rattle.printed_lines.specs.Tally.{story, tally}
+use Rattle.settings.specs.declared.types.Form.{Form}
+use Rattle.settings.specs.declared.types.Form.TheVariants as forms
+use Rattle.callboard.specs.declared.fault.Finish.TheVariants.{Lawful}
 use Rattle.callboard.specs.FileRun.{Ends, Job, Runs}
+use Rattle.callboard.specs.Printed.{IsWideForm, listed}
 use Rattle.callboard.specs.Status.{Ran}
 
 -- the commands of one member among these calls, in their order
@@ -54,24 +59,33 @@ abbrev pub closing_text : Closing → Option ℕ → Bool → List ℕ
 closing_text closing first_bad history =
     tally (length closing.history.items) closing.calls.items first_bad ++ story_if history closing.history.items
 
--- how many calls there are, how many of each member, and that the history is legal; and the history, where it is wanted
-abbrev pub floor_text : ℕ → Bool → List Call → List Entry → List ℕ
-floor_text members history calls entries =
-    tally (length calls) (counts_of members calls) None ++ story_if history entries
+-- of a closed day of a legal history, or a listing of it in place of that
+abbrev pub closed_text : Form → Day → Bool → Closing → List ℕ
+closed_text forms.Lines day history closing = closing_text closing None history
+closed_text (forms.Listing listing) day history closing = listed listing day closing.history.items
+
+-- How many calls there are, how many of each member, and that the history is legal, and the history, where it is
+-- wanted; or in place of all that a listing of the day.
+abbrev pub floor_text : Form → Bool → GivenDay → List Entry → List ℕ
+floor_text forms.Lines history given entries =
+    tally (length given.calls) (counts_of given.day.members given.calls) None ++ story_if history entries
+floor_text (forms.Listing listing) history given entries = listed listing given.day entries
 
 -- the text of these calls and of a legal history of them
-abbrev pub IsFloorText : Config → ℕ → Bool → List Call → List ℕ → Type 0
-IsFloorText config members history calls text =
-    (entries : List Entry) × IsHistoryOf config calls entries × (text ≡ floor_text members history calls entries)
+abbrev pub IsFloorText : Form → Bool → GivenDay → List ℕ → Type 0
+IsFloorText form history given text =
+    (entries : List Entry) × IsHistoryOf given.day.config given.calls entries
+    × (text ≡ floor_text form history given entries) × IsWideForm form entries
 
--- the calls of a file, called on a board by its members at once
-abbrev pub board_job : Config → ℕ → Bool → Job
-board_job config members history = record {
-  opening = board_fault config members;
-  says = λ bytes. file bytes members config.max_calls;
-  Text = IsFloorText config members history;
-  Fault = λ f. Unit {0};
+-- the commands of an input, called on a board by its members at once; it is of this day where it says no other
+abbrev pub board_job : Day → Bool → Form → Job
+board_job day history form = record {
+  Given = GivenDay;
+  says = given day;
+  opening = λ given. board_fault given.day.config given.day.members;
+  Text = λ given finish text. (finish ≡ Lawful) × IsFloorText form history given text;
+  Faults = λ f. Unit {0};
 }
 
-abbrev pub RunsOnBoard : Config → ℕ → Bool → Ends → Ran → Type 0
-RunsOnBoard config members history = Runs (board_job config members history)
+abbrev pub RunsOnBoard : Day → Bool → Form → Ends → Ran → Type 0
+RunsOnBoard day history form = Runs (board_job day history form)

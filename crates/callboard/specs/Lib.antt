@@ -1,6 +1,9 @@
 pub mod Status
 pub mod FileRun
+pub mod Printed
+pub mod AuditRun
 pub mod AuctionRun
 pub mod BoardRun
 pub mod PlayedDay
 pub mod Served
+pub mod PassedOn

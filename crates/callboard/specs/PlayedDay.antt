@@ -12,8 +12,8 @@ use Rattle.member_floor.specs.declared.script.Script.{Script}
 use Rattle.member_floor.specs.declared.threads.RunFault.{RunFault}
 use Rattle.member_floor.specs.declared.threads.RunFault.TheVariants as run
 use Rattle.member_floor.specs.Plays.{PlayedScript}
-use Rattle.callboard.specs.declared.fault.FloorFault.{FloorFault}
-use Rattle.callboard.specs.declared.fault.FloorFault.TheVariants as fault
+use Rattle.callboard.specs.declared.fault.Fault.{Fault}
+use Rattle.callboard.specs.declared.fault.Fault.TheVariants as fault
 use Rattle.callboard.specs.BoardRun.{commands_of}
 
 -- a call found the history full, or its member behind
@@ -51,14 +51,14 @@ abbrev pub is_in_want : Option RunFault → List PlayedScript → Bool
 is_in_want refused played = lacks_room refused || list_any (λ (p : PlayedScript). wants_memory p.fault) played
 
 -- why the day isn't to be closed after a run, if there is a reason: what keeps it open comes before want of memory
-abbrev pub fault_after : Option RunFault → List PlayedScript → Option FloorFault
+abbrev pub fault_after : Option RunFault → List PlayedScript → Option Fault
 fault_after refused played =
     if is_kept_open refused played then Some fault.NotClosed
     else if is_in_want refused played then Some fault.NoMemory
     else None
 
 -- Why the day wasn't closed after a run. A member that is missing or behind keeps it open too.
-abbrev pub unclosed_fault : Option RunFault → List PlayedScript → FloorFault
+abbrev pub unclosed_fault : Option RunFault → List PlayedScript → Fault
 unclosed_fault refused played = unwrap_or (fault_after refused played) fault.NotClosed
 
 -- Each script was played from its first command to its last: the history is legal and has no other calls, and of each
@@ -71,20 +71,20 @@ pub record IsPlayedOut (config : Config) (members : ℕ) (scripts : List Script)
   pub commands : All (λ (s : Script). commands_of s.member (calls_of closing.history.items) ≡ s.commands.items) scripts
 
 -- a fault of a day that has begun
-abbrev pub IsOfBoard : FloorFault → Type 0
+abbrev pub IsOfBoard : Fault → Type 0
 IsOfBoard fault.NoMemory = Unit {0}
 IsOfBoard fault.NotClosed = Unit {0}
 IsOfBoard f = ⊥
 
 -- a fault of a day, from its beginning to its closing
-abbrev pub IsOfDay : FloorFault → Type 0
+abbrev pub IsOfDay : Fault → Type 0
 IsOfDay (fault.Open f) = f ≡ NoMemory
 IsOfDay fault.NoMemory = Unit {0}
 IsOfDay fault.NotClosed = Unit {0}
 IsOfDay f = ⊥
 
 -- a fault neither of the file nor of a write
-abbrev pub IsBetween : FloorFault → Type 0
+abbrev pub IsBetween : Fault → Type 0
 IsBetween (fault.File f) = ⊥
 IsBetween fault.WriteFailed = ⊥
 IsBetween f = Unit {0}

@@ -6,23 +6,12 @@ use Rattle.auction.specs.declared.OpenFault.{OpenFault}
 use Rattle.auction.specs.declared.OpenFault.TheVariants as opening
 use Rattle.callboard.specs.declared.fault.Fault.{Fault}
 use Rattle.callboard.specs.declared.fault.Fault.TheVariants as fault
-use Rattle.callboard.specs.declared.fault.FloorFault.{FloorFault}
-use Rattle.callboard.specs.declared.fault.FloorFault.TheVariants as floor
+use Rattle.callboard.specs.declared.fault.Finish.{Finish}
+use Rattle.callboard.specs.declared.fault.Finish.TheVariants.{Lawful, Unlawful}
 
--- the fault of a run on an auction as one of a run on a board
-abbrev pub floor_fault_of : Fault → FloorFault
-floor_fault_of (fault.File f) = floor.File f
-floor_fault_of (fault.Open f) = floor.Open f
-floor_fault_of fault.WriteFailed = floor.WriteFailed
-
--- what came of a run: nothing, or why it ended early
+-- what came of a run: what it says of its day, or why it ended early
 abbrev pub Ran : Type 0
-Ran = Result (Unit {0}) FloorFault
-
--- what came of a run on an auction, in the same words
-abbrev pub ran_of : Result (Unit {0}) Fault → Ran
-ran_of (Ok u) = Ok u
-ran_of (Err f) = Err (floor_fault_of f)
+Ran = Result Finish Fault
 
 -- 1 for a bad file, 3 for a read that failed and want of memory
 abbrev pub file_status : FileFault → ℕ
@@ -35,12 +24,17 @@ abbrev pub open_status : OpenFault → ℕ
 open_status opening.NoMemory = 3
 open_status f = 2
 
-abbrev pub status_of : FloorFault → ℕ
-status_of (floor.File f) = file_status f
-status_of (floor.Open f) = open_status f
+abbrev pub status_of : Fault → ℕ
+status_of (fault.File f) = file_status f
+status_of (fault.Open f) = open_status f
 status_of f = 3
 
--- 0 of a run that was done, and else that of its fault
+-- 0 for a lawful day, 4 for one that isn't
+abbrev pub finish_status : Finish → ℕ
+finish_status Lawful = 0
+finish_status Unlawful = 4
+
+-- of a run that was done, and else that of its fault
 abbrev pub run_status : Ran → ℕ
-run_status (Ok u) = 0
+run_status (Ok finish) = finish_status finish
 run_status (Err f) = status_of f

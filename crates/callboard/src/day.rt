@@ -9,7 +9,7 @@ ghost use Rattle.callboard.specs.PlayedDay.{IsOfBoard, IsOfDay, IsPlayedOut, fau
 ghost use Rattle.callboard.specs.PlayedDay.{is_in_want, is_kept_open, keeps_open};
 ghost use Rattle.callboard.specs.PlayedDay.{lacks_room, lacks_thread, wants_memory};
 
-use crate::fault::FloorFault;
+use crate::fault::Fault;
 use call_board::{
     Board, CallFault, CloseFault, Closing, Day, Fresh, Member, Update, Version, close,
 };
@@ -23,40 +23,31 @@ use std::thread::Threads;
 fn keeps_open(fault: Option<CallFault>) -> bool
     ensures { result ≡ keeps_open fault }
 {
-    match fault {
-        Some(CallFault::HistoryFull | CallFault::Behind { .. }) => true,
-        Some(CallFault::NoMemory) | None => false,
-    }
+    matches!(
+        fault,
+        Some(CallFault::HistoryFull | CallFault::Behind { .. })
+    )
 }
 
 /// Whether a call was refused memory.
 fn wants_memory(fault: Option<CallFault>) -> bool
     ensures { result ≡ wants_memory fault }
 {
-    match fault {
-        Some(CallFault::NoMemory) => true,
-        Some(CallFault::HistoryFull | CallFault::Behind { .. }) | None => false,
-    }
+    matches!(fault, Some(CallFault::NoMemory))
 }
 
 /// Whether a thread couldn't be started.
 fn lacks_thread(fault: Option<RunFault>) -> bool
     ensures { result ≡ lacks_thread fault }
 {
-    match fault {
-        Some(RunFault::NoThread) => true,
-        Some(RunFault::NoMemory) | None => false,
-    }
+    matches!(fault, Some(RunFault::NoThread))
 }
 
 /// Whether a run was refused room.
 fn lacks_room(fault: Option<RunFault>) -> bool
     ensures { result ≡ lacks_room fault }
 {
-    match fault {
-        Some(RunFault::NoMemory) => true,
-        Some(RunFault::NoThread) | None => false,
-    }
+    matches!(fault, Some(RunFault::NoMemory))
 }
 
 /// Whether something kept the day open: a thread that couldn't be started, or a call that found the
@@ -75,13 +66,13 @@ fn is_in_want<K: Day>(fault: Option<RunFault>, played: &[Played<K>]) -> bool
 }
 
 /// Why the day isn't to be closed after this run, if there is a reason.
-fn fault_after<K: Day>(fault: Option<RunFault>, played: &[Played<K>]) -> Option<FloorFault>
+fn fault_after<K: Day>(fault: Option<RunFault>, played: &[Played<K>]) -> Option<Fault>
     ensures { result ≡ fault_after fault played.now }
 {
     if is_kept_open(fault, played) {
-        Some(FloorFault::NotClosed)
+        Some(Fault::NotClosed)
     } else if is_in_want(fault, played) {
-        Some(FloorFault::NoMemory)
+        Some(Fault::NoMemory)
     } else {
         None
     }
@@ -111,12 +102,12 @@ fn close_or_abandon<K: Day, T: Wait>(
     board: Board<K>,
     members: Vec<Member<K>>,
     rt: &T,
-) -> Result<Closing, FloorFault>
+) -> Result<Closing, Fault>
 where
     Version<K>: Absorb<Update<K>, State = ()>,
     ensures closing { IfOk result (IsClosing K.config K.parts members.items) }
     ensures accounts { IfOk result (λ closing. All (Accounts (calls_of closing.history.items)) members.items) }
-    ensures fault { IfErr result (λ f. f ≡ FloorFault.NotClosed) }
+    ensures fault { IfErr result (λ f. f ≡ Fault.NotClosed) }
 {
     match close(board, members, rt) {
         Ok(closing) => Ok(closing),
@@ -127,9 +118,9 @@ where
             },
         ) => {
             board.abandon(rt);
-            Err(FloorFault::NotClosed)
+            Err(Fault::NotClosed)
         }
-        Err(CloseFault::Behind { .. }) => Err(FloorFault::NotClosed),
+        Err(CloseFault::Behind { .. }) => Err(Fault::NotClosed),
     }
 }
 
@@ -140,7 +131,7 @@ fn close_after<K: Day, T: Wait>(
     outcome: Outcome<K>,
     room: Vec<Member<K>>,
     rt: &T,
-) -> Result<Closing, FloorFault>
+) -> Result<Closing, Fault>
 where
     Version<K>: Absorb<Update<K>, State = ()>,
     requires room { room.items ≡ [] }
@@ -172,7 +163,7 @@ fn play_and_close<K: Day + Send + Sync, G: Gate + Sync, T: Wait + Threads + Sync
     scripts: Vec<Script>,
     gate: &G,
     rt: &T,
-) -> Result<Closing, FloorFault>
+) -> Result<Closing, Fault>
 where
     Version<K>: Absorb<Update<K>, State = ()> + Send + Sync,
     requires members { members.items ≡ newcomers K.parts }
@@ -182,7 +173,7 @@ where
 {
     let Ok(room) = Vec::with_capacity(alloc, members.len()) else {
         board.abandon(rt);
-        return Err(FloorFault::NoMemory);
+        return Err(Fault::NoMemory);
     };
     let outcome = run(alloc, &board, members, scripts, gate, rt);
     close_after(board, outcome, room, rt)
@@ -190,13 +181,13 @@ where
 
 /// The closing of the day that `K` names, with a script for each member. It has no bound but `K`'s, so
 /// that its caller can name the day.
-pub fn day<K: Day + Send + Sync, G: Gate + Sync, T: Wait + Threads + Sync>(
+pub fn closing_of_day<K: Day + Send + Sync, G: Gate + Sync, T: Wait + Threads + Sync>(
     alloc: Global,
     fresh: Fresh,
     scripts: Vec<Script>,
     gate: &G,
     rt: &T,
-) -> Result<Closing, FloorFault>
+) -> Result<Closing, Fault>
     requires names { (K.config ≡ fresh.config) × (K.parts ≡ fresh.members)
         × (K.name ≡ fresh.ledger) × (K.story ≡ fresh.story) }
     requires fits { Fits (newcomers fresh.members) scripts.items }
@@ -205,7 +196,7 @@ pub fn day<K: Day + Send + Sync, G: Gate + Sync, T: Wait + Threads + Sync>(
 {
     let (board, members) = match fresh.begin::<K>() {
         Ok(begun) => begun,
-        Err(fault) => return Err(FloorFault::Open(fault)),
+        Err(fault) => return Err(Fault::Open(fault)),
     };
     play_and_close(alloc, board, members, scripts, gate, rt)
 }

@@ -1,34 +1,25 @@
-//! Why a run of an order file ends early.
+//! What comes of a run.
 
 ghost use Rattle.std.specs.Prelude.{◌≡◌};
-ghost use Rattle.callboard.specs.Status.{file_status, floor_fault_of, open_status, status_of};
+ghost use Rattle.callboard.specs.AuditRun.{fault_by};
+ghost use Rattle.callboard.specs.Status.{file_status, finish_status, open_status, status_of};
 
 use auction::OpenFault;
+use day_audit::AuditFault;
 use order_file::FileFault;
 use std::fmt;
 use std::fmt::{Display, Formatter};
 
-/// Why a run of an order file on an auction ends early; its text is the line that the program prints on
-/// standard error.
+/// Why a run ends early, on an auction or on a board; its text is the line that the program prints on standard
+/// error.
 #[derive(Clone, Copy, Debug, PartialEq, Eq)]
 pub enum Fault {
-    /// The order file has a fault, of which this is the first.
+    /// The input has a fault, of which this is the first.
     File(FileFault),
-    /// No auction can be opened with this config.
+    /// No auction or board can be opened with this config and so many members, or the board's day can't
+    /// begin.
     Open(OpenFault),
-    /// A line could not be written.
-    WriteFailed,
-}
-
-/// Why a run of an order file on a board ends early. Each fault of a run on an auction is one, with the
-/// same text and status.
-#[derive(Clone, Copy, Debug, PartialEq, Eq)]
-pub enum FloorFault {
-    /// The order file has a fault, of which this is the first.
-    File(FileFault),
-    /// No board can be opened with this config and so many members, or its day can't begin.
-    Open(OpenFault),
-    /// Memory was refused to the scripts, to the members' calls or to the audit.
+    /// Memory was refused to the scripts, to the members' calls, to the audit or to a listing.
     NoMemory,
     /// The board's day couldn't be closed: a thread couldn't be started, the history was full, or a
     /// member was behind or missing.
@@ -37,36 +28,49 @@ pub enum FloorFault {
     WriteFailed,
 }
 
-impl From<Fault> for FloorFault {
-    ghost from_gives = { λ fault r. r ≡ floor_fault_of fault };
+/// What a run that was done says of its day.
+#[derive(Clone, Copy, Debug, PartialEq, Eq)]
+pub enum Finish {
+    /// It is a lawful one. So is each day whose commands were run.
+    Lawful,
+    /// A reply that its journal has isn't the lawful one.
+    Unlawful,
+}
 
-    fn from(fault: Fault) -> FloorFault {
+impl Finish {
+    /// The status that the program ends with: 0 for a lawful day, and else 4.
+    pub fn status(self) -> u8
+        ensures { result ≡ finish_status self }
+    {
+        match self {
+            Finish::Lawful => 0,
+            Finish::Unlawful => 4,
+        }
+    }
+}
+
+impl From<AuditFault> for Fault {
+    ghost from_gives = { λ fault r. r ≡ fault_by fault };
+
+    fn from(fault: AuditFault) -> Fault {
         match fault {
-            Fault::File(fault) => FloorFault::File(fault),
-            Fault::Open(fault) => FloorFault::Open(fault),
-            Fault::WriteFailed => FloorFault::WriteFailed,
+            AuditFault::File(fault) => Fault::File(fault),
+            AuditFault::Open(fault) => Fault::Open(fault),
+            AuditFault::WriteFailed => Fault::WriteFailed,
         }
     }
 }
 
 impl Display for Fault {
     fn fmt<W: fmt::Write>(&self, f: &mut Formatter<W>) -> fmt::Result {
-        FloorFault::from(*self).fmt(f)
-    }
-}
-
-impl Display for FloorFault {
-    fn fmt<W: fmt::Write>(&self, f: &mut Formatter<W>) -> fmt::Result {
         match self {
-            FloorFault::File(fault) => fault.fmt(f),
-            FloorFault::Open(OpenFault::BadBounds) => f.write_str("bad bounds"),
-            FloorFault::Open(OpenFault::BadReference) => f.write_str("bad reference"),
-            FloorFault::Open(OpenFault::BadLimits) => f.write_str("bad limits"),
-            FloorFault::Open(OpenFault::NoMemory) | FloorFault::NoMemory => {
-                f.write_str("out of memory")
-            }
-            FloorFault::NotClosed => f.write_str("floor not closed"),
-            FloorFault::WriteFailed => f.write_str("write failed"),
+            Fault::File(fault) => fault.fmt(f),
+            Fault::Open(OpenFault::BadBounds) => f.write_str("bad bounds"),
+            Fault::Open(OpenFault::BadReference) => f.write_str("bad reference"),
+            Fault::Open(OpenFault::BadLimits) => f.write_str("bad limits"),
+            Fault::Open(OpenFault::NoMemory) | Fault::NoMemory => { f.write_str("out of memory") }
+            Fault::NotClosed => f.write_str("floor not closed"),
+            Fault::WriteFailed => f.write_str("write failed"),
         }
     }
 }
@@ -90,16 +94,6 @@ fn open_status(fault: OpenFault) -> u8
 }
 
 impl Fault {
-    /// The status that the program ends with: 1 for a bad file, 2 for bounds, a reference or limits
-    /// that no auction has, 3 for want of memory and a read or a write that failed.
-    pub fn status(self) -> u8
-        ensures { result ≡ status_of (floor_fault_of self) }
-    {
-        FloorFault::from(self).status()
-    }
-}
-
-impl FloorFault {
     /// The status that the program ends with: 1 for a bad file, 2 for bounds, a reference, limits or
     /// a number of members that no board has, 3 for want of memory, a floor that wasn't closed, and a
     /// read or a write that failed.
@@ -107,9 +101,9 @@ impl FloorFault {
         ensures { result ≡ status_of self }
     {
         match self {
-            FloorFault::File(fault) => file_status(fault),
-            FloorFault::Open(fault) => open_status(fault),
-            FloorFault::NoMemory | FloorFault::NotClosed | FloorFault::WriteFailed => 3,
+            Fault::File(fault) => file_status(fault),
+            Fault::Open(fault) => open_status(fault),
+            Fault::NoMemory | Fault::NotClosed | Fault::WriteFailed => 3,
         }
     }
 }

@@ -1,22 +1,25 @@
-//! The run of an order file on a board, all members at once.
+//! The run of commands on a board, all members at once.
 
-ghost use Rattle.std.specs.Prelude.{◌≡◌, ◌≤◌, All, length, IfErr, IfOk};
+ghost use Rattle.std.specs.Prelude.{◌≡◌, ◌<◌, ◌≤◌, ◌↔◌, All, None, length, IfErr, IfOk, IsErrOf};
+ghost use Rattle.auction_terms.specs.Day.{IsLegal};
 ghost use Rattle.call_board.specs.FreshBoard.{board_fault};
 ghost use Rattle.order_file.specs.File.{IsBelow};
-ghost use Rattle.callboard.specs.BoardRun.{Finds, IsDayOf, RunsOnBoard};
-ghost use Rattle.callboard.specs.FileRun.{Opens, ends_of};
+ghost use Rattle.callboard.specs.BoardRun.{Finds, IsDayOf, RunsOnBoard, closed_text, closing_text};
+ghost use Rattle.callboard.specs.FileRun.{Opens, WritesText, ends_of};
 ghost use Rattle.callboard.specs.PlayedDay.{IsBetween};
+ghost use Rattle.callboard.specs.Printed.{IsAfterwards, IsWideForm};
 
-use crate::day::day;
-use crate::fault::FloorFault;
-use crate::printing::write_closing;
+use crate::day::closing_of_day;
+use crate::fault::{Fault, Finish};
+use crate::printing::{write_closing, write_listing};
 use crate::scripts::split;
 use auction::{Verdict, audit};
 use auction_terms::{Call, Config, Entry};
 use byte_streams::{Sink, Source};
 use call_board::{Closing, Fresh};
+use journal::{Day, read_given};
 use member_floor::Gate;
-use order_file::read_orders;
+use settings::Form;
 use std::alloc::Global;
 use std::marker::Brand;
 use std::sync::Wait;
@@ -25,70 +28,117 @@ use std::thread::Threads;
 /// The closing of a day on which the members of these calls call them, all at once.
 fn closing_of<G: Gate + Sync, T: Wait + Threads + Sync>(
     alloc: Global,
-    config: Config,
-    members: u8,
+    day: Day,
     calls: &[Call],
     gate: &G,
     rt: &T,
-) -> Result<Closing, FloorFault>
-    requires below { All (IsBelow members) calls.now }
-    requires few { length calls.now ≤ config.max_calls }
-    ensures opening { Opens (board_fault config members) result }
-    ensures closing { IfOk result (IsDayOf config members calls.now) }
+) -> Result<Closing, Fault>
+    requires below { All (IsBelow day.members) calls.now }
+    requires few { length calls.now ≤ day.config.max_calls }
+    ensures opening { Opens (board_fault day.config day.members) result }
+    ensures closing { IfOk result (IsDayOf day.config day.members calls.now) }
     ensures fault { IfErr result IsBetween }
 {
+    let Day { config, members } = day;
     let fresh = match Fresh::open(alloc, config, members) {
         Ok(fresh) => fresh,
-        Err(fault) => return Err(FloorFault::Open(fault)),
+        Err(fault) => return Err(Fault::Open(fault)),
     };
     let Ok(scripts) = split(alloc, members, calls) else {
-        return Err(FloorFault::NoMemory);
+        return Err(Fault::NoMemory);
     };
-    day::<Brand, G, T>(alloc, fresh, scripts, gate, rt)
+    closing_of_day::<Brand, G, T>(alloc, fresh, scripts, gate, rt)
 }
 
 /// The place from 0 of the first entry that isn't the auction's own, if there is one.
-fn first_bad(alloc: Global, config: Config, history: &[Entry]) -> Result<Option<u64>, FloorFault>
+fn first_bad(alloc: Global, config: Config, history: &[Entry]) -> Result<Option<u64>, Fault>
     ensures finding { IfOk result (Finds config history.now) }
-    ensures fault { IfErr result (λ f. f ≡ FloorFault.NoMemory) }
+    ensures fault { IfErr result (λ f. f ≡ Fault.NoMemory) }
 {
     match audit(alloc, config, history) {
         Ok(Verdict::Legal) => Ok(None),
         Ok(Verdict::BadAt(place)) => Ok(Some(place as u64)),
-        Err(_) => Err(FloorFault::NoMemory),
+        Err(_) => Err(Fault::NoMemory),
     }
 }
 
-/// Reads and checks a whole order file, has each member call its commands on a board at once with the
-/// others, each under the gate, closes the board, audits its history, and writes how many entries it
-/// has, how many calls each member made, and what the audit says; then, where `history` asks for it,
-/// a line for each entry, in the order of the board.
+/// Audits the history of a closed day, and writes what it comes to and what the audit says; then, where
+/// `history` asks for it, a line for each entry, in the order of the board.
+fn write_tally<S: Sink>(
+    alloc: Global,
+    writer: &mut S,
+    config: Config,
+    closing: &Closing,
+    history: bool,
+) -> Result<(), Fault>
+    requires { IsLegal config closing.now.history.items }
+    ensures text { WritesText (S.written writer.old) (S.written writer.new)
+        (closing_text closing.now None history) result }
+    ensures failed { IsErrOf result Fault.WriteFailed ↔ (S.failures writer.old < S.failures writer.new) }
+    ensures fault { IfErr result IsAfterwards }
+{
+    let place = match first_bad(alloc, config, closing.history.as_slice()) {
+        Ok(place) => place,
+        Err(_) => return Err(Fault::NoMemory),
+    };
+    let Ok(()) = write_closing(writer, closing, place, history) else {
+        return Err(Fault::WriteFailed);
+    };
+    Ok(())
+}
+
+/// Writes what is printed of a closed day: its tally, or a listing in place of that.
+fn write_floor<S: Sink>(
+    alloc: Global,
+    writer: &mut S,
+    day: Day,
+    closing: &Closing,
+    history: bool,
+    form: Form,
+) -> Result<(), Fault>
+    requires { IsLegal day.config closing.now.history.items }
+    ensures text { WritesText (S.written writer.old) (S.written writer.new)
+        (closed_text form day history closing.now) result }
+    ensures failed { IsErrOf result Fault.WriteFailed ↔ (S.failures writer.old < S.failures writer.new) }
+    ensures fault { IfErr result IsAfterwards }
+    ensures wide { IsWideForm form closing.now.history.items }
+{
+    let entries = closing.history.as_slice();
+    match form {
+        Form::Lines => write_tally(alloc, writer, day.config, closing, history),
+        Form::Listing(listing) => write_listing(alloc, writer, listing, day, entries),
+    }
+}
+
+/// Reads and checks a whole input, an order file or a journal, has each member call its commands on a
+/// board at once with the others, each under the gate, closes the board, audits its history, and writes
+/// how many entries it has, how many calls each member made, and what the audit says; then, where
+/// `history` asks for it, a line for each entry, in the order of the board. Where the form is a listing,
+/// that of the board's history is written in place of all that. An order file is one of this day.
 ///
 /// The counts are those of the file, and the history is a legal one of the file's calls, in which each
-/// member's come in their order. A fault of the file comes before one of the config and the number of
+/// member's come in their order. A fault of the input comes before one of the config and the number of
 /// members. Nothing is written where there is a fault, and a write that fails leaves a beginning of
 /// the text.
 pub fn run_floor<R: Source, S: Sink, G: Gate + Sync, T: Wait + Threads + Sync>(
     alloc: Global,
     reader: &mut R,
     writer: &mut S,
-    config: Config,
-    members: u8,
+    day: Day,
     history: bool,
+    form: Form,
     gate: &G,
     rt: &T,
-) -> Result<(), FloorFault>
-    ensures { RunsOnBoard config members history
+) -> Result<Finish, Fault>
+    ensures { RunsOnBoard day history form
         (ends_of R.Source S.Sink reader.old reader.new writer.old writer.new) result }
 {
-    let calls = match read_orders(alloc, reader, members, config.max_calls) {
-        Ok(calls) => calls,
-        Err(fault) => return Err(FloorFault::File(fault)),
+    let given = match read_given(alloc, reader, day) {
+        Ok(given) => given,
+        Err(fault) => return Err(Fault::File(fault)),
     };
-    let closing = closing_of(alloc, config, members, calls.as_slice(), gate, rt)?;
-    let place = first_bad(alloc, config, closing.history.as_slice())?;
-    let Ok(()) = write_closing(writer, &closing, place, history) else {
-        return Err(FloorFault::WriteFailed);
-    };
-    Ok(())
+    let calls = given.calls.as_slice();
+    let closing = closing_of(alloc, given.day, calls, gate, rt)?;
+    write_floor(alloc, writer, given.day, &closing, history, form)?;
+    Ok(Finish::Lawful)
 }

@@ -1,22 +1,25 @@
-//! A call auction board for one instrument: reads an order file on standard input, runs it on an
-//! auction, and prints a line for each command on standard output; or has its members call their
-//! commands at once on a board, and prints what the day came to.
+//! A call auction board for one instrument: reads an order file or a journal on standard input, runs it
+//! on an auction, and prints a line for each command on standard output, or the day's journal; or has its
+//! members call their commands at once on a board, and prints what the day came to; or audits a journal.
 #![tactic(auto)]
 
 ghost use Rattle.std.specs.Prelude.{◌≡◌, ◌<◌, map, string_bytes, IfOk};
 ghost use Rattle.clap.specs.Walk.{texts};
 
+mod audit;
 mod day;
 mod fault;
 mod floor;
+mod laws;
 mod printing;
 mod run;
 mod scripts;
 mod serve;
 
 use byte_streams::{Failures, FromRead, ToWrite};
-pub use fault::{Fault, FloorFault};
+pub use fault::{Fault, Finish};
 pub use floor::run_floor;
+pub use laws::printed_journals_are_lawful;
 pub use run::run_file;
 pub use serve::serve;
 use std::alloc::{AllocError, Global};

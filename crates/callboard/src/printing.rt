@@ -1,12 +1,23 @@
-//! The printed text of a closed day.
+//! The printed text of a day that is over.
 
+ghost use Rattle.std.specs.Prelude.{◌<◌, ◌↔◌, IfErr, IsErrOf};
+ghost use Rattle.auction_terms.specs.Day.{IsLegal};
 ghost use Rattle.byte_streams.specs.Writing.{WritesAll};
+ghost use Rattle.day_tables.specs.TableRecords.{PrintsTable};
 ghost use Rattle.printed_lines.specs.Printing.{Prints};
 ghost use Rattle.callboard.specs.BoardRun.{closing_text};
+ghost use Rattle.callboard.specs.FileRun.{WritesText};
+ghost use Rattle.callboard.specs.Printed.{IsAfterwards, IsWideListing, WritesTable, listed};
 
+use crate::fault::Fault;
+use auction_terms::Entry;
 use byte_streams::{Sink, WriteFailed};
 use call_board::Closing;
+use day_tables::{TableFault, print_book, print_trades};
+use journal::{Day, print_journal};
 use printed_lines::{Printer, print_story, print_tally};
+use settings::Listing;
+use std::alloc::Global;
 
 /// Prints what a closed day comes to, and its history where that is wanted.
 fn print_closing<S: Sink>(
@@ -38,4 +49,67 @@ pub fn write_closing<S: Sink>(
     let mut printer = Printer::new(writer);
     print_closing(&mut printer, closing, first_bad, history)?;
     printer.flush()
+}
+
+fn print_listing<S: Sink>(
+    alloc: Global,
+    printer: &mut Printer<'_, S>,
+    listing: Listing,
+    day: Day,
+    entries: &[Entry],
+) -> Result<(), TableFault>
+    requires { IsLegal day.config entries.now }
+    ensures text { PrintsTable S.Sink printer.old printer.new result (listed listing day entries.now) }
+    ensures wide { IsWideListing listing entries.now }
+{
+    match listing {
+        Listing::Journal => match print_journal(printer, day, entries) {
+            Ok(()) => Ok(()),
+            Err(failed) => Err(TableFault::Write(failed)),
+        },
+        Listing::Trades => print_trades(alloc, printer, day.config, entries),
+        Listing::Book => print_book(alloc, printer, day.config, entries),
+    }
+}
+
+/// Writes a listing of a lawful day with these entries.
+fn write_whole<S: Sink>(
+    alloc: Global,
+    writer: &mut S,
+    listing: Listing,
+    day: Day,
+    entries: &[Entry],
+) -> Result<(), TableFault>
+    requires { IsLegal day.config entries.now }
+    ensures text { WritesTable S.Sink writer.old writer.new result (listed listing day entries.now) }
+    ensures wide { IsWideListing listing entries.now }
+{
+    let mut printer = Printer::new(writer);
+    print_listing(alloc, &mut printer, listing, day, entries)?;
+    match printer.flush() {
+        Ok(()) => Ok(()),
+        Err(failed) => Err(TableFault::Write(failed)),
+    }
+}
+
+/// Writes a listing of a lawful day with these entries, of a config that an auction can be opened with. Where memory
+/// is refused nothing is written, and a write that fails leaves a beginning of the text.
+pub fn write_listing<S: Sink>(
+    alloc: Global,
+    writer: &mut S,
+    listing: Listing,
+    day: Day,
+    entries: &[Entry],
+) -> Result<(), Fault>
+    requires { IsLegal day.config entries.now }
+    ensures text { WritesText (S.written writer.old) (S.written writer.new) (listed listing day entries.now) result }
+    ensures failed { IsErrOf result Fault.WriteFailed ↔ (S.failures writer.old < S.failures writer.new) }
+    ensures fault { IfErr result IsAfterwards }
+    ensures wide { IsWideListing listing entries.now }
+{
+    match write_whole(alloc, writer, listing, day, entries) {
+        Ok(()) => Ok(()),
+        Err(TableFault::Open(_)) => Err(Fault::NoMemory),
+        Err(TableFault::Write(_)) => Err(Fault::WriteFailed),
+    }
 }

@@ -8,29 +8,45 @@ ghost use Rattle.callboard.specs.FileRun.{Runs, ends_of};
 ghost use Rattle.callboard.specs.Served.{Answers, job_of, words_status};
 ghost use Rattle.callboard.specs.Status.{status_of};
 
-use crate::fault::FloorFault;
+use crate::audit::run_audit;
+use crate::fault::{Fault, Finish};
 use crate::floor::run_floor;
 use crate::run::run_file;
 use byte_streams::{Sink, Source, write_all};
 use clap::Error;
 use clap::error::ErrorKind;
+use journal::Day;
 use member_floor::OpenGate;
-use settings::{Settings, settings};
+use settings::{Settings, Task, WordsFault, settings};
 use std::alloc::Global;
 use std::fmt::InlineText;
 use std::sync::Wait;
 use std::thread::Threads;
 
-/// Writes the line of a fault on standard error, and answers its status. Where that fails too there is
-/// nobody left to tell.
-fn tell<E: Sink>(err: &mut E, fault: FloorFault) -> u8
-    ensures { result ≡ status_of fault }
-{
-    let text = InlineText::<64>::of(fault);
-    if write_all(err, text.as_str().as_bytes()).is_ok() {
+/// Writes a line on standard error. Where that fails there is nobody left to tell.
+fn write_line<E: Sink>(err: &mut E, line: &str) {
+    if write_all(err, line.as_bytes()).is_ok() {
         let _ = write_all(err, b"\n".as_slice());
     }
+}
+
+/// Writes the line of a fault on standard error, and answers its status.
+fn tell<E: Sink>(err: &mut E, fault: Fault) -> u8
+    ensures { result ≡ status_of fault }
+{
+    write_line(err, InlineText::<64>::of(fault).as_str());
     fault.status()
+}
+
+/// Tells that an audit stands alone, and answers the status of a bad command line.
+fn refuse_audit<E: Sink>(err: &mut E) -> u8
+    ensures { result ≡ 2 }
+{
+    write_line(
+        err,
+        InlineText::<64>::of(WordsFault::AuditNotAlone).as_str(),
+    );
+    2
 }
 
 /// The text of a command line that was refused, or of the help that was asked for, unless memory was
@@ -56,40 +72,50 @@ fn print_text<O: Sink, E: Sink>(out: &mut O, err: &mut E, error: &Error, text: &
         return 2;
     }
     if write_all(out, text.as_bytes()).is_err() {
-        return tell(err, FloorFault::WriteFailed);
+        return tell(err, Fault::WriteFailed);
     }
     0
 }
 
-/// Runs the file as the settings say: its members at once on a board, or its calls on an auction.
+/// Does with the input what the settings say: runs its commands with the members at once on a board, or
+/// one after the other on an auction, or audits it.
 fn run_settings<R: Source, O: Sink, T: Wait + Threads + Sync>(
     alloc: Global,
     settings: Settings,
     reader: &mut R,
     out: &mut O,
     rt: &T,
-) -> Result<(), FloorFault>
+) -> Result<Finish, Fault>
     ensures { Runs (job_of settings) (ends_of R.Source O.Sink reader.old reader.new out.old out.new) result }
 {
     let Settings {
         config,
         members,
-        floor,
-        history,
+        task,
     } = settings;
-    if floor {
-        return run_floor(alloc, reader, out, config, members, history, &OpenGate, rt);
+    let day = Day { config, members };
+    match task {
+        Task::Run {
+            floor: true,
+            history,
+            form,
+        } => run_floor(alloc, reader, out, day, history, form, &OpenGate, rt),
+        Task::Run {
+            floor: false,
+            history: _,
+            form,
+        } => run_file(alloc, reader, out, day, form),
+        Task::Audit => run_audit(alloc, reader, out),
     }
-    Ok(run_file(alloc, reader, out, config, members)?)
 }
 
 /// Runs the program on these words, the first being its name, and answers its status: 0 done, or the
-/// help that was asked for, 1 a bad order file, 2 a bad command line or bounds, a reference or limits
-/// that no auction has, 3 want of memory, a read or a write that failed, or a floor that couldn't be
-/// closed.
+/// help that was asked for, 1 a bad input, 2 a bad command line or bounds, a reference or limits that no
+/// auction has, 3 want of memory, a read or a write that failed, or a floor that couldn't be closed, 4 a
+/// journal of an unlawful day.
 ///
 /// What it prints goes to `out`, the help too; a fault is one line on `err`, and for a bad command line
-/// the text of `clap`. Where the file or the command line is bad, nothing goes to `out`.
+/// the text of `clap`. Where the input or the command line is bad, nothing goes to `out`.
 pub fn serve<'a, R: Source, O: Sink, E: Sink, T: Wait + Threads + Sync>(
     alloc: Global,
     words: &'a [&'a str],
@@ -102,19 +128,20 @@ pub fn serve<'a, R: Source, O: Sink, E: Sink, T: Wait + Threads + Sync>(
     ensures quiet { (result ≡ 1) ⊎ (result ≡ 2) → O.written out.new ≡ O.written out.old }
     ensures read_failed { R.failures reader.old < R.failures reader.new → result ≡ 3 }
     ensures write_failed { O.failures out.old < O.failures out.new → result ≡ 3 }
-    ensures status { result ≤ 3 }
+    ensures status { result ≤ 4 }
 {
     let settings = match settings(alloc, words) {
         Ok(settings) => settings,
-        Err(error) => {
+        Err(WordsFault::AuditNotAlone) => return refuse_audit(err),
+        Err(WordsFault::Parse(error)) => {
             let Some(text) = text_of(alloc, &error) else {
-                return tell(err, FloorFault::NoMemory);
+                return tell(err, Fault::NoMemory);
             };
             return print_text(out, err, &error, text.as_str());
         }
     };
     match run_settings(alloc, settings, reader, out, rt) {
-        Ok(()) => 0,
+        Ok(finish) => finish.status(),
         Err(fault) => tell(err, fault),
     }
 }

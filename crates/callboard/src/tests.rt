@@ -2,10 +2,12 @@
 
 ghost use Rattle.std.specs.Prelude.{◌≡◌, ◌<◌};
 
-use crate::{FloorFault, run_file, run_floor, serve};
+use crate::{Fault, Finish, run_file, run_floor, serve};
 use auction_terms::Config;
 use byte_streams::{Failures, FromMemory, Sink, Source, ToMemory, ToWrite};
+use journal::Day;
 use member_floor::Gate;
+use settings::Form;
 use std::alloc::Global;
 use std::fmt;
 use std::io::Cursor;
@@ -23,6 +25,7 @@ mod edges;
 mod examples;
 mod files;
 mod floor;
+mod forms;
 mod full;
 mod refused;
 
@@ -198,7 +201,7 @@ fn each_gives_its_lines<T: Abort + AllocGlobal + Wait + Threads + Sync>(
 /// What a run came to, and what it wrote, to a writer that takes no memory.
 #[derive(Drop)]
 struct Ran {
-    answer: Result<(), FloorFault>,
+    answer: Result<Finish, Fault>,
     bytes: [u8; 512],
     count: u64,
 }
@@ -229,18 +232,19 @@ fn filed<O: Ledger, G: Gate + Sync, T: AllocGlobal + Wait + Threads + Sync>(
         writer: Cursor::new([0u8; 512]),
         failures: Failures::<O>::new(output),
     };
+    let day = Day { config, members };
     let answer = match gate {
         Some(gate) => run_floor(
             alloc,
             &mut reader,
             &mut out,
-            config,
-            members,
+            day,
             true,
+            Form::Lines,
             gate,
             rt,
         ),
-        None => run_file(alloc, &mut reader, &mut out, config, members).map_err(FloorFault::from),
+        None => run_file(alloc, &mut reader, &mut out, day, Form::Lines),
     };
     let ToWrite {
         writer,

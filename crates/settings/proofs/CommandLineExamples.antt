@@ -1,55 +1,76 @@
 -- Command lines, as the definitions read them.
 use Rattle.std.proofs.Common.{◌≡◌, true, false, refl, List, [], ◌∷◌, Some, None, codes}
 use Rattle.clap.specs.Walk.{Text}
-use Rattle.clap.specs.Faults.{fault_of}
 use Rattle.clap.specs.Kinds.{Kinds}
 use Rattle.clap.specs.declared.error.kind.ErrorKind.TheVariants as kind
 use Rattle.clap.proofs.OnLiterals.{clap_on_literals}
 use Rattle.settings.specs.Options.{callboard}
-use Rattle.settings.specs.CommandLine.{Accepts}
+use Rattle.settings.specs.CommandLine.{Accepts, Refuses, words_kinds}
+use Rattle.settings.specs.declared.fault.WordsFault.TheVariants.{AuditNotAlone}
+use Rattle.settings.specs.declared.types.Form.TheVariants.{Lines, Listing}
+use Rattle.settings.specs.declared.types.Listing.TheVariants.{Journal, Trades, Book}
 use Rattle.settings.specs.declared.types.Settings.{Settings}
+use Rattle.settings.specs.declared.types.Task.TheVariants.{Audit, Run}
 
 -- the settings where no word is given
 abbrev plain : Settings
 plain = record {
   config = record { low = 1; high = 1000; reference = 200; max_open = 4096; max_calls = 65536; range = None };
   members = 4;
-  floor = false;
-  history = false;
+  task = Run false false Lines;
 }
 
 -- no word
 no_words : Accepts (codes "callboard" ∷ []) plain
 unfolding callboard clap_on_literals
-no_words = (refl, record { low = refl; high = refl; reference = refl; max_open = refl; max_calls = refl; range = refl; members = refl; floor = refl; history = refl })
+no_words = (refl, record { low = refl; high = refl; reference = refl; max_open = refl; max_calls = refl; range = refl; members = refl; task = refl }, refl)
 
 -- `--low 5 --floor`
-low_and_floor : Accepts (codes "callboard" ∷ codes "--low" ∷ codes "5" ∷ codes "--floor" ∷ []) (record plain { config = record plain.config { low = 5 }; floor = true })
+low_and_floor : Accepts (codes "callboard" ∷ codes "--low" ∷ codes "5" ∷ codes "--floor" ∷ []) (record plain { config = record plain.config { low = 5 }; task = Run true false Lines })
 unfolding callboard clap_on_literals
-low_and_floor = (refl, record { low = refl; high = refl; reference = refl; max_open = refl; max_calls = refl; range = refl; members = refl; floor = refl; history = refl })
+low_and_floor = (refl, record { low = refl; high = refl; reference = refl; max_open = refl; max_calls = refl; range = refl; members = refl; task = refl }, refl)
 
 -- `--range 0`
 range_of_zero : Accepts (codes "callboard" ∷ codes "--range" ∷ codes "0" ∷ []) (record plain { config = record plain.config { range = Some 0 } })
 unfolding callboard clap_on_literals
-range_of_zero = (refl, record { low = refl; high = refl; reference = refl; max_open = refl; max_calls = refl; range = refl; members = refl; floor = refl; history = refl })
+range_of_zero = (refl, record { low = refl; high = refl; reference = refl; max_open = refl; max_calls = refl; range = refl; members = refl; task = refl }, refl)
 
--- each option
+-- each option of a run
 every_option : Accepts (codes "callboard" ∷ codes "--low" ∷ codes "5" ∷ codes "--high=6" ∷ codes "--reference" ∷ codes "1000000" ∷ codes "--members=64" ∷ codes "--open" ∷ codes "65536"
-    ∷ codes "--calls" ∷ codes "1048576" ∷ codes "--range=7" ∷ codes "--floor" ∷ codes "--history" ∷ [])
+    ∷ codes "--calls" ∷ codes "1048576" ∷ codes "--range=7" ∷ codes "--floor" ∷ codes "--history" ∷ codes "--print=journal" ∷ [])
     (record {
       config = record { low = 5; high = 6; reference = 1000000; max_open = 65536; max_calls = 1048576; range = Some 7 };
       members = 64;
-      floor = true;
-      history = true;
+      task = Run true true (Listing Journal);
     })
 unfolding callboard clap_on_literals
-every_option = (refl, record { low = refl; high = refl; reference = refl; max_open = refl; max_calls = refl; range = refl; members = refl; floor = refl; history = refl })
+every_option = (refl, record { low = refl; high = refl; reference = refl; max_open = refl; max_calls = refl; range = refl; members = refl; task = refl }, refl)
+
+-- `--print lines`
+lines_asked_for : Accepts (codes "callboard" ∷ codes "--print" ∷ codes "lines" ∷ []) plain
+unfolding callboard clap_on_literals
+lines_asked_for = (refl, record { low = refl; high = refl; reference = refl; max_open = refl; max_calls = refl; range = refl; members = refl; task = refl }, refl)
+
+-- `--print trades`
+trades_asked_for : Accepts (codes "callboard" ∷ codes "--print" ∷ codes "trades" ∷ []) (record plain { task = Run false false (Listing Trades) })
+unfolding callboard clap_on_literals
+trades_asked_for = (refl, record { low = refl; high = refl; reference = refl; max_open = refl; max_calls = refl; range = refl; members = refl; task = refl }, refl)
+
+-- `--floor --print book`
+book_of_a_floor : Accepts (codes "callboard" ∷ codes "--floor" ∷ codes "--print" ∷ codes "book" ∷ []) (record plain { task = Run true false (Listing Book) })
+unfolding callboard clap_on_literals
+book_of_a_floor = (refl, record { low = refl; high = refl; reference = refl; max_open = refl; max_calls = refl; range = refl; members = refl; task = refl }, refl)
+
+-- `--audit`
+audit_alone : Accepts (codes "callboard" ∷ codes "--audit" ∷ codes "--members" ∷ codes "2" ∷ []) (record plain { members = 2; task = Audit })
+unfolding callboard clap_on_literals
+audit_alone = (refl, record { low = refl; high = refl; reference = refl; max_open = refl; max_calls = refl; range = refl; members = refl; task = refl }, refl)
 
 -- ---- words that are refused
 
 -- the kinds of fault of the words after the program's name
 abbrev faults : List Text → Kinds
-faults words = fault_of callboard (codes "callboard" ∷ words)
+faults words = words_kinds (codes "callboard" ∷ words)
 
 -- one member too many
 members_65 : faults (codes "--members" ∷ codes "65" ∷ []) ≡ kind.ValueValidation ∷ []
@@ -85,3 +106,26 @@ low_twice = refl
 help : faults (codes "--help" ∷ []) ≡ kind.DisplayHelp ∷ []
 unfolding callboard clap_on_literals
 help = refl
+
+-- a form that there is not
+print_nonsense : faults (codes "--print" ∷ codes "nonsense" ∷ []) ≡ kind.InvalidValue ∷ []
+unfolding callboard clap_on_literals
+print_nonsense = refl
+
+-- an option without its word
+print_alone : faults (codes "--print" ∷ []) ≡ kind.InvalidValue ∷ []
+unfolding callboard clap_on_literals
+print_alone = refl
+
+-- an audit beside each option that it doesn't go with
+audit_and_floor : Refuses (codes "callboard" ∷ codes "--audit" ∷ codes "--floor" ∷ []) AuditNotAlone
+unfolding callboard clap_on_literals
+audit_and_floor = (refl, refl)
+
+audit_and_history : Refuses (codes "callboard" ∷ codes "--history" ∷ codes "--audit" ∷ []) AuditNotAlone
+unfolding callboard clap_on_literals
+audit_and_history = (refl, refl)
+
+audit_and_lines : Refuses (codes "callboard" ∷ codes "--audit" ∷ codes "--print=lines" ∷ []) AuditNotAlone
+unfolding callboard clap_on_literals
+audit_and_lines = (refl, refl)

@@ -4,3 +4,4 @@ mod Numbers
 mod Parsed
 mod Places
 mod Readings
+mod TaskLaws

@@ -20,7 +20,8 @@ use Rattle.clap.proofs.WalkLemmas.{one_text-rows}
 use Rattle.settings.specs.Options.{callboard, flag, number}
 use Rattle.settings.specs.declared.types.Settings.{Settings}
 use Rattle.settings.specs.OptionTexts.{HasFlag, HasNumber, IsNumberIn, IsParsed, MayHaveNumber}
-use Rattle.settings.specs.CommandLine.{Says, is_given, is_yes, number_at, number_in}
+use Rattle.settings.specs.CommandLine.{Says, number_at, number_in}
+use Rattle.settings.specs.Tasks.{is_given, is_yes}
 use Rattle.settings.proofs.Numbers.{number_read, passed_text}
 use Rattle.settings.proofs.Parsed.{IsOption, IsReadBy, option_text, option_there}
 use Rattle.settings.proofs.Places.{stands}
@@ -110,6 +111,7 @@ pub record HasOptions (rows : List Row) : Type 0 where
   pub members : HasNumber 1 MAX_MEMBERS (codes "members") rows
   pub floor : HasFlag (codes "floor") rows
   pub history : HasFlag (codes "history") rows
+  pub audit : HasFlag (codes "audit") rows
 
 pub has_options : (m : ArgMatches) → IsParsed m → HasOptions (rows_of (found_of m))
 unfolding callboard
@@ -123,6 +125,7 @@ has_options m parsed = record {
   members = a_number m 6 (codes "members") 1 MAX_MEMBERS (codes "4") parsed refl refl;
   floor = a_flag m 7 (codes "floor") parsed refl refl;
   history = a_flag m 8 (codes "history") parsed refl refl;
+  audit = a_flag m 10 (codes "audit") parsed refl refl;
 }
 
 -- ---- their ranges
@@ -163,17 +166,10 @@ pub free_command : (c : Command) → app_of c ≡ callboard → is_simple_and_fr
 unfolding callboard
 free_command c same = ap is_simple_and_free same
 
--- an error of the parse, handed on
-pub refused_by : {T : Type 0} (c : Command) (words : List Text) (r : Result T Error) (e : Error) → app_of c ≡ callboard
-    → (is_simple_and_free (app_of c) ≡ true → HasKind (fault_of (app_of c) words) e) → IsErr r → IsErrAnd r (λ x. x ≡ e) → FailsBy (fault_of callboard words) r
-refused_by c words r e same kinds err is =
-    fails_by_from (fault_of callboard words) r e (subst (λ (a : App). HasKind (fault_of a words) e) same (kinds (free_command c same))) err is
-
 pub no_fault : (c : Command) (words : List Text) → app_of c ≡ callboard → (is_simple_and_free (app_of c) ≡ true → fault_of (app_of c) words ≡ []) → fault_of callboard words ≡ []
 no_fault c words same kinds = ap (λ (a : App). fault_of a words) (sym same) ∙ kinds (free_command c same)
 
-pub said : (c : Command) (m : ArgMatches) (words : List Text) (s : Settings) → app_of c ≡ callboard → HasMatchesOf (app_of c) words m → Says (rows_of (found_of m)) s → Says (matches_of callboard words) s
+-- the rows of the matches are those that the words give
+pub rows_are : (c : Command) (m : ArgMatches) (words : List Text) → app_of c ≡ callboard → HasMatchesOf (app_of c) words m → rows_of (found_of m) ≡ matches_of callboard words
 unfolding callboard
-said c m words s same has says =
-    let rows = (has (ap is_simple same)).0 in
-    subst (λ (rs : List Row). Says rs s) (rows ∙ ap (λ (a : App). matches_of a words) same) says
+rows_are c m words same has = (has (ap is_simple same)).0 ∙ ap (λ (a : App). matches_of a words) same

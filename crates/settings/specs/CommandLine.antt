@@ -1,12 +1,14 @@
 -- What the words of the command line say.
-use Rattle.std.specs.Prelude.{◌≡◌, ℕ, Bool, false, List, [], Option, Some, codes, option_map}
-use Rattle.std.specs.Option.{option_map_or}
-use Rattle.std.specs.Str.{bytes_eq}
+use Rattle.std.specs.Prelude.{◌≡◌, ℕ, true, false, List, [], Option, Some, codes, option_map}
 use Rattle.std.specs.Str.Parse.{digits_value, without_leading_plus}
 use Rattle.clap.specs.Faults.{fault_of}
+use Rattle.clap.specs.Kinds.{HasKind, Kinds, or_else}
 use Rattle.clap.specs.Simple.{matches_of}
 use Rattle.clap.specs.Walk.{Row, Text, one_of}
 use Rattle.settings.specs.Options.{callboard}
+use Rattle.settings.specs.Tasks.{form_kinds, is_mixed, task_at, word_in}
+use Rattle.settings.specs.declared.fault.WordsFault.{WordsFault}
+use Rattle.settings.specs.declared.fault.WordsFault.TheVariants.{Parse, AuditNotAlone}
 use Rattle.settings.specs.declared.types.Settings.{Settings}
 
 -- the number that a text is read as
@@ -17,14 +19,6 @@ number_in text = digits_value 10 (without_leading_plus text)
 abbrev pub number_at : Text → List Row → Option ℕ
 number_at name rows = option_map number_in (one_of name rows)
 
--- the text of a flag, if it has one, says that it was given
-abbrev pub is_yes : Option Text → Bool
-is_yes text = option_map_or (λ t. bytes_eq t (codes "true")) text false
-
--- the flag of this name was given
-abbrev pub is_given : Text → List Row → Bool
-is_given name rows = is_yes (one_of name rows)
-
 -- each setting is what its option says
 pub record Says (rows : List Row) (s : Settings) : Type 0 where
   pub low : number_at (codes "low") rows ≡ Some s.config.low
@@ -34,9 +28,19 @@ pub record Says (rows : List Row) (s : Settings) : Type 0 where
   pub max_calls : number_at (codes "calls") rows ≡ Some s.config.max_calls
   pub range : number_at (codes "range") rows ≡ s.config.range
   pub members : number_at (codes "members") rows ≡ Some s.members
-  pub floor : is_given (codes "floor") rows ≡ s.floor
-  pub history : is_given (codes "history") rows ≡ s.history
+  pub task : task_at rows ≡ Some s.task
 
--- the words, the program's name first, have no fault and say these settings
+-- the words, the program's name first, have no fault and say these settings, and an audit stands alone
 abbrev pub Accepts : List Text → Settings → Type 0
 Accepts words s = (fault_of callboard words ≡ []) × Says (matches_of callboard words) s
+    × (is_mixed (matches_of callboard words) ≡ false)
+
+-- the kinds of fault of the words: those of the parse, and where it has none, of the form
+abbrev pub words_kinds : List Text → Kinds
+words_kinds words = or_else (fault_of callboard words) (form_kinds (word_in (matches_of callboard words)))
+
+-- Why words are refused: a fault of theirs, want of memory aside, and where they have none, an audit that doesn't stand
+-- alone.
+abbrev pub Refuses : List Text → WordsFault → Type 0
+Refuses words (Parse error) = HasKind (words_kinds words) error
+Refuses words AuditNotAlone = (words_kinds words ≡ []) × (is_mixed (matches_of callboard words) ≡ true)

@@ -26,6 +26,14 @@ flag name = record (new_rule name) {
   parser = Some parser.Bool;
 }
 
+-- an option with a word, which may be left out
+abbrev pub word : Text → Rule
+word name = record (new_rule name) {
+  long = Some name;
+  action = Some Set;
+  value_names = 1;
+}
+
 -- in the order of the help
 abbrev pub options : List Rule
 options = number (codes "low") 1 MAX_TICK (Some (codes "1"))
@@ -37,6 +45,8 @@ options = number (codes "low") 1 MAX_TICK (Some (codes "1"))
     ∷ number (codes "members") 1 MAX_MEMBERS (Some (codes "4"))
     ∷ flag (codes "floor")
     ∷ flag (codes "history")
+    ∷ word (codes "print")
+    ∷ flag (codes "audit")
     ∷ []
 
 -- the command: its name and its options, and no subcommand

@@ -1,22 +1,24 @@
 //! The command line of a call auction board: its options, their ranges and their defaults.
 #![tactic(auto)]
 
-ghost use Rattle.std.specs.Prelude.{◌≡◌, IfOk, Some, codes};
-ghost use Rattle.clap.specs.Kinds.{FailsBy};
-ghost use Rattle.clap.specs.Faults.{fault_of};
+ghost use Rattle.std.specs.Prelude.{◌≡◌, IfErr, IfOk, Some, codes};
 ghost use Rattle.clap.specs.Walk.{texts};
-ghost use Rattle.settings.specs.Options.{callboard};
 ghost use Rattle.settings.specs.Ranges.{InRange};
-ghost use Rattle.settings.specs.OptionTexts.{HasFlag, HasU32, IsParsed, MayHaveU32, rows_in};
-ghost use Rattle.settings.specs.CommandLine.{Accepts, Says, is_given, number_at};
+ghost use Rattle.settings.specs.OptionTexts.{HasU32, IsParsed, MayHaveU32, rows_in};
+ghost use Rattle.settings.specs.CommandLine.{Accepts, Refuses, Says, number_at};
+ghost use Rattle.settings.specs.Tasks.{task_at};
 
+mod fault;
 mod options;
+mod task;
 mod types;
 
 use auction_terms::Config;
-use clap::{ArgMatches, Error};
+use clap::ArgMatches;
+pub use fault::WordsFault;
 use std::alloc::Global;
-pub use types::Settings;
+use task::task_of;
+pub use types::{Form, Listing, Settings, Task};
 
 /// The number of an option that has a default.
 fn number_of(matches: &ArgMatches<'_>, name: &str) -> u32
@@ -34,16 +36,10 @@ fn range_of(matches: &ArgMatches<'_>) -> Option<u32>
     matches.get_one::<u32>("range")
 }
 
-fn flag_of(matches: &ArgMatches<'_>, name: &str) -> bool
-    requires { HasFlag name.now (rows_in matches.now) }
-    ensures { is_given name.now (rows_in matches.now) ≡ result }
-{
-    matches.get_flag(name)
-}
-
-/// The settings in the matches of a parse of the command.
-fn settings_of(matches: &ArgMatches<'_>) -> Settings
-    requires { IsParsed matches.now }
+/// The settings with this task in the matches of a parse of the command.
+fn settings_of(matches: &ArgMatches<'_>, task: Task) -> Settings
+    requires parsed { IsParsed matches.now }
+    requires task { task_at (rows_in matches.now) ≡ Some task }
     ensures words { Says (rows_in matches.now) result }
     ensures ranges { InRange result }
 {
@@ -54,8 +50,6 @@ fn settings_of(matches: &ArgMatches<'_>) -> Settings
     let max_calls = number_of(matches, "calls");
     let range = range_of(matches);
     let members = number_of(matches, "members");
-    let floor = flag_of(matches, "floor");
-    let history = flag_of(matches, "history");
     Settings {
         config: Config {
             low,
@@ -66,8 +60,7 @@ fn settings_of(matches: &ArgMatches<'_>) -> Settings
             range,
         },
         members: members as u8,
-        floor,
-        history,
+        task,
     }
 }
 
@@ -75,14 +68,16 @@ fn settings_of(matches: &ArgMatches<'_>) -> Settings
 ///
 /// Prices are in ticks. Each number is the one that its option gives, or the option's default, and
 /// is in its option's range; what two options say together is for the auction to judge. An error is
-/// clap's own: its text for the help that was asked for, for words that are none of these options or
-/// a number out of its range, and for want of memory.
-pub fn settings<'a>(alloc: Global, words: &'a [&'a str]) -> Result<Settings, Error>
-    ensures refused { FailsBy (fault_of callboard (texts words.now)) result }
+/// clap's own: its text for the help that was asked for, for words that are none of these options, a
+/// number out of its range or a form that there is not, and for want of memory. Where none of these
+/// is so, it is that `--audit` doesn't stand alone.
+pub fn settings<'a>(alloc: Global, words: &'a [&'a str]) -> Result<Settings, WordsFault>
+    ensures refused { IfErr result (Refuses (texts words.now)) }
     ensures words { IfOk result (Accepts (texts words.now)) }
     ensures ranges { IfOk result InRange }
 {
     let command = options::callboard(alloc)?;
     let matches = command.try_get_matches_from(words)?;
-    Ok(settings_of(&matches))
+    let task = task_of(alloc, &matches)?;
+    Ok(settings_of(&matches, task))
 }

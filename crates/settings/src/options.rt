@@ -1,10 +1,10 @@
 //! The options of the command line.
 
-ghost use Rattle.std.specs.Prelude.{◌≡◌, IfOk, IfErr, false, map, pos};
+ghost use Rattle.std.specs.Prelude.{◌≡◌, IfOk, IfErr, codes, false, map, pos};
 ghost use Rattle.clap.specs.Walk.{rule_of};
 ghost use Rattle.clap.specs.Simple.{app_of};
 ghost use Rattle.clap.specs.Values.{kind_of};
-ghost use Rattle.settings.specs.Options.{callboard, flag};
+ghost use Rattle.settings.specs.Options.{callboard, flag, word};
 ghost use Rattle.settings.specs.Table.{rule_for, with_rules};
 
 use auction_terms::{MAX_CALLS, MAX_MEMBERS, MAX_OPEN_ORDERS, MAX_TICK};
@@ -113,6 +113,18 @@ fn flag_option<'a>(alloc: Global, name: &'a str, help: &'a str) -> Arg<'a>
         .value_parser(value_parser!(bool))
 }
 
+/// The option that says what is printed.
+fn print_option<'a>(alloc: Global) -> Arg<'a>
+    ensures rule { rule_of result ≡ word (codes "print") }
+    ensures local { result.global ≡ false }
+{
+    Arg::new(alloc, "print")
+        .long("print")
+        .value_name("WHAT")
+        .help("What is printed: lines, journal, trades or book [default: lines]")
+        .action(ArgAction::Set)
+}
+
 /// The command with these options too. The error is want of memory.
 fn with_numbers<'a>(
     alloc: Global,
@@ -129,17 +141,19 @@ fn with_numbers<'a>(
     Ok(command)
 }
 
-/// The command with all its options: the numbers in ticks, orders, calls and members, each with its range, and the two
-/// flags of the members' floor. The error is want of memory.
+/// The command with all its options: the numbers in ticks, orders, calls and members, each with its range, the two
+/// flags of the members' floor, what is printed, and the audit. The error is want of memory.
 pub fn callboard<'a>(alloc: Global) -> Result<Command<'a>, Error>
     ensures options { IfOk result (λ c. app_of c ≡ callboard) }
     ensures memory { IfErr result (λ e. kind_of e ≡ ErrorKind.OutOfMemory) }
 {
     let command = Command::new(alloc, "callboard").about(
-        "A call auction board: reads an order file, prints a line for each command",
+        "A call auction board: reads an order file or a journal, prints a line for each command",
     );
     let command = with_numbers(alloc, command, NUMBERS.as_slice())?;
     let floor = flag_option(alloc, "floor", "Run the members at once on a board");
     let history = flag_option(alloc, "history", "With --floor, print the history too");
-    Ok(command.arg(floor)?.arg(history)?)
+    let print = print_option(alloc);
+    let audit = flag_option(alloc, "audit", "Read a journal and compare its replies");
+    Ok(command.arg(floor)?.arg(history)?.arg(print)?.arg(audit)?)
 }

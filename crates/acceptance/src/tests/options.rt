@@ -3,7 +3,7 @@
 use super::DAY;
 use auction_terms::Config;
 use clap::error::ErrorKind;
-use settings::{Settings, settings};
+use settings::{Form, Listing, Settings, Task, WordsFault, settings};
 use std::test::Fail;
 
 #[test]
@@ -11,8 +11,11 @@ fn without_words_each_option_has_its_default(rt: HostRuntime) -> Result<(), Fail
     let wanted = Settings {
         config: DAY,
         members: 4,
-        floor: false,
-        history: false,
+        task: Task::Run {
+            floor: false,
+            history: false,
+            form: Form::Lines,
+        },
     };
     assert_eq!(rt; settings(rt.alloc(), &["callboard"])?, wanted);
     Ok(())
@@ -35,6 +38,7 @@ fn each_option_is_read(rt: HostRuntime) -> Result<(), Fail> {
         "--range=0",
         "--floor",
         "--history",
+        "--print=journal",
     ];
     let wanted = Settings {
         config: Config {
@@ -46,8 +50,11 @@ fn each_option_is_read(rt: HostRuntime) -> Result<(), Fail> {
             range: Some(0),
         },
         members: 64,
-        floor: true,
-        history: true,
+        task: Task::Run {
+            floor: true,
+            history: true,
+            form: Form::Listing(Listing::Journal),
+        },
     };
     assert_eq!(rt; settings(rt.alloc(), words.as_slice())?, wanted);
     Ok(())
@@ -64,6 +71,8 @@ fn other_words_are_refused(rt: HostRuntime) {
         ["--calls", "1048577"],
         ["--range", "1000001"],
         ["--floor", "x"],
+        ["--audit", "x"],
+        ["--print", "text"],
         ["--nothing", "1"],
     ];
     for words in bad.as_slice() {
@@ -73,9 +82,27 @@ fn other_words_are_refused(rt: HostRuntime) {
 
 #[test]
 fn help_is_an_error_of_its_own(rt: HostRuntime) {
-    let Err(error) = settings(rt.alloc(), &["callboard", "--help"]) else {
+    let Err(WordsFault::Parse(error)) = settings(rt.alloc(), &["callboard", "--help"]) else {
         assert!(rt; false);
         return;
     };
     assert!(rt; error.kind() == ErrorKind::DisplayHelp);
+}
+
+#[test]
+fn an_audit_stands_alone(rt: HostRuntime) -> Result<(), Fail> {
+    let wanted = Settings {
+        config: DAY,
+        members: 4,
+        task: Task::Audit,
+    };
+    assert_eq!(rt; settings(rt.alloc(), &["callboard", "--audit"])?, wanted);
+    for other in ["--floor", "--history", "--print=lines"] {
+        let Err(WordsFault::AuditNotAlone) = settings(rt.alloc(), &["callboard", "--audit", other])
+        else {
+            assert!(rt; false);
+            return Ok(());
+        };
+    }
+    Ok(())
 }

@@ -13,7 +13,7 @@ use byte_streams::FromMemory;
 use clap::error::ErrorKind;
 use order_book::Orders;
 use order_file::{FileFault, read_orders};
-use settings::settings;
+use settings::{WordsFault, settings};
 use std::alloc::AllocError;
 use tick_ladder::Ladder;
 
@@ -66,9 +66,13 @@ fn the_words_are_read(rt: HostRuntime) -> Result<(), AllocError> {
             assert_eq!(rt; settings.config.range, Some(5));
             Ok(())
         }
-        Err(error) => {
+        Err(WordsFault::Parse(error)) => {
             assert!(rt; error.kind() == ErrorKind::OutOfMemory);
             Err(AllocError)
+        }
+        Err(WordsFault::AuditNotAlone) => {
+            assert!(rt; false);
+            Ok(())
         }
     }
 }

@@ -1,7 +1,7 @@
 //! What is a file, and what is said of a bad one.
 
 use super::{PLAIN, Row, SHOWN, each_gives, gives};
-use crate::{Fault, FloorFault};
+use crate::Fault;
 use auction::OpenFault;
 use order_file::FileFault;
 use std::fmt::InlineText;
@@ -122,29 +122,21 @@ fn limits_and_files(rt: HostRuntime) {
 fn each_fault_has_its_line(rt: HostRuntime) {
     let rows = [
         (Fault::File(FileFault::TooLong), "file too long", 1),
+        (
+            Fault::File(FileFault::NotADay),
+            "record 1: not a day record",
+            1,
+        ),
         (Fault::File(FileFault::ReadFailed), "read failed", 3),
         (Fault::File(FileFault::NoMemory), "out of memory", 3),
         (Fault::Open(OpenFault::BadLimits), "bad limits", 2),
         (Fault::Open(OpenFault::NoMemory), "out of memory", 3),
+        (Fault::NoMemory, "out of memory", 3),
+        (Fault::NotClosed, "floor not closed", 3),
         (Fault::WriteFailed, "write failed", 3),
     ];
     for (fault, text, status) in rows {
         assert_eq!(rt; InlineText::<64>::of(fault).as_str(), text);
-        assert_eq!(rt;
-            InlineText::<64>::of(FloorFault::from(fault)).as_str(),
-            text
-        );
-        assert_eq!(rt;
-            (fault.status(), FloorFault::from(fault).status()),
-            (status, status)
-        );
-    }
-    let rows = [
-        (FloorFault::NoMemory, "out of memory"),
-        (FloorFault::NotClosed, "floor not closed"),
-    ];
-    for (fault, text) in rows {
-        assert_eq!(rt; InlineText::<64>::of(fault).as_str(), text);
-        assert_eq!(rt; fault.status(), 3);
+        assert_eq!(rt; fault.status(), status);
     }
 }

@@ -1,7 +1,7 @@
 //! Members that call at once on a board.
 
 use super::{PLAIN, Row, SHOWN, each_gives, run_under};
-use crate::FloorFault;
+use crate::{Fault, Finish};
 use auction::OpenFault;
 use auction_terms::Config;
 use member_floor::{Gate, OpenGate};
@@ -146,10 +146,10 @@ fn each_call_passes_the_gate(rt: HostRuntime) {
         max_open: 0,
         ..CONFIG
     };
-    let many = FloorFault::File(FileFault::TooManyCommands { number: 4 });
-    let bad = FloorFault::Open(OpenFault::BadLimits);
+    let many = Fault::File(FileFault::TooManyCommands { number: 4 });
+    let bad = Fault::Open(OpenFault::BadLimits);
     let rows = [
-        (CONFIG, ASKS, 4, Ok(()), 4, TALLY),
+        (CONFIG, ASKS, 4, Ok(Finish::Lawful), 4, TALLY),
         (few, ASKS, 4, Err(many), 0, ""),
         (none_open, ASKS, 4, Err(bad), 0, ""),
         (CONFIG, b"".as_slice(), 0, Err(bad), 0, ""),
@@ -195,7 +195,7 @@ fn the_history_is_the_boards(rt: HostRuntime) {
         };
         let ran = run_under(&rt, b"0,ask\n1,ask\n", CONFIG, 2, Some(&gate));
         assert!(rt; !gate.ran_out.load(SeqCst));
-        assert_eq!(rt; ran.answer, Ok(()));
+        assert_eq!(rt; ran.answer, Ok(Finish::Lawful));
         assert_eq!(rt; ran.text().strip_prefix(tally), Some(story));
     }
 }

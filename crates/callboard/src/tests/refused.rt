@@ -6,7 +6,7 @@
 //! its call documents, or fails; in the run that meets no refusal, as here, it looks at the right answer.
 
 use super::{PLAIN, Ran, run, run_under};
-use crate::FloorFault;
+use crate::Fault;
 use auction_terms::Config;
 use member_floor::OpenGate;
 use std::alloc::AllocError;
@@ -36,14 +36,14 @@ audit legal
 ";
 
 /// The run wrote this text, or nothing where it had a fault.
-fn wrote<T: Abort>(rt: &T, ran: &Ran, text: &str) -> Result<(), FloorFault> {
+fn wrote<T: Abort>(rt: &T, ran: &Ran, text: &str) -> Result<(), Fault> {
     let is_right = ran.text() == if ran.answer.is_ok() { text } else { "" };
     assert!(rt; is_right);
-    ran.answer
+    ran.answer.map(|_| ())
 }
 
 #[test]
-fn a_file_is_run(rt: HostRuntime) -> Result<(), FloorFault> {
+fn a_file_is_run(rt: HostRuntime) -> Result<(), Fault> {
     wrote(
         &rt,
         &run_under(&rt, INPUT, DAY, 4, None::<&OpenGate>),
@@ -52,7 +52,7 @@ fn a_file_is_run(rt: HostRuntime) -> Result<(), FloorFault> {
 }
 
 #[test]
-fn a_file_is_run_on_a_board(rt: HostRuntime) -> Result<(), FloorFault> {
+fn a_file_is_run_on_a_board(rt: HostRuntime) -> Result<(), Fault> {
     wrote(
         &rt,
         &run_under(&rt, INPUT, DAY, 2, Some(&OpenGate)),

@@ -1,41 +1,35 @@
-use Rattle.std.proofs.Common.{rules}
-use Rattle.callboard.specs.BoardRun.{board_job}
-use Rattle.callboard.specs.FileRun.{ends_of}
-use Rattle.callboard.proofs.WrittenLaws.{all_wrote, is_text, some_wrote}
+use Rattle.std.proofs.Common.{arith, refl}
+use Rattle.call_board.specs.declared.closing.Closing.{Closing}
+use Rattle.journal.specs.GivenDay.{given_day}
+use Rattle.callboard.specs.BoardRun.{closed_text}
+use Rattle.callboard.specs.declared.fault.Finish.TheVariants.{Lawful}
+use Rattle.callboard.proofs.OwedLaws.{ended_between, handed_over, is_text, ran_short, ran_whole, read_well, refused_input, wrote_well}
 use Rattle.callboard.proofs.floor.run_floor.Goals as goal
 
-pub returns-in_default : goal.returns-in_default
-returns-in_default g c =
-    let job = board_job c.args.config c.args.members c.args.history in
-    let ends = ends_of g.R.Source g.S.Sink c.args.reader.now c.read_orders.new.reader c.args.writer.now c.write_closing.new.writer in
+pub returns-in-Err : goal.returns-in-Err
+returns-in-Err g c = refused_input _ _ _ c.in-Err.fault refl c.in-Err.ensures.failed (λ h. omega (arith, h)) refl tt c.in-Err.ensures.answer
+
+pub returns-in_err-closing : goal.returns-in_err-closing
+returns-in_err-closing g c =
+    let f = c.in_err-closing.field-0.0 in
+    handed_over _ _ _ f c.from_residual.ensures.1
+    (ended_between Closing _ _ (given_day c.in-Ok.given) f c.in-Ok.ensures.answer (read_well _ c.in-Ok.given refl c.in-Ok.ensures.failed) (λ h. omega (arith, h)) refl tt
+    c.in_err-closing.ensures.fault c.in_err-closing.ensures.opening)
+
+pub returns-in_err-write_floor : goal.returns-in_err-write_floor
+returns-in_err-write_floor g c =
+    let given = given_day c.in-Ok.given in
     let closing = c.in_ok-closing.closing in
-    let place = c.in_ok-place.place in
-    let day = rw c.as_slice.ensures.value at c.in_ok-closing.ensures.closing in
-    let found = rw c.as_slice-2.ensures.value at c.in_ok-place.ensures.finding in
-    let text = is_text c.args.config c.args.members c.in-Ok.calls.items c.args.history closing place day found in
-    record {
-      read_failed = search rules;
-      write_failed = search rules;
-      opening = search rules;
-      wrote = some_wrote ends.left job ends c.in-Ok.calls.items _ c.in-Ok.ensures.answer text c.in_default.ensures.text;
-      kept = search rules;
-      fault = search rules;
-    }
+    let f = c.in_err-write_floor.field-0.0 in
+    let day = rw c.as_slice-calls.ensures.value at c.in_ok-closing.ensures.closing in
+    handed_over _ _ _ f c.from_residual-in_err-write_floor.ensures.1
+    (ran_short _ _ given Lawful (closed_text c.args.form given.day c.args.history closing) _ f refl c.in-Ok.ensures.answer (read_well _ c.in-Ok.given refl c.in-Ok.ensures.failed)
+    c.in_err-write_floor.ensures.failed c.in_ok-closing.ensures.opening tt c.in_err-write_floor.ensures.fault (λ failed. (refl, is_text c.args.form c.args.history given closing day c.in_err-write_floor.ensures.wide)) c.in_err-write_floor.ensures.text)
 
 pub returns : goal.returns
 returns g c =
-    let job = board_job c.args.config c.args.members c.args.history in
-    let ends = ends_of g.R.Source g.S.Sink c.args.reader.now c.read_orders.new.reader c.args.writer.now c.write_closing.new.writer in
+    let given = given_day c.in-Ok.given in
     let closing = c.in_ok-closing.closing in
-    let place = c.in_ok-place.place in
-    let day = rw c.as_slice.ensures.value at c.in_ok-closing.ensures.closing in
-    let found = rw c.as_slice-2.ensures.value at c.in_ok-place.ensures.finding in
-    let text = is_text c.args.config c.args.members c.in-Ok.calls.items c.args.history closing place day found in
-    record {
-      read_failed = search rules;
-      write_failed = search rules;
-      opening = search rules;
-      wrote = all_wrote ends.left job ends c.in-Ok.calls.items _ c.in-Ok.ensures.answer text c.in-Ok-write_closing.ensures.text;
-      kept = search rules;
-      fault = search rules;
-    }
+    let day = rw c.as_slice-calls.ensures.value at c.in_ok-closing.ensures.closing in
+    ran_whole _ _ given Lawful (closed_text c.args.form given.day c.args.history closing) c.in-Ok.ensures.answer (read_well _ c.in-Ok.given refl c.in-Ok.ensures.failed)
+    (wrote_well _ _ refl c.in_ok-write_floor.ensures.failed) c.in_ok-closing.ensures.opening (refl, is_text c.args.form c.args.history given closing day c.in_ok-write_floor.ensures.wide) c.in_ok-write_floor.ensures.text

@@ -1,4 +1,4 @@
-use Rattle.std.proofs.Common.{rules, arith}
+use Rattle.std.proofs.Common.{arith}
 use Rattle.printed_lines.proofs.PrinterLaws.{prints_among, prints_more}
 use Rattle.callboard.proofs.ReplyLaws.{reply-done, reply-end, reply-next, stepped-state}
 use Rattle.callboard.proofs.run.print_replies.Goals as goal

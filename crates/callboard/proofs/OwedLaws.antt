@@ -1,0 +1,179 @@
+-- What a run owes, by how far it came.
+use Rattle.std.proofs.Common.{◌≡◌, ℕ, ◌++◌, List, Bool, Option, None, Some, Result, Ok, Err, IfErr, IfSome, ap, refl, sym, subst}
+use Rattle.std.specs.Prelude.{◌↔◌, IsErrAnd, IsErrOf, unwrap_or}
+use Rattle.std.specs.Io.KnownBytes.{Appends}
+use Rattle.auction.specs.declared.OpenFault.{OpenFault}
+use Rattle.auction.specs.declared.OpenFault.TheVariants.{NoMemory}
+use Rattle.order_file.specs.File.{Fails}
+use Rattle.order_file.specs.declared.fault.FileFault.{FileFault}
+use Rattle.order_file.specs.declared.fault.FileFault.TheVariants as file
+use Rattle.auction_terms.specs.declared.Call.{Call}
+use Rattle.auction_terms.specs.declared.Config.{Config}
+use Rattle.auction_terms.specs.Day.{State, replies_from}
+use Rattle.printed_lines.specs.ReplyLines.{lines}
+use Rattle.journal.specs.GivenDay.{GivenDay}
+use Rattle.journal.specs.declared.day.Day.{Day}
+use Rattle.call_board.specs.declared.closing.Closing.{Closing}
+use Rattle.printed_lines.specs.Tally.{tally}
+use Rattle.settings.specs.declared.types.Form.{Form}
+use Rattle.settings.specs.declared.types.Form.TheVariants as forms
+use Rattle.callboard.specs.declared.fault.Fault.{Fault}
+use Rattle.callboard.specs.declared.fault.Fault.TheVariants as fault
+use Rattle.callboard.specs.declared.fault.Finish.{Finish}
+use Rattle.callboard.specs.AuctionRun.{IsOfAuction, run_text}
+use Rattle.callboard.specs.BoardRun.{IsDayOf, IsFloorText, closed_text, story_if}
+use Rattle.callboard.specs.FileRun.{Ends, Job, Opens, Runs, WritesText, Wrote}
+use Rattle.callboard.specs.PlayedDay.{IsBetween}
+use Rattle.callboard.specs.Printed.{IsAfterwards, IsOfPrinting, IsWideForm, IsWideIfBegun, entries_from, history_of, printed}
+use Rattle.callboard.specs.Status.{Ran}
+use Rattle.callboard.proofs.EntriesLaws.{history-replies}
+
+-- ---- what a `?` hands on, and what didn't fail
+
+pub handed_over : (job : Job) (ends : Ends) (run : Ran) (f : Fault) → IsErrAnd run (λ x. x ≡ f) → Runs job ends (Err f) → Runs job ends run
+handed_over job ends (Ok finish) f is owes = absurd is
+handed_over job ends (Err e) f is owes = subst (λ (x : Fault). Runs job ends (Err x)) (sym is) owes
+
+pub read_well : {X F : Type 0} (r : Result X FileFault) (x : X) → r ≡ Ok x → (IsErrOf r file.ReadFailed ↔ F) → F → ⊥
+read_well r x is told h = let late : r ≡ Err file.ReadFailed = told.1 h in absurd cc
+
+pub wrote_well : {F : Type 0} (r : Result (Unit {0}) Fault) (u : Unit {0}) → r ≡ Ok u → (IsErrOf r fault.WriteFailed ↔ F) → F → ⊥
+wrote_well r u is told h = let late : r ≡ Err fault.WriteFailed = told.1 h in absurd cc
+
+-- ---- a fault of the input
+
+-- what the input says is what was given
+abbrev Hears : (job : Job) → Ends → job.Given → Type 0
+Hears job ends given = IfSome ends.left (λ bytes. job.says bytes ≡ Ok given)
+
+known : (left : Option (List ℕ)) (job : Job) (ends : Ends) (given : job.Given) (run : Ran) → IfSome left (λ bytes. job.says bytes ≡ Ok given)
+    → Wrote job ends (Ok given) run → IfSome left (λ bytes. Wrote job ends (job.says bytes) run)
+known None job ends given run hears wrote = tt
+known (Some bytes) job ends given run hears wrote = subst (λ said. Wrote job ends said run) (sym hears) wrote
+
+pub refused_input : {X : Type 0} (job : Job) (ends : Ends) (r : Result X FileFault) (f : FileFault) → r ≡ Err f → (IsErrOf r file.ReadFailed ↔ ends.ReadFailed)
+    → (ends.WriteFailed → ⊥) → ends.new ≡ ends.old → job.Faults (fault.File f) → IfSome ends.left (λ bytes. Fails f (job.says bytes)) → Runs job ends (Err (fault.File f))
+refused_input {X} job ends r f is told wrote_well kept faults fails = record {
+  read_failed = (λ e. told.0 (read e), λ h. failed (told.1 h));
+  write_failed = (λ e. absurd (cc (e)), λ h. absurd (wrote_well h));
+  wrote = fails;
+  kept = kept;
+  fault = faults;
+}
+  where
+    read : IsErrOf {T = Finish} (Err (fault.File f)) (fault.File file.ReadFailed) → r ≡ Err file.ReadFailed
+    read e = let same : f ≡ file.ReadFailed = cc (e) in cc
+
+    failed : r ≡ Err file.ReadFailed → IsErrOf {T = Finish} (Err (fault.File f)) (fault.File file.ReadFailed)
+    failed e = let same : f ≡ file.ReadFailed = cc (e) in ap (λ (x : FileFault). Err (fault.File x)) same
+
+-- ---- a fault before anything was written
+
+pub refused_opening : (job : Job) (ends : Ends) (given : job.Given) (f : OpenFault) → Hears job ends given → (ends.ReadFailed → ⊥) → (ends.WriteFailed → ⊥) → ends.new ≡ ends.old
+    → job.Faults (fault.Open f) → f ≡ unwrap_or (job.opening given) NoMemory → Runs job ends (Err (fault.Open f))
+refused_opening job ends given f hears read_well wrote_well kept faults opens = record {
+  read_failed = (λ e. absurd (cc (e)), λ h. absurd (read_well h));
+  write_failed = (λ e. absurd (cc (e)), λ h. absurd (wrote_well h));
+  wrote = known ends.left job ends given (Err (fault.Open f)) hears (opens, tt);
+  kept = kept;
+  fault = faults;
+}
+
+pub ended_between : (X : Type 0) (job : Job) (ends : Ends) (given : job.Given) (f : Fault) → Hears job ends given → (ends.ReadFailed → ⊥) → (ends.WriteFailed → ⊥) → ends.new ≡ ends.old
+    → job.Faults f → IsBetween f → Opens {X = X} (job.opening given) (Err f) → Runs job ends (Err f)
+ended_between X job ends given (fault.File f) hears read_well wrote_well kept faults between opens = absurd between
+ended_between X job ends given (fault.Open f) hears read_well wrote_well kept faults between opens = refused_opening job ends given f hears read_well wrote_well kept faults opens
+ended_between X job ends given fault.NoMemory hears read_well wrote_well kept faults between opens = record {
+  read_failed = (λ e. absurd (cc (e)), λ h. absurd (read_well h));
+  write_failed = (λ e. absurd (cc (e)), λ h. absurd (wrote_well h));
+  wrote = known ends.left job ends given (Err fault.NoMemory) hears (opens, tt);
+  kept = kept;
+  fault = faults;
+}
+ended_between X job ends given fault.NotClosed hears read_well wrote_well kept faults between opens = record {
+  read_failed = (λ e. absurd (cc (e)), λ h. absurd (read_well h));
+  write_failed = (λ e. absurd (cc (e)), λ h. absurd (wrote_well h));
+  wrote = known ends.left job ends given (Err fault.NotClosed) hears (opens, tt);
+  kept = kept;
+  fault = faults;
+}
+ended_between X job ends given fault.WriteFailed hears read_well wrote_well kept faults between opens = absurd between
+
+-- ---- what was written
+
+pub ran_whole : (job : Job) (ends : Ends) (given : job.Given) (finish : Finish) (text : List ℕ) → Hears job ends given → (ends.ReadFailed → ⊥) → (ends.WriteFailed → ⊥)
+    → job.opening given ≡ None → job.Text given finish text → Appends ends.old ends.new text → Runs job ends (Ok finish)
+ran_whole job ends given finish text hears read_well wrote_well opens is wrote = record {
+  read_failed = (λ e. absurd (cc (e)), λ h. absurd (read_well h));
+  write_failed = (λ e. absurd (cc (e)), λ h. absurd (wrote_well h));
+  wrote = known ends.left job ends given (Ok finish) hears (opens, (text, is, wrote));
+  kept = tt;
+  fault = tt;
+}
+
+pub ran_short : (job : Job) (ends : Ends) (given : job.Given) (finish : Finish) (text : List ℕ) (r : Result (Unit {0}) Fault) (f : Fault) → r ≡ Err f → Hears job ends given
+    → (ends.ReadFailed → ⊥) → (IsErrOf r fault.WriteFailed ↔ ends.WriteFailed) → job.opening given ≡ None → job.Faults f → IsAfterwards f → (f ≡ fault.WriteFailed → job.Text given finish text)
+    → WritesText ends.old ends.new text (Err f) → Runs job ends (Err f)
+ran_short job ends given finish text r fault.NoMemory same hears read_well told opens faults after is wrote = record {
+  read_failed = (λ e. absurd (cc (e)), λ h. absurd (read_well h));
+  write_failed = (λ e. absurd (cc (e)), λ h. let late : r ≡ Err fault.WriteFailed = told.1 h in absurd cc);
+  wrote = known ends.left job ends given (Err fault.NoMemory) hears (opens, tt);
+  kept = wrote;
+  fault = faults;
+}
+ran_short job ends given finish text r fault.WriteFailed same hears read_well told opens faults after is wrote = record {
+  read_failed = (λ e. absurd (cc (e)), λ h. absurd (read_well h));
+  write_failed = (λ e. told.0 same, λ h. refl);
+  wrote = known ends.left job ends given (Err fault.WriteFailed) hears (opens, (finish, text, is refl, wrote));
+  kept = tt;
+  fault = faults;
+}
+ran_short job ends given finish text r (fault.File f) same hears read_well told opens faults after is wrote = absurd after
+ran_short job ends given finish text r (fault.Open f) same hears read_well told opens faults after is wrote = absurd after
+ran_short job ends given finish text r fault.NotClosed same hears read_well told opens faults after is wrote = absurd after
+
+-- what was printed of the calls that were given
+pub run_wrote : (form : Form) (given : GivenDay) (calls : List Call) (old new : Option (List ℕ)) (r : Result (Unit {0}) Fault)
+    → calls ≡ given.calls → WritesText old new (printed form given.day (history_of given.day.config calls)) r → WritesText old new (run_text form given) r
+run_wrote form given calls old new r same wrote =
+    subst (λ (cs : List Call). WritesText old new (printed form given.day (history_of given.day.config cs)) r) same wrote
+
+-- and the numbers of their replies
+pub run_wide : (form : Form) (given : GivenDay) (calls : List Call) (r : Result (Unit {0}) Fault)
+    → calls ≡ given.calls → IsWideIfBegun r form (history_of given.day.config calls) → IsWideIfBegun r form (history_of given.day.config given.calls)
+run_wide form given calls r same wide = subst (λ (cs : List Call). IsWideIfBegun r form (history_of given.day.config cs)) same wide
+
+-- and where a write failed
+pub run_short_wide : (form : Form) (given : GivenDay) (calls : List Call) (f : Fault) → calls ≡ given.calls
+    → IsWideIfBegun (Err f) form (history_of given.day.config calls) → f ≡ fault.WriteFailed → IsWideForm form (history_of given.day.config given.calls)
+run_short_wide form given calls f same wide failed =
+    subst (λ (x : Fault). IsWideIfBegun (Err x) form (history_of given.day.config given.calls)) failed (run_wide form given calls (Err f) same wide)
+
+-- the lines that were written are those of the entries
+pub lines_wrote : (day : Day) (config : Config) (state : State) (calls : List Call) (old new : Option (List ℕ)) (r : Result (Unit {0}) Fault)
+    → WritesText old new (lines (replies_from config state calls)) r → WritesText old new (printed forms.Lines day (entries_from config state calls)) r
+lines_wrote day config state calls old new r wrote = subst (λ replies. WritesText old new (lines replies) r) (sym (history-replies config state calls)) wrote
+
+-- lines fail to be written, and in no other way
+pub lines_fail : (r : Result (Unit {0}) Fault) → IfErr r (λ f. f ≡ fault.WriteFailed) → IfErr r (IsOfPrinting forms.Lines)
+lines_fail (Ok u) h = tt
+lines_fail (Err f) h = h
+
+-- a fault of printing on an auction
+pub printing_after : (form : Form) (f : Fault) → IsOfPrinting form f → IsAfterwards f × IsOfAuction form f
+printing_after forms.Lines fault.WriteFailed h = (tt, refl)
+printing_after forms.Lines fault.NoMemory h = absurd (cc h)
+printing_after forms.Lines (fault.File f) h = absurd (cc h)
+printing_after forms.Lines (fault.Open f) h = absurd (cc h)
+printing_after forms.Lines fault.NotClosed h = absurd (cc h)
+printing_after (forms.Listing listing) fault.WriteFailed h = (tt, tt)
+printing_after (forms.Listing listing) fault.NoMemory h = (tt, tt)
+printing_after (forms.Listing listing) (fault.File f) h = absurd h
+printing_after (forms.Listing listing) (fault.Open f) h = absurd h
+printing_after (forms.Listing listing) fault.NotClosed h = absurd h
+
+-- what is printed of a closed day is a text of the calls that were given
+pub is_text : (form : Form) (history : Bool) (given : GivenDay) (closing : Closing) → IsDayOf given.day.config given.day.members given.calls closing
+    → IsWideForm form closing.history.items → IsFloorText form history given (closed_text form given.day history closing)
+is_text forms.Lines history given closing day wide = (closing.history.items, day.history, (λ i. tally (day.entries i) (day.counts i) None ++ story_if history closing.history.items), wide)
+is_text (forms.Listing listing) history given closing day wide = (closing.history.items, day.history, refl, wide)

@@ -1,0 +1,90 @@
+-- What is printed of a day, in each form.
+use Rattle.std.specs.Prelude.{◌≡◌, ℕ, List, [], ◌∷◌, map, Result, Ok, Err}
+use Rattle.auction_terms.specs.declared.Call.{Call}
+use Rattle.auction_terms.specs.declared.Config.{Config}
+use Rattle.auction_terms.specs.declared.Entry.{Entry}
+use Rattle.auction_terms.specs.declared.Reply.{Reply}
+use Rattle.auction_terms.specs.Day.{State, opening_state, step}
+use Rattle.byte_streams.specs.Writing.{WritesAll}
+use Rattle.byte_streams.specs.declared.sink.Sink.{Ghosts}
+use Rattle.day_tables.specs.BookTable.{book_text}
+use Rattle.day_tables.specs.TradeTable.{trades_text}
+use Rattle.day_tables.specs.declared.fault.TableFault.{TableFault}
+use Rattle.day_tables.specs.declared.fault.TableFault.TheVariants.{Open, Write}
+use Rattle.journal.specs.JournalText.{journal_text}
+use Rattle.journal.specs.WideReplies.{AreWide}
+use Rattle.journal.specs.declared.day.Day.{Day}
+use Rattle.printed_lines.specs.ReplyLines.{lines}
+use Rattle.settings.specs.declared.types.Form.{Form}
+use Rattle.settings.specs.declared.types.Form.TheVariants as forms
+use Rattle.settings.specs.declared.types.Listing.{Listing}
+use Rattle.settings.specs.declared.types.Listing.TheVariants.{Journal, Trades, Book}
+use Rattle.callboard.specs.declared.fault.Fault.{Fault}
+use Rattle.callboard.specs.declared.fault.Fault.TheVariants as fault
+
+-- ---- a day's entries
+
+abbrev pub entry_by : Call → Reply → Entry
+entry_by call reply = record { member = call.member; command = call.command; reply = reply }
+
+-- calls from a state on, each with its reply
+abbrev pub entries_from : Config → State → List Call → List Entry
+entries_from config state [] = []
+entries_from config state (call ∷ calls) =
+    entry_by call (step config state call).1 ∷ entries_from config (step config state call).0 calls
+
+-- the history of a day on which these calls come, in this order
+abbrev pub history_of : Config → List Call → List Entry
+history_of config calls = entries_from config (opening_state config) calls
+
+abbrev pub reply_of : Entry → Reply
+reply_of entry = entry.reply
+
+-- ---- their text
+
+abbrev pub listed : Listing → Day → List Entry → List ℕ
+listed Journal day entries = journal_text day entries
+listed Trades day entries = trades_text day.config entries
+listed Book day entries = book_text day.config entries
+
+-- the lines of the replies, or a listing of the day
+abbrev pub printed : Form → Day → List Entry → List ℕ
+printed forms.Lines day entries = lines (map reply_of entries)
+printed (forms.Listing listing) day entries = listed listing day entries
+
+-- ---- the replies of a journal
+
+-- in a journal each number of a reply is below 2 ^ 64
+abbrev pub IsWideListing : Listing → List Entry → Type 0
+IsWideListing Journal entries = AreWide entries
+IsWideListing Trades entries = Unit {0}
+IsWideListing Book entries = Unit {0}
+
+abbrev pub IsWideForm : Form → List Entry → Type 0
+IsWideForm forms.Lines entries = Unit {0}
+IsWideForm (forms.Listing listing) entries = IsWideListing listing entries
+
+-- in one of which at least a beginning was written
+abbrev pub IsWideIfBegun : Result (Unit {0}) Fault → Form → List Entry → Type 0
+IsWideIfBegun (Ok done) form entries = IsWideForm form entries
+IsWideIfBegun (Err fault.WriteFailed) form entries = IsWideForm form entries
+IsWideIfBegun (Err f) form entries = Unit {0}
+
+-- ---- the faults of printing
+
+-- a fault of printing a day that is over
+abbrev pub IsAfterwards : Fault → Type 0
+IsAfterwards fault.NoMemory = Unit {0}
+IsAfterwards fault.WriteFailed = Unit {0}
+IsAfterwards f = ⊥
+
+-- a listing takes memory, lines take none
+abbrev pub IsOfPrinting : Form → Fault → Type 0
+IsOfPrinting forms.Lines f = f ≡ fault.WriteFailed
+IsOfPrinting (forms.Listing listing) f = IsAfterwards f
+
+-- A listing was written, or at a failing write a beginning of it, and nothing where it wasn't begun.
+abbrev pub WritesTable : {S : Type 0} → Ghosts S → S → S → Result (Unit {0}) TableFault → List ℕ → Type 0
+WritesTable sink old new (Ok done) text = WritesAll sink old new (Ok done) text
+WritesTable sink old new (Err (Write failed)) text = WritesAll sink old new (Err failed) text
+WritesTable sink old new (Err (Open fault)) text = new ≡ old

@@ -1,0 +1,37 @@
+//! The audit of a journal.
+
+ghost use Rattle.std.specs.Prelude.{◌≡◌};
+ghost use Rattle.callboard.specs.AuditRun.{RunsAudit, finish_of};
+ghost use Rattle.callboard.specs.FileRun.{ends_of};
+
+use crate::fault::{Fault, Finish};
+use byte_streams::{Sink, Source};
+use day_audit::audit_journal;
+use std::alloc::Global;
+
+fn finish_of(first_unlawful: Option<u64>) -> Finish
+    ensures { result ≡ finish_of first_unlawful }
+{
+    match first_unlawful {
+        None => Finish::Lawful,
+        Some(_) => Finish::Unlawful,
+    }
+}
+
+/// Reads and checks a whole journal, compares each recorded reply with the lawful one, and writes those
+/// that differ, and how many.
+///
+/// A fault of the journal comes before one of its day. Nothing is written where it has a fault, and a
+/// write that fails leaves a beginning of the text.
+pub fn run_audit<R: Source, S: Sink>(
+    alloc: Global,
+    reader: &mut R,
+    writer: &mut S,
+) -> Result<Finish, Fault>
+    ensures { RunsAudit (ends_of R.Source S.Sink reader.old reader.new writer.old writer.new) result }
+{
+    match audit_journal(alloc, reader, writer) {
+        Ok(counts) => Ok(finish_of(counts.first_unlawful)),
+        Err(fault) => Err(Fault::from(fault)),
+    }
+}

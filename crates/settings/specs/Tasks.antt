@@ -1,0 +1,60 @@
+-- What the words ask to be done with the input.
+use Rattle.std.specs.Prelude.{◌≡◌, ◌||◌, ◌&&◌, Bool, true, false, List, [], ◌∷◌, Option, Some, None, codes, is_some}
+use Rattle.std.specs.Prelude.{if◌then◌else◌, option_map}
+use Rattle.std.specs.Option.{option_map_or}
+use Rattle.std.specs.Str.{bytes_eq}
+use Rattle.clap.specs.Kinds.{HasKind, Kinds}
+use Rattle.clap.specs.Walk.{Row, Text, first_of, one_of}
+use Rattle.clap.specs.declared.error.kind.ErrorKind.TheVariants.{InvalidValue}
+use Rattle.settings.specs.declared.fault.WordsFault.{WordsFault}
+use Rattle.settings.specs.declared.fault.WordsFault.TheVariants.{Parse, AuditNotAlone}
+use Rattle.settings.specs.declared.types.Form.{Form}
+use Rattle.settings.specs.declared.types.Form.TheVariants.{Lines, Listing}
+use Rattle.settings.specs.declared.types.Listing.TheVariants.{Journal, Trades, Book}
+use Rattle.settings.specs.declared.types.Task.{Task}
+use Rattle.settings.specs.declared.types.Task.TheVariants.{Run, Audit}
+
+-- the text of a flag, if it has one, says that it was given
+abbrev pub is_yes : Option Text → Bool
+is_yes text = option_map_or (λ t. bytes_eq t (codes "true")) text false
+
+-- the flag of this name was given
+abbrev pub is_given : Text → List Row → Bool
+is_given name rows = is_yes (one_of name rows)
+
+-- the form that a word names
+abbrev pub form_of : Text → Option Form
+form_of word =
+    if bytes_eq word (codes "lines") then Some Lines
+    else if bytes_eq word (codes "journal") then Some (Listing Journal)
+    else if bytes_eq word (codes "trades") then Some (Listing Trades)
+    else if bytes_eq word (codes "book") then Some (Listing Book)
+    else None
+
+-- the word of `--print`, where it was given
+abbrev pub word_in : List Row → Option Text
+word_in rows = first_of (codes "print") rows
+
+-- the form that is asked for: the lines where none is
+abbrev pub form_asked : Option Text → Option Form
+form_asked word = option_map_or form_of word (Some Lines)
+
+-- a word that names no form is an invalid value
+abbrev pub form_kinds : Option Text → Kinds
+form_kinds word = if is_some (form_asked word) then [] else InvalidValue ∷ []
+
+-- what is to be done: an audit where it is asked for, and else a run
+abbrev pub task_at : List Row → Option Task
+task_at rows =
+    if is_given (codes "audit") rows then Some Audit
+    else option_map (Run (is_given (codes "floor") rows) (is_given (codes "history") rows)) (form_asked (word_in rows))
+
+-- an audit was asked for beside something that only a run has
+abbrev pub is_mixed : List Row → Bool
+is_mixed rows = is_given (codes "audit") rows
+    && (is_given (codes "floor") rows || (is_given (codes "history") rows || is_some (word_in rows)))
+
+-- Why options that have no fault of their own say no task. The form comes first.
+abbrev pub RefusesTask : List Row → WordsFault → Type 0
+RefusesTask rows (Parse error) = HasKind (form_kinds (word_in rows)) error
+RefusesTask rows AuditNotAlone = (form_kinds (word_in rows) ≡ []) × (is_mixed rows ≡ true)

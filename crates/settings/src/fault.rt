@@ -1,0 +1,37 @@
+//! Why words say no settings.
+
+ghost use Rattle.std.specs.Prelude.{◌≡◌};
+ghost use Rattle.settings.specs.declared.fault.WordsFault.TheVariants.{Parse};
+
+use clap::Error;
+use std::fmt;
+use std::fmt::{Display, Formatter};
+
+/// Why the words of the command line say no settings.
+#[derive(Debug, Drop)]
+pub enum WordsFault {
+    /// They ask for help, or one is none of the options, no number of its range or no form; or memory was
+    /// refused. The text is that of `clap`.
+    Parse(Error),
+    /// `--audit` was given beside `--floor`, `--history` or `--print`. The text is one line.
+    AuditNotAlone,
+}
+
+impl From<Error> for WordsFault {
+    ghost from_gives = { λ error fault. fault ≡ Parse error };
+
+    fn from(error: Error) -> WordsFault {
+        WordsFault::Parse(error)
+    }
+}
+
+impl Display for WordsFault {
+    fn fmt<W: fmt::Write>(&self, f: &mut Formatter<W>) -> fmt::Result {
+        match self {
+            WordsFault::Parse(error) => error.fmt(f),
+            WordsFault::AuditNotAlone => {
+                f.write_str("--audit goes with none of --floor, --history and --print")
+            }
+        }
+    }
+}
