@@ -4,3 +4,4 @@ pub mod StepLaws
 pub mod TradeTableLaws
 pub mod TickTableLaws
 pub mod BookTableLaws
+pub mod FrontTextLaws

@@ -7,6 +7,7 @@
 mod book;
 mod curves;
 mod fault;
+mod front_text;
 mod laws;
 mod record;
 mod rule;
