@@ -12,6 +12,8 @@ use Rattle.auction_terms.specs.Ladder.{standing, market, presence, spread}
 use Rattle.auction_terms.specs.AuctionPrice.{price_tick}
 use Rattle.printed_lines.specs.ReplyWords.{kind_word, side_word}
 use Rattle.day_tables.specs.declared.book.Table.{Table}
+use Rattle.day_tables.specs.declared.book.Rows.{Rows}
+use Rattle.day_tables.specs.declared.front_text.TheConstants.{SHORT}
 use Rattle.day_tables.specs.TableRecords.{csv_record}
 use Rattle.day_tables.specs.BookTable.{Shown, rule_word, best_word}
 use Rattle.day_tables.specs.TableCurves.{HasRoom, AreCurves, TellsRule}
@@ -49,6 +51,19 @@ demand_in table place = slice_index table.curves.now.demands.items place
 
 abbrev pub supply_in : Table → ℕ → ℕ
 supply_in table place = slice_index table.curves.now.supplies.items place
+
+-- the fields that each row of a table begins with
+abbrev pub row_head : Table → List ℕ
+row_head table = decimal table.command ++ (codes "," ++ (kind_word table.kind ++ (codes "," ++ [])))
+
+-- the fields that a row ends with: the side of the surplus, whether the limit is best, the rule at the price
+abbrev pub row_end : Option Side → Bool → List ℕ → List ℕ
+row_end side best rule = side_word side ++ (codes "," ++ (best_word best ++ (codes "," ++ (rule ++ codes "\n"))))
+
+-- the rows begin with the fields of this table
+pub record HasHead (table : Table) (rows : Rows) : Type 0 where
+  pub head : rows.head ≡ row_head table
+  pub short : length rows.head ≤ SHORT
 
 unfoldable pub row : Table → ℕ → List ℕ
 row table place =

@@ -1,6 +1,6 @@
 //! The book behind each price of the day.
 
-ghost use Rattle.std.specs.Prelude.{◌≡◌, ◌<◌, ◌≤◌, ◌+◌, ◌-◌, ◌++◌, length, None, Err, IfErr, IfSome};
+ghost use Rattle.std.specs.Prelude.{◌≡◌, ◌<◌, ◌≤◌, ◌+◌, ◌-◌, ◌++◌, [], length, None, Err, IfErr, IfSome, false, codes, decimal};
 ghost use Rattle.auction_terms.specs.Day.{IsLegal};
 ghost use Rattle.auction.specs.ConfigFault.{open_fault};
 ghost use Rattle.printed_lines.specs.Printing.{Prints};
@@ -9,12 +9,14 @@ ghost use Rattle.day_tables.specs.BookTable.{book_header, book_text, best_word, 
 ghost use Rattle.day_tables.specs.BookTable.{table_before, tables_after, text_before};
 ghost use Rattle.day_tables.specs.TableCurves.{HasRoom};
 ghost use Rattle.day_tables.specs.TableRecords.{PrintsTable, WantsMemory};
-ghost use Rattle.day_tables.specs.TableRows.{HasPlaces, side_between, is_row, row, row_if, rows_below, market_row};
+ghost use Rattle.day_tables.specs.TableRows.{HasPlaces, HasHead, side_between, is_row, row, row_end, row_if, rows_below, market_row};
 ghost use Rattle.day_tables.specs.TableRows.{is_at_price, rule_at, tick_shown};
+ghost use Rattle.day_tables.specs.declared.front_text.TheConstants.{SHORT, TEXT_ROOM};
 ghost use Rattle.day_tables.specs.declared.fault.TableFault.TheVariants as fault;
 
 use crate::curves::Curves;
 use crate::fault::TableFault;
+use crate::front_text::{Figure, FrontText};
 use crate::record::{put_number, put_word};
 use crate::rule::{Rule, rule_word};
 use auction::{Auction, OpenFault};
@@ -104,28 +106,124 @@ fn rule_word_at(table: &Table<'_>, tick: u32) -> &'static str
     }
 }
 
-fn put_row(page: &mut Page, table: &Table<'_>, place: usize)
+/// What is kept from row to row of a table.
+#[derive(Drop)]
+pub(crate) struct Rows {
+    /// The fields that each row begins with.
+    pub head: FrontText,
+    /// The demand and the supply of the last row.
+    pub demand: Figure,
+    pub supply: Figure,
+    /// The last row.
+    pub text: FrontText,
+}
+
+/// The rows of a table, none of which is there yet.
+fn rows_of(table: &Table<'_>) -> Rows
+    ensures { HasHead table.now result }
+{
+    let mut head = FrontText::new();
+    head.put(",");
+    head.put(kind_word(table.kind));
+    head.put_number(table.command);
+    Rows {
+        head,
+        demand: Figure::new(),
+        supply: Figure::new(),
+        text: FrontText::new(),
+    }
+}
+
+/// Puts the end of a row that is neither best nor the price.
+#[inline(always)]
+fn put_plain_end(text: &mut FrontText, side: Option<Side>)
+    requires { text.old ≡ [] }
+    ensures text { text.new ≡ row_end side false [] }
+    ensures short { length text.new ≤ SHORT }
+{
+    match side {
+        Some(Side::Buy) => text.put("bid,0,\n"),
+        Some(Side::Sell) => text.put("ask,0,\n"),
+        None => text.put("none,0,\n"),
+    }
+}
+
+/// Puts the end of a row.
+fn put_marked_end(text: &mut FrontText, side: Option<Side>, best: bool, rule: &str)
+    requires empty { text.old ≡ [] }
+    requires rule { length rule.now ≤ 9 }
+    ensures text { text.new ≡ row_end side best rule.now }
+    ensures short { length text.new ≤ SHORT }
+{
+    text.put("\n");
+    text.put(rule);
+    text.put(",");
+    text.put(best_word(best));
+    text.put(",");
+    text.put(side_word(side));
+}
+
+/// Puts the end of the row of a tick.
+#[inline(always)]
+fn put_end(text: &mut FrontText, table: &Table<'_>, tick: u32, side: Option<Side>, best: bool)
+    requires { text.old ≡ [] }
+    ensures text { text.new ≡ row_end side best (rule_at table.now tick) }
+    ensures short { length text.new ≤ SHORT }
+{
+    if best || is_at_price(table, tick) {
+        put_marked_end(text, side, best, rule_word_at(table, tick));
+        return;
+    }
+    put_plain_end(text, side);
+}
+
+/// Puts a volume, which is mostly the demand or the supply.
+#[inline(always)]
+fn put_volume(text: &mut FrontText, volume: u64, demand: &Figure, supply: &Figure)
+    requires { length text.old + SHORT ≤ TEXT_ROOM }
+    ensures text { text.new ≡ decimal volume ++ (codes "," ++ text.old) }
+    ensures longer { length text.new ≤ length text.old + SHORT }
+{
+    if volume == demand.number() {
+        text.put_figure(demand);
+        return;
+    }
+    if volume == supply.number() {
+        text.put_figure(supply);
+        return;
+    }
+    text.put_number(volume);
+}
+
+/// Writes the row of a place.
+fn write_row(rows: &mut Rows, table: &Table<'_>, place: usize)
     requires places { HasPlaces table.now }
     requires place { place < length table.now.bids.now }
-    requires room { length page.old + LONGEST_LINE ≤ ROOM }
-    ensures { page.new ≡ page.old ++ row table.now place }
+    requires head { HasHead table.now rows.old }
+    ensures text { rows.new.text ≡ row table.now place }
+    ensures head { HasHead table.now rows.new }
 {
     let tick = tick_at(table, place);
     let demand = table.curves.demands[place];
     let supply = table.curves.supplies[place];
-    put_number(page, table.command);
-    put_word(page, kind_word(table.kind));
-    put_number(page, u64::from(tick));
-    put_number(page, table.bids[place]);
-    put_number(page, table.asks[place]);
-    put_number(page, demand);
-    put_number(page, supply);
-    put_number(page, table.curves.volumes[place]);
-    put_number(page, table.curves.surpluses[place]);
-    put_word(page, side_word(side_of(demand, supply)));
-    put_word(page, best_word(table.curves.best[place] == 1));
-    page.put(rule_word_at(table, tick));
-    page.put("\n");
+    let best = table.curves.best[place] == 1;
+    rows.demand.follow(demand);
+    rows.supply.follow(supply);
+    rows.text.clear();
+    put_end(&mut rows.text, table, tick, side_of(demand, supply), best);
+    rows.text.put_number(table.curves.surpluses[place]);
+    put_volume(
+        &mut rows.text,
+        table.curves.volumes[place],
+        &rows.demand,
+        &rows.supply,
+    );
+    rows.text.put_figure(&rows.supply);
+    rows.text.put_figure(&rows.demand);
+    rows.text.put_number(table.asks[place]);
+    rows.text.put_number(table.bids[place]);
+    rows.text.put_number(u64::from(tick));
+    rows.text.put_short(&rows.head);
 }
 
 fn put_market(page: &mut Page, table: &Table<'_>)
@@ -151,32 +249,39 @@ fn print_market<S: Sink>(printer: &mut Printer<'_, S>, table: &Table<'_>) -> Res
 
 fn print_row<S: Sink>(
     printer: &mut Printer<'_, S>,
+    rows: &mut Rows,
     table: &Table<'_>,
     place: usize,
 ) -> Result<(), WriteFailed>
     requires places { HasPlaces table.now }
     requires place { place < length table.now.bids.now }
-    ensures { Prints S.Sink printer.old printer.new result (row table.now place) }
+    requires head { HasHead table.now rows.old }
+    ensures printed { Prints S.Sink printer.old printer.new result (row table.now place) }
+    ensures head { HasHead table.now rows.new }
 {
+    write_row(rows, table, place);
     printer.make_room()?;
-    put_row(&mut printer.page, table, place);
+    printer.page.put_bytes(rows.text.as_slice());
     Ok(())
 }
 
 /// Prints the record of a place, if an order has its limit there or it is the price.
 fn print_place<S: Sink>(
     printer: &mut Printer<'_, S>,
+    rows: &mut Rows,
     table: &Table<'_>,
     place: usize,
 ) -> Result<(), WriteFailed>
     requires places { HasPlaces table.now }
     requires place { place < length table.now.bids.now }
-    ensures { Prints S.Sink printer.old printer.new result (row_if table.now place) }
+    requires head { HasHead table.now rows.old }
+    ensures printed { Prints S.Sink printer.old printer.new result (row_if table.now place) }
+    ensures head { HasHead table.now rows.new }
 {
     if !is_row(table, place) {
         return Ok(());
     }
-    print_row(printer, table, place)
+    print_row(printer, rows, table, place)
 }
 
 /// Prints the records of all places, the highest first.
@@ -184,10 +289,11 @@ fn print_places<S: Sink>(printer: &mut Printer<'_, S>, table: &Table<'_>) -> Res
     requires { HasPlaces table.now }
     ensures { Prints S.Sink printer.old printer.new result (rows_below table.now (length table.now.bids.now)) }
 {
+    let mut rows = rows_of(table);
     let mut place = table.bids.len();
     'places: while place > 0 {
         place -= 1;
-        print_place(printer, table, place)?;
+        print_place(printer, &mut rows, table, place)?;
     }
     Ok(())
 }

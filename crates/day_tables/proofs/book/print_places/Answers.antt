@@ -6,14 +6,14 @@ use Rattle.day_tables.proofs.book.print_places.Goals as goal
 pub returns-in_err-print_place : goal.returns-in_err-print_place
 returns-in_err-print_place g c =
     let inv = c.places.invariant in
-    prints_among _ c.from_residual.ensures.0 (rows-next _ _ _ _ _ (omega arith) inv.2) inv.3 c.in_err-print_place.ensures
+    prints_among _ c.from_residual.ensures.0 (rows-next _ _ _ _ _ (omega arith) inv.3) inv.4 c.in_err-print_place.ensures.printed
 
 pub places-preserved : goal.places-preserved
 places-preserved g c =
     let inv = c.places.invariant in
-    (omega (arith, inv.0), _, rows-done _ _ _ _ _ (omega arith) inv.2, prints_more {r = Ok tt} inv.3 c.in_ok-print_place.ensures)
+    (omega (arith, inv.0), c.in_ok-print_place.ensures.head, _, rows-done _ _ _ _ _ (omega arith) inv.3, prints_more {r = Ok tt} inv.4 c.in_ok-print_place.ensures.printed)
 
 pub returns : goal.returns
 returns g c =
     let inv = c.places.invariant in
-    rw (← rows-end _ _ _ _ (omega arith) inv.2) inv.3
+    rw (← rows-end _ _ _ _ (omega arith) inv.3) inv.4
