@@ -1,0 +1,4 @@
+mod AsBox
+mod CopyLaws
+pub mod LadderTicksLaws
+mod ManyLaws

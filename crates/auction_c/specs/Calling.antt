@@ -1,0 +1,106 @@
+-- What a call from C does to the auction that its handle holds, and what it answers.
+use Rattle.std.specs.Prelude.{ℕ, ◌+◌, ◌-◌, ◌&&◌, ◌==◌, nat_eq, if◌then◌else◌, List, [], ◌∷◌, length, drop}
+use Rattle.std.specs.Prelude.{Option, Some, None}
+use Rattle.auction_terms.specs.declared.Command.{Command}
+use Rattle.auction_terms.specs.declared.Config.{Config}
+use Rattle.auction_terms.specs.declared.Trade.{Trade}
+use Rattle.auction_terms.specs.Day.{step}
+use Rattle.auction_terms.specs.Devices.Running.{Running, called}
+use Rattle.auction_terms.specs.Ladder.{LadderView}
+use Rattle.auction.specs.AuctionState.{counting, ladder_over, call_by}
+use Rattle.auction.specs.declared.OpenFault.{OpenFault}
+use Rattle.auction.specs.declared.OpenFault.TheVariants.{BadBounds, BadReference, BadLimits, NoMemory}
+use Rattle.auction_c.specs.declared.errors.TheConstants.{BAD_BOUNDS, BAD_REFERENCE, BAD_LIMITS, NO_MEMORY}
+use Rattle.auction_c.specs.declared.errors.TheConstants.{DONE, NO_COMMAND, FULL, BAD_LENGTH}
+use Rattle.auction_c.specs.declared.structs.AuctionCommand.{AuctionCommand}
+use Rattle.auction_c.specs.declared.structs.AuctionReply.{AuctionReply}
+use Rattle.auction_c.specs.Incoming.{command_in}
+use Rattle.auction_c.specs.Outgoing.{reply_out}
+
+abbrev pub fault_number : OpenFault → ℕ
+fault_number BadBounds = BAD_BOUNDS
+fault_number BadReference = BAD_REFERENCE
+fault_number BadLimits = BAD_LIMITS
+fault_number NoMemory = NO_MEMORY
+
+-- ---- one command
+
+-- the error number, and what the auction and the reply struct are after the call
+pub record Applied : Type 0 where
+  pub error : ℕ
+  pub auction : Running
+  pub reply : AuctionReply
+
+-- an error, with nothing changed
+abbrev pub not_applied : ℕ → Running → AuctionReply → Applied
+not_applied error a reply = record { error = error; auction = a; reply = reply }
+
+-- a command of a member: one step of the day, unless as many were applied as may be
+abbrev pub apply_command : Running → ℕ → Command → AuctionReply → Applied
+apply_command a member command before =
+    if nat_eq a.calls a.config.max_calls
+    then not_applied FULL a before
+    else record {
+      error = DONE;
+      auction = called a (call_by member command);
+      reply = reply_out (step a.config a.state (call_by member command)).1;
+    }
+
+abbrev pub apply_decoded : Running → ℕ → Option Command → AuctionReply → Applied
+apply_decoded a member None before = not_applied NO_COMMAND a before
+apply_decoded a member (Some command) before = apply_command a member command before
+
+-- the command that the struct stands for
+abbrev pub apply_struct : Running → AuctionCommand → AuctionReply → Applied
+apply_struct a c before = apply_decoded a c.member (command_in c) before
+
+-- ---- many commands
+
+-- the first error, how many were applied before it, and what the auction and the reply structs are then
+pub record AppliedAll : Type 0 where
+  pub error : ℕ
+  pub applied : ℕ
+  pub auction : Running
+  pub replies : List AuctionReply
+
+-- an error at the first, or none to apply
+abbrev pub nothing_applied : ℕ → Running → List AuctionReply → AppliedAll
+nothing_applied error a replies = record { error = error; applied = 0; auction = a; replies = replies }
+
+abbrev pub one_more : AuctionReply → AppliedAll → AppliedAll
+one_more reply rest = record rest { applied = rest.applied + 1; replies = reply ∷ rest.replies }
+
+-- one after another, up to the first error
+abbrev pub apply_structs : Running → List AuctionCommand → List AuctionReply → AppliedAll
+apply_structs a [] replies = nothing_applied DONE a replies
+apply_structs a (c ∷ cs) [] = nothing_applied DONE a []
+apply_structs a (c ∷ cs) (r ∷ rs) =
+    if (apply_struct a c r).error == DONE
+    then one_more (apply_struct a c r).reply (apply_structs (apply_struct a c r).auction cs rs)
+    else nothing_applied (apply_struct a c r).error a (r ∷ rs)
+
+-- where there is a reply struct for each command
+abbrev pub apply_all : Running → List AuctionCommand → List AuctionReply → AppliedAll
+apply_all a commands replies =
+    if nat_eq (length replies) (length commands)
+    then apply_structs a commands replies
+    else nothing_applied BAD_LENGTH a replies
+
+-- ---- what is shown
+
+-- how many ticks the bounds have
+abbrev pub ticks_of : Config → ℕ
+ticks_of config = config.high + 1 - config.low
+
+-- the ladder of the orders that count
+abbrev pub ladder_now : Running → LadderView
+ladder_now a = ladder_over a.config (counting a.state)
+
+-- arrays of these lengths for so many ticks
+abbrev pub ladder_error : ℕ → ℕ → ℕ → ℕ
+ladder_error ticks bids asks = if nat_eq bids ticks && nat_eq asks ticks then DONE else BAD_LENGTH
+
+-- the trades of the day after the first ones, none where no auction is held
+abbrev pub unseen : ℕ → Option Running → List Trade
+unseen seen None = []
+unseen seen (Some a) = drop seen a.state.tape

@@ -1,0 +1,54 @@
+//! Commands applied, one or many.
+ghost use Rattle.std.specs.Prelude.{◌≡◌, length};
+ghost use Rattle.auction_c.specs.Calling.{apply_struct, apply_structs};
+
+use crate::errors::{DONE, FULL, NO_COMMAND};
+use crate::incoming::command_in;
+use crate::outgoing::reply_out;
+use crate::structs::{AuctionCommand, AuctionReply};
+use auction::Auction;
+
+/// Applies the command, writes the reply, and answers `DONE`. Else it changes nothing, and answers `NO_COMMAND` for a
+/// struct that stands for none, `FULL` where as many were applied as may be.
+pub(crate) fn apply_one(
+    auction: &mut Auction,
+    command: &AuctionCommand,
+    reply: &mut AuctionReply,
+) -> u32
+    ensures error { result ≡ (apply_struct auction.old command.now reply.old).error }
+    ensures auction { auction.new ≡ (apply_struct auction.old command.now reply.old).auction }
+    ensures reply { reply.new ≡ (apply_struct auction.old command.now reply.old).reply }
+{
+    let Some(decoded) = command_in(command) else {
+        return NO_COMMAND;
+    };
+    if auction.is_full() {
+        return FULL;
+    }
+    *reply = reply_out(auction.apply(command.member, decoded));
+    DONE
+}
+
+/// Applies the commands one after another up to the first error, which it answers, and says how many were applied.
+pub(crate) fn apply_each(
+    auction: &mut Auction,
+    commands: &[AuctionCommand],
+    replies: &mut [AuctionReply],
+    applied: &mut usize,
+) -> u32
+    requires { length replies.old ≡ length commands.now }
+    ensures error { result ≡ (apply_structs auction.old commands.now replies.old).error }
+    ensures applied { applied.new ≡ (apply_structs auction.old commands.now replies.old).applied }
+    ensures auction { auction.new ≡ (apply_structs auction.old commands.now replies.old).auction }
+    ensures replies { replies.new ≡ (apply_structs auction.old commands.now replies.old).replies }
+{
+    for i in 0..commands.len() {
+        let error = apply_one(auction, &commands[i], &mut replies[i]);
+        if error != DONE {
+            *applied = i;
+            return error;
+        }
+    }
+    *applied = commands.len();
+    DONE
+}

@@ -1,0 +1,36 @@
+//! What C keeps of an auction.
+ghost use Rattle.std.specs.Prelude.{◌≡◌, ◌<◌, is_some, None, Some};
+ghost use Rattle.auction_c.specs.declared.errors.TheConstants.{DONE, NO_MEMORY};
+
+use crate::errors::{DONE, NO_MEMORY};
+use crate::held::Held;
+use auction::Auction;
+use std::alloc::Global;
+
+/// A handle of an auction, or of none: C starts with one of zeros. Each call takes it by reference.
+#[repr(C)]
+#[derive(Drop)]
+pub struct AuctionHandle {
+    pub(crate) held: Held,
+    pub(crate) is_open: bool,
+    ghost marked: { is_some held.value ≡ is_open },
+}
+
+impl AuctionHandle {
+    /// Holds the auction, and answers `DONE`; answers `NO_MEMORY` where there is none for it, and then it holds what it
+    /// held.
+    pub(crate) fn hold(&mut self, alloc: Global, auction: Auction) -> u32
+        ensures done { result ≡ DONE → self.new.held.value ≡ Some auction }
+        ensures refused { 0 < result → self.new.held.value ≡ self.old.held.value }
+        ensures memory { 0 < result → result ≡ NO_MEMORY }
+    {
+        let Ok(made) = Box::new(alloc, auction) else {
+            return NO_MEMORY;
+        };
+        *self = AuctionHandle {
+            held: Held::of(made),
+            is_open: true,
+        };
+        DONE
+    }
+}

@@ -1,0 +1,91 @@
+//! An auction on the heap, or none.
+ghost use Rattle.std.specs.Prelude.{◌≡◌, Option, Some, None, IsSome};
+ghost use Rattle.auction_terms.specs.Devices.Running.{Running};
+ghost use Rattle.auction_c.specs.Held.{auction_coded, held_owns};
+
+mod parts;
+
+use auction::Auction;
+use parts::Parts;
+use std::alloc::Global;
+use std::marker::Model;
+use std::{mem, ptr};
+
+/// An auction on the heap, or none.
+#[repr(C)]
+#[derive(Drop)]
+pub struct Held {
+    at: *mut u8,
+    alloc: Global,
+    pub ghost value: { Option Running } by { auction_coded },
+}
+
+impl Model for Held {
+    ghost also_owns = { λ h. held_owns h.alloc h.at h.value };
+}
+
+impl Held {
+    ghost use Rattle.auction_c.specs.Lending.{HeldLends};
+    ghost use Rattle.std.specs.Borrow.{sem};
+
+    pub fn of(b: Box<Auction>) -> Held
+        ensures { result.value ≡ Some b.value }
+    {
+        Held::of_parts(Parts::of(b))
+    }
+
+    pub fn into_box(self) -> Box<Auction>
+        requires { IsSome self.value }
+        ensures { Some result.value ≡ self.value }
+    {
+        self.into_parts().into_box()
+    }
+
+    /// The auction itself.
+    pub fn get_mut(&mut self) -> &mut Auction
+        requires { IsSome self.old.value }
+        ensures* writes_back { sem 𝓛 (HeldLends self.entry result) }
+        ensures value { Some result.now ≡ self.old.value }
+    {
+        unsafe { &mut *(self.at as *mut Auction) }
+    }
+
+    /// What is held; then there is none.
+    pub fn take(&mut self, alloc: Global) -> Held
+        ensures taken { result.value ≡ self.old.value }
+        ensures left { self.new.value ≡ None }
+    {
+        mem::replace(self, Held::none(alloc))
+    }
+
+    // No auction.
+    fn none(alloc: Global) -> Held
+        ensures { result.value ≡ None }
+    {
+        Held {
+            at: ptr::null_mut(),
+            alloc,
+        }
+    }
+
+    fn of_parts(parts: Parts<Auction, Global>) -> Held
+        ensures { result.value ≡ Some parts.value }
+    {
+        let Parts { ptr, alloc } = parts;
+        Held {
+            at: ptr as *mut u8,
+            alloc,
+        }
+    }
+
+    fn into_parts(self) -> Parts<Auction, Global>
+        requires { IsSome self.value }
+        ensures { Some result.value ≡ self.value }
+    {
+        let Held { at, alloc } = self;
+        Parts {
+            ptr: at as *mut Auction,
+            alloc,
+        }
+    }
+}

@@ -1,0 +1,277 @@
+//! A call auction that C holds by a handle: the library `libcallauction`.
+//!
+//! `library/callauction.h` has the same for C. A handle of zeros holds no auction, and each call on it but an opening
+//! answers `NO_AUCTION` and does nothing else. Each call takes the handle by reference, one call at a time, and answers
+//! `DONE` or the number of an error, which changes nothing. Only opening and cloning take memory.
+#![tactic(auto)]
+
+ghost use Rattle.std.specs.Prelude.{◌≡◌, ◌<◌, ◌+◌, ◌-◌, ◌++◌, Some, None, IsSome, IsNone, IfSome};
+ghost use Rattle.std.specs.Prelude.{length, map, min, take, drop, option_map};
+ghost use Rattle.std.specs.Option.{option_map_or};
+ghost use Rattle.auction_terms.specs.Day.{display};
+ghost use Rattle.auction_terms.specs.Devices.Running.{opened};
+ghost use Rattle.auction.specs.ConfigFault.{open_fault};
+ghost use Rattle.auction_c.specs.Calling.{fault_number, apply_struct, apply_all};
+ghost use Rattle.auction_c.specs.Calling.{ladder_now, ladder_error, ticks_of, unseen};
+ghost use Rattle.auction_c.specs.Incoming as stands;
+ghost use Rattle.auction_c.specs.Outgoing as written;
+
+mod applying;
+mod copying;
+mod errors;
+mod handle;
+mod held;
+mod incoming;
+mod outgoing;
+mod structs;
+
+use applying::{apply_each, apply_one};
+use auction::Auction;
+use copying::{copy_ladder, copy_trades};
+use errors::fault_out;
+pub use errors::{
+    BAD_BOUNDS, BAD_LENGTH, BAD_LIMITS, BAD_REFERENCE, DONE, FULL, IN_USE, NO_AUCTION, NO_COMMAND,
+    NO_MEMORY,
+};
+pub use handle::AuctionHandle;
+use incoming::config_in;
+use outgoing::{config_out, display_out};
+use std::alloc::Global;
+pub use structs::{AuctionCommand, AuctionConfig, AuctionMarket, AuctionReply, AuctionTrade};
+
+/// Opens an auction, which the handle then holds: no orders, no trades, no calls, the reference of the config.
+///
+/// Where the handle holds one already it answers `IN_USE`. Else it answers the first fault of the config, `BAD_BOUNDS`,
+/// `BAD_REFERENCE` or `BAD_LIMITS`, and `NO_MEMORY` only where it has none.
+#[unsafe(no_mangle)]
+pub extern "C" fn callauction_open(
+    alloc: Global,
+    handle: &mut AuctionHandle,
+    config: &AuctionConfig,
+) -> u32
+    ensures opened { result ≡ 0 → handle.new.held.value ≡ Some (opened (stands.config_in config.now)) }
+    ensures refused { 0 < result → handle.new.held.value ≡ handle.old.held.value }
+    ensures busy { IsSome handle.old.held.value → result ≡ IN_USE }
+    ensures fault { IsNone handle.old.held.value →
+        IfSome (open_fault (stands.config_in config.now)) (λ fault. result ≡ fault_number fault) }
+    ensures memory { IsNone handle.old.held.value → open_fault (stands.config_in config.now) ≡ None →
+        0 < result → result ≡ NO_MEMORY }
+{
+    if handle.is_open {
+        return IN_USE;
+    }
+    match Auction::open(alloc, config_in(config)) {
+        Ok(auction) => handle.hold(alloc, auction),
+        Err(fault) => fault_out(fault),
+    }
+}
+
+/// Applies a command and writes its reply.
+///
+/// It answers `NO_COMMAND` for a struct that stands for no command, and `FULL` where as many were applied as may be. A
+/// command that the auction refuses is no error: its reply says so.
+#[unsafe(no_mangle)]
+pub extern "C" fn callauction_apply(
+    handle: &mut AuctionHandle,
+    command: &AuctionCommand,
+    reply: &mut AuctionReply,
+) -> u32
+    ensures error { result ≡
+        option_map_or (λ a. (apply_struct a command.now reply.old).error) handle.old.held.value NO_AUCTION }
+    ensures held { handle.new.held.value ≡
+        option_map (λ a. (apply_struct a command.now reply.old).auction) handle.old.held.value }
+    ensures reply { reply.new ≡
+        option_map_or (λ a. (apply_struct a command.now reply.old).reply) handle.old.held.value reply.old }
+{
+    if !handle.is_open {
+        return NO_AUCTION;
+    }
+    apply_one(handle.held.get_mut(), command, reply)
+}
+
+/// Applies commands one after another, each as `callauction_apply`, up to the first error, which it answers. It writes
+/// the replies of those that were applied, and how many they are.
+///
+/// It answers `BAD_LENGTH` where there aren't as many replies as commands, and then applies none.
+#[unsafe(no_mangle)]
+pub extern "C" fn callauction_apply_many(
+    handle: &mut AuctionHandle,
+    commands: &[AuctionCommand],
+    replies: &mut [AuctionReply],
+    applied: &mut usize,
+) -> u32
+    ensures error { result ≡
+        option_map_or (λ a. (apply_all a commands.now replies.old).error) handle.old.held.value NO_AUCTION }
+    ensures applied { applied.new ≡
+        option_map_or (λ a. (apply_all a commands.now replies.old).applied) handle.old.held.value 0 }
+    ensures held { handle.new.held.value ≡
+        option_map (λ a. (apply_all a commands.now replies.old).auction) handle.old.held.value }
+    ensures replies { replies.new ≡
+        option_map_or (λ a. (apply_all a commands.now replies.old).replies) handle.old.held.value replies.old }
+{
+    *applied = 0;
+    if !handle.is_open {
+        return NO_AUCTION;
+    }
+    if replies.len() != commands.len() {
+        return BAD_LENGTH;
+    }
+    apply_each(handle.held.get_mut(), commands, replies, applied)
+}
+
+/// Writes what is shown, as a reply with tag 5 or 6. It is no call of a member: it isn't counted.
+#[unsafe(no_mangle)]
+pub extern "C" fn callauction_display(handle: &mut AuctionHandle, shown: &mut AuctionReply) -> u32
+    ensures error { result ≡ option_map_or (λ a. DONE) handle.old.held.value NO_AUCTION }
+    ensures held { handle.new.held.value ≡ handle.old.held.value }
+    ensures shown { shown.new ≡
+        option_map_or (λ a. written.display_out (display a.state)) handle.old.held.value shown.old }
+{
+    if !handle.is_open {
+        return NO_AUCTION;
+    }
+    *shown = display_out(handle.held.get_mut().show());
+    DONE
+}
+
+/// Copies the shares bid and offered by the orders that count, tick by tick from the lowest on, and writes those of the
+/// market orders.
+///
+/// Where an array hasn't just as many places as there are ticks it answers `BAD_LENGTH`.
+#[tactic(auto, using(crate::proofs::LadderTicksLaws::ticks_now))]
+#[unsafe(no_mangle)]
+pub extern "C" fn callauction_ladder(
+    handle: &mut AuctionHandle,
+    bids: &mut [u64],
+    asks: &mut [u64],
+    market: &mut AuctionMarket,
+) -> u32
+    ensures error { result ≡ option_map_or
+        (λ a. ladder_error (ticks_of a.config) (length bids.old) (length asks.old)) handle.old.held.value NO_AUCTION }
+    ensures held { handle.new.held.value ≡ handle.old.held.value }
+    ensures bids { result ≡ 0 → IfSome handle.old.held.value (λ a. bids.new ≡ (ladder_now a).bids) }
+    ensures asks { result ≡ 0 → IfSome handle.old.held.value (λ a. asks.new ≡ (ladder_now a).asks) }
+    ensures market { result ≡ 0 → IfSome handle.old.held.value (λ a. market.new ≡ written.market_out (ladder_now a)) }
+    ensures unchanged { 0 < result → (bids.new ≡ bids.old) × (asks.new ≡ asks.old) × (market.new ≡ market.old) }
+{
+    if !handle.is_open {
+        return NO_AUCTION;
+    }
+    copy_ladder(handle.held.get_mut().ladder(), bids, asks, market)
+}
+
+/// Copies the trades of the day that come after the first `seen` of them, as many as there is room for, and writes how
+/// many were copied.
+#[unsafe(no_mangle)]
+pub extern "C" fn callauction_trades(
+    handle: &mut AuctionHandle,
+    seen: usize,
+    trades: &mut [AuctionTrade],
+    copied: &mut usize,
+) -> u32
+    ensures error { result ≡ option_map_or (λ a. DONE) handle.old.held.value NO_AUCTION }
+    ensures held { handle.new.held.value ≡ handle.old.held.value }
+    ensures copied { copied.new ≡ min (length (unseen seen handle.old.held.value)) (length trades.old) }
+    ensures trades { trades.new ≡
+        map written.trade_out (take copied.new (unseen seen handle.old.held.value)) ++ drop copied.new trades.old }
+{
+    *copied = 0;
+    if !handle.is_open {
+        return NO_AUCTION;
+    }
+    let tape = handle.held.get_mut().tape();
+    if seen > tape.len() {
+        return DONE;
+    }
+    *copied = copy_trades(&tape[seen..], trades);
+    DONE
+}
+
+/// Writes how many commands were applied, those among them that the auction refused.
+#[unsafe(no_mangle)]
+pub extern "C" fn callauction_calls(handle: &mut AuctionHandle, calls: &mut u32) -> u32
+    ensures error { result ≡ option_map_or (λ a. DONE) handle.old.held.value NO_AUCTION }
+    ensures held { handle.new.held.value ≡ handle.old.held.value }
+    ensures calls { calls.new ≡ option_map_or (λ a. a.calls) handle.old.held.value calls.old }
+{
+    if !handle.is_open {
+        return NO_AUCTION;
+    }
+    *calls = handle.held.get_mut().calls();
+    DONE
+}
+
+/// Writes what the auction was opened with.
+#[unsafe(no_mangle)]
+pub extern "C" fn callauction_config_of(
+    handle: &mut AuctionHandle,
+    config: &mut AuctionConfig,
+) -> u32
+    ensures error { result ≡ option_map_or (λ a. DONE) handle.old.held.value NO_AUCTION }
+    ensures held { handle.new.held.value ≡ handle.old.held.value }
+    ensures config { config.new ≡
+        option_map_or (λ a. written.config_out a.config) handle.old.held.value config.old }
+{
+    if !handle.is_open {
+        return NO_AUCTION;
+    }
+    *config = config_out(handle.held.get_mut().config());
+    DONE
+}
+
+/// Goes back to the opening, as if the auction had just been opened. It takes no memory.
+#[unsafe(no_mangle)]
+pub extern "C" fn callauction_reset(handle: &mut AuctionHandle) -> u32
+    ensures error { result ≡ option_map_or (λ a. DONE) handle.old.held.value NO_AUCTION }
+    ensures held { handle.new.held.value ≡ option_map (λ a. opened a.config) handle.old.held.value }
+{
+    if !handle.is_open {
+        return NO_AUCTION;
+    }
+    handle.held.get_mut().reset();
+    DONE
+}
+
+/// Makes the other handle hold an auction of its own that stands where this one does.
+///
+/// Where the other handle holds an auction already it answers `IN_USE`, and else `NO_MEMORY` where memory is refused.
+#[unsafe(no_mangle)]
+pub extern "C" fn callauction_clone(
+    alloc: Global,
+    handle: &mut AuctionHandle,
+    other: &mut AuctionHandle,
+) -> u32
+    ensures held { handle.new.held.value ≡ handle.old.held.value }
+    ensures copied { result ≡ 0 → other.new.held.value ≡ handle.old.held.value }
+    ensures refused { 0 < result → other.new.held.value ≡ other.old.held.value }
+    ensures missing { IsNone handle.old.held.value → result ≡ NO_AUCTION }
+    ensures busy { IsSome handle.old.held.value → IsSome other.old.held.value → result ≡ IN_USE }
+    ensures memory { IsSome handle.old.held.value → IsNone other.old.held.value →
+        0 < result → result ≡ NO_MEMORY }
+{
+    if !handle.is_open {
+        return NO_AUCTION;
+    }
+    if other.is_open {
+        return IN_USE;
+    }
+    match handle.held.get_mut().copied(alloc) {
+        Ok(copy) => other.hold(alloc, copy),
+        Err(_) => NO_MEMORY,
+    }
+}
+
+/// Gives up the auction and its memory. The handle then holds none.
+#[unsafe(no_mangle)]
+pub extern "C" fn callauction_close(alloc: Global, handle: &mut AuctionHandle) -> u32
+    ensures error { result ≡ option_map_or (λ a. DONE) handle.old.held.value NO_AUCTION }
+    ensures held { handle.new.held.value ≡ None }
+{
+    if !handle.is_open {
+        return NO_AUCTION;
+    }
+    let held = handle.held.take(alloc);
+    handle.is_open = false;
+    drop(held.into_box());
+    DONE
+}

@@ -1,0 +1,104 @@
+//! The structs that C and an auction hand to one another.
+//!
+//! Each is plain numbers, and has the layout of its namesake in `callauction.h`. A flag is 0 or 1.
+
+/// What an auction is opened with, as `Config`.
+#[repr(C)]
+#[derive(Clone, Copy, Debug, PartialEq, Eq)]
+pub struct AuctionConfig {
+    /// The lowest and the highest tick.
+    pub low: u32,
+    pub high: u32,
+    /// The first reference price, in ticks.
+    pub reference: u32,
+    /// How many orders may be open at a time.
+    pub max_open: u32,
+    /// How many commands may be applied.
+    pub max_calls: u32,
+    /// 0: no price interrupts an uncross, and `range` isn't read. Any other number: one does that lies more than
+    /// `range` ticks from the reference.
+    pub has_range: u32,
+    pub range: u32,
+}
+
+/// A member's command. What its tag doesn't need isn't read.
+#[repr(C)]
+#[derive(Clone, Copy, Debug, PartialEq, Eq)]
+pub struct AuctionCommand {
+    /// Shares, of an entry or a change.
+    pub quantity: u64,
+    /// The most shares that an entered order shows, where `has_peak` is 1.
+    pub peak: u64,
+    /// The id of an order, or the number of a trade.
+    pub id: u32,
+    /// A tick, where `has_limit` is 1; else the order is a market order.
+    pub limit: u32,
+    pub member: u8,
+    /// 1 enter, 2 change, 3 delete, 4 status, 5 ask, 6 trade, 7 uncross.
+    pub tag: u8,
+    /// 1 bid, 2 ask.
+    pub side: u8,
+    /// The auctions that the order is for: 0 every one, 1 the opening, 2 the closing alone.
+    pub only: u8,
+    pub has_limit: u8,
+    pub has_peak: u8,
+}
+
+/// A reply. What its tag doesn't need is 0.
+#[repr(C)]
+#[derive(Clone, Copy, Debug, PartialEq, Eq)]
+pub struct AuctionReply {
+    /// Shares, open of an order or executed in a trade.
+    pub quantity: u64,
+    /// The shares of an order that are shown.
+    pub visible: u64,
+    /// Shares, of an auction price.
+    pub volume: u64,
+    pub surplus: u64,
+    /// The id of the order that was entered, or of a trade's bid.
+    pub id: u32,
+    /// The id of a trade's ask.
+    pub ask: u32,
+    /// An order's limit, an auction price, or a trade's price, where `has_tick` is 1 or the tag says so.
+    pub tick: u32,
+    /// How many trades an uncross made.
+    pub trades: u32,
+    /// The highest bid limit and the lowest ask limit, where their flags are 1.
+    pub best_bid: u32,
+    pub best_ask: u32,
+    /// 1 entered, 2 changed, 3 deleted, 4 standing, 5 priced, 6 unpriced, 7 traded, 8 uncrossed, 9 interrupted,
+    /// 10 refused.
+    pub tag: u8,
+    /// The side of an order or of a surplus: 0 none, 1 bid, 2 ask.
+    pub side: u8,
+    /// The auction that was uncrossed: 1 opening, 2 intraday, 3 closing.
+    pub auction: u8,
+    /// Whether an order kept its place in time.
+    pub kept: u8,
+    /// Why a command was refused: 1 to 9, in the order of `Refused`.
+    pub refusal: u8,
+    pub has_tick: u8,
+    pub has_best_bid: u8,
+    pub has_best_ask: u8,
+}
+
+/// A trade.
+#[repr(C)]
+#[derive(Clone, Copy, Debug, PartialEq, Eq)]
+pub struct AuctionTrade {
+    /// Shares.
+    pub quantity: u64,
+    /// The ids of the two orders.
+    pub bid: u32,
+    pub ask: u32,
+    /// The price.
+    pub tick: u32,
+}
+
+/// The shares of the market orders that count.
+#[repr(C)]
+#[derive(Clone, Copy, Debug, PartialEq, Eq)]
+pub struct AuctionMarket {
+    pub bids: u64,
+    pub asks: u64,
+}
