@@ -1,0 +1,108 @@
+/* A simulator's morning on libcallauction: random traders, the indicative price as they trade, what an order would do
+ * to it, and the uncross.
+ *
+ *     library/build /tmp/callauction
+ *     export PKG_CONFIG_PATH=/tmp/callauction LD_LIBRARY_PATH=/tmp/callauction
+ *     cc examples/simulator.c $(pkg-config --cflags --libs callauction) -o /tmp/simulator && /tmp/simulator
+ *
+ * prints examples/simulator.txt. */
+#include <callauction.h>
+#include <inttypes.h>
+#include <stdio.h>
+#include <stdlib.h>
+
+enum { TRADERS = 20, ROUNDS = 1000 };
+
+/* The dice: the same ones in each run. */
+static uint32_t drawn(uint32_t below) {
+    static uint64_t state = 2026;
+    state = state * 6364136223846793005u + 1442695040888963407u;
+    return (uint32_t)(state >> 33) % below;
+}
+
+/* Ends the program where a call has an error: this one makes none. */
+static void want(uint32_t answer, const char *call) {
+    if (answer == CALLAUCTION_DONE) return;
+    fprintf(stderr, "%s: error %u\n", call, answer);
+    exit(1);
+}
+
+static callauction_reply apply(callauction_handle *auction, callauction_command command) {
+    callauction_reply reply;
+    want(callauction_apply(auction, &command, &reply), "apply");
+    return reply;
+}
+
+static callauction_reply display(callauction_handle *auction) {
+    callauction_reply shown;
+    want(callauction_display(auction, &shown), "display");
+    return shown;
+}
+
+/* A trader enters an order near the fair price, or changes or deletes one of the last orders, maybe another's. */
+static callauction_command command_of(uint8_t trader, uint32_t fair, uint32_t entered) {
+    callauction_command command = {.member = trader, .tag = CALLAUCTION_ENTER, .has_limit = 1};
+    uint32_t roll = drawn(10);
+    bool is_bid = drawn(2) == 0;
+    command.side = is_bid ? CALLAUCTION_BID_SIDE : CALLAUCTION_ASK_SIDE;
+    command.limit = is_bid ? fair + 3 - drawn(20) : fair - 3 + drawn(20);
+    command.quantity = 10 * (1 + drawn(50));
+    if (roll == 0) command.has_limit = 0;
+    if (roll >= 7 && entered > 0) {
+        command.tag = roll == 9 ? CALLAUCTION_DELETE : CALLAUCTION_CHANGE;
+        command.id = entered - drawn(entered < 40 ? entered : 40);
+    }
+    return command;
+}
+
+/* The price that a market order would leave behind, found on a copy of the auction; 0 where there is none. */
+static uint32_t price_after(callauction_handle *auction, uint8_t side, uint64_t quantity) {
+    callauction_handle copy = {0};
+    callauction_command order = {.member = 1, .tag = CALLAUCTION_ENTER, .side = side, .quantity = quantity};
+    want(callauction_clone(auction, &copy), "clone");
+    apply(&copy, order);
+    uint32_t tick = display(&copy).tick;
+    want(callauction_close(&copy), "close");
+    return tick;
+}
+
+int main(void) {
+    callauction_handle auction = {0};
+    callauction_config config = {1, 1000, 500, .max_open = 4096, .max_calls = 65536};
+    uint32_t counts[CALLAUCTION_REFUSED + 1] = {0}, entered = 0, fair = 500;
+    uint32_t calls, least = 1000, most = 0, priced = 0;
+    want(callauction_open(&auction, &config), "open");
+    for (int round = 0; round < ROUNDS; round++) {
+        fair += drawn(3) - 1;
+        for (uint8_t trader = 1; trader <= TRADERS; trader++) {
+            callauction_reply reply = apply(&auction, command_of(trader, fair, entered));
+            counts[reply.tag]++;
+            if (reply.tag == CALLAUCTION_ENTERED) entered = reply.id;
+        }
+        callauction_reply shown = display(&auction);
+        if (shown.tag != CALLAUCTION_PRICED) continue;
+        priced++;
+        if (shown.tick < least) least = shown.tick;
+        if (shown.tick > most) most = shown.tick;
+    }
+    want(callauction_calls(&auction, &calls), "calls");
+    printf("%u calls: %u entered, %u changed, %u deleted, %u refused\n", calls, counts[CALLAUCTION_ENTERED],
+           counts[CALLAUCTION_CHANGED], counts[CALLAUCTION_DELETED], counts[CALLAUCTION_REFUSED]);
+    printf("%u of %d rounds with an indicative price, from %u to %u\n", priced, ROUNDS, least, most);
+    callauction_reply shown = display(&auction);
+    printf("at the end %u, volume %" PRIu64 ", surplus %" PRIu64 "\n", shown.tick, shown.volume, shown.surplus);
+    for (uint64_t quantity = 1000; quantity <= 1000000; quantity *= 10) {
+        uint32_t higher = price_after(&auction, CALLAUCTION_BID_SIDE, quantity);
+        uint32_t lower = price_after(&auction, CALLAUCTION_ASK_SIDE, quantity);
+        printf("with %" PRIu64 " shares more bid %u, with as many more offered %u\n", quantity, higher, lower);
+    }
+    callauction_reply ended = apply(&auction, (callauction_command){.member = 0, .tag = CALLAUCTION_UNCROSS});
+    printf("uncrossed at %u, volume %" PRIu64 ", %u trades\n", ended.tick, ended.volume, ended.trades);
+    callauction_trade first[3];
+    size_t copied;
+    want(callauction_trades(&auction, 0, first, 3, &copied), "trades");
+    for (size_t i = 0; i < copied; i++)
+        printf("%" PRIu64 " shares from order %u to order %u\n", first[i].quantity, first[i].ask, first[i].bid);
+    want(callauction_close(&auction), "close");
+    return 0;
+}

@@ -1,0 +1,78 @@
+/* Memory, with the heap of checks/refusing_memory.c: `memory open`, `memory day`, `memory many COUNT`.
+ *
+ * open: opens an auction, clones it and closes both; where memory is refused the call answers so, and nothing is kept.
+ * day: the same, and between them commands, displays and resets, which ask for no memory.
+ * many: opens and closes so many times, and prints by how many KiB the process has grown since a tenth of them. */
+#include "callauction.h"
+#include <stdio.h>
+#include <stdlib.h>
+#include <string.h>
+#include <unistd.h>
+
+static const callauction_config config = {1, 1000, 500, 64, 6000, 0, 0};
+
+static int leave(const char *why) {
+    fprintf(stderr, "memory: %s\n", why);
+    return 1;
+}
+
+static bool plays(callauction_handle *auction) {
+    callauction_reply reply;
+    bool is_right = true;
+    for (uint32_t i = 0; i < 5000; i++) {
+        callauction_command command = {.member = (uint8_t)(i % 3), .side = (uint8_t)(1 + i % 2), .quantity = 1 + i % 9};
+        command.tag = (uint8_t)(i % 900 == 899 ? CALLAUCTION_UNCROSS : 1 + i % 6);
+        command.has_limit = i % 5 != 0;
+        command.limit = 490 + i % 21;
+        command.id = i / 12;
+        if (command.tag == CALLAUCTION_UNCROSS) command.member = 0;
+        is_right &= callauction_apply(auction, &command, &reply) == CALLAUCTION_DONE;
+        is_right &= callauction_display(auction, &reply) == CALLAUCTION_DONE;
+    }
+    return is_right && callauction_reset(auction) == CALLAUCTION_DONE;
+}
+
+/* What is done where nothing is refused; a refusal is answered, and leaves a handle that holds none. */
+static int opens(bool has_day) {
+    callauction_handle auction = {0}, copy = {0}, none = {0};
+    uint32_t answer = callauction_open(&auction, &config);
+    if (answer == CALLAUCTION_NO_MEMORY) return memcmp(&auction, &none, sizeof none) ? leave("a handle changed") : 3;
+    if (answer != CALLAUCTION_DONE) return leave("another answer of an opening");
+    if (has_day && !plays(&auction)) return leave("the day went otherwise");
+    answer = callauction_clone(&auction, &copy);
+    if (answer == CALLAUCTION_NO_MEMORY) {
+        if (memcmp(&copy, &none, sizeof none)) return leave("a handle changed");
+        return callauction_close(&auction) == CALLAUCTION_DONE ? 3 : leave("not closed");
+    }
+    if (answer != CALLAUCTION_DONE) return leave("another answer of a clone");
+    if (has_day && !plays(&copy)) return leave("the copy's day went otherwise");
+    bool are_closed = callauction_close(&auction) == CALLAUCTION_DONE && callauction_close(&copy) == CALLAUCTION_DONE;
+    return are_closed ? 0 : leave("not closed");
+}
+
+static long kibibytes(void) {
+    long pages = 0, resident = 0;
+    FILE *from = fopen("/proc/self/statm", "r");
+    if (!from || fscanf(from, "%ld %ld", &pages, &resident) != 2) resident = 0;
+    if (from) fclose(from);
+    return resident * (sysconf(_SC_PAGESIZE) / 1024);
+}
+
+static int many(long count) {
+    long before = 0;
+    for (long i = 0; i < count; i++) {
+        callauction_handle auction = {0}, copy = {0};
+        if (callauction_open(&auction, &config) != CALLAUCTION_DONE) return leave("not opened");
+        if (i % 4 == 0 && callauction_clone(&auction, &copy) != CALLAUCTION_DONE) return leave("not cloned");
+        callauction_close(&copy);
+        if (callauction_close(&auction) != CALLAUCTION_DONE) return leave("not closed");
+        if (i == count / 10) before = kibibytes();
+    }
+    printf("%ld\n", kibibytes() - before);
+    return 0;
+}
+
+int main(int count, char **words) {
+    if (count == 3 && strcmp(words[1], "many") == 0) return many(atol(words[2]));
+    return opens(count == 2 && strcmp(words[1], "day") == 0);
+}
