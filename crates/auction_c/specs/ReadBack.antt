@@ -16,11 +16,11 @@ use Rattle.auction_terms.specs.declared.Reply.TheVariants.{Entered, Changed, Del
 use Rattle.auction_terms.specs.declared.Reply.TheVariants.{Uncrossed, Interrupted, Refused as IsRefused}
 use Rattle.auction_c.specs.declared.structs.AuctionReply.{AuctionReply}
 
-abbrev pub side_back : ℕ → Side
-side_back n = if n == 1 then Buy else Sell
+abbrev pub bid_or_ask_back : ℕ → Side
+bid_or_ask_back n = if n == 1 then Buy else Sell
 
 abbrev pub surplus_side_back : ℕ → Option Side
-surplus_side_back n = if n == 0 then None else Some (side_back n)
+surplus_side_back n = if n == 0 then None else Some (bid_or_ask_back n)
 
 abbrev pub auction_back : ℕ → Kind
 auction_back n = if n == 1 then Opening else if n == 2 then Intraday else Closing
@@ -51,7 +51,7 @@ reply_back r =
     if r.tag == 1 then Entered r.id
     else if r.tag == 2 then Changed (r.kept == 1)
     else if r.tag == 3 then Deleted
-    else if r.tag == 4 then Standing (side_back r.side) (limit_back r.has_tick r.tick) r.quantity r.visible
+    else if r.tag == 4 then Standing (bid_or_ask_back r.side) (limit_back r.has_tick r.tick) r.quantity r.visible
     else if r.tag == 5 then Indicated (Priced (price_back r))
     else if r.tag == 6
     then Indicated (Unpriced (tick_back r.has_best_bid r.best_bid) (tick_back r.has_best_ask r.best_ask))
