@@ -39,13 +39,19 @@ COMPARE = "checks/compare --fresh --short 480 --long 20"
 PARTS = [
     Part("layout", "columns, names of files and lemmas, limits by their names", "checks/layout"),
     Part("edits", "wrong bodies fit their files and are listed", "checks/wrong-bodies --fit"),
+    Part("header", "the library's header and its crate", "library/test --header", "gcc"),
     Part("ci", "proofs from nothing, wrong bodies, tests, runs", "rt ci", "rt setpriv"),
     Part("examples", "examples/ and the copies in the tests", f"checks/examples {PROGRAM}"),
     Part("compare", "random files by the rules", f"{COMPARE} --program {PROGRAM}"),
     Part("hostile", "bad files, failing ends, full boards", f"checks/hostile {PROGRAM}", "bash"),
     Part("refusals", "refused memory", f"checks/refusals {PROGRAM} {TESTS}", "cc"),
 ]
-PACKAGES = {"bash": "bash", "cc": "gcc and libc6-dev", "setpriv": "util-linux"}
+PACKAGES = {
+    "bash": "bash",
+    "cc": "gcc and libc6-dev",
+    "gcc": "gcc and libc6-dev",
+    "setpriv": "util-linux",
+}
 
 
 def missing_tools(parts: list[Part]) -> list[str]:

@@ -168,7 +168,7 @@ uint32_t callauction_ladder(callauction_handle *handle, uint64_t *bids, size_t b
 
 /* Copies the trades of the day after the first `seen`, as many as there are and as fit, and writes how many it
  * copied. */
-uint32_t callauction_trades(callauction_handle *handle, size_t seen, callauction_trade *trades, size_t count,
+uint32_t callauction_trades(callauction_handle *handle, size_t seen, callauction_trade *trades, size_t trade_count,
                             size_t *copied);
 
 /* Writes how many commands were applied, the refused ones among them. */
