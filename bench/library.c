@@ -1,5 +1,5 @@
-/* Prints what the calls of libcallauction take, in nanoseconds: the commands of crates/clock (`apply-alone`), one by one
- * and a thousand at a time, and copies of a book with 1,000 open orders. bench/library runs it. */
+/* Prints what the calls of libcallauction take, in nanoseconds: the commands of crates/clock (`apply-alone`), one by
+ * one and a thousand at a time, and copies of a book with 1,000 open orders. bench/library runs it. */
 #include <callauction.h>
 #include <stdio.h>
 #include <stdlib.h>
