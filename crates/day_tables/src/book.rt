@@ -1,6 +1,7 @@
 //! The book behind each price of the day.
 
-ghost use Rattle.std.specs.Prelude.{◌≡◌, ◌<◌, ◌≤◌, ◌+◌, ◌-◌, ◌++◌, [], length, None, Err, IfErr, IfSome, false, codes, decimal};
+ghost use Rattle.std.specs.Prelude.{◌≡◌, ◌<◌, ◌≤◌, ◌+◌, ◌-◌, ◌++◌, [], length, None, Err, IfErr, IfSome};
+ghost use Rattle.std.specs.Prelude.{false, codes, decimal};
 ghost use Rattle.auction_terms.specs.Day.{IsLegal};
 ghost use Rattle.auction.specs.ConfigFault.{open_fault};
 ghost use Rattle.printed_lines.specs.Printing.{Prints};
@@ -9,8 +10,8 @@ ghost use Rattle.day_tables.specs.BookTable.{book_header, book_text, best_word, 
 ghost use Rattle.day_tables.specs.BookTable.{table_before, tables_after, text_before};
 ghost use Rattle.day_tables.specs.TableCurves.{HasRoom};
 ghost use Rattle.day_tables.specs.TableRecords.{PrintsTable, WantsMemory};
-ghost use Rattle.day_tables.specs.TableRows.{HasPlaces, HasHead, side_between, is_row, row, row_end, row_if, rows_below, market_row};
-ghost use Rattle.day_tables.specs.TableRows.{is_at_price, rule_at, tick_shown};
+ghost use Rattle.day_tables.specs.TableRows.{HasPlaces, HasHead, side_between, is_row, row, row_end, row_if};
+ghost use Rattle.day_tables.specs.TableRows.{rows_below, market_row, is_at_price, rule_at, tick_shown};
 ghost use Rattle.day_tables.specs.declared.front_text.TheConstants.{SHORT, TEXT_ROOM};
 ghost use Rattle.day_tables.specs.declared.fault.TableFault.TheVariants as fault;
 
