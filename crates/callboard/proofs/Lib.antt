@@ -5,3 +5,4 @@ pub mod PlayedDayLaws
 pub mod EntriesLaws
 pub mod OwedLaws
 pub mod PassedOnLaws
+pub mod KeptLaws

@@ -1,5 +1,5 @@
 -- What a run owes, by how far it came.
-use Rattle.std.proofs.Common.{◌≡◌, ℕ, ◌++◌, List, Bool, Option, None, Some, Result, Ok, Err, IfErr, IfSome, ap, refl, sym, subst}
+use Rattle.std.proofs.Common.{◌≡◌, ℕ, ◌++◌, List, Bool, Option, None, Some, Result, Ok, Err, IfSome, ap, refl, sym, subst}
 use Rattle.std.specs.Prelude.{◌↔◌, IsErrAnd, IsErrOf, unwrap_or}
 use Rattle.std.specs.Io.KnownBytes.{Appends}
 use Rattle.auction.specs.declared.OpenFault.{OpenFault}
@@ -7,12 +7,7 @@ use Rattle.auction.specs.declared.OpenFault.TheVariants.{NoMemory}
 use Rattle.order_file.specs.File.{Fails}
 use Rattle.order_file.specs.declared.fault.FileFault.{FileFault}
 use Rattle.order_file.specs.declared.fault.FileFault.TheVariants as file
-use Rattle.auction_terms.specs.declared.Call.{Call}
-use Rattle.auction_terms.specs.declared.Config.{Config}
-use Rattle.auction_terms.specs.Day.{State, replies_from}
-use Rattle.printed_lines.specs.ReplyLines.{lines}
 use Rattle.journal.specs.GivenDay.{GivenDay}
-use Rattle.journal.specs.declared.day.Day.{Day}
 use Rattle.call_board.specs.declared.closing.Closing.{Closing}
 use Rattle.printed_lines.specs.Tally.{tally}
 use Rattle.settings.specs.declared.types.Form.{Form}
@@ -20,13 +15,12 @@ use Rattle.settings.specs.declared.types.Form.TheVariants as forms
 use Rattle.callboard.specs.declared.fault.Fault.{Fault}
 use Rattle.callboard.specs.declared.fault.Fault.TheVariants as fault
 use Rattle.callboard.specs.declared.fault.Finish.{Finish}
-use Rattle.callboard.specs.AuctionRun.{IsOfAuction, run_text}
+use Rattle.callboard.specs.AuctionRun.{IsOfAuction}
 use Rattle.callboard.specs.BoardRun.{IsDayOf, IsFloorText, closed_text, story_if}
 use Rattle.callboard.specs.FileRun.{Ends, Job, Opens, Runs, WritesText, Wrote}
 use Rattle.callboard.specs.PlayedDay.{IsBetween}
-use Rattle.callboard.specs.Printed.{IsAfterwards, IsOfPrinting, IsWideForm, IsWideIfBegun, entries_from, history_of, printed}
+use Rattle.callboard.specs.Printed.{IsAfterwards, IsOfPrinting, IsWideForm}
 use Rattle.callboard.specs.Status.{Ran}
-use Rattle.callboard.proofs.EntriesLaws.{history-replies}
 
 -- ---- what a `?` hands on, and what didn't fail
 
@@ -131,33 +125,6 @@ ran_short job ends given finish text r fault.WriteFailed same hears read_well to
 ran_short job ends given finish text r (fault.File f) same hears read_well told opens faults after is wrote = absurd after
 ran_short job ends given finish text r (fault.Open f) same hears read_well told opens faults after is wrote = absurd after
 ran_short job ends given finish text r fault.NotClosed same hears read_well told opens faults after is wrote = absurd after
-
--- what was printed of the calls that were given
-pub run_wrote : (form : Form) (given : GivenDay) (calls : List Call) (old new : Option (List ℕ)) (r : Result (Unit {0}) Fault)
-    → calls ≡ given.calls → WritesText old new (printed form given.day (history_of given.day.config calls)) r → WritesText old new (run_text form given) r
-run_wrote form given calls old new r same wrote =
-    subst (λ (cs : List Call). WritesText old new (printed form given.day (history_of given.day.config cs)) r) same wrote
-
--- and the numbers of their replies
-pub run_wide : (form : Form) (given : GivenDay) (calls : List Call) (r : Result (Unit {0}) Fault)
-    → calls ≡ given.calls → IsWideIfBegun r form (history_of given.day.config calls) → IsWideIfBegun r form (history_of given.day.config given.calls)
-run_wide form given calls r same wide = subst (λ (cs : List Call). IsWideIfBegun r form (history_of given.day.config cs)) same wide
-
--- and where a write failed
-pub run_short_wide : (form : Form) (given : GivenDay) (calls : List Call) (f : Fault) → calls ≡ given.calls
-    → IsWideIfBegun (Err f) form (history_of given.day.config calls) → f ≡ fault.WriteFailed → IsWideForm form (history_of given.day.config given.calls)
-run_short_wide form given calls f same wide failed =
-    subst (λ (x : Fault). IsWideIfBegun (Err x) form (history_of given.day.config given.calls)) failed (run_wide form given calls (Err f) same wide)
-
--- the lines that were written are those of the entries
-pub lines_wrote : (day : Day) (config : Config) (state : State) (calls : List Call) (old new : Option (List ℕ)) (r : Result (Unit {0}) Fault)
-    → WritesText old new (lines (replies_from config state calls)) r → WritesText old new (printed forms.Lines day (entries_from config state calls)) r
-lines_wrote day config state calls old new r wrote = subst (λ replies. WritesText old new (lines replies) r) (sym (history-replies config state calls)) wrote
-
--- lines fail to be written, and in no other way
-pub lines_fail : (r : Result (Unit {0}) Fault) → IfErr r (λ f. f ≡ fault.WriteFailed) → IfErr r (IsOfPrinting forms.Lines)
-lines_fail (Ok u) h = tt
-lines_fail (Err f) h = h
 
 -- a fault of printing on an auction
 pub printing_after : (form : Form) (f : Fault) → IsOfPrinting form f → IsAfterwards f × IsOfAuction form f

@@ -1,12 +1,8 @@
 -- What a run of commands on an auction writes.
 use Rattle.std.specs.Prelude.{◌≡◌, ℕ, List}
-use Rattle.auction_terms.specs.declared.Call.{Call}
-use Rattle.auction_terms.specs.Day.{replies_from}
-use Rattle.auction_terms.specs.Devices.Running.{Running}
 use Rattle.auction.specs.ConfigFault.{open_fault}
 use Rattle.journal.specs.GivenDay.{GivenDay, given}
 use Rattle.journal.specs.declared.day.Day.{Day}
-use Rattle.printed_lines.specs.ReplyLines.{lines}
 use Rattle.settings.specs.declared.types.Form.{Form}
 use Rattle.callboard.specs.declared.fault.Fault.{Fault}
 use Rattle.callboard.specs.declared.fault.Fault.TheVariants as fault
@@ -14,10 +10,6 @@ use Rattle.callboard.specs.declared.fault.Finish.TheVariants.{Lawful}
 use Rattle.callboard.specs.FileRun.{Ends, Job, Runs}
 use Rattle.callboard.specs.Printed.{IsOfPrinting, IsWideForm, history_of, printed}
 use Rattle.callboard.specs.Status.{Ran}
-
--- the lines of the replies to these calls, the first of them being line 1
-abbrev pub lines_from : Running → List Call → List ℕ
-lines_from auction calls = lines (replies_from auction.config auction.state calls)
 
 -- what is printed of a day on which these calls come
 abbrev pub run_text : Form → GivenDay → List ℕ

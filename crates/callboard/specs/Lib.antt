@@ -1,5 +1,6 @@
 pub mod Status
 pub mod FileRun
+pub mod KeptEntries
 pub mod Printed
 pub mod AuditRun
 pub mod AuctionRun

@@ -10,6 +10,8 @@ mod audit;
 mod day;
 mod fault;
 mod floor;
+mod keeping;
+mod kept;
 mod laws;
 mod printing;
 mod run;

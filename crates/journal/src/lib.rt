@@ -21,4 +21,4 @@ pub use laws::{
     replies_are_told,
 };
 pub use printing::print_journal;
-pub use reading::{Journal, MAX_JOURNAL_BYTES, read_journal};
+pub use reading::{Journal, MAX_JOURNAL_BYTES, journal_of, read_journal};

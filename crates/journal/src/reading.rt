@@ -84,9 +84,9 @@ fn day_from(alloc: Global, rows: &mut Reader<&[u8]>) -> Result<Day, FileFault>
     }
 }
 
-/// What bytes say as a journal.
+/// What bytes say as a journal, with the faults of [`read_journal`]; the limit of its size aside.
 #[tactic(auto, unfolding(crate::specs::JournalFile::journal_of))]
-pub(crate) fn journal_of(alloc: Global, bytes: &[u8]) -> Result<Journal, FileFault>
+pub fn journal_of(alloc: Global, bytes: &[u8]) -> Result<Journal, FileFault>
     ensures said { Gives recorded result (journal_of bytes.now) }
     ensures parsed { IfErr result IsOfRecord }
     ensures few { IfOk result (λ j. length j.calls.items ≤ j.day.config.max_calls) }

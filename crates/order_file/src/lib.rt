@@ -13,4 +13,4 @@ mod record;
 pub use fault::{FileFault, RecordFault};
 pub use field::number_of;
 pub use reading::{MAX_BYTES, bytes_of, calls_of, next_row, read_orders, reader_of};
-pub use record::{Word, command_of, count_within, member_of, number_at, word_at};
+pub use record::{Word, command_of, count_within, member_of, number_at, numbered_call, word_at};

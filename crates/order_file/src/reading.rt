@@ -49,6 +49,7 @@ pub fn bytes_of<R: Source>(alloc: Global, reader: &mut R, most: usize) -> Result
 }
 
 /// The next record of a file, and whether there was one. The fault is want of memory.
+#[inline]
 pub fn next_row(reader: &mut Reader<&[u8]>, row: &mut ByteRecord) -> Result<bool, FileFault>
     requires { Stands reader.old }
     ensures memory { IfErr result (λ e. e ≡ FileFault.NoMemory) }

@@ -50,6 +50,7 @@ fn word_of(field: &[u8]) -> Option<Word>
 
 /// Whether the record has from `least` to `most` fields.
 #[tactic(auto, unfolding(crate::specs::Record::count_within))]
+#[inline]
 pub fn count_within(fields: &ByteRecord, least: usize, most: usize) -> Result<(), RecordFault>
     ensures { result ≡ count_within least most (fields_of fields.now) }
 {
@@ -120,6 +121,7 @@ fn only_at(fields: &ByteRecord, place: usize) -> Result<Only, RecordFault>
 
 /// The member in the first field: a number below the count of members.
 #[tactic(auto, unfolding(crate::specs::Record::member_of))]
+#[inline]
 pub fn member_of(fields: &ByteRecord, members: u8) -> Result<u8, RecordFault>
     ensures member { result ≡ member_of members (fields_of fields.now) }
     ensures below { IfOk result (λ member. member < members) }
@@ -136,6 +138,7 @@ pub fn member_of(fields: &ByteRecord, members: u8) -> Result<u8, RecordFault>
 
 /// The command word in the second field.
 #[tactic(auto, unfolding(crate::specs::Record::word_at))]
+#[inline]
 pub fn word_at(fields: &ByteRecord) -> Result<Word, RecordFault>
     ensures { result ≡ word_at (fields_of fields.now) }
 {
@@ -221,6 +224,7 @@ pub fn command_of(word: Word, fields: &ByteRecord) -> Result<Command, RecordFaul
 
 /// The call of a record, or its first fault.
 #[tactic(auto, unfolding(crate::specs::Record::call_of))]
+#[inline]
 fn call_of(fields: &ByteRecord, members: u8) -> Result<Call, RecordFault>
     ensures call { result ≡ call_of members (fields_of fields.now) }
     ensures below { IfOk result (λ call. call.member < members) }
@@ -233,6 +237,7 @@ fn call_of(fields: &ByteRecord, members: u8) -> Result<Call, RecordFault>
 
 /// The same, with the number of the record in its fault.
 #[tactic(auto, unfolding(crate::specs::Record::numbered_call))]
+#[inline]
 pub fn numbered_call(fields: &ByteRecord, number: u64, members: u8) -> Result<Call, FileFault>
     ensures call { result ≡ numbered_call members number (fields_of fields.now) }
     ensures parsed { IfErr result IsOfRecord }

@@ -1,33 +1,49 @@
-use Rattle.std.proofs.Common.{Err, Ok, arith, refl}
-use Rattle.auction.specs.ConfigFault.{open_fault}
-use Rattle.journal.specs.GivenDay.{given_day}
-use Rattle.callboard.specs.AuctionRun.{run_text}
+use Rattle.std.proofs.Common.{Err, Ok, refl, arith}
+use Rattle.callboard.specs.AuctionRun.{auction_job, run_text}
+use Rattle.callboard.specs.Printed.{history_of}
 use Rattle.callboard.specs.declared.fault.Finish.TheVariants.{Lawful}
-use Rattle.callboard.proofs.OpeningLaws.{none_refused, refused-for}
-use Rattle.callboard.proofs.OwedLaws.{handed_over, printing_after, ran_short, ran_whole, read_well, refused_input, refused_opening, run_short_wide, run_wide, run_wrote, wrote_well}
+use Rattle.journal.specs.GivenDay.{GivenDay}
+use Rattle.callboard.proofs.EntriesLaws.{history_legal}
+use Rattle.callboard.proofs.KeptLaws.{kept_faults, kept_refused, kept_short_wide, kept_well, kept_wide, kept_wrote, said_given}
+use Rattle.callboard.proofs.OwedLaws.{handed_over, ran_short, ran_whole, wrote_well}
 use Rattle.callboard.proofs.run.run_file.Goals as goal
 
-pub returns-in-Err : goal.returns-in-Err
-returns-in-Err g c = refused_input _ _ _ c.in-Err.fault refl c.in-Err.ensures.failed (λ h. omega (arith, h)) refl tt c.in-Err.ensures.answer
-
-pub returns-in-Err-open : goal.returns-in-Err-open
-returns-in-Err-open g c =
-    refused_opening _ _ (given_day c.in-Ok.given) c.in-Err-open.fault c.in-Ok.ensures.answer (read_well _ c.in-Ok.given refl c.in-Ok.ensures.failed) (λ h. omega (arith, h)) refl tt
-    (refused-for (open_fault c.in-Ok.given.day.config) _ c.in-Err-open.fault refl c.in-Err-open.ensures.refused c.in-Err-open.ensures.memory)
-
-pub returns-in_err-write_run : goal.returns-in_err-write_run
-returns-in_err-write_run g c =
-    let given = given_day c.in-Ok.given in
-    let f = c.in_err-write_run.field-0.0 in
-    let opens = none_refused (open_fault c.in-Ok.given.day.config) c.open.result c.in-Ok-open.auction c.in-Ok-open.is c.open.ensures.refused in
-    let after = printing_after c.args.form f c.in_err-write_run.ensures.fault in
+pub returns-in_err-kept_day : goal.returns-in_err-kept_day
+returns-in_err-kept_day g c =
+    let f = c.in_err-kept_day.field-0.0 in
+    let (said, keeps, known) = c.in_err-kept_day.ensures.kept in
     handed_over _ _ _ f c.from_residual.ensures.1
-    (ran_short _ _ given Lawful (run_text c.args.form given) _ f refl c.in-Ok.ensures.answer (read_well _ c.in-Ok.given refl c.in-Ok.ensures.failed) c.in_err-write_run.ensures.failed opens after.1 after.0 (λ failed. (refl, (refl, run_short_wide c.args.form given _ f c.as_slice-calls.ensures.value c.in_err-write_run.ensures.wide failed)))
-    (run_wrote c.args.form given _ (g.S.Sink.written c.args.writer.now) (g.S.Sink.written c.write_run.new.writer) (Err f) c.as_slice-calls.ensures.value c.in_err-write_run.ensures.text))
+    (kept_refused c.args.form c.args.day _ said (Err f) f refl c.in_err-kept_day.ensures.failed (λ h. omega (arith, h)) refl keeps known)
+
+pub write_kept-requires : goal.write_kept-requires
+write_kept-requires g c =
+    let (said, keeps, known) = c.in_ok-kept_day.ensures.kept in
+    let (calls, is, (for, opens, few, holds)) = keeps in
+    (_, holds, history_legal c.in_ok-kept_day.kept_day.day.config calls few)
+
+pub returns-in_err-write_kept : goal.returns-in_err-write_kept
+returns-in_err-write_kept g c =
+    let f = c.in_err-write_kept.field-0.0 in
+    let day = c.in_ok-kept_day.kept_day.day in
+    let (said, keeps, known) = c.in_ok-kept_day.ensures.kept in
+    let (calls, is, (for, opens, few, holds)) = keeps in
+    let given : GivenDay = record { day = day; calls = calls } in
+    let entries = history_of day.config calls in
+    let after = kept_faults c.args.form _ f for c.in_err-write_kept.ensures.fault in
+    handed_over _ _ _ f c.from_residual-in_err-write_kept.ensures.1
+    (ran_short (auction_job c.args.day c.args.form) _ given Lawful (run_text c.args.form given) _ f refl (said_given c.args.day _ said given is known)
+    (kept_well _ _ refl c.in_ok-kept_day.ensures.failed) c.in_err-write_kept.ensures.failed opens after.1 after.0
+    (λ failed. (refl, (refl, kept_short_wide c.args.form _ entries f for (c.in_err-write_kept.ensures.wide entries holds) failed)))
+    (kept_wrote c.args.form _ given (g.S.Sink.written c.args.writer.now) (g.S.Sink.written c.write_kept.new.writer) (Err f) for (c.in_err-write_kept.ensures.text entries holds)))
 
 pub returns : goal.returns
 returns g c =
-    let given = given_day c.in-Ok.given in
-    let opens = none_refused (open_fault c.in-Ok.given.day.config) c.open.result c.in-Ok-open.auction c.in-Ok-open.is c.open.ensures.refused in
-    ran_whole _ _ given Lawful (run_text c.args.form given) c.in-Ok.ensures.answer (read_well _ c.in-Ok.given refl c.in-Ok.ensures.failed) (wrote_well _ _ refl c.in_ok-write_run.ensures.failed) opens (refl, (refl, run_wide c.args.form given _ (Ok tt) c.as_slice-calls.ensures.value c.in_ok-write_run.ensures.wide))
-    (run_wrote c.args.form given _ (g.S.Sink.written c.args.writer.now) (g.S.Sink.written c.write_run.new.writer) (Ok tt) c.as_slice-calls.ensures.value c.in_ok-write_run.ensures.text)
+    let day = c.in_ok-kept_day.kept_day.day in
+    let (said, keeps, known) = c.in_ok-kept_day.ensures.kept in
+    let (calls, is, (for, opens, few, holds)) = keeps in
+    let given : GivenDay = record { day = day; calls = calls } in
+    let entries = history_of day.config calls in
+    ran_whole (auction_job c.args.day c.args.form) _ given Lawful (run_text c.args.form given) (said_given c.args.day _ said given is known)
+    (kept_well _ _ refl c.in_ok-kept_day.ensures.failed) (wrote_well _ _ refl c.in_ok-write_kept.ensures.failed) opens
+    (refl, (refl, kept_wide c.args.form _ entries (Ok tt) for (c.in_ok-write_kept.ensures.wide entries holds)))
+    (kept_wrote c.args.form _ given (g.S.Sink.written c.args.writer.now) (g.S.Sink.written c.write_kept.new.writer) (Ok tt) for (c.in_ok-write_kept.ensures.text entries holds))

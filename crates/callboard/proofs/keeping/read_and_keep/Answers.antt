@@ -1,0 +1,9 @@
+use Rattle.callboard.proofs.KeptLaws.{known_said, unread_said}
+use Rattle.callboard.proofs.keeping.read_and_keep.Goals as goal
+
+pub returns-in-Ok-clause-kept : goal.returns-in-Ok-clause-kept
+returns-in-Ok-clause-kept g c =
+    known_said c.args.form c.args.day _ c.in-Ok.bytes.items c.keep_input.result c.in-Ok.ensures.bytes (rw c.as_slice.ensures.value at c.keep_input.ensures.kept)
+
+pub returns-in-Err-clause-kept : goal.returns-in-Err-clause-kept
+returns-in-Err-clause-kept g c = unread_said c.args.day _ c.in-Err.fault c.in-Err.ensures.bytes

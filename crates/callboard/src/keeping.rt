@@ -1,0 +1,218 @@
+//! The run of an input's commands on an auction, with what its form needs kept of them.
+
+ghost use Rattle.std.specs.Prelude.{◌≡◌, ◌≢◌, ◌<◌, ◌≤◌, ◌+◌, ◌++◌, ◌∷◌, [], ◌↔◌};
+ghost use Rattle.std.specs.Prelude.{List, length, unwrap_or, Result, Ok, Err, IfErr, IfSome, IsErrOf, OnOk};
+ghost use Rattle.auction_terms.specs.declared.Entry.{Entry};
+ghost use Rattle.auction_terms.specs.Day.{step};
+ghost use Rattle.auction_terms.specs.Devices.Running.{called, opened};
+ghost use Rattle.auction.specs.ConfigFault.{open_fault};
+ghost use Rattle.journal.specs.GivenDay.{GivenDay, given, given_of, or_orders, orders_for};
+ghost use Rattle.order_file.specs.declared.fault.FileFault.{FileFault};
+ghost use Rattle.order_file.specs.File.{IsOfRecord, calls_after, calls_of};
+ghost use Rattle.order_file.specs.Rows.{Stands, rows_left};
+ghost use Rattle.callboard.specs.KeptEntries.{Holds, KeepsCalls, KeepsSaid, calls_for, form_of};
+ghost use Rattle.callboard.specs.Printed.{entry_by};
+
+use crate::fault::Fault;
+use crate::kept::Kept;
+use auction::{Auction, OpenFault};
+use auction_terms::Call;
+use byte_streams::Source;
+use csv::{ByteRecord, Reader};
+use journal::{Day, Journal, MAX_JOURNAL_BYTES, journal_of};
+use order_file::{FileFault, MAX_BYTES, bytes_of, calls_of, next_row, numbered_call, reader_of};
+use settings::Form;
+use std::alloc::{AllocError, Global};
+
+/// A day, and what is kept of its entries.
+#[derive(Drop)]
+pub struct KeptDay {
+    pub day: Day,
+    pub kept: Kept,
+}
+
+/// Applies a call, and keeps its entry. The error is that memory is refused.
+#[inline]
+fn keep_call(auction: &mut Auction, kept: &mut Kept, call: Call) -> Result<(), AllocError>
+    requires { auction.old.calls < auction.old.config.max_calls }
+    ensures state { auction.new ≡ called auction.old call }
+    ensures form { form_of kept.new ≡ form_of kept.old }
+    ensures kept { (entries : List Entry) → Holds kept.old entries → OnOk result
+        (Holds kept.new (entries ++ entry_by call (step auction.old.config auction.old.state call).1 ∷ [])) }
+{
+    let reply = auction.apply(call.member, call.command);
+    kept.keep(call, reply)
+}
+
+/// Applies the calls of the records that are left, which come after the auction's so far, and keeps their entries;
+/// or answers the first fault, which may be want of memory.
+fn keep_rows(
+    alloc: Global,
+    rows: &mut Reader<&[u8]>,
+    auction: &mut Auction,
+    kept: &mut Kept,
+    members: u8,
+) -> Result<(), FileFault>
+    requires { Stands rows.old }
+    ensures form { form_of kept.new ≡ form_of kept.old }
+    ensures kept { (entries : List Entry) → Holds kept.old entries
+        → KeepsCalls (Holds kept.new) entries auction.old auction.new result
+        (calls_after members auction.old.config.max_calls auction.old.calls (rows_left rows.old)) }
+    ensures room { auction.new.calls ≤ auction.old.config.max_calls }
+    ensures parsed { IfErr result IsOfRecord }
+{
+    let mut row = ByteRecord::new(alloc);
+    let max_calls = auction.config().max_calls;
+    for before in auction.calls()..max_calls {
+        if !next_row(rows, &mut row)? {
+            return Ok(());
+        }
+        let call = numbered_call(&row, u64::from(before) + 1, members)?;
+        if keep_call(auction, kept, call).is_err() {
+            return Err(FileFault::NoMemory);
+        }
+    }
+    if next_row(rows, &mut row)? {
+        return Err(FileFault::TooManyCommands {
+            number: u64::from(max_calls) + 1,
+        });
+    }
+    Ok(())
+}
+
+/// The same of all records of an order file, on an auction that was just opened.
+fn keep_records(
+    alloc: Global,
+    bytes: &[u8],
+    auction: &mut Auction,
+    kept: &mut Kept,
+    members: u8,
+) -> Result<(), FileFault>
+    requires opened { auction.old ≡ opened auction.old.config }
+    ensures form { form_of kept.new ≡ form_of kept.old }
+    ensures kept { (entries : List Entry) → Holds kept.old entries
+        → KeepsCalls (Holds kept.new) entries auction.old auction.new result
+        (calls_of members auction.old.config.max_calls bytes.now) }
+    ensures room { auction.new.calls ≤ auction.old.config.max_calls }
+    ensures parsed { IfErr result IsOfRecord }
+{
+    let mut rows = reader_of(alloc, bytes)?;
+    keep_rows(alloc, &mut rows, auction, kept, members)
+}
+
+/// Applies these calls, which come after the auction's so far, and keeps their entries. The error is that memory is
+/// refused.
+fn keep_calls(auction: &mut Auction, kept: &mut Kept, calls: &[Call]) -> Result<(), FileFault>
+    requires { auction.old.calls + length calls.now ≤ auction.old.config.max_calls }
+    ensures form { form_of kept.new ≡ form_of kept.old }
+    ensures kept { (entries : List Entry) → Holds kept.old entries
+        → KeepsCalls (Holds kept.new) entries auction.old auction.new result (Ok calls.now) }
+    ensures memory { IfErr result (λ e. e ≡ FileFault.NoMemory) }
+{
+    for call in calls {
+        if keep_call(auction, kept, *call).is_err() {
+            return Err(FileFault::NoMemory);
+        }
+    }
+    Ok(())
+}
+
+/// Runs the commands that a journal gives, its replies dropped.
+fn keep_journal(alloc: Global, journal: &Journal, form: Form) -> Result<KeptDay, Fault>
+    requires { length journal.now.calls.items ≤ journal.now.day.config.max_calls }
+    ensures kept { KeepsSaid form (calls_for journal.now.day (Ok journal.now.calls.items)) result }
+    ensures read { result ≢ Err (Fault.File FileFault.ReadFailed) }
+{
+    let day = journal.day;
+    let mut auction = match Auction::open(alloc, day.config) {
+        Ok(auction) => auction,
+        Err(fault) => return Err(Fault::Open(fault)),
+    };
+    let mut kept = Kept::new(alloc, form);
+    match keep_calls(&mut auction, &mut kept, journal.calls.as_slice()) {
+        Ok(()) => Ok(KeptDay { day, kept }),
+        Err(fault) => Err(Fault::File(fault)),
+    }
+}
+
+/// What an order file owes whose day can't be opened: a fault of its own comes first.
+fn refused_orders(alloc: Global, bytes: &[u8], day: Day, fault: OpenFault) -> Fault
+    requires { fault ≡ unwrap_or (open_fault day.config) OpenFault.NoMemory }
+    ensures kept { (form : Form)
+        → KeepsSaid form (calls_for day (calls_of day.members day.config.max_calls bytes.now)) (Err result) }
+    ensures read { result ≢ Fault.File FileFault.ReadFailed }
+{
+    if let Err(fault) = calls_of(alloc, bytes, day.members, day.config.max_calls) {
+        return Fault::File(fault);
+    }
+    Fault::Open(fault)
+}
+
+/// Runs the commands of an order file of this day.
+fn keep_orders(alloc: Global, bytes: &[u8], day: Day, form: Form) -> Result<KeptDay, Fault>
+    ensures kept { KeepsSaid form (orders_for day bytes.now) result }
+    ensures read { result ≢ Err (Fault.File FileFault.ReadFailed) }
+{
+    if bytes.len() > MAX_BYTES {
+        return Err(Fault::File(FileFault::TooLong));
+    }
+    let mut auction = match Auction::open(alloc, day.config) {
+        Ok(auction) => auction,
+        Err(fault) => return Err(refused_orders(alloc, bytes, day, fault)),
+    };
+    let mut kept = Kept::new(alloc, form);
+    match keep_records(alloc, bytes, &mut auction, &mut kept, day.members) {
+        Ok(()) => Ok(KeptDay { day, kept }),
+        Err(fault) => Err(Fault::File(fault)),
+    }
+}
+
+/// Runs the commands of an input that has this fault as a journal: what is no journal is an order file of this day.
+fn keep_or_refuse(
+    alloc: Global,
+    bytes: &[u8],
+    day: Day,
+    form: Form,
+    fault: FileFault,
+) -> Result<KeptDay, Fault>
+    requires { fault ≢ FileFault.ReadFailed }
+    ensures kept { KeepsSaid form (or_orders (orders_for day bytes.now) fault) result }
+    ensures read { result ≢ Err (Fault.File FileFault.ReadFailed) }
+{
+    match fault {
+        FileFault::NotADay => keep_orders(alloc, bytes, day, form),
+        _ => Err(Fault::File(fault)),
+    }
+}
+
+/// Runs the commands of an input, a journal or an order file of this day.
+fn keep_input(alloc: Global, bytes: &[u8], day: Day, form: Form) -> Result<KeptDay, Fault>
+    ensures kept { KeepsSaid form (given_of day bytes.now) result }
+    ensures read { result ≢ Err (Fault.File FileFault.ReadFailed) }
+{
+    match journal_of(alloc, bytes) {
+        Ok(journal) => keep_journal(alloc, &journal, form),
+        Err(fault) => keep_or_refuse(alloc, bytes, day, form, fault),
+    }
+}
+
+/// Reads an input, a journal or an order file of this day, runs its commands on an auction, and keeps what this form
+/// needs of them.
+///
+/// A fault of the input comes before one of the config.
+pub fn read_and_keep<R: Source>(
+    alloc: Global,
+    reader: &mut R,
+    day: Day,
+    form: Form,
+) -> Result<KeptDay, Fault>
+    ensures failed { IsErrOf result (Fault.File FileFault.ReadFailed)
+        ↔ (R.failures reader.old < R.failures reader.new) }
+    ensures kept { (said : Result GivenDay FileFault) × KeepsSaid form said result
+        × IfSome (R.left reader.old) (λ bytes. said ≡ given day bytes) }
+{
+    match bytes_of(alloc, reader, MAX_JOURNAL_BYTES) {
+        Ok(bytes) => keep_input(alloc, bytes.as_slice(), day, form),
+        Err(fault) => Err(Fault::File(fault)),
+    }
+}
