@@ -1,10 +1,11 @@
-//! Prints what prices, calls and looks take. It measures where a word is given, `price` or `board`, and else does
-//! nothing.
+//! Prints what prices, calls and looks take, or reads the records of standard input. It measures where a word is
+//! given, `price`, `board` or `records`, and else does nothing.
 #![tactic(auto)]
 
 mod board;
 mod commands;
 mod price;
+mod records;
 mod tasks;
 
 use std::{env, io};
@@ -14,6 +15,7 @@ fn main(rt: HostRuntime) -> io::Result<()> {
     match words.get(1).map(|word| word.as_str()) {
         Some("price") => price::measure_all(&rt),
         Some("board") => board::measure_all(&rt),
+        Some("records") => records::measure_all(&rt),
         _ => Ok(()),
     }
 }
