@@ -1,17 +1,18 @@
--- Claims in the order of their comparison are the orders in rank order.
-use Rattle.std.proofs.Common.{◌≡◌, ℕ, ◌+◌, ◌≤◌, Bool, ◌&&◌, not, cond, length, count_by, List, [], ◌∷◌, ◌++◌, Option, map, filter, take, refl, sym, ap, subst, ◌∙◌, arith}
+-- Claims by their ranks are the orders in rank order.
+use Rattle.std.proofs.Common.{◌≡◌, ℕ, ◌+◌, ◌≤◌, Bool, ◌&&◌, not, cond, if◌then◌else◌, nat_lt, nat_eq, sum_by, length, count_by, List, [], ◌∷◌, ◌++◌, Option, true, false, map, filter, take, refl, sym, ap, subst, ◌∙◌, arith}
 use Rattle.std.proofs.lemmas.Bool.Decides.{nat_tests}
-use Rattle.std.proofs.lemmas.Cmp.{nat_cmp_total, on_total, then_total}
+use Rattle.std.proofs.lemmas.Cmp.{nat_cmp_total, on_total}
 use Rattle.std.proofs.lemmas.List.{length-map, map-append}
 use Rattle.std.proofs.lemmas.List.Elements.{filter-append}
 use Rattle.std.specs.Option.{option_to_list}
 use Rattle.std.proofs.lemmas.List.Sorted.{sum_by-IsPermutation}
 use Rattle.std.proofs.lemmas.List.Filters.{sum_by-filter_both}
-use Rattle.std.proofs.lemmas.List.Sums.{sum_by-cons, length-filter}
-use Rattle.std.specs.Cmp.{IsTotalOrder}
-use Rattle.std.specs.List.Sorted.{IsSorted, IsPermutation}
-use Rattle.std.specs.Ordering.{nat_cmp, ordering_reverse}
-use Rattle.std.specs.declared.cmp.Ordering.TheVariants.{Less, Equal}
+use Rattle.std.proofs.lemmas.List.Sums.{sum_by-cons, sum_by-append, length-filter}
+use Rattle.std.specs.List.Sorted.{IsPermutation}
+use Rattle.std.specs.Ordering.{nat_cmp, is_le}
+use Rattle.std.specs.List.{IsAllAdjacentAnswer}
+use Rattle.std.specs.declared.cmp.Ordering.{Ordering}
+use Rattle.std.specs.declared.cmp.Ordering.TheVariants.{Less}
 use Rattle.std.proofs.lemmas.Grind.{common_steps}
 use Rattle.auction_terms.specs.declared.Side.{Side}
 use Rattle.auction_terms.specs.declared.Side.TheVariants.{Buy, Sell}
@@ -23,56 +24,122 @@ use Rattle.auction_terms.specs.Devices.StampedOrders.{timed, order_of, orders_of
 use Rattle.auction_terms.specs.Devices.Ranked.{asked, price_order, ranked_orders}
 use Rattle.auction_terms.specs.declared.Order.{Order}
 use Rattle.auction_terms.specs.Devices.Sort.{in_order, SameItems}
-use Rattle.auction_terms.proofs.SortLaws.{Before, Rising, Upto, Up, up_from_sorted, same_in_order, sum_by-in_order, rising_in_order}
+use Rattle.auction_terms.proofs.SortLaws.{Before, Rising, Upto, Up, up_from_sorted, sum_by-in_order, rising_in_order}
 use Rattle.auction_terms.proofs.RankLaws.{by_rank_total, all_apart_by_place, PlacesRise-filter, ranked_orders_is, sum_by-filter}
 use Rattle.auction_terms.proofs.FillLaws.{sum_by-map, total-asked}
 use Rattle.auction_terms.proofs.CountedLaws.{counted_is_line, orders_of-counted, sum-counted, few-counted}
 use Rattle.order_book.specs.Orders.{OrdersView, IsWalk, present, slot_at}
 use Rattle.order_book.proofs.WalkLaws.{present_more, present_all, length-ones}
 use Rattle.allocation.specs.declared.claims.Claim.{Claim}
-use Rattle.allocation.specs.declared.claims.Priority.{Priority}
 use Rattle.allocation.specs.declared.claims.Claimants.{Claimants}
-use Rattle.allocation.specs.Claim.{priority_cmp, claim_cmp, claim_of, claims_of, claimed, claimed_by, counting, IsRanked}
+use Rattle.allocation.specs.Claim.{is_narrow, claim_of, claims_of, claimed, claimed_by, counting, AreInOrder, AreNarrow, IsRanked}
 
-nat_tie : (m n : ℕ) → nat_cmp m n ≡ Equal → m ≡ n
-nat_tie m n h = grind (arith, nat_tests)
+-- ---- lists by rising numbers
 
-antisymm : (x y : Priority) → priority_cmp x y ≡ ordering_reverse (priority_cmp y x)
-antisymm x y = grind (arith, common_steps)
+module _ {X : Type 0} (key : X → ℕ) (exact : (x y : X) → ((g : X → ℕ) → g x ≡ g y) → x ≡ y) where
+  abbrev by_key : X → X → Ordering
+  by_key x y = nat_cmp (key x) (key y)
 
-trans : (x y z : Priority) → priority_cmp x y ≡ Less → priority_cmp y z ≡ Less → priority_cmp x z ≡ Less
-trans x y z f g = grind (arith, common_steps)
+  -- what counts below a number, and what counts of those at it
+  lesser : ℕ → X → ℕ
+  lesser n z = cond (nat_lt (key z) n) 1 0
 
-exact_priority : (x y : Priority) → priority_cmp x y ≡ Equal → x ≡ y
-exact_priority x y f = grind (arith, common_steps, nat_tie)
+  of_those_at : ℕ → (X → ℕ) → X → ℕ
+  of_those_at n g z = cond (nat_eq (key z) n) (g z) 0
 
-priority_total : IsTotalOrder priority_cmp
-priority_total = record { antisymm = antisymm; trans = trans; congr = λ x y z f. ap (λ p. priority_cmp p z) (exact_priority x y f) }
+  none_lesser : (x : X) (zs : List X) → Upto by_key x zs → sum_by (lesser (key x)) zs ≡ 0
+  unfolding lesser
+  none_lesser x [] u = refl
+  none_lesser x (z ∷ zs) u = grind (arith, common_steps, nat_tests, sum_by-cons, (none_lesser x zs u.1))
 
-pub claim_total : IsTotalOrder claim_cmp
-claim_total =
-    then_total (on_total (λ (x : Claim). x.priority) priority_total)
-    (then_total (on_total (λ (x : Claim). x.stamp) nat_cmp_total)
-    (then_total (on_total (λ (x : Claim). x.id) nat_cmp_total) (on_total (λ (x : Claim). x.quantity) nat_cmp_total)))
+  none_at : (x : X) (g : X → ℕ) (zs : List X) → Before by_key x zs → sum_by (of_those_at (key x) g) zs ≡ 0
+  unfolding of_those_at
+  none_at x g [] b = refl
+  none_at x g (z ∷ zs) b = grind (arith, common_steps, nat_tests, sum_by-cons, (none_at x g zs b.1))
 
-pub exact_claim : (x y : Claim) → claim_cmp x y ≡ Equal → x ≡ y
-exact_claim x y h = grind (arith, common_steps, nat_tie)
+  none_of_none : (n : ℕ) (g : X → ℕ) (zs : List X) → sum_by (of_those_at n (λ _. 1)) zs ≡ 0 → sum_by (of_those_at n g) zs ≡ 0
+  unfolding of_those_at
+  none_of_none n g [] e = refl
+  none_of_none n g (z ∷ zs) e = grind (arith, common_steps, nat_tests, sum_by-cons, (none_of_none n g zs))
+
+  upto_before : (x : X) (zs : List X) → Before by_key x zs → Upto by_key x zs
+  upto_before x [] b = tt
+  upto_before x (z ∷ zs) b = grind (arith, common_steps, (upto_before x zs b.1))
+
+  not_lesser : (x y : X) (xs ys : List X) → Upto by_key x xs → SameItems (x ∷ xs) (y ∷ ys) → key x ≤ key y
+  unfolding lesser
+  not_lesser x y xs ys u same =
+      grind (arith, common_steps, nat_tests, none_lesser, (same (lesser (key x))), (sum_by-cons (lesser (key x)) x xs), (sum_by-cons (lesser (key x)) y ys))
+
+  same_first : (x y : X) (xs ys : List X) → key x ≡ key y → Before by_key y ys → SameItems (x ∷ xs) (y ∷ ys) → (g : X → ℕ) → g x ≡ g y
+  unfolding of_those_at
+  same_first x y xs ys e b same g =
+      let at : (X → ℕ) → X → ℕ = λ h. of_those_at (key y) h in
+      let one = none_at y (λ _. 1) ys b in
+      let all = none_at y g ys b in
+      let rest : sum_by (of_those_at (key y) (λ _. 1)) xs ≡ 0 = grind (arith, common_steps, nat_tests, (same (at (λ _. 1))), (sum_by-cons (at (λ _. 1)) x xs), (sum_by-cons (at (λ _. 1)) y ys), one) in
+      grind (arith, common_steps, nat_tests, (none_of_none (key y) g xs rest), (same (at g)), (sum_by-cons (at g) x xs), (sum_by-cons (at g) y ys), all)
+
+  -- a list in order of its numbers is the one in which they rise, with the same elements
+  pub same_rising : (xs ys : List X) → Up by_key xs → Rising by_key ys → SameItems xs ys → xs ≡ ys
+  same_rising [] [] u r same = refl
+  same_rising [] (y ∷ ys) u r same = absurd (omega (arith, same (λ _. 1), sum_by-cons (λ _. 1) y ys))
+  same_rising (x ∷ xs) [] u r same = absurd (omega (arith, same (λ _. 1), sum_by-cons (λ _. 1) x xs))
+  same_rising (x ∷ xs) (y ∷ ys) u r same =
+      let above = not_lesser x y xs ys u.0 same in
+      let below = not_lesser y x ys xs (upto_before y ys r.0) (λ f. sym (same f)) in
+      let heads : x ≡ y = exact x y (same_first x y xs ys (omega arith) r.0 same) in
+      let rest : SameItems xs ys = λ f. omega (arith, same f, sum_by-cons f x xs, sum_by-cons f y ys, ap f heads) in
+      grind (arith, common_steps, (same_rising xs ys u.1 r.1 rest))
+
+exact_claim : (x y : Claim) → ((g : Claim → ℕ) → g x ≡ g y) → x ≡ y
+exact_claim x y h =
+    let made : ℕ → ℕ → ℕ → Claim = λ r q i. record { rank = r; quantity = q; id = i } in
+    ap (λ r. made r x.quantity x.id) (h (λ c. c.rank)) ∙ ap (λ q. made y.rank q x.id) (h (λ c. c.quantity)) ∙ ap (λ i. made y.rank y.quantity i) (h (λ c. c.id))
+
+-- what one look at each tells
+pub in_order_if : (claims : List Claim) (told : Bool) → IsAllAdjacentAnswer (λ x y b. b ≡ is_le (nat_cmp x.rank y.rank)) claims told → told ≡ true → AreInOrder claims
+in_order_if claims true all e = λ k d low high. grind (arith, common_steps, nat_tests, (all k d high))
+in_order_if claims false all e = absurd (cc)
+
+-- ---- ranks are numbers
 
 -- the claim of an order at its place
 abbrev claim_at : Side → Placed → Claim
 claim_at side x = claim_of side (record { order = x.1; stamp = x.0 })
 
-upto_claims : (side : Side) (x : Placed) (ys : List Placed) → Before (by_rank side) x ys → Upto claim_cmp (claim_at side x) (map (claim_at side) ys)
-upto_claims side x [] b = tt
-upto_claims side x (y ∷ ys) b = search (arith, (upto_claims side x ys b.1))
+-- what counts the orders that are wider
+wide : Stamped → ℕ
+wide s = if is_narrow s then 0 else 1
 
-up_claims : (side : Side) (xs : List Placed) → Rising (by_rank side) xs → Up claim_cmp (map (claim_at side) xs)
-up_claims side [] r = tt
-up_claims side (x ∷ xs) r = (upto_claims side x xs r.0, up_claims side xs r.1)
+wide_at : Placed → ℕ
+wide_at x = wide (record { order = x.1; stamp = x.0 })
+
+-- a better rank is a lesser number
+rank_less : (side : Side) (x y : Placed) → wide_at x ≡ 0 → wide_at y ≡ 0 → by_rank side x y ≡ Less → nat_cmp (claim_at side x).rank (claim_at side y).rank ≡ Less
+unfolding wide wide_at
+rank_less side x y n m less = grind (arith, common_steps, nat_tests)
+
+before_claims : (side : Side) (x : Placed) (ys : List Placed) → wide_at x ≡ 0 → sum_by wide_at ys ≡ 0 → Before (by_rank side) x ys → Before (λ a b. nat_cmp a.rank b.rank) (claim_at side x) (map (claim_at side) ys)
+before_claims side x [] n m b = tt
+before_claims side x (y ∷ ys) n m b =
+    let parts = sum_by-cons wide_at y ys in
+    (rank_less side x y n (omega arith) b.0, before_claims side x ys n (omega arith) b.1)
+
+rising_claims : (side : Side) (xs : List Placed) → sum_by wide_at xs ≡ 0 → Rising (by_rank side) xs → Rising (λ a b. nat_cmp a.rank b.rank) (map (claim_at side) xs)
+rising_claims side [] n r = tt
+rising_claims side (x ∷ xs) n r =
+    let parts = sum_by-cons wide_at x xs in
+    (before_claims side x xs (omega arith) (omega arith) r.0, rising_claims side xs (omega arith) r.1)
 
 map-map : {X Y Z : Type 0} (f : Y → Z) (g : X → Y) (xs : List X) → map f (map g xs) ≡ map (λ x. f (g x)) xs
 map-map f g [] = refl
 map-map f g (x ∷ xs) = ap (λ l. f (g x) ∷ l) (map-map f g xs)
+
+-- where nothing counts, nothing of a part does
+none_left : {X : Type 0} (f : X → ℕ) (p : X → Bool) (xs : List X) → sum_by f xs ≡ 0 → sum_by f (filter p xs) ≡ 0
+none_left f p [] e = refl
+none_left f p (x ∷ xs) e = grind (arith, common_steps, sum_by-cons, (none_left f p xs))
 
 module _ (side : Side) (price : ℕ) (walk line : List Stamped) (is : IsLineOf walk line) where
   -- the claims of the line, in rank order
@@ -92,13 +159,21 @@ module _ (side : Side) (price : ℕ) (walk line : List Stamped) (is : IsLineOf w
       ∙ sym (sum_by-in_order (by_rank side) g (eligible side price (map timed line)))
       ∙ sym (sum_by-map f (claim_at side) in_rank)
 
-  -- sorted claims are the orders in rank order
-  pub ranked_claims : (claims : List Claim) → IsPermutation (map (claim_of side) (filter (λ s. takes_part side price s.order) walk)) claims → IsSorted claim_cmp claims → map claimed claims ≡ map asked (ranked_orders side price (orders_of line))
-  ranked_claims claims moved sorted =
+  -- none of them is wide
+  none_wide : AreNarrow walk → sum_by wide_at in_rank ≡ 0
+  unfolding wide wide_at
+  none_wide narrow =
+      sum_by-in_order (by_rank side) wide_at (eligible side price (map timed line))
+      ∙ none_left wide_at (λ x. takes_part side price x.1) (map timed line) (sum_by-map wide_at timed line ∙ is.same wide ∙ narrow)
+
+  -- claims in order are the orders in rank order
+  pub ranked_claims : (claims : List Claim) → AreNarrow walk → IsPermutation (map (claim_of side) (filter (λ s. takes_part side price s.order) walk)) claims → AreInOrder claims → map claimed claims ≡ map asked (ranked_orders side price (orders_of line))
+  ranked_claims claims narrow moved sorted =
       let es = eligible side price (map timed line) in
       let rise = all_apart_by_place side es (PlacesRise-filter (λ x. takes_part side price x.1) (map timed line) is.rising) in
-      let up = up_claims side in_rank (rising_in_order (by_rank side) (by_rank_total side) es rise) in
-      let one = same_in_order claim_cmp claim_total exact_claim claims (map (claim_at side) in_rank) (up_from_sorted claim_cmp claim_total claims sorted) up (same_claims claims moved) in
+      let rising = rising_claims side in_rank (none_wide narrow) (rising_in_order (by_rank side) (by_rank_total side) es rise) in
+      let up = up_from_sorted (λ a b. nat_cmp a.rank b.rank) (on_total (λ (c : Claim). c.rank) nat_cmp_total) claims sorted in
+      let one = same_rising (λ (c : Claim). c.rank) exact_claim claims (map (claim_at side) in_rank) up rising (same_claims claims moved) in
       ap (map claimed) one ∙ map-map claimed (claim_at side) in_rank ∙ sym (map-map asked (λ (x : Placed). x.1) in_rank)
       ∙ ap (map asked) (ranked_orders_is side price (map timed line) is.rising ∙ ap (ranked_orders side price) (map-map (λ (x : Placed). x.1) timed line))
 
@@ -116,14 +191,20 @@ pub claims_more : (claimants : Claimants) (slots : List (Option Stamped)) (i : �
 claims_more claimants slots i claims more found so_far at pushed =
     grind (arith, common_steps, map-append, filter-append, present_more)
 
+-- one more place, whose order is no wider either
+pub narrow_more : (slots : List (Option Stamped)) (i : ℕ) (found : Option Stamped) → AreNarrow (present (take i slots)) → found ≡ slot_at slots i → AreNarrow (option_to_list found) → AreNarrow (present (take (i + 1) slots))
+narrow_more slots i found so_far at narrow = grind (arith, common_steps, sum_by-append, present_more)
+
 filter_both : {X : Type 0} (p q : X → Bool) (xs : List X) → filter (λ x. p x && q x) xs ≡ filter q (filter p xs)
 filter_both p q [] = refl
 filter_both p q (x ∷ xs) = grind (arith, common_steps, (filter_both p q xs))
 
 -- all claims, sorted
-pub ranked : (claimants : Claimants) (orders : OrdersView) (places : ℕ) (gathered claims : List Claim) → IsWalk places orders → gathered ≡ claims_of claimants (present (take places orders.slots)) → IsPermutation gathered claims → IsSorted claim_cmp claims → IsRanked claimants.side claimants.price (counting claimants.kind orders) claims
-ranked claimants orders places gathered claims walk is permuted sorted =
+pub ranked : (claimants : Claimants) (orders : OrdersView) (places : ℕ) (gathered claims : List Claim) → IsWalk places orders → gathered ≡ claims_of claimants (present (take places orders.slots)) → AreNarrow (present (take places orders.slots)) → IsPermutation gathered claims → AreInOrder claims → IsRanked claimants.side claimants.price (counting claimants.kind orders) claims
+unfolding wide
+ranked claimants orders places gathered claims walk is passed permuted sorted =
     let all : List Stamped = present orders.slots in
+    let narrow : AreNarrow (counted_line all claimants.kind) = none_left wide (λ s. counts claimants.kind s.order) all (subst AreNarrow (present_all orders.slots places walk.all) passed) in
     let of_walk : gathered ≡ map (claim_of claimants.side) (filter (λ s. takes_part claimants.side claimants.price s.order) (counted_line all claimants.kind)) =
     is ∙ ap (claims_of claimants) (present_all orders.slots places walk.all)
     ∙ ap (map (claim_of claimants.side)) (filter_both (λ (s : Stamped). counts claimants.kind s.order) (λ s. takes_part claimants.side claimants.price s.order) all) in
@@ -132,7 +213,7 @@ ranked claimants orders places gathered claims walk is permuted sorted =
     let within = claimed_within claimants.side claimants.price (counted_line all claimants.kind) (counted_line orders.line claimants.kind) line claims moved in
     record {
       named =
-          ranked_claims claimants.side claimants.price (counted_line all claimants.kind) (counted_line orders.line claimants.kind) line claims moved sorted
+          ranked_claims claimants.side claimants.price (counted_line all claimants.kind) (counted_line orders.line claimants.kind) line claims narrow moved sorted
           ∙ ap (λ book. map asked (ranked_orders claimants.side claimants.price book)) (orders_of-counted orders.line claimants.kind);
       bounded = omega (arith, within, walk.bounded, sum-counted orders.line claimants.kind);
     }

@@ -1,28 +1,19 @@
 //! The claims of the orders that take part in an auction, in rank order.
-ghost use Rattle.std.specs.Prelude.{◌≡◌, ◌+◌, ◌<◌, ◌≤◌, ◌^◌, ◌++◌, length, vec_len, vec_capacity, IsPermutation};
-ghost use Rattle.std.specs.List.Sorted.{IsSorted};
+ghost use Rattle.std.specs.Prelude.{◌≡◌, ◌+◌, ◌<◌, ◌≤◌, ◌^◌, ◌++◌, length, true, vec_len, vec_capacity, IsPermutation};
 ghost use Rattle.std.specs.Option.{option_to_list};
-ghost use Rattle.allocation.specs.Claim.{priority, is_claimant, claims_of, claim_cmp, claimed_by, counting, IsRanked};
+ghost use Rattle.allocation.specs.Claim.{priority, rank, is_narrow, is_narrow_limit, is_claimant};
+ghost use Rattle.allocation.specs.Claim.{claims_of, claimed_by, counting, AreInOrder, AreNarrow, IsRanked};
 
 use auction_terms::{Kind, Limit, Side, Stamped};
 use order_book::Orders;
-use std::cmp::Reverse;
-
-/// How near the front of its side a limit puts an order, the nearest first.
-#[derive(Clone, Copy, Debug, PartialEq, Eq, PartialOrd, Ord)]
-pub(crate) enum Priority {
-    Market,
-    Bid(Reverse<u32>),
-    Ask(u32),
-}
 
 /// What an eligible order asks for, in shares, behind what ranks it.
-#[derive(Clone, Copy, Debug, PartialEq, Eq, PartialOrd, Ord)]
+#[derive(Clone, Copy)]
 pub(crate) struct Claim {
-    pub priority: Priority,
-    pub stamp: u64,
-    pub id: u32,
+    /// Where it stands on its side: the lesser number goes first.
+    pub rank: u128,
     pub quantity: u64,
+    pub id: u32,
 }
 
 /// Whose claims are made: the orders of a side that count in the auction, and may be executed at the tick of its price.
@@ -43,44 +34,58 @@ impl Claimants {
     }
 }
 
-fn priority_of(side: Side, limit: Limit) -> Priority
-    ensures { result ≡ priority side limit }
+/// How near the front of its side a limit puts an order, as a number of at most 2^32: the lesser one is nearer.
+fn priority_of(side: Side, limit: Limit) -> u64
+    ensures value { result ≡ priority side limit }
+    ensures small { result ≤ 2 ^ 32 }
+    ensures narrow { is_narrow_limit limit ≡ true }
 {
     match (side, limit) {
-        (_, Limit::Market) => Priority::Market,
-        (Side::Buy, Limit::At(tick)) => Priority::Bid(Reverse(tick)),
-        (Side::Sell, Limit::At(tick)) => Priority::Ask(tick),
+        (_, Limit::Market) => 0,
+        (Side::Buy, Limit::At(tick)) => (1 << 32) - tick as u64,
+        (Side::Sell, Limit::At(tick)) => tick as u64 + 1,
     }
+}
+
+/// Where an order stands on its side, as a number: by its limit first, and then by its place in time.
+fn rank_of(side: Side, stamped: Stamped) -> u128
+    ensures value { result ≡ rank side stamped }
+    ensures narrow { is_narrow stamped ≡ true }
+{
+    let priority = priority_of(side, stamped.order.limit);
+    priority as u128 * (1 << 64) + stamped.stamp as u128
 }
 
 // Adds the claim of the order at a place, if there is one and it takes part.
 fn consider(claims: &mut Vec<Claim>, claimants: Claimants, found: Option<Stamped>)
     requires { vec_len claims.old + length (option_to_list found) ≤ vec_capacity claims.old }
     ensures items { claims.new.items ≡ claims.old.items ++ claims_of claimants (option_to_list found) }
+    ensures narrow { AreNarrow (option_to_list found) }
     ensures few { vec_len claims.new ≤ vec_len claims.old + length (option_to_list found) }
     ensures capacity { vec_capacity claims.new ≡ vec_capacity claims.old }
 {
     let Some(stamped) = found else {
         return;
     };
+    let rank = rank_of(claimants.side, stamped);
     if claimants.include(&stamped) {
-        let order = stamped.order;
         claims.push_reserved(Claim {
-            priority: priority_of(claimants.side, order.limit),
-            stamp: stamped.stamp,
-            id: order.id,
-            quantity: order.quantity,
+            rank,
+            quantity: stamped.order.quantity,
+            id: stamped.order.id,
         });
     }
 }
 
-// Puts the claims in rank order.
-fn rank(claims: &mut Vec<Claim>)
-    ensures sorted { IsSorted claim_cmp claims.new.items }
+// Puts the claims in rank order. One look at each tells whether they are already.
+fn put_in_order(claims: &mut Vec<Claim>)
+    ensures in_order { AreInOrder claims.new.items }
     ensures permutation { IsPermutation claims.old.items claims.new.items }
     ensures capacity { vec_capacity claims.new ≡ vec_capacity claims.old }
 {
-    claims.sort_unstable();
+    if !claims.is_sorted_by_key(|claim| claim.rank) {
+        claims.sort_unstable_by_key(|claim| claim.rank);
+    }
 }
 
 /// Makes the claims of one side of the open orders, in rank order.
@@ -93,7 +98,7 @@ pub(crate) fn rank_side(claims: &mut Vec<Claim>, claimants: Claimants, orders: &
     for place in 0..orders.places() {
         consider(claims, claimants, orders.at(place));
     }
-    rank(claims);
+    put_in_order(claims);
 }
 
 /// What all claims ask for, in shares.
