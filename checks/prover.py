@@ -37,7 +37,8 @@ def toolchain() -> types.ModuleType:
     was_written, sys.dont_write_bytecode = sys.dont_write_bytecode, True
     loader.exec_module(made)
     sys.dont_write_bytecode = was_written
-    lacking = [name for name in ("rtlib", "must_fail", "checked") if not hasattr(made, name)]
+    wanted = ("rtlib", "must_fail", "checked", "REFUSED", "AT_LIMIT")
+    lacking = [name for name in wanted if not hasattr(made, name)]
     if lacking:
         raise NoProver(
             f"{path} has no {', '.join(lacking)}: it is of another kit than this script knows"
@@ -82,14 +83,16 @@ def try_body(top: str, name: str, edit: str, kept: str) -> tuple[bool, str]:
     """Whether the prover refuses the crate with this edit, and what it says.
 
     It works over a copy of what was kept of the crate as it stands. A body that isn't refused so,
-    or that doesn't compile, is tried again from nothing.
+    or that doesn't compile, is tried again from nothing. As in the gate, one at which the prover
+    comes to a limit is refused too.
     """
     crate, rt = crate_of(top, name), toolchain()
+    refusals = rt.REFUSED, rt.AT_LIMIT
     with tempfile.TemporaryDirectory(prefix="kept-") as room:
         copy = str(pathlib.Path(room) / "kept")
         shutil.copytree(kept, copy)
-        is_refused, said = rt.must_fail(crate, edit, ONE_JOB, copy)
-    if not is_refused:
-        is_refused, said = rt.must_fail(crate, edit, ONE_JOB)
+        kind, said = rt.must_fail(crate, edit, ONE_JOB, copy)
+    if kind not in refusals:
+        kind, said = rt.must_fail(crate, edit, ONE_JOB)
     said = re.sub(r"^must-fail \S+: (refused, as it must be(: )?)?", "", said)
-    return is_refused, " / ".join(said.splitlines())
+    return kind in refusals, " / ".join(said.splitlines())
