@@ -1,0 +1,150 @@
+"""What the scripts of this folder share: the files, what a command takes, tables."""
+import argparse
+import dataclasses
+import pathlib
+import re
+import shlex
+import shutil
+import subprocess
+import sys
+import tempfile
+
+import orders
+
+TOP = pathlib.Path(__file__).resolve().parent.parent
+MOST_COMMANDS = 1_000_000
+ROOM = ["--open", "65536", "--calls", "1048576"]
+FILES = [
+    ("mixed-1000", MOST_COMMANDS, ROOM),
+    ("mixed-65536", MOST_COMMANDS, ["--high", "65536", *ROOM]),
+    ("trading", 65_535, ROOM),
+    ("asks", MOST_COMMANDS, ROOM),
+    ("ladder", 131_075, ["--high", "65536", *ROOM]),
+]
+"""Each kind of file, how many commands it has at most, and the options that it is run with."""
+KINDS = [kind for kind, _, _ in FILES]
+
+
+@dataclasses.dataclass(frozen=True)
+class Program:
+    """A program that reads order files: its name in the tables, and the words of its command."""
+
+    name: str
+    words: list[str]
+
+
+@dataclasses.dataclass
+class Measured:
+    """What was measured of a program on a file: the best seconds, the peak memory in MiB."""
+
+    seconds: float = float("inf")
+    memory: float = 0.0
+
+    @property
+    def milliseconds(self) -> str:
+        """As it stands in a table."""
+        return f"{self.seconds * 1000:.0f}"
+
+
+@dataclasses.dataclass(frozen=True)
+class File:
+    """A kind of file, where it lies, and the options that it is run with."""
+
+    kind: str
+    path: pathlib.Path
+    words: list[str]
+
+
+def program_of(text: str) -> Program:
+    """A program as it is named on the command line: `NAME=COMMAND`, or a command alone, which is
+    then named by its file and its words. Raises ArgumentTypeError where there is no such program.
+    """
+    named = re.fullmatch(r"([\w ,-]+)=(.*)", text)
+    words = shlex.split(named[2] if named else text)
+    if not words or shutil.which(words[0]) is None:
+        raise argparse.ArgumentTypeError(f"'{text}' names no program")
+    name = named[1] if named else " ".join([pathlib.Path(words[0]).name, *words[1:]])
+    return Program(name, words)
+
+
+def write(kind: str, count: int, folder: str) -> pathlib.Path:
+    """Writes a file of so many commands, and gives its path."""
+    path = pathlib.Path(folder) / f"{kind}-{count}.csv"
+    with open(path, "w", encoding="ascii") as out:
+        out.writelines(line + "\n" for line in orders.records(kind, count))
+    return path
+
+
+def written(most: int, only: str | None, folder: str) -> list[File]:
+    """Writes the files, of at most so many commands each, or one of them alone."""
+    return [
+        File(kind, write(kind, min(count, most), folder), words)
+        for kind, count, words in FILES
+        if only in (None, kind)
+    ]
+
+
+def once(command: list[str], path: pathlib.Path, measured: Measured) -> None:
+    """Runs a command on a file, and keeps the better figures. Exits where the command fails.
+
+    checks/measured.py starts it, a small process: a child begins with the peak memory of what
+    starts it.
+    """
+    with open(path, encoding="ascii") as stdin, tempfile.NamedTemporaryFile("r") as figures:
+        words = [sys.executable, str(TOP / "checks/measured.py"), figures.name, *command]
+        status = subprocess.run(words, stdin=stdin, stdout=subprocess.DEVNULL, check=False)
+        if status.returncode != 0:
+            sys.exit(f"{command[0]} ended with {status.returncode} on {path.name}")
+        seconds, _, peak = map(float, figures.read().split())
+    measured.seconds = min(measured.seconds, seconds)
+    measured.memory = max(measured.memory, peak / 1024)
+
+
+def in_turns(commands: list[list[str]], path: pathlib.Path, runs: int) -> list[Measured]:
+    """Runs commands on a file in turns, so many times each, and gives what each took."""
+    found = [Measured() for _ in commands]
+    for _ in range(runs):
+        for command, measured in zip(commands, found):
+            once(command, path, measured)
+    return found
+
+
+def our_program(path: str | None) -> Program:
+    """The program, at this path, or proved and built. Raises CalledProcessError where it can't
+    be.
+    """
+    if not path:
+        subprocess.run([str(TOP / "callboard"), "--help"], stdout=subprocess.DEVNULL, check=True)
+    return Program("ours", [path or str(TOP / "crates/callboard/out/callboard")])
+
+
+def our_clock(path: str | None) -> str:
+    """The program of crates/clock, at this path, or proved and built. Exits where it isn't
+    proved.
+    """
+    if path:
+        return path
+    print("proving and building clock, which takes minutes at first", file=sys.stderr)
+    made = subprocess.run(
+        ["rt", "run"],
+        cwd=TOP / "crates/clock",
+        stdin=subprocess.DEVNULL,
+        stdout=subprocess.PIPE,
+        stderr=subprocess.STDOUT,
+        text=True,
+        check=False,
+    )
+    if made.returncode != 0:
+        sys.exit(f"{made.stdout}clock isn't proved")
+    return str(TOP / "crates/clock/out/clock")
+
+
+def row(*cells: str) -> None:
+    """Prints a row of a table."""
+    print("| " + " | ".join(cells) + " |", flush=True)
+
+
+def head(*cells: str) -> None:
+    """Prints the first two rows of a table."""
+    row(*cells)
+    row(*["---"] * len(cells))
