@@ -16,7 +16,7 @@ from callauction.errors import (
     NoCommandError,
     RefusedError,
 )
-from callauction.reading import fault_of, member_of, number, read
+from callauction.reading import TERMS, fault_of, member_of, number, read
 from callauction.words import (
     Ask,
     Change,
@@ -45,8 +45,12 @@ from callauction.words import (
 )
 
 MOST = (1 << 32) - 1
-_STRUCT = struct.Struct("=QQIIBBBBBB")
-"""The fields of a command struct; two bytes behind them stay 0."""
+_TERMS = struct.Struct("=QQIIBBBBBB").pack_into
+"""Writes all fields of a command struct, for an entry or a change."""
+_NAMED = struct.Struct("=IIBB").pack_into
+"""Writes the id, the limit, the member and the tag, which the other commands need."""
+_NAMED_AT = 16
+_ID, _NUMBER = ("id", "limit", "member"), ("number", "limit", "member")
 _apply = lib.callauction_apply
 _ENTER, _CHANGE, _DELETE, _STATUS, _ASK, _TRADE, _UNCROSS = (int(tag) for tag in CommandTag)
 _CONFIG_FAULTS = {
@@ -163,21 +167,10 @@ class Auction:
             raise ValueError("side must be BID or ASK")
         if type(only) is not For:
             member_of("only", only, For)
-        return self._applied(
-            (
-                quantity,
-                0 if peak is None else peak,
-                0,
-                0 if limit is None else limit,
-                member,
-                _ENTER,
-                side,
-                only,
-                limit is not None,
-                peak is not None,
-            ),
-            check,
-        )
+        shown, tick = 0 if peak is None else peak, 0 if limit is None else limit
+        flags = (side, only, limit is not None, peak is not None)
+        numbers = (quantity, shown, 0, tick, member, _ENTER, *flags)
+        return self._applied(_TERMS, 0, TERMS, numbers, check)
 
     def change(
         self,
@@ -193,19 +186,19 @@ class Auction:
         """
         tick = 0 if limit is None else limit
         numbers = (quantity, 0, id, tick, member, _CHANGE, 0, 0, limit is not None, 0)
-        return self._applied(numbers, check)
+        return self._applied(_TERMS, 0, TERMS, numbers, check)
 
     def delete(self, member: int, id: int, *, check: bool = False) -> Deleted | Refused:
         """Takes the member's order with this id out."""
-        return self._applied((0, 0, id, 0, member, _DELETE, 0, 0, 0, 0), check)
+        return self._applied(_NAMED, _NAMED_AT, _ID, (id, 0, member, _DELETE), check)
 
     def status(self, member: int, id: int, *, check: bool = False) -> Standing | Refused:
         """What is open of the member's order with this id."""
-        return self._applied((0, 0, id, 0, member, _STATUS, 0, 0, 0, 0), check)
+        return self._applied(_NAMED, _NAMED_AT, _ID, (id, 0, member, _STATUS), check)
 
     def ask(self, member: int, *, check: bool = False) -> Price | NoPrice | Refused:
         """The indicative price, or the best limits where there is none."""
-        return self._applied((0, 0, 0, 0, member, _ASK, 0, 0, 0, 0), check)
+        return self._applied(_NAMED, _NAMED_AT, _ID, (0, 0, member, _ASK), check)
 
     def uncross(
         self, member: int = 0, *, check: bool = False
@@ -213,11 +206,11 @@ class Auction:
         """Determines the price and executes. The next call phase follows at once; after the closing
         auction the day is over.
         """
-        return self._applied((0, 0, 0, 0, member, _UNCROSS, 0, 0, 0, 0), check)
+        return self._applied(_NAMED, _NAMED_AT, _ID, (0, 0, member, _UNCROSS), check)
 
     def trade(self, member: int, number: int, *, check: bool = False) -> Traded | Refused:
         """The trade of the day with this number, from 1 on."""
-        return self._applied((0, 0, number, 0, member, _TRADE, 0, 0, 0, 0), check)
+        return self._applied(_NAMED, _NAMED_AT, _NUMBER, (number, 0, member, _TRADE), check)
 
     def apply(self, member: int, command: Command, *, check: bool = False) -> Reply:
         """Applies a command. Raises TypeError where it is none of Command."""
@@ -385,18 +378,27 @@ class Auction:
         if answer:
             raise _error(answer)
 
-    def _applied(self, numbers: tuple[Any, ...], check: bool) -> Any:
-        """The reply to the command with the numbers of its struct, which are in its order."""
+    def _applied(
+        self,
+        pack: Any,
+        place: int,
+        names: tuple[str, ...],
+        numbers: tuple[Any, ...],
+        check: bool,
+    ) -> Any:
+        """The reply to the command whose numbers are packed so at this place of its struct. The
+        first ones have these names.
+        """
         if not self._lock.acquire(False):
             raise BusyError("another call of this auction is running")
         try:
-            _STRUCT.pack_into(self._buffer, 0, *numbers)
+            pack(self._buffer, place, *numbers)
             answer = _apply(self._handle, self._command, self._reply)
             if answer:
                 raise _error(answer)
             reply = read(self._reply)
         except (struct.error, TypeError):
-            raise fault_of(numbers) from None
+            raise fault_of(names, numbers) from None
         finally:
             self._lock.release()
         if check and type(reply) is Refused:

@@ -9,7 +9,6 @@ from callauction._native import ffi
 from callauction.arrays import REPLY
 from callauction.words import (
     Changed,
-    CommandTag,
     Deleted,
     Entered,
     Interrupted,
@@ -34,8 +33,29 @@ REFUSALS = (None, *(Refused(refusal) for refusal in Refusal))
 # ---- replies
 
 
+# The two replies that are wanted most are made without their __init__, which takes twice as long
+# where a dataclass is frozen.
+_new = object.__new__
+_set_id = Entered.id.__set__  # type: ignore[attr-defined]
+_set_tick = Price.tick.__set__  # type: ignore[attr-defined]
+_set_volume = Price.volume.__set__  # type: ignore[attr-defined]
+_set_surplus = Price.surplus.__set__  # type: ignore[attr-defined]
+_set_side = Price.side.__set__  # type: ignore[attr-defined]
+
+
+def _entered(reply: Any) -> Entered:
+    made = _new(Entered)
+    _set_id(made, reply.id)
+    return made
+
+
 def _price(reply: Any) -> Price:
-    return Price(reply.tick, reply.volume, reply.surplus, SIDES[reply.side])
+    made = _new(Price)
+    _set_tick(made, reply.tick)
+    _set_volume(made, reply.volume)
+    _set_surplus(made, reply.surplus)
+    _set_side(made, SIDES[reply.side])
+    return made
 
 
 def _no_price(reply: Any) -> NoPrice:
@@ -59,7 +79,7 @@ def _unknown(reply: Any) -> Reply:
 
 _READERS: tuple[Callable[[Any], Reply], ...] = (
     _unknown,
-    lambda reply: Entered(reply.id),
+    _entered,
     lambda reply: Changed(reply.kept == 1),
     lambda reply: Deleted(),
     _standing,
@@ -97,8 +117,10 @@ def reply_of(record: numpy.void) -> Reply:
 
 # ---- the numbers of a command
 
-BITS = {"quantity": 64, "peak": 64, "id": 32, "limit": 32, "member": 8}
-"""The numbers of a command struct that a caller gives, in its order, with their sizes."""
+BITS = {"quantity": 64, "peak": 64, "id": 32, "number": 32, "limit": 32, "member": 8}
+"""The numbers of a command that a caller gives, with their sizes."""
+TERMS = ("quantity", "peak", "id", "limit", "member")
+"""Those at the begin of the struct of an entry or a change, in its order."""
 
 
 def number(name: str, value: object, most: int) -> int:
@@ -114,13 +136,11 @@ def number(name: str, value: object, most: int) -> int:
     return found
 
 
-def fault_of(numbers: tuple[Any, ...]) -> Exception:
-    """The first fault of the numbers of a command struct, some of which don't fit it."""
-    tag = numbers[len(BITS)]
-    for (name, bits), value in zip(BITS.items(), numbers):
-        said = "number" if name == "id" and tag == CommandTag.TRADE else name
+def fault_of(names: tuple[str, ...], numbers: tuple[Any, ...]) -> Exception:
+    """The first fault of the numbers of these names, of which some don't fit a command struct."""
+    for name, value in zip(names, numbers):
         try:
-            number(said, value, (1 << bits) - 1)
+            number(name, value, (1 << BITS[name]) - 1)
         except (TypeError, ValueError) as fault:
             return fault
     return ValueError("an argument has one value and then another")

@@ -6,7 +6,8 @@ import numpy
 import pytest
 from callauction import COMMAND, REPLY, TRADE, CommandTag, For, Kind, Refusal, ReplyTag, Side
 from callauction._native import ffi, lib
-from callauction.auction import _STRUCT
+from callauction.auction import _NAMED, _NAMED_AT, _TERMS
+from callauction.reading import BITS, TERMS
 
 
 @pytest.mark.parametrize(
@@ -24,10 +25,19 @@ def test_each_dtype_is_the_struct(name: str, dtype: numpy.dtype) -> None:
 
 def test_the_packed_command_is_the_struct() -> None:
     command = ffi.new("callauction_command *")
-    _STRUCT.pack_into(ffi.buffer(command), 0, *range(1, 11))
+    _TERMS(ffi.buffer(command), 0, *range(1, 11))
     names = [name for name, _ in ffi.typeof("callauction_command").fields]
     assert [getattr(command, name) for name in names] == [*range(1, 11)]
     assert names == list(COMMAND.names)
+    assert tuple(names[: len(TERMS)]) == TERMS
+    _NAMED(ffi.buffer(command), _NAMED_AT, 70, 71, 72, 73)
+    assert [getattr(command, name) for name in names] == [1, 2, 70, 71, 72, 73, 7, 8, 9, 10]
+
+
+def test_each_number_has_the_bits_of_its_field() -> None:
+    for name, bits in BITS.items():
+        field = "id" if name == "number" else name
+        assert bits == 8 * COMMAND[field].itemsize
 
 
 NUMBERS = [
