@@ -50,6 +50,7 @@ _TERMS = struct.Struct("=QQIIBBBBBB").pack_into
 _NAMED = struct.Struct("=IIBB").pack_into
 """Writes the id, the limit, the member and the tag, which the other commands need."""
 _NAMED_AT = 16
+_BID_SIDE, _ASK_SIDE = Side.BID, Side.ASK
 _ID, _NUMBER = ("id", "limit", "member"), ("number", "limit", "member")
 _apply = lib.callauction_apply
 _ENTER, _CHANGE, _DELETE, _STATUS, _ASK, _TRADE, _UNCROSS = (int(tag) for tag in CommandTag)
@@ -162,14 +163,14 @@ class Auction:
         """Enters an order of so many shares, a market order without a limit, an iceberg order with
         a peak. Raises TypeError or ValueError for a side that isn't Side.BID or Side.ASK.
         """
-        if side is not Side.BID and side is not Side.ASK:
+        if side is not _BID_SIDE and side is not _ASK_SIDE:
             member_of("side", side, Side)
             raise ValueError("side must be BID or ASK")
         if type(only) is not For:
             member_of("only", only, For)
-        shown, tick = 0 if peak is None else peak, 0 if limit is None else limit
-        flags = (side, only, limit is not None, peak is not None)
-        numbers = (quantity, shown, 0, tick, member, _ENTER, *flags)
+        shown, has_peak = (0, 0) if peak is None else (peak, 1)
+        tick, has_limit = (0, 0) if limit is None else (limit, 1)
+        numbers = (quantity, shown, 0, tick, member, _ENTER, side, only, has_limit, has_peak)
         return self._applied(_TERMS, 0, TERMS, numbers, check)
 
     def change(

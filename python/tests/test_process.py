@@ -3,6 +3,7 @@ import concurrent.futures
 import gc
 import os
 import pickle
+import resource
 import sys
 import threading
 import time
@@ -147,26 +148,57 @@ def test_a_dropped_auction_is_gone() -> None:
     assert seen() is None
 
 
+def starved(auction: Auction) -> str:
+    """What an opening and a copy raise in a process that gets 4 MiB more, and what still goes."""
+    pages = int(open("/proc/self/statm", encoding="ascii").read().split()[0])
+    room = pages * resource.getpagesize() + (4 << 20)
+    resource.setrlimit(resource.RLIMIT_AS, (room, room))
+    for wanting in (auction.copy, lambda: Auction(max_open=65_536, max_calls=1_048_576)):
+        try:
+            wanting()
+        except MemoryError as error:
+            if str(error) != "an auction got no memory":
+                return f"another error: {error}"
+        else:
+            return "memory was not refused"
+    return str(auction.ask(1))
+
+
+def test_want_of_memory_raises() -> None:
+    with Auction(max_open=65_536, max_calls=1_048_576) as auction:
+        assert in_child(lambda: starved(auction)) == "NoPrice(best_bid=None, best_ask=None)"
+
+
 # ---- forks and threads
+
+
+def in_child(say) -> str:
+    """What this says in a child of the process."""
+    reading, writing = os.pipe()
+    child = os.fork()
+    if child == 0:
+        try:
+            os.write(writing, say().encode())
+        finally:
+            os._exit(0)
+    os.close(writing)
+    with open(reading, encoding="ascii") as pipe:
+        said = pipe.read()
+    assert os.waitpid(child, 0)[1] == 0
+    return said
 
 
 def test_a_fork_has_an_auction_of_its_own() -> None:
     with Auction() as auction:
         auction.enter(1, BID, 5, 100)
-        reading, writing = os.pipe()
-        child = os.fork()
-        if child == 0:
-            try:
-                auction.enter(1, ASK, 5, 90)
-                said = f"{auction.calls} {auction.uncross().trades}"
-                auction.close()
-                os.write(writing, said.encode())
-            finally:
-                os._exit(0)
-        os.close(writing)
-        with open(reading, encoding="ascii") as pipe:
-            assert pipe.read() == "2 1"
-        assert os.waitpid(child, 0)[1] == 0
+
+        def say() -> str:
+            auction.enter(1, ASK, 5, 90)
+            said = f"{auction.calls} {auction.uncross().trades}"
+            auction.close()
+            return said
+
+        assert in_child(say) == "2 1"
         assert auction.calls == 1
         assert auction.display() == NoPrice(100, None)
 
