@@ -2,7 +2,13 @@
 
 A flag is 0 or 1. callauction.h says which fields a tag needs, and docs/LIBRARY.md.
 """
+from typing import Any
+
 import numpy
+from numpy.typing import NDArray
+
+Structs = NDArray[numpy.void]
+Shares = NDArray[numpy.uint64]
 
 COMMAND = numpy.dtype(
     [
@@ -50,7 +56,7 @@ TRADE = numpy.dtype([("quantity", "u8"), ("bid", "u4"), ("ask", "u4"), ("tick", 
 """A trade of 24 bytes: its shares, the ids of its two orders, its price."""
 
 
-def whole(name: str, array: numpy.ndarray, kind: numpy.dtype, is_written: bool) -> numpy.ndarray:
+def whole(name: str, array: object, kind: "numpy.dtype[Any]", is_written: bool) -> Structs:
     """The array itself, which is one-dimensional, of this dtype, contiguous and aligned, and may be
     written where it is to be. Raises TypeError for another dtype or no array, else ValueError.
     """

@@ -7,7 +7,7 @@ from typing import Any, Self
 import numpy
 
 from callauction._native import ffi, lib
-from callauction.arrays import COMMAND, REPLY, TRADE, whole
+from callauction.arrays import COMMAND, REPLY, TRADE, Shares, Structs, whole
 from callauction.errors import (
     AuctionError,
     BusyError,
@@ -106,6 +106,12 @@ class Auction:
     """
 
     __slots__ = ("_handle", "_command", "_reply", "_buffer", "_lock", "__weakref__")
+
+    _handle: Any
+    _command: Any
+    _reply: Any
+    _buffer: Any
+    _lock: threading.Lock
 
     def __new__(cls, *_: object, **__: object) -> Self:
         self = super().__new__(cls)
@@ -233,8 +239,8 @@ class Auction:
         raise TypeError(f"command must be one of Command, not {type(command).__name__}")
 
     def apply_many(
-        self, commands: numpy.ndarray, replies: numpy.ndarray | None = None
-    ) -> numpy.ndarray:
+        self, commands: Structs, replies: Structs | None = None
+    ) -> Structs:
         """Applies an array of COMMAND one after another, and answers their replies.
 
         `commands` has any length N; `replies`, an array of REPLY of length N that shares no memory
@@ -276,7 +282,7 @@ class Auction:
         assert isinstance(found, Price | NoPrice)
         return found
 
-    def ladder(self) -> tuple[numpy.ndarray, numpy.ndarray]:
+    def ladder(self) -> tuple[Shares, Shares]:
         """The shares bid and the shares offered by the orders that count, with a limit at each tick
         from low to high: two new arrays of uint64 of the length high - low + 1.
         """
@@ -288,12 +294,12 @@ class Auction:
         _, _, market = self._ladder()
         return market
 
-    def trades(self, seen: int = 0) -> numpy.ndarray:
+    def trades(self, seen: int = 0) -> Structs:
         """The trades of the day after the first `seen`: a new array of TRADE. Raises TypeError or
         ValueError for a bad number.
         """
         seen = number("seen", seen, (1 << 63) - 1)
-        found: list[numpy.ndarray] = []
+        found: list[Structs] = []
         copied, room = ffi.new("size_t *", _AT_ONCE), _AT_ONCE
         while copied[0] == room:
             trades = numpy.zeros(room, TRADE)
@@ -406,7 +412,7 @@ class Auction:
             raise RefusedError(reply.refusal)
         return reply
 
-    def _ladder(self) -> tuple[numpy.ndarray, numpy.ndarray, Market]:
+    def _ladder(self) -> tuple[Shares, Shares, Market]:
         config = self.config
         ticks = config.high - config.low + 1
         bids, asks = numpy.zeros(ticks, numpy.uint64), numpy.zeros(ticks, numpy.uint64)

@@ -1,6 +1,5 @@
 """What calls of an auction raise beside TypeError, ValueError and MemoryError."""
-import numpy
-
+from callauction.arrays import Structs
 from callauction.words import Refusal
 
 
@@ -36,9 +35,7 @@ class NotAppliedError(AuctionError):
     replies, an array of REPLY of that length (None where the call was of one command).
     """
 
-    def __init__(
-        self, text: str, applied: int = 0, replies: "numpy.ndarray | None" = None
-    ) -> None:
+    def __init__(self, text: str, applied: int = 0, replies: Structs | None = None) -> None:
         super().__init__(text)
         self.applied = applied
         self.replies = replies

@@ -36,11 +36,11 @@ REFUSALS = (None, *(Refused(refusal) for refusal in Refusal))
 # The two replies that are wanted most are made without their __init__, which takes twice as long
 # where a dataclass is frozen.
 _new = object.__new__
-_set_id = Entered.id.__set__  # type: ignore[attr-defined]
-_set_tick = Price.tick.__set__  # type: ignore[attr-defined]
-_set_volume = Price.volume.__set__  # type: ignore[attr-defined]
-_set_surplus = Price.surplus.__set__  # type: ignore[attr-defined]
-_set_side = Price.side.__set__  # type: ignore[attr-defined]
+_set_id = vars(Entered)["id"].__set__
+_set_tick = vars(Price)["tick"].__set__
+_set_volume = vars(Price)["volume"].__set__
+_set_surplus = vars(Price)["surplus"].__set__
+_set_side = vars(Price)["side"].__set__
 
 
 def _entered(reply: Any) -> Entered:
