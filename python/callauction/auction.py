@@ -1,6 +1,5 @@
 """An auction in this process: see Auction."""
 import struct
-import threading
 from types import TracebackType
 from typing import Any, Self
 
@@ -105,22 +104,19 @@ class Auction:
     Refused; with `check` RefusedError is raised instead.
     """
 
-    __slots__ = ("_handle", "_command", "_reply", "_buffer", "_lock", "__weakref__")
+    __slots__ = ("_idle", "__weakref__")
 
-    _handle: Any
-    _command: Any
-    _reply: Any
-    _buffer: Any
-    _lock: threading.Lock
+    _idle: list[tuple[Any, Any, Any, Any]]
+    """The handle, a command, a reply, and the command's bytes; empty while a call has them. A list
+    is popped by one thread at a time.
+    """
 
     def __new__(cls, *_: object, **__: object) -> Self:
         self = super().__new__(cls)
         # The handle stands at one place, and closes what it holds when it is dropped.
-        self._handle = ffi.gc(ffi.new("callauction_handle *"), lib.callauction_close)
-        self._command = ffi.new("callauction_command *")
-        self._reply = ffi.new("callauction_reply *")
-        self._buffer = ffi.buffer(self._command)
-        self._lock = threading.Lock()
+        handle = ffi.gc(ffi.new("callauction_handle *"), lib.callauction_close)
+        command, reply = ffi.new("callauction_command *"), ffi.new("callauction_reply *")
+        self._idle = [(handle, command, reply, ffi.buffer(command))]
         return self
 
     def __init__(
@@ -349,7 +345,7 @@ class Auction:
     def copy(self) -> Self:
         """An auction of its own that stands where this one does. Raises MemoryError."""
         other = type(self).__new__(type(self))
-        self._call(lib.callauction_clone, other._handle)
+        self._call(lib.callauction_clone, other._idle[0][0])
         return other
 
     def __copy__(self) -> Self:
@@ -376,12 +372,14 @@ class Auction:
 
     def _call(self, function: Any, *arguments: Any) -> None:
         """Calls the library on this handle. Raises BusyError, and what stands for its error."""
-        if not self._lock.acquire(False):
-            raise BusyError("another call of this auction is running")
         try:
-            answer = function(self._handle, *arguments)
+            own = self._idle.pop()
+        except IndexError:
+            raise BusyError("another call of this auction is running") from None
+        try:
+            answer = function(own[0], *arguments)
         finally:
-            self._lock.release()
+            self._idle.append(own)
         if answer:
             raise _error(answer)
 
@@ -396,18 +394,21 @@ class Auction:
         """The reply to the command whose numbers are packed so at this place of its struct. The
         first ones have these names.
         """
-        if not self._lock.acquire(False):
-            raise BusyError("another call of this auction is running")
         try:
-            pack(self._buffer, place, *numbers)
-            answer = _apply(self._handle, self._command, self._reply)
+            own = self._idle.pop()
+        except IndexError:
+            raise BusyError("another call of this auction is running") from None
+        try:
+            handle, command, written, buffer = own
+            pack(buffer, place, *numbers)
+            answer = _apply(handle, command, written)
             if answer:
                 raise _error(answer)
-            reply = read(self._reply)
+            reply = read(written)
         except (struct.error, TypeError):
             raise fault_of(names, numbers) from None
         finally:
-            self._lock.release()
+            self._idle.append(own)
         if check and type(reply) is Refused:
             raise RefusedError(reply.refusal)
         return reply

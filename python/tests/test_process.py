@@ -238,7 +238,7 @@ def turns_meanwhile(auction: Auction, commands: numpy.ndarray) -> tuple[int, int
         thread.start()
         while thread.is_alive():
             turns += isinstance(other.display(), NoPrice)
-            if auction._lock.locked():
+            if not auction._idle:
                 try:
                     auction.is_full
                 except BusyError:
@@ -264,8 +264,10 @@ def test_other_threads_go_on_meanwhile_and_a_second_call_raises() -> None:
 @pytest.mark.parametrize("call", [*CALLS, Auction.close, lambda auction: auction.is_closed])
 def test_a_second_call_raises(call) -> None:
     with Auction() as auction:
-        with auction._lock, pytest.raises(BusyError):  # as a running call holds it
+        own = auction._idle.pop()  # as a running call does
+        with pytest.raises(BusyError):
             call(auction)
+        auction._idle.append(own)
         assert auction.calls == 0
 
 
