@@ -1,0 +1,89 @@
+/* Prints what the calls of libcallauction take from C that bench/python makes from Python, in nanoseconds: an entry, a
+ * question, and a command of a thousand at a time. */
+#include <callauction.h>
+#include <stdio.h>
+#include <stdlib.h>
+#include <time.h>
+
+enum { CALLS = 50000, STANDING = 1000, AT_ONCE = 1000 };
+
+static callauction_command commands[CALLS];
+static callauction_reply replies[AT_ONCE];
+
+static double now(void) {
+    struct timespec time;
+    clock_gettime(CLOCK_MONOTONIC, &time);
+    return (double)time.tv_sec * 1e9 + (double)time.tv_nsec;
+}
+
+static void want(uint32_t answer) {
+    if (answer != CALLAUCTION_DONE) exit(1);
+}
+
+static callauction_command order(uint8_t side, uint32_t tick) {
+    callauction_command command = {.member = 1, .tag = CALLAUCTION_ENTER, .side = side, .quantity = 100};
+    command.has_limit = 1;
+    command.limit = tick;
+    return command;
+}
+
+static void begin(callauction_handle *auction, uint32_t standing) {
+    static const callauction_config config = {1, 1000, 500, 65536, 1048576, 0, 0};
+    callauction_reply reply;
+    want(callauction_open(auction, &config));
+    for (uint32_t k = 0; k < standing; k++) {
+        callauction_command command = order(k % 2 ? CALLAUCTION_BID_SIDE : CALLAUCTION_ASK_SIDE, 1 + k % 1000);
+        want(callauction_apply(auction, &command, &reply));
+    }
+}
+
+static void measure_enter(void) {
+    callauction_handle auction = {0};
+    callauction_reply reply;
+    begin(&auction, 0);
+    double start = now();
+    for (uint32_t k = 0; k < CALLS; k++) {
+        callauction_command command = order(CALLAUCTION_BID_SIDE, 1 + k * 7919 % 1000);
+        want(callauction_apply(&auction, &command, &reply));
+    }
+    printf("enter %.1f\n", (now() - start) / CALLS);
+    want(callauction_close(&auction));
+}
+
+static void measure_ask(void) {
+    callauction_handle auction = {0};
+    callauction_reply reply;
+    begin(&auction, STANDING);
+    double start = now();
+    for (uint32_t k = 0; k < CALLS; k++) {
+        callauction_command command = {.member = 1, .tag = CALLAUCTION_ASK};
+        want(callauction_apply(&auction, &command, &reply));
+    }
+    printf("ask %.1f\n", (now() - start) / CALLS);
+    want(callauction_close(&auction));
+}
+
+static void measure_apply_many(void) {
+    callauction_handle auction = {0};
+    size_t applied;
+    begin(&auction, STANDING);
+    for (uint32_t k = 0; k < CALLS; k++) {
+        commands[k] = order(k % 8 < 4 ? CALLAUCTION_BID_SIDE : CALLAUCTION_ASK_SIDE, 1 + k * 7919 % 1000);
+        if (k % 4 == 1) commands[k].tag = CALLAUCTION_ASK;
+        if (k % 4 == 2) commands[k].tag = CALLAUCTION_CHANGE, commands[k].quantity = 50;
+        if (k % 4 == 3) commands[k].tag = CALLAUCTION_DELETE;
+        commands[k].id = STANDING + 1 + k / 4;
+    }
+    double start = now();
+    for (int k = 0; k < CALLS; k += AT_ONCE)
+        want(callauction_apply_many(&auction, commands + k, AT_ONCE, replies, AT_ONCE, &applied));
+    printf("apply-many %.1f\n", (now() - start) / CALLS);
+    want(callauction_close(&auction));
+}
+
+int main(void) {
+    measure_enter();
+    measure_ask();
+    measure_apply_many();
+    return 0;
+}

@@ -1,0 +1,73 @@
+"""The structs of callauction.h as numpy's: arrays of these are handed to the library as they are.
+
+A flag is 0 or 1. callauction.h says which fields a tag needs, and docs/LIBRARY.md.
+"""
+from typing import Any
+
+import numpy
+from numpy.typing import NDArray
+
+Structs = NDArray[numpy.void]
+Shares = NDArray[numpy.uint64]
+
+COMMAND = numpy.dtype(
+    [
+        ("quantity", "u8"),
+        ("peak", "u8"),
+        ("id", "u4"),
+        ("limit", "u4"),
+        ("member", "u1"),
+        ("tag", "u1"),
+        ("side", "u1"),
+        ("only", "u1"),
+        ("has_limit", "u1"),
+        ("has_peak", "u1"),
+    ],
+    align=True,
+)
+"""A command of 32 bytes; its tag is a CommandTag, its side a Side, `only` a For."""
+
+REPLY = numpy.dtype(
+    [
+        ("quantity", "u8"),
+        ("visible", "u8"),
+        ("volume", "u8"),
+        ("surplus", "u8"),
+        ("id", "u4"),
+        ("ask", "u4"),
+        ("tick", "u4"),
+        ("trades", "u4"),
+        ("best_bid", "u4"),
+        ("best_ask", "u4"),
+        ("tag", "u1"),
+        ("side", "u1"),
+        ("auction", "u1"),
+        ("kept", "u1"),
+        ("refusal", "u1"),
+        ("has_tick", "u1"),
+        ("has_best_bid", "u1"),
+        ("has_best_ask", "u1"),
+    ],
+    align=True,
+)
+"""A reply of 64 bytes; its tag is a ReplyTag, its auction a Kind, its refusal a Refusal."""
+
+TRADE = numpy.dtype([("quantity", "u8"), ("bid", "u4"), ("ask", "u4"), ("tick", "u4")], align=True)
+"""A trade of 24 bytes: its shares, the ids of its two orders, its price."""
+
+
+def whole(name: str, array: object, kind: "numpy.dtype[Any]", is_written: bool) -> Structs:
+    """The array itself, which is one-dimensional, of this dtype, contiguous and aligned, and may be
+    written where it is to be. Raises TypeError for another dtype or no array, else ValueError.
+    """
+    if not isinstance(array, numpy.ndarray):
+        raise TypeError(f"{name} must be a numpy array, not {type(array).__name__}")
+    if array.dtype != kind:
+        raise TypeError(f"{name} must be an array of another dtype than {array.dtype}")
+    if array.ndim != 1:
+        raise ValueError(f"{name} must have one dimension, not {array.ndim}")
+    if not array.flags.c_contiguous or not array.flags.aligned:
+        raise ValueError(f"{name} must be contiguous and aligned")
+    if is_written and not array.flags.writeable:
+        raise ValueError(f"{name} must be writeable")
+    return array

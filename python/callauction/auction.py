@@ -1,0 +1,429 @@
+"""An auction in this process: see Auction."""
+import struct
+from types import TracebackType
+from typing import Any, Self
+
+import numpy
+
+from callauction._native import ffi, lib
+from callauction.arrays import COMMAND, REPLY, TRADE, Shares, Structs, whole
+from callauction.errors import (
+    AuctionError,
+    BusyError,
+    ClosedError,
+    FullError,
+    NoCommandError,
+    RefusedError,
+)
+from callauction.reading import TERMS, fault_of, member_of, number, read
+from callauction.words import (
+    Ask,
+    Change,
+    Changed,
+    Command,
+    CommandTag,
+    Config,
+    Delete,
+    Deleted,
+    Enter,
+    Entered,
+    For,
+    Interrupted,
+    Market,
+    NoPrice,
+    Price,
+    Refused,
+    Reply,
+    Side,
+    Standing,
+    Status,
+    Trade,
+    Traded,
+    Uncross,
+    Uncrossed,
+)
+
+MOST = (1 << 32) - 1
+_TERMS = struct.Struct("=QQIIBBBBBB").pack_into
+"""Writes all fields of a command struct, for an entry or a change."""
+_NAMED = struct.Struct("=IIBB").pack_into
+"""Writes the id, the limit, the member and the tag, which the other commands need."""
+_NAMED_AT = 16
+_BID_SIDE, _ASK_SIDE = Side.BID, Side.ASK
+_ID, _NUMBER = ("id", "limit", "member"), ("number", "limit", "member")
+_apply = lib.callauction_apply
+_ENTER, _CHANGE, _DELETE, _STATUS, _ASK, _TRADE, _UNCROSS = (int(tag) for tag in CommandTag)
+_CONFIG_FAULTS = {
+    lib.CALLAUCTION_BAD_BOUNDS: "low, high: not 1 <= low <= high <= 1,000,000, or more than 65,536 "
+    "ticks",
+    lib.CALLAUCTION_BAD_REFERENCE: "reference: not a tick from low to high",
+    lib.CALLAUCTION_BAD_LIMITS: "max_open, max_calls: not from 1 to 65,536 and from 1 to 1,048,576",
+}
+_AT_ONCE = 1024
+"""How many trades are copied by one call of the library."""
+_NO_COMMAND = "a struct stands for no command"
+_FULL = "as many commands were applied as may be"
+
+
+def _error(answer: int) -> Exception:
+    """What is raised where a call of the library answers this error."""
+    if answer == lib.CALLAUCTION_NO_AUCTION:
+        return ClosedError("the object holds no auction")
+    if answer == lib.CALLAUCTION_FULL:
+        return FullError(_FULL)
+    if answer == lib.CALLAUCTION_NO_COMMAND:
+        return NoCommandError(_NO_COMMAND)
+    if answer == lib.CALLAUCTION_NO_MEMORY:
+        return MemoryError("an auction got no memory")
+    if answer == lib.CALLAUCTION_IN_USE:
+        return AuctionError("the object holds an auction")
+    if answer in _CONFIG_FAULTS:
+        return ValueError(_CONFIG_FAULTS[answer])
+    return AuctionError(f"the library answers {answer}")
+
+
+class Auction:
+    """A call auction of one instrument over one day, at its opening.
+
+    `low` and `high` are the lowest and the highest tick, `reference` the first reference price,
+    `max_open` how many orders may be open at a time, `max_calls` how many commands may be applied.
+    With a `range`, an uncross whose price lies more than so many ticks from the reference is
+    interrupted once.
+
+    As a context manager it is closed at the end; else when it is dropped. Members are numbered from
+    0 to 255; member 0 is the operator, who alone uncrosses.
+
+    Raises TypeError or ValueError with the name of a bad argument, and MemoryError. Each method but
+    `close` raises ClosedError after it, and each raises BusyError while another call of this object
+    is running. One that raises leaves the auction as it was, but for RefusedError and for
+    `apply_many`, which keeps what it had applied.
+
+    A method that applies a command raises FullError where `max_calls` commands were applied, and
+    TypeError or ValueError for an argument that isn't an integer or doesn't fit the library's
+    number. A command that the auction refuses, as for a limit that is no tick of it, is answered
+    Refused; with `check` RefusedError is raised instead.
+    """
+
+    __slots__ = ("_idle", "__weakref__")
+
+    _idle: list[tuple[Any, Any, Any, Any]]
+    """The handle, a command, a reply, and the command's bytes; empty while a call has them. A list
+    is popped by one thread at a time.
+    """
+
+    def __new__(cls, *_: object, **__: object) -> Self:
+        self = super().__new__(cls)
+        # The handle stands at one place, and closes what it holds when it is dropped.
+        handle = ffi.gc(ffi.new("callauction_handle *"), lib.callauction_close)
+        command, reply = ffi.new("callauction_command *"), ffi.new("callauction_reply *")
+        self._idle = [(handle, command, reply, ffi.buffer(command))]
+        return self
+
+    def __init__(
+        self,
+        low: int = 1,
+        high: int = 1000,
+        reference: int = 200,
+        max_open: int = 4096,
+        max_calls: int = 65536,
+        range: int | None = None,
+    ) -> None:
+        config = ffi.new("callauction_config *")
+        config.low = number("low", low, MOST)
+        config.high = number("high", high, MOST)
+        config.reference = number("reference", reference, MOST)
+        config.max_open = number("max_open", max_open, MOST)
+        config.max_calls = number("max_calls", max_calls, MOST)
+        config.has_range = range is not None
+        config.range = 0 if range is None else number("range", range, MOST)
+        self._call(lib.callauction_open, config)
+
+    def __enter__(self) -> Self:
+        return self
+
+    def __exit__(
+        self,
+        kind: type[BaseException] | None,
+        raised: BaseException | None,
+        traceback: TracebackType | None,
+    ) -> None:
+        self.close()
+
+    # ---- commands
+
+    def enter(
+        self,
+        member: int,
+        side: Side,
+        quantity: int,
+        limit: int | None = None,
+        peak: int | None = None,
+        only: For = For.ALL,
+        *,
+        check: bool = False,
+    ) -> Entered | Refused:
+        """Enters an order of so many shares, a market order without a limit, an iceberg order with
+        a peak. Raises TypeError or ValueError for a side that isn't Side.BID or Side.ASK.
+        """
+        if side is not _BID_SIDE and side is not _ASK_SIDE:
+            member_of("side", side, Side)
+            raise ValueError("side must be BID or ASK")
+        if type(only) is not For:
+            member_of("only", only, For)
+        shown, has_peak = (0, 0) if peak is None else (peak, 1)
+        tick, has_limit = (0, 0) if limit is None else (limit, 1)
+        numbers = (quantity, shown, 0, tick, member, _ENTER, side, only, has_limit, has_peak)
+        return self._applied(_TERMS, 0, TERMS, numbers, check)
+
+    def change(
+        self,
+        member: int,
+        id: int,
+        quantity: int,
+        limit: int | None = None,
+        *,
+        check: bool = False,
+    ) -> Changed | Refused:
+        """Gives the member's order with this id another open quantity and limit. It keeps its place
+        in time where the limit stays and the quantity doesn't grow.
+        """
+        tick = 0 if limit is None else limit
+        numbers = (quantity, 0, id, tick, member, _CHANGE, 0, 0, limit is not None, 0)
+        return self._applied(_TERMS, 0, TERMS, numbers, check)
+
+    def delete(self, member: int, id: int, *, check: bool = False) -> Deleted | Refused:
+        """Takes the member's order with this id out."""
+        return self._applied(_NAMED, _NAMED_AT, _ID, (id, 0, member, _DELETE), check)
+
+    def status(self, member: int, id: int, *, check: bool = False) -> Standing | Refused:
+        """What is open of the member's order with this id."""
+        return self._applied(_NAMED, _NAMED_AT, _ID, (id, 0, member, _STATUS), check)
+
+    def ask(self, member: int, *, check: bool = False) -> Price | NoPrice | Refused:
+        """The indicative price, or the best limits where there is none."""
+        return self._applied(_NAMED, _NAMED_AT, _ID, (0, 0, member, _ASK), check)
+
+    def uncross(
+        self, member: int = 0, *, check: bool = False
+    ) -> Uncrossed | Interrupted | Refused:
+        """Determines the price and executes. The next call phase follows at once; after the closing
+        auction the day is over.
+        """
+        return self._applied(_NAMED, _NAMED_AT, _ID, (0, 0, member, _UNCROSS), check)
+
+    def trade(self, member: int, number: int, *, check: bool = False) -> Traded | Refused:
+        """The trade of the day with this number, from 1 on."""
+        return self._applied(_NAMED, _NAMED_AT, _NUMBER, (number, 0, member, _TRADE), check)
+
+    def apply(self, member: int, command: Command, *, check: bool = False) -> Reply:
+        """Applies a command. Raises TypeError where it is none of Command."""
+        match command:
+            case Enter(side, quantity, limit, peak, only):
+                return self.enter(member, side, quantity, limit, peak, only, check=check)
+            case Change(id, quantity, limit):
+                return self.change(member, id, quantity, limit, check=check)
+            case Delete(id):
+                return self.delete(member, id, check=check)
+            case Status(id):
+                return self.status(member, id, check=check)
+            case Ask():
+                return self.ask(member, check=check)
+            case Trade(number):
+                return self.trade(member, number, check=check)
+            case Uncross():
+                return self.uncross(member, check=check)
+        raise TypeError(f"command must be one of Command, not {type(command).__name__}")
+
+    def apply_many(
+        self, commands: Structs, replies: Structs | None = None
+    ) -> Structs:
+        """Applies an array of COMMAND one after another, and answers their replies.
+
+        `commands` has any length N; `replies`, an array of REPLY of length N that shares no memory
+        with it, is written and answered; without it a new one is. Neither is copied. The lock of
+        the interpreter is given up meanwhile: no thread may write either array then, or change its
+        size.
+
+        Stops at the first struct that stands for no command (NoCommandError) and where `max_calls`
+        commands were applied (FullError). Their `applied` says how many were applied, and `replies`
+        are the replies to those. Raises TypeError or ValueError for a bad array.
+        """
+        whole("commands", commands, COMMAND, is_written=False)
+        if replies is None:
+            replies = numpy.zeros(len(commands), REPLY)
+        whole("replies", replies, REPLY, is_written=True)
+        if len(replies) != len(commands):
+            raise ValueError(f"replies must have the length {len(commands)}, not {len(replies)}")
+        if numpy.may_share_memory(commands, replies):
+            raise ValueError("replies must share no memory with commands")
+        applied = ffi.new("size_t *")
+        given = ffi.from_buffer("callauction_command[]", commands)
+        written = ffi.from_buffer("callauction_reply[]", replies, require_writable=True)
+        try:
+            self._call(
+                lib.callauction_apply_many, given, len(given), written, len(written), applied
+            )
+        except (FullError, NoCommandError) as error:
+            count = applied[0]
+            raise type(error)(f"command {count}: {error}", count, replies[:count]) from None
+        return replies
+
+    # ---- what is shown
+
+    def display(self) -> Price | NoPrice:
+        """What `ask` shows, without a member and not counted as a call; after the day too."""
+        shown = ffi.new("callauction_reply *")
+        self._call(lib.callauction_display, shown)
+        found = read(shown)
+        assert isinstance(found, Price | NoPrice)
+        return found
+
+    def ladder(self) -> tuple[Shares, Shares]:
+        """The shares bid and the shares offered by the orders that count, with a limit at each tick
+        from low to high: two new arrays of uint64 of the length high - low + 1.
+        """
+        bids, asks, _ = self._ladder()
+        return bids, asks
+
+    def market(self) -> Market:
+        """The shares of the market orders that count."""
+        _, _, market = self._ladder()
+        return market
+
+    def trades(self, seen: int = 0) -> Structs:
+        """The trades of the day after the first `seen`: a new array of TRADE. Raises TypeError or
+        ValueError for a bad number.
+        """
+        seen = number("seen", seen, (1 << 63) - 1)
+        found: list[Structs] = []
+        copied, room = ffi.new("size_t *", _AT_ONCE), _AT_ONCE
+        while copied[0] == room:
+            trades = numpy.zeros(room, TRADE)
+            written = ffi.from_buffer("callauction_trade[]", trades, require_writable=True)
+            self._call(lib.callauction_trades, seen, written, room, copied)
+            found.append(trades[: copied[0]])
+            seen += room
+        return numpy.concatenate(found)
+
+    @property
+    def calls(self) -> int:
+        """How many commands were applied, the refused ones among them."""
+        found = ffi.new("uint32_t *")
+        self._call(lib.callauction_calls, found)
+        return int(found[0])
+
+    @property
+    def is_full(self) -> bool:
+        """Whether as many commands were applied as may be."""
+        return self.calls == self.config.max_calls
+
+    @property
+    def config(self) -> Config:
+        """What the auction was opened with."""
+        found = ffi.new("callauction_config *")
+        self._call(lib.callauction_config_of, found)
+        return Config(
+            found.low,
+            found.high,
+            found.reference,
+            found.max_open,
+            found.max_calls,
+            found.range if found.has_range else None,
+        )
+
+    @property
+    def is_closed(self) -> bool:
+        """Whether the object holds no auction."""
+        try:
+            self._call(lib.callauction_calls, ffi.new("uint32_t *"))
+        except ClosedError:
+            return True
+        return False
+
+    # ---- the whole auction
+
+    def copy(self) -> Self:
+        """An auction of its own that stands where this one does. Raises MemoryError."""
+        other = type(self).__new__(type(self))
+        self._call(lib.callauction_clone, other._idle[0][0])
+        return other
+
+    def __copy__(self) -> Self:
+        return self.copy()
+
+    def __deepcopy__(self, _: dict[int, Any]) -> Self:
+        return self.copy()
+
+    def __reduce__(self) -> str:
+        raise TypeError("an Auction can't be pickled")
+
+    def reset(self) -> None:
+        """Goes back to the opening, as if it had just been opened."""
+        self._call(lib.callauction_reset)
+
+    def close(self) -> None:
+        """Gives the auction and its memory up; does nothing where it was closed before."""
+        try:
+            self._call(lib.callauction_close)
+        except ClosedError:
+            pass
+
+    # ---- calls of the library, one at a time
+
+    def _call(self, function: Any, *arguments: Any) -> None:
+        """Calls the library on this handle. Raises BusyError, and what stands for its error."""
+        try:
+            own = self._idle.pop()
+        except IndexError:
+            raise BusyError("another call of this auction is running") from None
+        try:
+            answer = function(own[0], *arguments)
+        finally:
+            self._idle.append(own)
+        if answer:
+            raise _error(answer)
+
+    def _applied(
+        self,
+        pack: Any,
+        place: int,
+        names: tuple[str, ...],
+        numbers: tuple[Any, ...],
+        check: bool,
+    ) -> Any:
+        """The reply to the command whose numbers are packed so at this place of its struct. The
+        first ones have these names.
+        """
+        try:
+            own = self._idle.pop()
+        except IndexError:
+            raise BusyError("another call of this auction is running") from None
+        try:
+            handle, command, written, buffer = own
+            pack(buffer, place, *numbers)
+            answer = _apply(handle, command, written)
+            if answer:
+                raise _error(answer)
+            reply = read(written)
+        except (struct.error, TypeError):
+            raise fault_of(names, numbers) from None
+        finally:
+            self._idle.append(own)
+        if check and type(reply) is Refused:
+            raise RefusedError(reply.refusal)
+        return reply
+
+    def _ladder(self) -> tuple[Shares, Shares, Market]:
+        config = self.config
+        ticks = config.high - config.low + 1
+        bids, asks = numpy.zeros(ticks, numpy.uint64), numpy.zeros(ticks, numpy.uint64)
+        market = ffi.new("callauction_market *")
+        self._call(
+            lib.callauction_ladder,
+            ffi.from_buffer("uint64_t[]", bids, require_writable=True),
+            ticks,
+            ffi.from_buffer("uint64_t[]", asks, require_writable=True),
+            ticks,
+            market,
+        )
+        return bids, asks, Market(market.bids, market.asks)

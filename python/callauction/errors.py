@@ -1,0 +1,49 @@
+"""What calls of an auction raise beside TypeError, ValueError and MemoryError."""
+from callauction.arrays import Structs
+from callauction.words import Refusal
+
+
+class AuctionError(Exception):
+    """The base of all of these."""
+
+
+class ClosedError(AuctionError):
+    """The object holds no auction: it was closed, or its opening failed."""
+
+
+class BusyError(AuctionError):
+    """Another call of this auction is running, in another thread or around this one."""
+
+
+class RefusedError(AuctionError):
+    """The auction refused a command that was given with check=True. It counts as a call, and left
+    all else as it was.
+    """
+
+    def __init__(self, refusal: Refusal) -> None:
+        super().__init__(refusal)
+        self.refusal = refusal
+
+    def __str__(self) -> str:
+        return f"refused {self.refusal.value} {self.refusal.name}"
+
+
+class NotAppliedError(AuctionError):
+    """A command wasn't applied, and none behind it.
+
+    `applied` says how many commands of the call were applied before it, and `replies` are their
+    replies, an array of REPLY of that length (None where the call was of one command).
+    """
+
+    def __init__(self, text: str, applied: int = 0, replies: Structs | None = None) -> None:
+        super().__init__(text)
+        self.applied = applied
+        self.replies = replies
+
+
+class FullError(NotAppliedError):
+    """As many commands were applied as the auction was opened for (max_calls)."""
+
+
+class NoCommandError(NotAppliedError, ValueError):
+    """A struct of an array stands for no command."""

@@ -1,0 +1,246 @@
+"""The words of an auction: its numbers, its commands and its replies.
+
+Limits and prices are ticks, quantities, volumes and surpluses are whole shares, ids are those that
+entered orders were given. A limit of None is a market order's. docs/MODEL.md has the rules.
+"""
+import dataclasses
+import enum
+
+
+class Side(enum.IntEnum):
+    """The side of an order or of a surplus, which has none where it is 0."""
+
+    NONE = 0
+    BID = 1
+    ASK = 2
+
+
+class For(enum.IntEnum):
+    """The auctions that an order is for."""
+
+    ALL = 0
+    OPENING = 1
+    CLOSING = 2
+
+
+class Kind(enum.IntEnum):
+    """The auctions of a day."""
+
+    OPENING = 1
+    INTRADAY = 2
+    CLOSING = 3
+
+
+class Refusal(enum.IntEnum):
+    """Why a command was refused."""
+
+    BAD_QUANTITY = 1
+    BAD_LIMIT = 2
+    BAD_PEAK = 3
+    BOOK_FULL = 4
+    UNKNOWN_ORDER = 5
+    NOT_OPERATOR = 6
+    DAY_OVER = 7
+    NO_SUCH_TRADE = 8
+    PAST_AUCTION = 9
+
+
+class CommandTag(enum.IntEnum):
+    """The tags of a command in an array."""
+
+    ENTER = 1
+    CHANGE = 2
+    DELETE = 3
+    STATUS = 4
+    ASK = 5
+    TRADE = 6
+    UNCROSS = 7
+
+
+class ReplyTag(enum.IntEnum):
+    """The tags of a reply in an array."""
+
+    ENTERED = 1
+    CHANGED = 2
+    DELETED = 3
+    STANDING = 4
+    PRICED = 5
+    UNPRICED = 6
+    TRADED = 7
+    UNCROSSED = 8
+    INTERRUPTED = 9
+    REFUSED = 10
+
+
+@dataclasses.dataclass(frozen=True, slots=True)
+class Config:
+    """What an auction was opened with."""
+
+    low: int
+    high: int
+    reference: int
+    max_open: int
+    max_calls: int
+    range: int | None
+
+
+# ---- commands
+
+
+@dataclasses.dataclass(frozen=True, slots=True)
+class Enter:
+    """A new order; with a peak it is an iceberg order, which shows so many shares at most."""
+
+    side: Side
+    quantity: int
+    limit: int | None = None
+    peak: int | None = None
+    only: For = For.ALL
+
+
+@dataclasses.dataclass(frozen=True, slots=True)
+class Change:
+    """Another open quantity and limit of the member's order with this id."""
+
+    id: int
+    quantity: int
+    limit: int | None = None
+
+
+@dataclasses.dataclass(frozen=True, slots=True)
+class Delete:
+    """Takes the member's order with this id out."""
+
+    id: int
+
+
+@dataclasses.dataclass(frozen=True, slots=True)
+class Status:
+    """Asks what is open of the member's order with this id."""
+
+    id: int
+
+
+@dataclasses.dataclass(frozen=True, slots=True)
+class Ask:
+    """Asks for the indicative price, or the best limits."""
+
+
+@dataclasses.dataclass(frozen=True, slots=True)
+class Trade:
+    """Asks for a trade of the day by its number, from 1 on."""
+
+    number: int
+
+
+@dataclasses.dataclass(frozen=True, slots=True)
+class Uncross:
+    """Determines the price and executes; for member 0 alone."""
+
+
+Command = Enter | Change | Delete | Status | Ask | Trade | Uncross
+
+
+# ---- replies
+
+
+@dataclasses.dataclass(frozen=True, slots=True)
+class Entered:
+    """The id of the order that was entered."""
+
+    id: int
+
+
+@dataclasses.dataclass(frozen=True, slots=True)
+class Changed:
+    """Whether the changed order kept its place in time."""
+
+    kept: bool
+
+
+@dataclasses.dataclass(frozen=True, slots=True)
+class Deleted:
+    """The order was taken out."""
+
+
+@dataclasses.dataclass(frozen=True, slots=True)
+class Standing:
+    """An open order: what is open of it, and how much of that is shown."""
+
+    side: Side
+    quantity: int
+    limit: int | None
+    visible: int
+
+
+@dataclasses.dataclass(frozen=True, slots=True)
+class Price:
+    """An auction price, with the volume that it executes, and the surplus and its side."""
+
+    tick: int
+    volume: int
+    surplus: int
+    side: Side
+
+
+@dataclasses.dataclass(frozen=True, slots=True)
+class NoPrice:
+    """The highest bid limit and the lowest ask limit, None where there is none."""
+
+    best_bid: int | None
+    best_ask: int | None
+
+
+@dataclasses.dataclass(frozen=True, slots=True)
+class Traded:
+    """A trade: the ids of its bid and of its ask, its shares, its price."""
+
+    bid: int
+    ask: int
+    quantity: int
+    tick: int
+
+
+@dataclasses.dataclass(frozen=True, slots=True)
+class Uncrossed:
+    """The auction that was uncrossed, its price if there was one, and how many trades it made."""
+
+    auction: Kind
+    price: Price | None
+    trades: int
+
+
+@dataclasses.dataclass(frozen=True, slots=True)
+class Interrupted:
+    """The uncross was interrupted: its price lies too far from the reference."""
+
+    price: Price
+
+
+@dataclasses.dataclass(frozen=True, slots=True)
+class Refused:
+    """The command was refused, and left all but the count of calls as it was."""
+
+    refusal: Refusal
+
+
+Reply = (
+    Entered
+    | Changed
+    | Deleted
+    | Standing
+    | Price
+    | NoPrice
+    | Traded
+    | Uncrossed
+    | Interrupted
+    | Refused
+)
+
+
+@dataclasses.dataclass(frozen=True, slots=True)
+class Market:
+    """The shares of the market orders that count."""
+
+    bids: int
+    asks: int

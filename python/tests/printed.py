@@ -1,0 +1,100 @@
+"""Order files as commands, and replies as the lines of docs/FORMATS.md."""
+import sys
+from pathlib import Path
+
+import callauction as words
+from callauction import Auction
+
+TOP = Path(__file__).resolve().parent.parent.parent
+sys.path.insert(0, str(TOP / "checks"))
+
+NAMES = {refusal: refusal.name.title().replace("_", "") for refusal in words.Refusal}
+SIDES = {"bid": words.Side.BID, "ask": words.Side.ASK}
+FOR = {"": words.For.ALL, "opening": words.For.OPENING, "closing": words.For.CLOSING}
+
+
+def command_of(fields: list[str]) -> words.Command:
+    """The command of a record of an order file, without its member."""
+    word, *rest = fields
+    limit = None if rest[-1:] == ["market"] else int(rest[-1]) if word == "change" else None
+    match word:
+        case "enter":
+            tick = None if rest[2] == "market" else int(rest[2])
+            peak = int(rest[3]) if len(rest) > 3 and rest[3] else None
+            only = FOR[rest[4] if len(rest) > 4 else ""]
+            return words.Enter(SIDES[rest[0]], int(rest[1]), tick, peak, only)
+        case "change":
+            return words.Change(int(rest[0]), int(rest[1]), limit)
+        case "delete":
+            return words.Delete(int(rest[0]))
+        case "status":
+            return words.Status(int(rest[0]))
+        case "trade":
+            return words.Trade(int(rest[0]))
+        case "ask":
+            return words.Ask()
+        case "uncross":
+            return words.Uncross()
+    raise ValueError(word)
+
+
+def commands_of(text: str) -> list[tuple[int, words.Command]]:
+    """The members and the commands of an order file."""
+    rows = [line.split(",") for line in text.splitlines() if line]
+    return [(int(fields[0]), command_of(fields[1:])) for fields in rows]
+
+
+def price_text(price: words.Price) -> str:
+    side = price.side.name.lower()
+    return f"price {price.tick} volume {price.volume} surplus {price.surplus} {side}"
+
+
+def uncrossed_text(reply: words.Uncrossed) -> str:
+    kind = reply.auction.name.lower()
+    if reply.price is None:
+        return f"{kind} no price"
+    return f"{kind} {price_text(reply.price)} trades {reply.trades}"
+
+
+def best_text(tick: int | None) -> str:
+    return "-" if tick is None else str(tick)
+
+
+def text_of(reply: words.Reply) -> str:
+    """The text of a reply."""
+    match reply:
+        case words.Entered(id):
+            return f"entered {id}"
+        case words.Changed(kept):
+            return "changed kept" if kept else "changed moved"
+        case words.Deleted():
+            return "deleted"
+        case words.Standing(side, quantity, limit, visible):
+            at = "market" if limit is None else f"at {limit}"
+            return f"order {side.name.lower()} {quantity} {at} visible {visible}"
+        case words.Price():
+            return price_text(reply)
+        case words.NoPrice(bid, ask):
+            return f"no price bid {best_text(bid)} ask {best_text(ask)}"
+        case words.Traded(bid, ask, quantity, tick):
+            return f"trade {bid} {ask} {quantity} at {tick}"
+        case words.Uncrossed():
+            return uncrossed_text(reply)
+        case words.Interrupted(price):
+            return f"interrupted {price_text(price)}"
+        case words.Refused(refusal):
+            return f"refused {refusal.value} {NAMES[refusal]}"
+    raise TypeError(type(reply))
+
+
+def opened(options: dict[str, int | None]) -> Auction:
+    """An auction of the program's options."""
+    given = {name: value for name, value in options.items() if name != "members"}
+    given["max_open"], given["max_calls"] = given.pop("open"), given.pop("calls")
+    return Auction(**given)
+
+
+def lines_of(auction: Auction, commands: list[tuple[int, words.Command]]) -> list[str]:
+    """What the program prints for these commands, each applied by itself."""
+    replies = (auction.apply(member, command) for member, command in commands)
+    return [f"{place}: {text_of(reply)}" for place, reply in enumerate(replies, 1)]

@@ -1,0 +1,274 @@
+"""Each call of an auction, with worked results, and every refusal."""
+import copy
+import pickle
+
+import numpy
+import pytest
+from callauction import (
+    Ask,
+    Auction,
+    Change,
+    Changed,
+    Config,
+    Delete,
+    Deleted,
+    Enter,
+    Entered,
+    For,
+    FullError,
+    Interrupted,
+    Kind,
+    Market,
+    NoPrice,
+    Price,
+    Refusal,
+    Refused,
+    RefusedError,
+    Side,
+    Standing,
+    Status,
+    Trade,
+    Traded,
+    Uncross,
+    Uncrossed,
+)
+
+BID, ASK = Side.BID, Side.ASK
+
+
+def test_a_day() -> None:
+    with Auction() as auction:
+        assert auction.enter(1, BID, 500, limit=200) == Entered(1)
+        assert auction.ask(3) == NoPrice(200, None)
+        assert auction.enter(2, ASK, 300, 200) == Entered(2)
+        assert auction.ask(3) == Price(200, 300, 200, BID)
+        assert auction.status(1, 1) == Standing(BID, 500, 200, 500)
+        assert auction.change(1, 1, 400, limit=200) == Changed(True)
+        assert auction.change(1, 1, 400, limit=201) == Changed(False)
+        assert auction.uncross() == Uncrossed(Kind.OPENING, Price(201, 300, 100, BID), 1)
+        assert auction.trade(3, 1) == Traded(bid=1, ask=2, quantity=300, tick=201)
+        assert auction.delete(1, 1) == Deleted()
+        assert auction.uncross(0) == Uncrossed(Kind.INTRADAY, None, 0)
+        assert auction.calls == 11
+        assert not auction.is_full
+
+
+def test_apply_takes_each_command() -> None:
+    with Auction() as auction:
+        enter = Enter(side=BID, quantity=10, limit=7, peak=3, only=For.CLOSING)
+        assert auction.apply(1, enter) == Entered(1)
+        assert auction.apply(1, Status(1)) == Standing(BID, 10, 7, 3)
+        assert auction.apply(1, Change(1, 9, 7)) == Changed(True)
+        assert auction.apply(1, Ask()) == NoPrice(None, None)
+        assert auction.apply(1, Delete(1)) == Deleted()
+        assert auction.apply(1, Trade(1)) == Refused(Refusal.NO_SUCH_TRADE)
+        assert auction.apply(0, Uncross()) == Uncrossed(Kind.OPENING, None, 0)
+
+
+def test_a_market_order_and_an_iceberg_order() -> None:
+    with Auction() as auction:
+        auction.enter(1, ASK, 70)
+        auction.enter(1, BID, 90, 5, peak=40)
+        assert auction.status(1, 1) == Standing(ASK, 70, None, 70)
+        assert auction.status(1, 2) == Standing(BID, 90, 5, 40)
+        assert auction.market() == Market(bids=0, asks=70)
+
+
+def test_an_interruption() -> None:
+    with Auction(range=5) as auction:
+        auction.enter(1, BID, 10, 206)
+        auction.enter(1, ASK, 10, 206)
+        price = Price(206, 10, 0, Side.NONE)
+        assert auction.uncross() == Interrupted(price)
+        assert auction.uncross() == Uncrossed(Kind.OPENING, price, 1)
+
+
+def ended() -> Auction:
+    """An auction after its day."""
+    auction = Auction()
+    for _ in range(3):
+        auction.uncross(check=True)
+    return auction
+
+
+def with_orders() -> Auction:
+    """Room for two orders; the first is an iceberg order of member 1."""
+    auction = Auction(max_open=2)
+    auction.enter(1, BID, 10, 5, peak=2, check=True)
+    auction.enter(2, BID, 10, 5, check=True)
+    return auction
+
+
+def after_the_opening() -> Auction:
+    auction = Auction()
+    auction.uncross(check=True)
+    return auction
+
+
+REFUSED = [
+    (Auction, 1, Enter(BID, 0, 5), Refusal.BAD_QUANTITY),
+    (Auction, 1, Enter(BID, 1_000_000_001, 5), Refusal.BAD_QUANTITY),
+    (Auction, 1, Enter(BID, 2**64 - 1, 5), Refusal.BAD_QUANTITY),
+    (Auction, 1, Change(1, 0, 5), Refusal.BAD_QUANTITY),
+    (Auction, 1, Enter(BID, 10, 0), Refusal.BAD_LIMIT),
+    (Auction, 1, Enter(ASK, 10, 1001), Refusal.BAD_LIMIT),
+    (Auction, 1, Enter(ASK, 10, 2**32 - 1), Refusal.BAD_LIMIT),
+    (Auction, 1, Change(1, 10, 1001), Refusal.BAD_LIMIT),
+    (Auction, 1, Enter(BID, 10, 5, peak=0), Refusal.BAD_PEAK),
+    (Auction, 1, Enter(BID, 10, 5, peak=11), Refusal.BAD_PEAK),
+    (Auction, 1, Enter(BID, 10, None, peak=5), Refusal.BAD_PEAK),
+    (with_orders, 1, Change(1, 10, None), Refusal.BAD_PEAK),
+    (with_orders, 1, Enter(BID, 10, 5), Refusal.BOOK_FULL),
+    (with_orders, 2, Delete(1), Refusal.UNKNOWN_ORDER),
+    (with_orders, 1, Delete(0), Refusal.UNKNOWN_ORDER),
+    (with_orders, 1, Delete(3), Refusal.UNKNOWN_ORDER),
+    (with_orders, 2, Status(1), Refusal.UNKNOWN_ORDER),
+    (with_orders, 2, Change(1, 5, 5), Refusal.UNKNOWN_ORDER),
+    (Auction, 1, Uncross(), Refusal.NOT_OPERATOR),
+    (Auction, 255, Uncross(), Refusal.NOT_OPERATOR),
+    (ended, 1, Enter(BID, 10, 5), Refusal.DAY_OVER),
+    (ended, 1, Change(1, 10, 5), Refusal.DAY_OVER),
+    (ended, 1, Delete(1), Refusal.DAY_OVER),
+    (ended, 1, Ask(), Refusal.DAY_OVER),
+    (ended, 0, Uncross(), Refusal.DAY_OVER),
+    (Auction, 1, Trade(0), Refusal.NO_SUCH_TRADE),
+    (Auction, 1, Trade(1), Refusal.NO_SUCH_TRADE),
+    (after_the_opening, 1, Enter(BID, 10, 5, only=For.OPENING), Refusal.PAST_AUCTION),
+]
+
+
+@pytest.mark.parametrize("opened, member, command, refusal", REFUSED)
+def test_each_refusal_is_a_value(opened, member, command, refusal) -> None:
+    with opened() as auction:
+        calls, ladder, shown = auction.calls, auction.ladder(), auction.display()
+        assert auction.apply(member, command) == Refused(refusal)
+        assert auction.calls == calls + 1
+        assert numpy.array_equal(auction.ladder(), ladder)
+        assert auction.display() == shown
+
+
+@pytest.mark.parametrize("opened, member, command, refusal", REFUSED)
+def test_each_refusal_is_raised_with_check(opened, member, command, refusal) -> None:
+    with opened() as auction:
+        calls = auction.calls
+        with pytest.raises(RefusedError, match=f"refused {refusal.value} {refusal.name}") as raised:
+            auction.apply(member, command, check=True)
+        assert raised.value.refusal is refusal
+        assert auction.calls == calls + 1
+
+
+def test_each_refusal_stands_in_the_list() -> None:
+    assert {refusal for *_, refusal in REFUSED} == set(Refusal)
+
+
+def test_every_method_raises_with_check() -> None:
+    with ended() as auction:
+        for call in (
+            lambda: auction.enter(1, BID, 1, check=True),
+            lambda: auction.change(1, 1, 1, check=True),
+            lambda: auction.delete(1, 1, check=True),
+            lambda: auction.status(1, 1, check=True),
+            lambda: auction.ask(1, check=True),
+            lambda: auction.trade(1, 1, check=True),
+            lambda: auction.uncross(check=True),
+        ):
+            with pytest.raises(RefusedError):
+                call()
+
+
+def test_the_display_counts_no_call_and_works_after_the_day() -> None:
+    with ended() as auction:
+        assert auction.display() == NoPrice(None, None)
+        assert auction.calls == 3
+
+
+def test_the_ladder() -> None:
+    with Auction(low=10, high=13, reference=11) as auction:
+        auction.enter(1, BID, 5, 10)
+        auction.enter(1, BID, 6, 12)
+        auction.enter(1, ASK, 7, 13)
+        auction.enter(1, ASK, 8)
+        auction.enter(1, ASK, 100, 13, only=For.CLOSING)
+        bids, asks = auction.ladder()
+        assert bids.dtype == asks.dtype == numpy.uint64
+        assert bids.tolist() == [5, 0, 6, 0]
+        assert asks.tolist() == [0, 0, 0, 7]
+        assert auction.market() == Market(0, 8)
+
+
+@pytest.mark.parametrize("count", [0, 1, 1023, 1024, 1025, 2048, 3000])
+def test_trades(count: int) -> None:
+    with Auction() as auction:
+        for _ in range(count):
+            auction.enter(1, BID, 1)
+        auction.enter(2, ASK, count + 1)
+        auction.uncross(check=True)
+        trades = auction.trades()
+        assert trades["bid"].tolist() == [*range(1, count + 1)]
+        assert set(trades["ask"]) <= {count + 1}
+        assert set(trades["quantity"]) <= {1} and set(trades["tick"]) <= {200}
+        assert numpy.array_equal(auction.trades(count // 2), trades[count // 2 :])
+        assert len(auction.trades(count)) == len(auction.trades(2**63 - 1)) == 0
+
+
+def test_the_config() -> None:
+    with Auction(2, 9, 5, 3, 4, 1) as auction:
+        assert auction.config == Config(2, 9, 5, 3, 4, 1)
+    with Auction() as auction:
+        assert auction.config == Config(1, 1000, 200, 4096, 65536, None)
+
+
+def test_a_full_auction_raises_and_stays() -> None:
+    with Auction(max_calls=2) as auction:
+        auction.enter(1, BID, 5, 5)
+        assert not auction.is_full
+        auction.delete(2, 1)
+        assert auction.is_full and auction.calls == 2
+        for call in (lambda: auction.ask(1), lambda: auction.enter(1, BID, 5, 5)):
+            with pytest.raises(FullError) as raised:
+                call()
+            assert raised.value.applied == 0 and raised.value.replies is None
+        assert auction.calls == 2
+        assert auction.display() == NoPrice(5, None)
+
+
+@pytest.mark.parametrize("copied", [Auction.copy, copy.copy, copy.deepcopy])
+def test_a_copy_stands_by_itself(copied) -> None:
+    with Auction() as auction:
+        auction.enter(1, BID, 5, 100)
+        with copied(auction) as other:
+            assert other.config == auction.config and other.calls == 1
+            assert other.enter(1, ASK, 5, 100) == Entered(2)
+            assert other.uncross() == Uncrossed(Kind.OPENING, Price(100, 5, 0, Side.NONE), 1)
+            assert auction.display() == NoPrice(100, None)
+            auction.close()
+            assert other.calls == 3
+
+
+def test_a_copy_of_a_subclass() -> None:
+    class Named(Auction):
+        """One with a word of its own."""
+
+    with Named() as auction, auction.copy() as other:
+        assert type(other) is Named
+
+
+def test_a_reset() -> None:
+    with Auction(max_calls=3, reference=50) as auction:
+        auction.enter(1, BID, 5)
+        auction.enter(1, ASK, 5, 70)
+        auction.uncross()
+        auction.reset()
+        assert auction.calls == 0 and len(auction.trades()) == 0
+        assert auction.display() == NoPrice(None, None)
+        assert auction.enter(1, BID, 5) == Entered(1)
+        assert auction.enter(1, ASK, 5) == Entered(2)
+        assert auction.ask(1) == Price(50, 5, 0, Side.NONE)
+
+
+def test_results_are_frozen_and_hashed() -> None:
+    price = Price(1, 2, 3, BID)
+    with pytest.raises(AttributeError):
+        price.tick = 5  # type: ignore[misc]
+    assert len({price, Price(1, 2, 3, BID), Entered(1)}) == 2
+    assert pickle.loads(pickle.dumps(price)) == price

@@ -1,0 +1,78 @@
+"""Whole days: the example files, and random ones beside the rules."""
+from pathlib import Path
+
+import pytest
+from arrayed import array_of
+from callauction import Auction, reply_of
+from printed import TOP, commands_of, lines_of, opened, text_of
+
+import plain_auction
+import random_orders
+from plain_files import FileFault
+
+EXAMPLES = sorted((TOP / "examples").glob("*.csv"))
+
+
+def options_of(file: Path) -> dict[str, int | None]:
+    """The options that an example is run with."""
+    beside = file.with_suffix(".args")
+    given = beside.read_text(encoding="utf-8").split() if beside.exists() else []
+    named = {name.removeprefix("--"): int(value) for name, value in zip(given[::2], given[1::2])}
+    return plain_auction.DEFAULTS | named
+
+
+def ways(options: dict[str, int | None], text: str) -> list[list[str]]:
+    """The lines of a file, by calls, at once by an array after a reset, and in a copy from its
+    middle on.
+    """
+    commands = commands_of(text)
+    with opened(options) as auction:
+        singly = lines_of(auction, commands)
+        auction.reset()
+        half = len(commands) // 2
+        replies = [*auction.apply_many(array_of(commands[:half]))]
+        with auction.copy() as other:
+            replies += [*other.apply_many(array_of(commands[half:]))]
+        assert auction.calls == half
+    at_once = [f"{place}: {text_of(reply_of(row))}" for place, row in enumerate(replies, 1)]
+    return [singly, at_once]
+
+
+def test_there_are_examples() -> None:
+    assert len(EXAMPLES) > 20
+
+
+@pytest.mark.parametrize("file", EXAMPLES, ids=lambda file: file.stem)
+def test_each_example_gives_its_lines(file: Path) -> None:
+    wanted = file.with_suffix(".txt").read_text(encoding="utf-8").splitlines()
+    assert ways(options_of(file), file.read_text(encoding="utf-8")) == [wanted, wanted]
+
+
+@pytest.mark.parametrize("kind, seeds", [("short", range(400)), ("long", range(12))])
+def test_random_days_agree_with_the_rules(kind: str, seeds: range) -> None:
+    played = 0
+    for seed in seeds:
+        options, text = random_orders.order_file(kind, seed)
+        try:
+            wanted = plain_auction.printed(text, options).splitlines()
+        except FileFault:
+            continue  # one command more than `calls`: the program runs none
+        assert ways(options, text) == [wanted, wanted], f"{kind} {seed}"
+        played += 1
+    assert played > 0.9 * len(seeds)
+
+
+def test_the_tape_is_that_of_the_trades_asked_for() -> None:
+    options, text = random_orders.order_file("long", 3)
+    with opened(options) as auction:
+        auction.apply_many(array_of(commands_of(text)))
+        tape = auction.trades()
+        asked = [] if auction.is_full else [auction.trade(1, k) for k in range(1, len(tape) + 1)]
+    for trade, row in zip(asked, tape):
+        wanted = {name: getattr(trade, name) for name in tape.dtype.names}
+        assert {name: row[name] for name in tape.dtype.names} == wanted
+
+
+def test_an_auction_of_one_tick() -> None:
+    with Auction(5, 5, 5, 1, 1) as auction:
+        assert auction.ladder()[0].tolist() == [0]
