@@ -1,0 +1,140 @@
+"""The proved program: where it is, what it prints of a day, and what its faults raise."""
+import dataclasses
+import operator
+import os
+import pathlib
+import re
+import shutil
+import subprocess
+from typing import Self
+
+from callauction.errors import AuctionError
+
+FORMS = ("lines", "journal", "trades", "book")
+"""The forms in which a day is printed (docs/FORMATS.md)."""
+OPTIONS = ("low", "high", "reference", "members", "open", "calls", "range")
+"""What an order file's day is opened with, in the order of a day record."""
+VARIABLE = "CALLBOARD"
+DONE, BAD_FILE, BAD_DAY, FAILED, UNLAWFUL = range(5)
+"""The statuses of the program."""
+NO_JOURNAL = "record 1: not a day record"
+_BUILT = pathlib.Path(__file__).resolve().parents[2] / "crates/callboard/out/callboard"
+
+
+class ProgramError(AuctionError):
+    """The program answered with a fault: `text` is what it says of it, `status` its status."""
+
+    def __init__(self, text: str, status: int) -> None:
+        super().__init__(text)
+        self.text = text
+        self.status = status
+
+
+class BadFileError(ProgramError):
+    """The order file or the journal is a bad one. `record` is the number of the bad record, from 1,
+    None where the text names none.
+    """
+
+    def __init__(self, text: str) -> None:
+        super().__init__(text, BAD_FILE)
+        found = re.match(r"record (\d+):", text)
+        self.record = int(found[1]) if found else None
+
+
+class BadDayError(ProgramError):
+    """The numbers of the day, or the options, are bad."""
+
+    def __init__(self, text: str) -> None:
+        super().__init__(text, BAD_DAY)
+
+
+class FailedError(ProgramError):
+    """The program is missing or couldn't be started, memory was wanting, or a read or a write
+    failed.
+    """
+
+    def __init__(self, text: str) -> None:
+        super().__init__(text, FAILED)
+
+
+def program() -> str:
+    """The path of the program: what the variable CALLBOARD names, or else `callboard` on the path,
+    or else the one that was built in the repository that has this package. Raises FailedError.
+    """
+    named = os.environ.get(VARIABLE)
+    if named:
+        if not shutil.which(named):
+            raise FailedError(f"{VARIABLE} names no program: {named}")
+        return named
+    found = shutil.which("callboard") or shutil.which(str(_BUILT))
+    if not found:
+        raise FailedError(
+            f"there is no program callboard: build it, and name it by {VARIABLE} or have it on PATH"
+        )
+    return found
+
+
+def words_of(options: dict[str, int | None]) -> tuple[str, ...]:
+    """The words of these options; those of None are left out. Raises TypeError for another name
+    than those of OPTIONS, or a value that is no integer.
+    """
+    words: list[str] = []
+    for name, value in options.items():
+        if name not in OPTIONS:
+            raise TypeError(f"there is no option {name}; there are {', '.join(OPTIONS)}")
+        if value is not None:
+            words += [f"--{name}", str(operator.index(value))]
+    return tuple(words)
+
+
+@dataclasses.dataclass(frozen=True)
+class Day:
+    """A recorded day: the bytes of an order file or a journal, and the words of the options, which
+    are looked at for an order file alone.
+    """
+
+    content: bytes
+    words: tuple[str, ...] = ()
+
+    @classmethod
+    def read(cls, path: str | os.PathLike[str], **options: int | None) -> Self:
+        """The day of a file; the options are those of OPTIONS. Raises OSError and TypeError."""
+        return cls(pathlib.Path(path).read_bytes(), words_of(options))
+
+    def printed(self, form: str = "lines") -> str:
+        """What the program prints of it in one of FORMS. Raises ProgramError."""
+        _, text = _answer([*self.words, "--print", form], self.content)
+        return text
+
+    def audited(self) -> str:
+        """What the program prints of the audit of a journal. Raises ProgramError, with NO_JOURNAL
+        for an order file.
+        """
+        _, text = _answer(["--audit"], self.content)
+        return text
+
+    def is_journal(self) -> bool:
+        """Whether it is a journal. Raises ProgramError for a bad one."""
+        try:
+            self.audited()
+        except BadFileError as fault:
+            if fault.text != NO_JOURNAL:
+                raise
+            return False
+        return True
+
+
+def _answer(words: list[str], content: bytes) -> tuple[int, str]:
+    """The status, which is DONE or UNLAWFUL, and what is printed. Raises ProgramError."""
+    try:
+        ran = subprocess.run([program(), *words], input=content, capture_output=True)
+    except OSError as fault:
+        raise FailedError(f"callboard can't be run: {fault.strerror}") from None
+    if ran.returncode in (DONE, UNLAWFUL):
+        return ran.returncode, ran.stdout.decode("ascii")
+    text = ran.stderr.decode("utf-8", "replace").strip()
+    if ran.returncode == BAD_FILE:
+        raise BadFileError(text)
+    if ran.returncode == BAD_DAY:
+        raise BadDayError(text)
+    raise FailedError(text or f"callboard ended with status {ran.returncode}")

@@ -1,0 +1,80 @@
+"""Days for tests: the examples with their options, and random commands."""
+from pathlib import Path
+
+import callauction as words
+from callauction.program import Day
+from callauction.recording import RecordedAuction
+from hypothesis import strategies
+from printed import TOP
+
+import plain_auction
+
+EXAMPLES = sorted((TOP / "examples").glob("*.csv"))
+AUDITS = sorted((TOP / "examples/audits").glob("*.csv"))
+FORMS = TOP / "examples/forms"
+FEW = strategies.integers(1, 4)
+TICKS = strategies.integers(5, 12)
+
+
+def options_of(file: Path) -> dict[str, int]:
+    """The options beside an example."""
+    beside = file.with_suffix(".args")
+    given = beside.read_text(encoding="utf-8").split() if beside.exists() else []
+    return {name.removeprefix("--"): int(value) for name, value in zip(given[::2], given[1::2])}
+
+
+def day_of(file: Path) -> Day:
+    return Day.read(file, **options_of(file))
+
+
+def form_of(file: Path, form: str) -> str:
+    return (FORMS / f"{file.stem}.{form}.csv").read_text(encoding="utf-8")
+
+
+def by_the_rules(day: Day, form: str) -> tuple[int, str, str]:
+    """What checks/plain_auction.py answers to a journal: a status, a text, and a fault."""
+    return plain_auction.answer(day.content.decode("ascii"), plain_auction.DEFAULTS, form)
+
+
+def orders() -> strategies.SearchStrategy[words.Enter]:
+    """New orders, most of them good: near a few ticks, a third of them market orders."""
+    return strategies.builds(
+        words.Enter,
+        strategies.sampled_from([words.Side.BID, words.Side.ASK]),
+        strategies.sampled_from([0, 1, 10, 10, 20, 50, 1_000_000_000, 1_000_000_001]),
+        strategies.none() | TICKS | TICKS,
+        strategies.none() | strategies.none() | strategies.sampled_from([0, 1, 10, 60]),
+        strategies.sampled_from([words.For.ALL] * 4 + [words.For.OPENING, words.For.CLOSING]),
+    )
+
+
+def commands() -> strategies.SearchStrategy[tuple[int, words.Command]]:
+    """A member and a command; ids and numbers are among the first ones."""
+    ids = strategies.integers(1, 9)
+    other = strategies.one_of(
+        strategies.builds(words.Change, ids, FEW.map(lambda k: 10 * k), strategies.none() | TICKS),
+        strategies.builds(words.Delete, ids),
+        strategies.builds(words.Status, ids),
+        strategies.builds(words.Trade, ids),
+        strategies.just(words.Ask()),
+    )
+    members = strategies.integers(0, 3)
+    return strategies.one_of(
+        strategies.tuples(members, orders()),
+        strategies.tuples(members, orders()),
+        strategies.tuples(members, other),
+        strategies.tuples(strategies.integers(0, 1), strategies.just(words.Uncross())),
+    )
+
+
+def auctions() -> strategies.SearchStrategy[RecordedAuction]:
+    """Auctions of a few ticks, with little or much room, with and without a range."""
+    return strategies.builds(
+        RecordedAuction,
+        strategies.just(6),
+        strategies.just(11),
+        strategies.integers(6, 11),
+        strategies.sampled_from([1, 3, 50]),
+        strategies.just(200),
+        strategies.none() | strategies.integers(0, 3),
+    )
