@@ -1,0 +1,317 @@
+"""An auction that keeps its record, and tells its tables and its reasons: see RecordedAuction."""
+import operator
+import os
+import pathlib
+import threading
+from types import TracebackType
+from typing import Any, Self
+
+import numpy
+import pandas
+
+from callauction.arrays import COMMAND, Shares, Structs, whole
+from callauction.auction import Auction
+from callauction.course import Course, course_of, references_of
+from callauction.errors import NotAppliedError, RefusedError
+from callauction.reasons import Explanation, explain
+from callauction.program import Day
+from callauction.reading import number, reply_of
+from callauction.tables import audit_of, book_at, books_of, journal_of, trades_of
+from callauction.words import (
+    Ask,
+    Change,
+    Changed,
+    Command,
+    CommandTag,
+    Config,
+    Delete,
+    Deleted,
+    Enter,
+    Entered,
+    For,
+    Interrupted,
+    Market,
+    NoPrice,
+    Price,
+    Refused,
+    Reply,
+    Side,
+    Standing,
+    Status,
+    Trade,
+    Traded,
+    Uncross,
+    Uncrossed,
+)
+from callauction.written import command_of, fields_of, text_of
+
+MEMBERS = 64
+MOST_NUMBER = (1 << 32) - 1
+"""The members of a journal, and its greatest number."""
+
+
+class RecordedAuction:
+    """An Auction with the record of its day, and what the program says of that record.
+
+    Commands are applied by an Auction in this process, which is opened with the same numbers and
+    raises the same errors. Each one that was applied is kept with its reply. The tables are what
+    the program prints of this record.
+
+    Members are numbered from 0 to 63, and no number is above 4,294,967,295, as a journal has no
+    others: ValueError else, and nothing is applied. Threads that use one object wait for one
+    another.
+    """
+
+    def __init__(
+        self,
+        low: int = 1,
+        high: int = 1000,
+        reference: int = 200,
+        max_open: int = 4096,
+        max_calls: int = 65536,
+        range: int | None = None,
+    ) -> None:
+        self._auction = Auction(low, high, reference, max_open, max_calls, range)
+        self._record: list[tuple[int, Command, Reply]] = []
+        self._lock = threading.RLock()
+
+    def __enter__(self) -> Self:
+        return self
+
+    def __exit__(
+        self,
+        kind: type[BaseException] | None,
+        raised: BaseException | None,
+        traceback: TracebackType | None,
+    ) -> None:
+        self.close()
+
+    # ---- commands
+
+    def enter(
+        self,
+        member: int,
+        side: Side,
+        quantity: int,
+        limit: int | None = None,
+        peak: int | None = None,
+        only: For = For.ALL,
+        *,
+        check: bool = False,
+    ) -> Entered | Refused:
+        """As Auction.enter."""
+        return self._applied(member, Enter(side, quantity, limit, peak, only), check)
+
+    def change(
+        self, member: int, id: int, quantity: int, limit: int | None = None, *, check: bool = False
+    ) -> Changed | Refused:
+        """As Auction.change."""
+        return self._applied(member, Change(id, quantity, limit), check)
+
+    def delete(self, member: int, id: int, *, check: bool = False) -> Deleted | Refused:
+        """As Auction.delete."""
+        return self._applied(member, Delete(id), check)
+
+    def status(self, member: int, id: int, *, check: bool = False) -> Standing | Refused:
+        """As Auction.status."""
+        return self._applied(member, Status(id), check)
+
+    def ask(self, member: int, *, check: bool = False) -> Price | NoPrice | Refused:
+        """As Auction.ask."""
+        return self._applied(member, Ask(), check)
+
+    def trade(self, member: int, number: int, *, check: bool = False) -> Traded | Refused:
+        """As Auction.trade."""
+        return self._applied(member, Trade(number), check)
+
+    def uncross(
+        self, member: int = 0, *, check: bool = False
+    ) -> Uncrossed | Interrupted | Refused:
+        """As Auction.uncross."""
+        return self._applied(member, Uncross(), check)
+
+    def apply(self, member: int, command: Command, *, check: bool = False) -> Reply:
+        """As Auction.apply."""
+        reply: Reply = self._applied(member, command, check)
+        return reply
+
+    def apply_many(self, commands: Structs) -> Structs:
+        """As Auction.apply_many: an array of REPLY. Raises ValueError where the array has a member
+        or a number that no journal has, and then nothing was applied.
+        """
+        _look_through(commands)
+        with self._lock:
+            try:
+                replies = self._auction.apply_many(commands)
+            except NotAppliedError as error:
+                self._keep(commands, error.replies)
+                raise
+            self._keep(commands, replies)
+        return replies
+
+    def _applied(self, member: int, command: Command, check: bool) -> Any:
+        """The reply to a command, which is kept with it."""
+        _look_at(member, command)
+        with self._lock:
+            reply = self._auction.apply(member, command)
+            self._record.append((member, command, reply))
+        if check and isinstance(reply, Refused):
+            raise RefusedError(reply.refusal)
+        return reply
+
+    def _keep(self, commands: Structs, replies: Structs | None) -> None:
+        """Keeps the commands that have replies with these."""
+        assert replies is not None
+        self._record += [
+            (int(command["member"]), command_of(command), reply_of(reply))
+            for command, reply in zip(commands, replies)
+        ]
+
+    # ---- what is shown
+
+    def display(self) -> Price | NoPrice:
+        """As Auction.display."""
+        with self._lock:
+            return self._auction.display()
+
+    def ladder(self) -> tuple[Shares, Shares]:
+        """As Auction.ladder."""
+        with self._lock:
+            return self._auction.ladder()
+
+    def market(self) -> Market:
+        """As Auction.market."""
+        with self._lock:
+            return self._auction.market()
+
+    @property
+    def calls(self) -> int:
+        """How many commands were applied, the refused ones among them."""
+        with self._lock:
+            return self._auction.calls
+
+    @property
+    def config(self) -> Config:
+        """What the auction was opened with."""
+        with self._lock:
+            return self._auction.config
+
+    @property
+    def is_closed(self) -> bool:
+        """Whether it was closed. The record of a closed auction can't be asked for."""
+        with self._lock:
+            return self._auction.is_closed
+
+    # ---- the whole auction
+
+    def copy(self) -> Self:
+        """An auction of its own that stands where this one does, with the same record."""
+        other = object.__new__(type(self))
+        with self._lock:
+            other._auction = self._auction.copy()
+            other._record = [*self._record]
+        other._lock = threading.RLock()
+        return other
+
+    def __copy__(self) -> Self:
+        return self.copy()
+
+    def __deepcopy__(self, _: dict[int, Any]) -> Self:
+        return self.copy()
+
+    def reset(self) -> None:
+        """Goes back to the opening, with an empty record."""
+        with self._lock:
+            self._auction.reset()
+            self._record.clear()
+
+    def close(self) -> None:
+        """Gives the auction up; does nothing where it was closed before."""
+        with self._lock:
+            self._auction.close()
+
+    # ---- the record, and what the program says of it; each raises ProgramError
+
+    def day(self) -> Day:
+        """The record as a journal, with the replies that were given."""
+        with self._lock:
+            config, record = self._auction.config, [*self._record]
+        most = "" if config.range is None else config.range
+        numbers = (config.low, config.high, config.reference, MEMBERS)
+        head = ("day", *numbers, config.max_open, config.max_calls, most)
+        entries = (
+            f"{operator.index(member)},{fields_of(command)},{text_of(reply)}\n"
+            for member, command, reply in record
+        )
+        return Day(f"{','.join(map(str, head))}\n{''.join(entries)}".encode("ascii"))
+
+    def save(self, path: str | os.PathLike[str]) -> None:
+        """Writes the record as a journal. Raises OSError."""
+        pathlib.Path(path).write_bytes(self.day().content)
+
+    def journal(self) -> pandas.DataFrame:
+        """The commands and their replies, given and lawful (tables.JOURNAL)."""
+        return journal_of(self.day())
+
+    def audit(self) -> pandas.DataFrame:
+        """Which of the given replies aren't lawful (tables.AUDIT)."""
+        return audit_of(self.day())
+
+    def trades(self) -> pandas.DataFrame:
+        """The trades of the day so far, with the members that entered the orders (tables.TRADES)."""
+        return trades_of(self.day())
+
+    def books(self) -> pandas.DataFrame:
+        """The book before each uncross, and the book now unless the day is over (tables.BOOK)."""
+        return books_of(self.day())
+
+    def book(self, command: int | None = None) -> pandas.DataFrame:
+        """The book now (after the day the last one), or the one before the uncross that was this
+        command (tables.BOOK). Raises ValueError where there is none.
+        """
+        return book_at(self.books(), command)
+
+    def reference(self, command: int | None = None) -> int | None:
+        """The reference price of this book, in ticks; None where it can't be asked for (see
+        course.references_of). Raises ValueError.
+        """
+        day = self.day()
+        number = int(book_at(books_of(day), command)["command"].iloc[0])
+        return references_of(journal_of(day), [number])[number]
+
+    def explain(self, command: int | None = None) -> Explanation:
+        """Why this book has its price, or none, in sentences. Raises ValueError."""
+        return explain(self.books(), command, self.reference(command))
+
+    def course(self) -> Course:
+        """The indicative price over the calls of the day, and its uncrosses."""
+        return course_of(self.day())
+
+
+def _look_at(member: object, command: Command) -> None:
+    """Raises TypeError or ValueError for a member or a number that no journal has."""
+    number("member", member, MEMBERS - 1)
+    if isinstance(command, Enter | Change):
+        number("quantity", command.quantity, MOST_NUMBER)
+    if isinstance(command, Enter) and command.peak is not None:
+        number("peak", command.peak, MOST_NUMBER)
+
+
+def _look_through(commands: Structs) -> None:
+    """Raises TypeError or ValueError for an array that isn't one of commands, or that has a member
+    or a number that no journal has.
+    """
+    whole("commands", commands, COMMAND, is_written=False)
+    has_quantity = numpy.isin(commands["tag"], (CommandTag.ENTER, CommandTag.CHANGE))
+    has_peak = (commands["tag"] == CommandTag.ENTER) & (commands["has_peak"] != 0)
+    for name, most, is_used in (
+        ("member", MEMBERS - 1, numpy.ones(len(commands), bool)),
+        ("quantity", MOST_NUMBER, has_quantity),
+        ("peak", MOST_NUMBER, has_peak),
+    ):
+        wrong = numpy.flatnonzero(is_used & (commands[name] > most))
+        if len(wrong):
+            raise ValueError(
+                f"commands: element {wrong[0]}: {name} must be from 0 to {most}, not "
+                f"{commands[name][wrong[0]]}"
+            )

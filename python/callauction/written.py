@@ -1,0 +1,133 @@
+"""Commands and replies as docs/FORMATS.md writes them: a command in its shortest form, a reply by
+the text behind its number.
+"""
+from operator import index
+
+import numpy
+
+from callauction.arrays import COMMAND
+from callauction.words import (
+    Ask,
+    Change,
+    Changed,
+    Command,
+    CommandTag,
+    Delete,
+    Deleted,
+    Enter,
+    Entered,
+    For,
+    Interrupted,
+    NoPrice,
+    Price,
+    Refused,
+    Reply,
+    Side,
+    Standing,
+    Status,
+    Trade,
+    Traded,
+    Uncross,
+    Uncrossed,
+)
+
+MARKET = "market"
+_ONLY = {For.ALL: "", For.OPENING: "opening", For.CLOSING: "closing"}
+
+
+def _limit(limit: int | None) -> str:
+    return MARKET if limit is None else str(index(limit))
+
+
+def fields_of(command: Command) -> str:
+    """The fields of a command behind its member, parted by commas. Raises TypeError where it is
+    none of Command.
+    """
+    match command:
+        case Enter(side, quantity, limit, peak, only):
+            fields = f"enter,{side.name.lower()},{index(quantity)},{_limit(limit)}"
+            shown = "" if peak is None else f",{index(peak)}"
+            return f"{fields}{shown or ','},{_ONLY[only]}" if only else fields + shown
+        case Change(id, quantity, limit):
+            return f"change,{index(id)},{index(quantity)},{_limit(limit)}"
+        case Delete(id):
+            return f"delete,{index(id)}"
+        case Status(id):
+            return f"status,{index(id)}"
+        case Trade(number):
+            return f"trade,{index(number)}"
+        case Ask():
+            return "ask"
+        case Uncross():
+            return "uncross"
+    raise TypeError(f"command must be one of Command, not {type(command).__name__}")
+
+
+def command_of(record: numpy.void) -> Command:
+    """The command of an element of an array of COMMAND that the library applied. Raises TypeError
+    where it is none.
+    """
+    if not isinstance(record, numpy.void) or record.dtype != COMMAND:
+        raise TypeError("record must be an element of an array of the dtype COMMAND")
+    tag, id = CommandTag(record["tag"]), int(record["id"])
+    quantity = int(record["quantity"])
+    limit = int(record["limit"]) if record["has_limit"] else None
+    match tag:
+        case CommandTag.ENTER:
+            peak = int(record["peak"]) if record["has_peak"] else None
+            return Enter(Side(record["side"]), quantity, limit, peak, For(record["only"]))
+        case CommandTag.CHANGE:
+            return Change(id, quantity, limit)
+        case CommandTag.DELETE:
+            return Delete(id)
+        case CommandTag.STATUS:
+            return Status(id)
+        case CommandTag.TRADE:
+            return Trade(id)
+        case CommandTag.ASK:
+            return Ask()
+    return Uncross()
+
+
+def _price(price: Price) -> str:
+    side = price.side.name.lower()
+    return f"price {price.tick} volume {price.volume} surplus {price.surplus} {side}"
+
+
+def _uncrossed(reply: Uncrossed) -> str:
+    kind = reply.auction.name.lower()
+    if reply.price is None:
+        return f"{kind} no price"
+    return f"{kind} {_price(reply.price)} trades {reply.trades}"
+
+
+def _best(limit: int | None) -> str:
+    return "-" if limit is None else str(limit)
+
+
+def text_of(reply: Reply) -> str:
+    """The text of a reply. Raises TypeError where it is none of Reply."""
+    match reply:
+        case Entered(id):
+            return f"entered {id}"
+        case Changed(kept):
+            return "changed kept" if kept else "changed moved"
+        case Deleted():
+            return "deleted"
+        case Standing(side, quantity, limit, visible):
+            at = MARKET if limit is None else f"at {limit}"
+            return f"order {side.name.lower()} {quantity} {at} visible {visible}"
+        case Price():
+            return _price(reply)
+        case NoPrice(bid, ask):
+            return f"no price bid {_best(bid)} ask {_best(ask)}"
+        case Traded(bid, ask, quantity, tick):
+            return f"trade {bid} {ask} {quantity} at {tick}"
+        case Uncrossed():
+            return _uncrossed(reply)
+        case Interrupted(price):
+            return f"interrupted {_price(price)}"
+        case Refused(refusal):
+            name = refusal.name.title().replace("_", "")
+            return f"refused {refusal.value} {name}"
+    raise TypeError(f"reply must be one of Reply, not {type(reply).__name__}")

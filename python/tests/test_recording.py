@@ -1,0 +1,247 @@
+"""An auction with its record: each call, and random days beside the rules and the program."""
+import copy
+import threading
+from pathlib import Path
+
+import callauction as words
+import numpy
+import pytest
+from arrayed import array_of
+from callauction import Auction, FullError, NoCommandError, RefusedError, Side
+from callauction.program import Day
+from callauction.recording import MOST_NUMBER, RecordedAuction
+from callauction.tables import audit_of
+from callauction.written import command_of, fields_of, text_of
+from days import EXAMPLES, auctions, by_the_rules, commands, day_of, form_of
+from hypothesis import given, settings, strategies
+from printed import commands_of
+from test_tables import csv_of
+
+
+def replayed(file: Path) -> RecordedAuction:
+    """A recorded auction after the commands of an example."""
+    day = day_of(file)
+    given = dict(zip(day.words[::2], map(int, day.words[1::2])))
+    named = {"--open": "max_open", "--calls": "max_calls"}
+    options = {named.get(word, word[2:]): value for word, value in given.items()}
+    options.pop("members", None)
+    auction = RecordedAuction(**options)
+    for member, command in commands_of(day.content.decode("ascii")):
+        auction.apply(member, command)
+    return auction
+
+
+@pytest.mark.parametrize("file", EXAMPLES, ids=lambda file: file.stem)
+def test_an_example_has_its_tables(file: Path) -> None:
+    with replayed(file) as auction:
+        assert csv_of(auction.trades()) == form_of(file, "trades")
+        assert csv_of(auction.books()) == form_of(file, "book")
+        assert auction.journal()["reply"].tolist() == auction.journal()["lawful"].tolist()
+        assert auction.audit().attrs["is_legal"]
+
+
+def test_calls_are_those_of_an_auction() -> None:
+    numbers = (1, 1000, 200, 5, 30, 9)
+    with RecordedAuction(*numbers) as auction, Auction(*numbers) as bare:
+        for each in (auction, bare):
+            each.enter(1, Side.BID, 500, 200, peak=100)
+            each.enter(2, Side.ASK, 300)
+            each.enter(2, Side.ASK, 30, 300, only=words.For.CLOSING)
+        for call in (
+            lambda each: each.status(1, 1),
+            lambda each: each.change(1, 1, 400, 200),
+            lambda each: each.ask(0),
+            lambda each: each.uncross(1),
+            lambda each: each.uncross(),
+            lambda each: each.trade(1, 1),
+            lambda each: each.delete(1, 1),
+            lambda each: each.apply(1, words.Enter(Side.BID, 7)),
+            lambda each: each.display(),
+            lambda each: each.market(),
+            lambda each: each.calls,
+            lambda each: each.config,
+            lambda each: each.is_closed,
+            lambda each: [array.tolist() for array in each.ladder()],
+        ):
+            assert call(auction) == call(bare)  # type: ignore[no-untyped-call]
+
+
+def test_books_before_and_after_an_uncross(tmp_path: Path) -> None:
+    with RecordedAuction() as auction:
+        auction.enter(1, Side.BID, 500, 200)
+        auction.enter(2, Side.ASK, 300)
+        before = auction.book()
+        assert before["command"].unique().tolist() == [3]
+        auction.uncross()
+        assert auction.book(3).equals(before)
+        assert auction.book()[["command", "bid"]].to_numpy().tolist() == [[4, 0], [4, 200]]
+        wanted = "It is the one best limit, so 200 is the price, whatever its surplus."
+        assert auction.explain(3)[3] == wanted
+        assert auction.explain()[-1] == "Shown in its place: the highest bid limit, 200."
+        with pytest.raises(ValueError, match="no book before command 2; there are 3, 4"):
+            auction.book(2)
+        auction.save(tmp_path / "day.csv")
+        assert words.audit(tmp_path / "day.csv").attrs["compared"] == 3
+        for _ in range(2):
+            auction.uncross()
+        assert auction.book()["auction"].unique().tolist() == ["closing"]
+        assert len(auction.course().uncrosses) == 3
+
+
+def test_a_reference_is_the_last_price() -> None:
+    with RecordedAuction(reference=150, max_open=2) as auction:
+        assert auction.reference() == 150
+        auction.enter(1, Side.BID, 5, 170, only=words.For.OPENING)
+        auction.enter(2, Side.ASK, 4, 170)
+        auction.uncross()
+        assert (auction.reference(3), auction.reference()) == (150, 170)
+        auction.enter(1, Side.BID, 5, 190)
+        auction.enter(1, Side.BID, 5, 180, only=words.For.CLOSING)
+        assert auction.reference() == 170
+    with RecordedAuction(max_open=1) as narrow:
+        narrow.uncross()
+        assert narrow.reference(1) == 200 and narrow.reference() is None
+
+
+def test_what_a_journal_cannot_say_is_refused_before_it_is_applied() -> None:
+    with RecordedAuction() as auction:
+        for call, text in (
+            (lambda: auction.ask(64), "member must be from 0 to 63, not 64"),
+            (lambda: auction.enter(1, Side.BID, MOST_NUMBER + 1), "quantity must be from 0 to"),
+            (lambda: auction.change(1, 1, MOST_NUMBER + 1), "quantity must be from 0 to"),
+            (lambda: auction.enter(1, Side.BID, 1, 1, MOST_NUMBER + 1), "peak must be from 0 to"),
+        ):
+            with pytest.raises(ValueError, match=f"^{text}"):
+                call()
+        with pytest.raises(TypeError, match="^member must be an integer"):
+            auction.ask("1")  # type: ignore[arg-type]
+        with pytest.raises(TypeError):
+            auction.apply(1, "ask")  # type: ignore[arg-type]
+        many = array_of([(1, words.Ask()), (64, words.Ask())])
+        with pytest.raises(ValueError, match="^commands: element 1: member must be from 0 to 63"):
+            auction.apply_many(many)
+        assert auction.calls == 0
+        assert auction.enter(1, Side.BID, MOST_NUMBER) == words.Refused(words.Refusal.BAD_QUANTITY)
+        assert auction.audit().attrs["is_legal"]
+
+
+def test_many_commands_are_kept_up_to_an_error() -> None:
+    with RecordedAuction(max_calls=4) as auction:
+        bad = array_of([(1, words.Enter(Side.BID, 5, 200)), (1, words.Ask()), (1, words.Ask())])
+        bad["tag"][2] = 99
+        with pytest.raises(NoCommandError) as none:
+            auction.apply_many(bad)
+        assert none.value.applied == 2 == len(auction.journal())
+        with pytest.raises(FullError):
+            auction.apply_many(numpy.repeat(bad[1:2], 3))
+        assert len(auction.journal()) == auction.calls == 4
+        with pytest.raises(FullError):
+            auction.ask(1)
+        assert len(auction.journal()) == 4
+
+
+def test_a_refused_command_is_kept_and_raised() -> None:
+    with RecordedAuction() as auction:
+        with pytest.raises(RefusedError):
+            auction.uncross(1, check=True)
+        assert auction.journal()["reply"].tolist() == ["refused 6 NotOperator"]
+
+
+def test_a_copy_goes_its_own_way() -> None:
+    with RecordedAuction() as auction:
+        auction.enter(1, Side.BID, 5, 200)
+        others = [auction.copy(), copy.copy(auction), copy.deepcopy(auction)]
+        auction.enter(1, Side.BID, 6, 200)
+        for other in others:
+            assert len(other.journal()) == 1
+            other.reset()
+            assert len(other.journal()) == other.calls == 0
+            other.close()
+            assert other.is_closed
+        assert len(auction.journal()) == 2
+
+
+def test_threads_wait_for_one_another() -> None:
+    with RecordedAuction() as auction:
+        threads = [
+            threading.Thread(
+                target=lambda: [auction.enter(1, Side.BID, 5, 200) for _ in range(200)]
+            )
+            for _ in range(4)
+        ]
+        for thread in threads:
+            thread.start()
+        for thread in threads:
+            thread.join()
+        assert auction.audit().attrs == dict(entries=800, compared=800, unlawful=0, is_legal=True)
+
+
+def test_numbers_of_other_types_are_written_as_numbers() -> None:
+    with RecordedAuction() as auction:
+        auction.enter(numpy.uint8(1), Side.BID, numpy.int64(5), numpy.int32(200), True)
+        assert auction.day().content.splitlines()[1] == b"1,enter,bid,5,200,1,entered 1"
+
+
+@settings(deadline=None, max_examples=150)
+@given(auctions(), strategies.lists(commands(), max_size=40))
+def test_random_days_agree_with_the_rules_and_the_program(
+    auction: RecordedAuction, given_commands: list[tuple[int, words.Command]]
+) -> None:
+    with auction:
+        replies = [auction.apply(member, command) for member, command in given_commands]
+        texts = [text_of(reply) for reply in replies]
+        day = auction.day()
+        lines = "".join(f"{place}: {text}\n" for place, text in enumerate(texts, 1))
+        assert (0, lines, "") == by_the_rules(day, "lines")
+        assert day.printed("lines") == lines
+        assert csv_of(auction.trades()) == by_the_rules(day, "trades")[1] == day.printed("trades")
+        assert csv_of(auction.books()) == by_the_rules(day, "book")[1] == day.printed("book")
+        assert day.content.decode("ascii") == by_the_rules(day, "journal")[1]
+        assert by_the_rules(day, "audit") == (0, day.audited(), "")
+        assert auction.audit().attrs["compared"] == len(texts)
+        for command in auction.books()["command"].unique():
+            assert auction.explain(command)
+        again = auction.copy()
+        again.reset()
+        again.apply_many(array_of(given_commands))
+        assert again.day() == day
+
+
+@settings(deadline=None, max_examples=60)
+@given(auctions(), strategies.lists(commands(), min_size=1, max_size=20), strategies.data())
+def test_changed_replies_are_found_alike(
+    auction: RecordedAuction,
+    given_commands: list[tuple[int, words.Command]],
+    data: strategies.DataObject,
+) -> None:
+    with auction:
+        for member, command in given_commands:
+            auction.apply(member, command)
+        lines = auction.day().content.decode("ascii").splitlines()
+    for place in data.draw(strategies.sets(strategies.integers(1, len(lines) - 1))):
+        head, _, reply = lines[place].rpartition(",")
+        changed = data.draw(strategies.sampled_from(["", "deleted", f"{reply}0", reply]))
+        lines[place] = f"{head},{changed}"
+    day = Day("".join(f"{line}\n" for line in lines).encode("ascii"))
+    status, text, _ = by_the_rules(day, "audit")
+    assert day.audited() == text
+    found = audit_of(day)
+    assert found.attrs["is_legal"] == (status == 0)
+    assert len(found) == found.attrs["unlawful"]
+
+
+@given(commands())
+def test_commands_are_written_and_read(given: tuple[int, words.Command]) -> None:
+    member, command = given
+    assert commands_of(f"{member},{fields_of(command)}\n") == [given]
+    [record] = array_of([given])
+    assert command_of(record) == command
+
+
+def test_other_things_are_no_commands() -> None:
+    with pytest.raises(TypeError, match="one of Command, not int"):
+        fields_of(5)  # type: ignore[arg-type]
+    with pytest.raises(TypeError, match="one of Reply, not int"):
+        text_of(5)  # type: ignore[arg-type]
+    with pytest.raises(TypeError, match="dtype COMMAND"):
+        command_of(numpy.zeros(1, words.REPLY)[0])
