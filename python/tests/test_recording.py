@@ -182,7 +182,7 @@ def test_numbers_of_other_types_are_written_as_numbers() -> None:
         assert auction.day().content.splitlines()[1] == b"1,enter,bid,5,200,1,entered 1"
 
 
-@settings(deadline=None, max_examples=150)
+@settings(deadline=None, max_examples=60)
 @given(auctions(), strategies.lists(commands(), max_size=40))
 def test_random_days_agree_with_the_rules_and_the_program(
     auction: RecordedAuction, given_commands: list[tuple[int, words.Command]]
@@ -207,7 +207,7 @@ def test_random_days_agree_with_the_rules_and_the_program(
         assert again.day() == day
 
 
-@settings(deadline=None, max_examples=60)
+@settings(deadline=None, max_examples=40)
 @given(auctions(), strategies.lists(commands(), min_size=1, max_size=20), strategies.data())
 def test_changed_replies_are_found_alike(
     auction: RecordedAuction,

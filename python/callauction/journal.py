@@ -1,0 +1,503 @@
+"""A day's record from elsewhere as a journal: `from_frame`, and the way back to its own names.
+
+The frame has a row for each event, in the order in which the board took them. Its columns are
+
+- `event`: `new`, `replace`, `cancel`, `uncross` (an auction ended) or `trade`;
+- `order`: the order's id there; `member`: who sent it (at `replace` and `cancel` it may be missing);
+- `side`: `bid` or `buy`, `ask` or `sell`; `price`: a decimal, missing for a market order;
+- `quantity`: shares, at `replace` what is open behind it; `peak`: of an iceberg order;
+- `only`: `opening` or `closing`, where the order is for that auction alone;
+- `time`: any; `kept`: at `replace`, whether the place in time was kept, if that is known.
+
+What was published of an auction stands in the row `uncross`, as far as it is known: `price`,
+`quantity` (what was executed), `surplus` and its `side`, `trades` (how many) and `auction`
+(`opening`, `intraday`, `closing`, or `interrupted` where nothing was executed). A row `trade` has
+the ids of both orders in `bid` and `ask`, `quantity` and `price`, in the order in which they were
+made. Columns that nobody needs may be missing. docs/AUDIT.md says what becomes of each.
+
+Nothing is decided here: which id an order gets, and whether it is taken, says the library.
+"""
+import dataclasses
+import os
+import pathlib
+import re
+from collections.abc import Iterable
+from decimal import Decimal
+from typing import Any
+
+import pandas
+
+from callauction.auction import Auction
+from callauction.course import MOST_CALLS, Watch, references_of
+from callauction.reasons import Explanation, explain
+from callauction.grid import (
+    MOST_TICKS,
+    BadCellError,
+    Grid,
+    cell_of,
+    decimal_of,
+    grid_of,
+    tick_size_of,
+    whole_of,
+)
+from callauction.program import Day
+from callauction.tables import audit_of, book_at, books_of, journal_of, trades_of
+from callauction.words import (
+    Ask,
+    Change,
+    Command,
+    Delete,
+    Enter,
+    Entered,
+    For,
+    Refusal,
+    Refused,
+    Reply,
+    Side,
+    Trade,
+    Uncross,
+)
+from callauction.written import fields_of, text_of
+
+EVENTS = ("new", "replace", "cancel", "uncross", "trade")
+SHARED = 63
+"""The numbers that members have; more members share them. Number 0 is the operator's."""
+MOST_OPEN = 65_536
+SIDES = {"bid": Side.BID, "buy": Side.BID, "ask": Side.ASK, "sell": Side.ASK}
+ONLY = {"opening": For.OPENING, "closing": For.CLOSING}
+AUCTIONS = ("opening", "intraday", "closing", "interrupted")
+_AT_FAULT = {
+    Refusal.BAD_QUANTITY: "quantity",
+    Refusal.BAD_LIMIT: "price",
+    Refusal.BAD_PEAK: "peak",
+    Refusal.PAST_AUCTION: "only",
+}
+"""The column of what a refused order is refused for; for the others it is the order."""
+
+
+class FrameError(ValueError):
+    """A row of a frame can't be written into a journal: `row` is its label in the frame's index,
+    `column` and `value` say what is wrong there.
+    """
+
+    def __init__(self, row: object, column: str, value: object, why: str) -> None:
+        super().__init__(f"row {row}: {column} {_shown(value)}{why}")
+        self.row, self.column, self.value = row, column, value
+
+
+def _shown(value: object) -> str:
+    """A value as an error tells it: nothing for a missing one, and no float for a whole number."""
+    if isinstance(value, Decimal):
+        return f"{value} "
+    if pandas.api.types.is_scalar(value) and pandas.isna(value):
+        return ""
+    return f"{value:.0f} " if isinstance(value, float) and value.is_integer() else f"{value!r} "
+
+
+@dataclasses.dataclass(frozen=True)
+class Row:
+    """A row of a frame, by its label."""
+
+    label: object
+    cells: dict[str, Any]
+
+    def get(self, column: str) -> Any:
+        """A cell, None where it is missing. Raises FrameError for none of a single value."""
+        try:
+            return cell_of(self.cells.get(column))
+        except BadCellError as fault:
+            raise self.fault(column, str(fault)) from None
+
+    def fault(self, column: str, why: str) -> FrameError:
+        """The error of this column."""
+        return FrameError(self.label, column, self.cells.get(column), why)
+
+    def needed(self, column: str) -> Any:
+        """A cell that may not be missing."""
+        found = self.get(column)
+        if found is None:
+            raise self.fault(column, "is missing")
+        return found
+
+    def name(self, column: str) -> Any:
+        """An id or a member, which pandas may have made a float."""
+        found = self.needed(column)
+        return int(found) if isinstance(found, float) and found.is_integer() else found
+
+    def word(self, column: str, words: Iterable[str]) -> str:
+        """One of these words."""
+        found = self.needed(column)
+        if found not in words:
+            raise self.fault(column, f"is none of {', '.join(words)}")
+        return str(found)
+
+    def whole(self, column: str) -> int | None:
+        """A whole number, None where it is missing."""
+        found = self.get(column)
+        try:
+            return None if found is None else whole_of(found)
+        except BadCellError as fault:
+            raise self.fault(column, str(fault)) from None
+
+    def needed_whole(self, column: str) -> int:
+        """A whole number that may not be missing."""
+        self.needed(column)
+        return self.whole(column) or 0
+
+    def price(self) -> Decimal | None:
+        """The price, None where it is missing."""
+        found = self.get("price")
+        try:
+            return None if found is None else decimal_of(found)
+        except BadCellError as fault:
+            raise self.fault("price", str(fault)) from None
+
+    def tick(self, grid: Grid) -> int | None:
+        """The tick of the price, None where it is missing."""
+        found = self.price()
+        try:
+            return None if found is None else grid.tick(found)
+        except BadCellError as fault:
+            raise self.fault("price", str(fault)) from None
+
+
+# ---- what a frame becomes
+
+
+@dataclasses.dataclass(frozen=True)
+class Journal:
+    """A frame as a journal, and the maps back.
+
+    `text` is the journal; `grid` has the price of each tick; `orders` has by our id the order's id
+    there (`order`), its `member` there and the `number` that it has here, and the `row`; `entries`
+    has for each entry of the journal the `row`, its `time`, its `event`, and the `order` and the
+    `member` there. All tables name ids, members, prices and times as they are there.
+    """
+
+    text: str
+    grid: Grid
+    orders: pandas.DataFrame
+    entries: pandas.DataFrame
+
+    def day(self) -> Day:
+        """The journal for the program, in its own ids, numbers and ticks."""
+        return Day(self.text.encode("ascii"))
+
+    def save(self, path: str | os.PathLike[str]) -> None:
+        """Writes the journal to a file. Raises OSError."""
+        pathlib.Path(path).write_text(self.text, encoding="ascii")
+
+    def trades(self) -> pandas.DataFrame:
+        """The lawful trades: the columns of tables.TRADES, but `price` (a Decimal) for the tick,
+        and the `time` of their uncross. Raises ProgramError.
+        """
+        found = trades_of(self.day()).rename(columns={"tick": "price"})
+        for side in ("bid", "ask"):
+            found[f"{side}_member"] = [self.orders.at[id, "member"] for id in found[side]]
+            found[side] = [self._order(id) for id in found[side]]
+        found["price"] = found["price"].astype("object").map(self.grid.price)
+        times = self._uncrossed_at()
+        found["time"] = [times[auction] for auction in found["auction"]]
+        return found
+
+    def _uncrossed_at(self) -> dict[str, Any]:
+        """By the name of an auction, the time of the uncross that ended it."""
+        journal = journal_of(self.day())
+        ends = journal[journal["command"] == "uncross"]
+        return {
+            text.split()[0]: self.entries.at[entry, "time"]
+            for entry, text in zip(ends["entry"], ends["lawful"])
+        }
+
+    def books(self) -> pandas.DataFrame:
+        """The books behind the prices (tables.BOOK), with Decimals as limits; None is a market
+        order's. Raises ProgramError.
+        """
+        found = books_of(self.day())
+        limits = found["limit"].astype("object")
+        found["limit"] = [None if tick is pandas.NA else self.grid.price(tick) for tick in limits]
+        return found
+
+    def explain(self, command: int | None = None) -> Explanation:
+        """Why the book before this entry has its price, in prices. Raises ProgramError, and
+        ValueError where there is no such book.
+        """
+        books = books_of(self.day())
+        entry = int(book_at(books, command)["command"].iloc[0])
+        reference = references_of(journal_of(self.day()), [entry])[entry]
+        return explain(books, entry, reference, lambda tick: str(self.grid.price(tick)))
+
+    def audit(self) -> pandas.DataFrame:
+        """The recorded results that aren't lawful: `entry`, its `row`, `time`, `event`, `order` and
+        `member`, and both texts, in ids and prices from there. `attrs` as of tables.audit_of.
+        Raises ProgramError.
+        """
+        found = audit_of(self.day())
+        attrs = found.attrs
+        for column in ("recorded", "lawful"):
+            found[column] = [self.told(text) for text in found[column]]
+        joined = found.join(self.entries, on="entry")[[*AUDIT]]
+        joined.attrs.update(attrs)
+        return joined
+
+    def told(self, reply: str) -> str:
+        """The text of a reply in ids and prices from there."""
+        bests = _BESTS.fullmatch(reply)
+        if bests:
+            return f"no price bid {self._best(bests[1])} ask {self._best(bests[2])}"
+        text = _TICK.sub(lambda found: f"{found[1]} {self.grid.price(int(found[2]))}", reply)
+        text = _ENTERED.sub(lambda found: f"entered {self._order(int(found[1]))}", text)
+        return _TRADE.sub(
+            lambda found: f"trade {self._order(int(found[1]))} {self._order(int(found[2]))}", text
+        )
+
+    def _order(self, id: int) -> Any:
+        """The order's id there; ours where there is none."""
+        return self.orders.at[id, "order"] if id in self.orders.index else id
+
+    def _best(self, limit: str) -> str:
+        return limit if limit == "-" else str(self.grid.price(int(limit)))
+
+
+AUDIT = ("entry", "row", "time", "event", "order", "member", "recorded", "lawful")
+"""The columns of an audit in the names from there."""
+_BESTS = re.compile(r"no price bid (\d+|-) ask (\d+|-)")
+_TICK = re.compile(r"\b(price|at) (\d+)")
+_ENTERED = re.compile(r"\bentered (\d+)")
+_TRADE = re.compile(r"\btrade (\d+) (\d+)")
+
+
+# ---- the way there
+
+
+class _Conversion:
+    """A journal on its way: the entries so far, and an auction that took their commands."""
+
+    def __init__(self, grid: Grid, auction: Auction) -> None:
+        self.grid, self.auction = grid, auction
+        self.orders: dict[Any, tuple[int, Any, object]] = {}
+        """By its id there an order's id here, its member there, and its row."""
+        self.numbers: dict[Any, int] = {}
+        self.lines: list[str] = []
+        self.entries: list[tuple[object, Any, str, Any, Any]] = []
+        self.trades = 0
+
+    def add(self, row: Row) -> None:
+        """Adds the entries of a row. Raises FrameError."""
+        match row.word("event", EVENTS):
+            case "new":
+                self._new(row)
+            case "replace":
+                self._replace(row)
+            case "cancel":
+                order, id, member = self._known(row, "order")
+                self._write(row, member, Delete(id), "deleted", order)
+            case "uncross":
+                self._uncross(row)
+            case "trade":
+                self._trade(row)
+
+    def _new(self, row: Row) -> None:
+        order, member = row.name("order"), row.name("member")
+        if order in self.orders:
+            raise row.fault("order", f"was entered before, in row {self.orders[order][2]}")
+        side = SIDES[row.word("side", SIDES)]
+        only = ONLY[row.word("only", ONLY)] if row.get("only") is not None else For.ALL
+        quantity, peak = row.needed_whole("quantity"), row.whole("peak")
+        command = Enter(side, quantity, row.tick(self.grid), peak, only)
+        reply = self._write(row, member, command, "", order)
+        if isinstance(reply, Refused):
+            column = _AT_FAULT.get(reply.refusal, "order")
+            raise row.fault(column, f"can't be entered: {text_of(reply)}")
+        assert isinstance(reply, Entered)
+        self.orders[order] = reply.id, member, row.label
+
+    def _replace(self, row: Row) -> None:
+        order, id, member = self._known(row, "order")
+        command = Change(id, row.needed_whole("quantity"), row.tick(self.grid))
+        kept = row.get("kept")
+        if kept not in (None, True, False):
+            raise row.fault("kept", "is neither true nor false")
+        recorded = "" if kept is None else "changed kept" if kept else "changed moved"
+        reply = self._write(row, member, command, recorded, order)
+        if isinstance(reply, Refused) and not recorded:
+            # It was changed there: a text that is no lawful reply has the audit tell of it.
+            self.lines[-1] += "changed"
+
+    def _uncross(self, row: Row) -> None:
+        """A price that is known with its volume and surplus is the reply to an ask before it, or,
+        with the auction and its trades, that to the uncross.
+        """
+        auction = row.word("auction", AUCTIONS) if row.get("auction") is not None else None
+        price, trades = self._published(row), row.whole("trades")
+        if price and auction == "interrupted":
+            self._write(row, None, Uncross(), f"interrupted {price}")
+        elif price and auction and trades is not None:
+            self._write(row, None, Uncross(), f"{auction} {price} trades {trades}")
+        elif price:
+            self._write(row, None, Ask(), price)
+            self._write(row, None, Uncross(), "")
+        else:
+            is_none = row.get("price") is None and row.whole("quantity") == 0
+            is_told = is_none and auction not in (None, "interrupted")
+            self._write(row, None, Uncross(), f"{auction} no price" if is_told else "")
+
+    def _published(self, row: Row) -> str:
+        """The text of a published price, empty where a part of it isn't known."""
+        tick, volume, surplus = row.tick(self.grid), row.whole("quantity"), row.whole("surplus")
+        if tick is None or volume is None or surplus is None:
+            return ""
+        side = "none"
+        if surplus:
+            side = SIDES[row.word("side", SIDES)].name.lower()
+        return f"price {tick} volume {volume} surplus {surplus} {side}"
+
+    def _trade(self, row: Row) -> None:
+        _, bid, _ = self._known(row, "bid")
+        _, ask, _ = self._known(row, "ask")
+        tick = row.tick(self.grid)
+        if tick is None:
+            raise row.fault("price", "is missing")
+        self.trades += 1
+        text = f"trade {bid} {ask} {row.needed_whole('quantity')} at {tick}"
+        self._write(row, None, Trade(self.trades), text)
+
+    def _known(self, row: Row, column: str) -> tuple[Any, int, Any]:
+        """The id there of an order that was entered, its id here, and its member."""
+        order = row.name(column)
+        if order not in self.orders:
+            raise row.fault(column, "is the id of no order before it")
+        id, member, _ = self.orders[order]
+        if column == "order" and row.get("member") is not None and row.name("member") != member:
+            raise row.fault("member", f"isn't {member!r}, who entered order {order!r}")
+        return order, id, member
+
+    def _write(
+        self, row: Row, member: Any, command: Command, recorded: str, order: Any = None
+    ) -> Reply:
+        """Adds an entry, by the operator where there is no member; the library's reply to it."""
+        if len(self.lines) == MOST_CALLS:
+            raise row.fault("event", f"is one entry more than the {MOST_CALLS:,} of a journal")
+        number = 0
+        if member is not None:
+            number = self.numbers.setdefault(member, 1 + len(self.numbers) % SHARED)
+        self.lines.append(f"{number},{fields_of(command)},{recorded}")
+        self.entries.append((row.label, row.cells.get("time"), row.cells["event"], order, member))
+        return self.auction.apply(number, command)
+
+
+def from_frame(
+    frame: pandas.DataFrame,
+    tick_size: object,
+    *,
+    reference: object,
+    low: object = None,
+    high: object = None,
+    range: object = None,
+    watch: Watch = iter,
+) -> Journal:
+    """The journal of a frame of order events (see the module).
+
+    `tick_size` is the step between two prices, `reference` the last price before the day; `low` and
+    `high` are the lowest and the highest price, without them those of the orders and the reference;
+    `range` is how far a price may lie from the reference before an uncross is interrupted. All are
+    decimals: a Decimal, a text, an int, or a float, which stands for the shortest decimal that
+    gives it. `watch` is given the rows, such as tqdm.tqdm.
+
+    Raises FrameError with the row and the value where a price is off the grid of ticks, an id is
+    unknown or used twice, a word or a number is none, the prices span more than 65,536 ticks, there
+    are more than 1,048,576 entries, times fall, or the board would refuse a new order; ValueError
+    for the other arguments.
+    """
+    if not frame.columns.is_unique:
+        raise ValueError("frame has a column twice")
+    rows = [Row(*pair) for pair in zip(frame.index, frame.to_dict("records"))]
+    _look_at_times(frame)
+    size = tick_size_of(tick_size)
+    first = _argument("reference", reference)
+    lowest, highest = _bounds(rows, size, first, low, high)
+    grid = grid_of(size, lowest, highest)
+    span = None if range is None else _ticks("range", range, Grid(size))
+    ends = _ticks("low", lowest, grid), _ticks("high", highest, grid)
+    day = (*ends, _ticks("reference", first, grid))
+    made = _Conversion(grid, Auction(*day, MOST_OPEN, MOST_CALLS, span))
+    with made.auction:
+        for row in watch(rows):
+            made.add(row)
+    head = ("day", *day, SHARED + 1, MOST_OPEN, MOST_CALLS, "" if span is None else span)
+    text = "".join(f"{line}\n" for line in [",".join(map(str, head)), *made.lines])
+    return Journal(text, grid, _orders(made), _entries(made))
+
+
+def _orders(made: _Conversion) -> pandas.DataFrame:
+    """The orders by their ids here."""
+    rows = [
+        (id, order, member, made.numbers[member], row)
+        for order, (id, member, row) in made.orders.items()
+    ]
+    columns = ["id", "order", "member", "number", "row"]
+    return pandas.DataFrame(rows, columns=columns).set_index("id")
+
+
+def _entries(made: _Conversion) -> pandas.DataFrame:
+    """The entries by their numbers from 1."""
+    columns = ["row", "time", "event", "order", "member"]
+    found = pandas.DataFrame(made.entries, columns=columns)
+    found.index = pandas.RangeIndex(1, len(found) + 1, name="entry")
+    return found
+
+
+def _argument(name: str, value: object) -> Decimal:
+    """A decimal argument. Raises ValueError."""
+    try:
+        return decimal_of(value)
+    except BadCellError as fault:
+        raise ValueError(f"{name} {value!r} {fault}") from None
+
+
+def _ticks(name: str, value: object, grid: Grid) -> int:
+    """The ticks of a decimal argument. Raises ValueError."""
+    try:
+        return grid.tick(_argument(name, value))
+    except BadCellError as fault:
+        raise ValueError(f"{name} {value} {fault}") from None
+
+
+def _bounds(
+    rows: list[Row], size: Decimal, reference: Decimal, low: object, high: object
+) -> tuple[Decimal, Decimal]:
+    """The lowest and the highest price of the day. Raises FrameError for the first row whose price
+    makes these more than 65,536 ticks.
+    """
+    plain, most = Grid(size), (MOST_TICKS - 1) * size
+    lowest = reference if low is None else _argument("low", low)
+    highest = reference if high is None else _argument("high", high)
+    for name, value in (("reference", reference), ("low", lowest), ("high", highest)):
+        _ticks(name, value, plain)
+    if not lowest <= reference <= highest or highest - lowest > most:
+        raise ValueError(
+            f"low {lowest}, reference {reference} and high {highest} must rise, over at most "
+            f"{MOST_TICKS:,} ticks"
+        )
+    for row in rows:
+        price = row.price() if row.get("event") in ("new", "replace") else None
+        if price is None:
+            continue
+        row.tick(plain)
+        lowest = min(lowest, price) if low is None else lowest
+        highest = max(highest, price) if high is None else highest
+        if highest - lowest > most:
+            other = highest if price == lowest else lowest
+            raise row.fault("price", f"and {other} are more than {MOST_TICKS:,} ticks apart")
+    return lowest, highest
+
+
+def _look_at_times(frame: pandas.DataFrame) -> None:
+    """Raises FrameError where a time, which isn't a text, comes before the one above it."""
+    if "time" not in frame or frame["time"].dtype == "object":
+        return
+    times = frame["time"].reset_index(drop=True)
+    falls = (times.diff().dropna() < times.diff().dropna() * 0).to_numpy().nonzero()[0]
+    for place in falls[:1]:
+        label, value = frame.index[place + 1], times[place + 1]
+        raise FrameError(label, "time", value, "comes before that of the row above")
