@@ -7,8 +7,12 @@
         auction.enter(2, Side.ASK, 300, limit=200)
         print(auction.ask(1), auction.uncross())
 
-docs/LIBRARY.md has the calls, the errors, and what is proved; docs/MODEL.md has the rules.
+docs/LIBRARY.md has the calls, the errors, and what is proved; docs/MODEL.md has the rules. Tables,
+pictures, sentences and files from elsewhere: python/README.md.
 """
+import importlib
+from typing import TYPE_CHECKING, Any
+
 from callauction.arrays import COMMAND, REPLY, TRADE
 from callauction.auction import Auction
 from callauction.errors import (
@@ -51,6 +55,34 @@ from callauction.words import (
     Uncrossed,
 )
 
+if TYPE_CHECKING:
+    from callauction import journal, plot, report
+    from callauction.reasons import explain
+    from callauction.recording import RecordedAuction
+    from callauction.tables import audit, read_book, read_journal, read_trades
+
+_LATER = {
+    "RecordedAuction": "recording",
+    "audit": "tables",
+    "explain": "reasons",
+    "read_book": "tables",
+    "read_journal": "tables",
+    "read_trades": "tables",
+}
+_MODULES = ("journal", "plot", "report")
+"""What needs pandas or matplotlib is imported when it is first asked for, each name from its
+module.
+"""
+
+
+def __getattr__(name: str) -> Any:
+    if name in _MODULES:
+        return importlib.import_module(f"callauction.{name}")
+    if name in _LATER:
+        return getattr(importlib.import_module(f"callauction.{_LATER[name]}"), name)
+    raise AttributeError(f"module 'callauction' has no attribute {name!r}")
+
+
 __all__ = [
     "Ask",
     "Auction",
@@ -77,6 +109,7 @@ __all__ = [
     "NotAppliedError",
     "Price",
     "REPLY",
+    "RecordedAuction",
     "Refusal",
     "Refused",
     "RefusedError",
@@ -90,5 +123,13 @@ __all__ = [
     "Traded",
     "Uncross",
     "Uncrossed",
+    "audit",
+    "explain",
+    "journal",
+    "plot",
+    "read_book",
+    "read_journal",
+    "read_trades",
     "reply_of",
+    "report",
 ]
