@@ -1,0 +1,134 @@
+"""The forms in which the program is run on a file, and what of its output goes into a row."""
+import dataclasses
+import re
+from collections.abc import Callable, Iterator
+from typing import IO, Any
+
+from callauction.market.rows import AUCTIONS
+
+BLOCK = 1 << 18
+"""How many bytes of the program's output are looked at together."""
+AUDIT_END = 4
+"""How many lines an audit ends with that tell its counts and the verdict."""
+AUDIT = re.compile(rb"entries (\d+)\ncompared (\d+)\nunlawful (\d+)\naudit (?:legal|bad \d+)\n")
+DIFFERENCE = re.compile(rb"(\d+): recorded ")
+NUMBERED = re.compile(rb"(\d+): ")
+UNCROSS = re.compile(
+    rb"\d+: (?P<auction>opening|intraday|closing) (?:no price|price (?P<price>\d+) "
+    rb"volume (?P<volume>\d+) surplus (?P<surplus>\d+) (?P<side>bid|ask|none) "
+    rb"trades (?P<trades>\d+))\n"
+)
+ENDINGS = [f": {auction} ".encode() for auction in AUCTIONS]
+"""What stands in the line of the uncross that ends this auction, and in no other line."""
+
+Said = dict[str, Any]
+"""Some columns of a row."""
+Blocks = Iterator[bytes]
+"""The program's output, some whole lines at a time."""
+
+
+class OutputFault(Exception):
+    """What was printed isn't of the form that was asked for."""
+
+
+@dataclasses.dataclass(frozen=True, slots=True)
+class Form:
+    """A form: the words that ask the program for it, what reads the output, and what the name of a
+    file that keeps the output ends with.
+    """
+
+    words: tuple[str, ...]
+    read: Callable[[Blocks], Said]
+    suffix: str
+
+
+def blocks_of(output: IO[bytes]) -> Blocks:
+    """The output in blocks of whole lines. Where it is cut, the last line lacks its end."""
+    rest = b""
+    while block := output.read(BLOCK):
+        end = block.rfind(b"\n") + 1
+        if end:
+            yield rest + block[:end]
+            rest = b""
+        rest += block[end:]
+    if rest:
+        yield rest
+
+
+def line_at(block: bytes, place: int) -> bytes:
+    """The line, with its end, of which this place of a block is a part."""
+    return block[block.rfind(b"\n", 0, place) + 1 : block.find(b"\n", place) + 1]
+
+
+def read_audit(blocks: Blocks) -> Said:
+    """The counts, and the number of the first entry that differs. Raises OutputFault."""
+    first = last = b""
+    for block in blocks:
+        first = first or block
+        last = b"".join((last + block).splitlines(keepends=True)[-AUDIT_END:])
+    counts, difference = AUDIT.fullmatch(last), DIFFERENCE.match(first)
+    if not counts:
+        raise OutputFault("the program printed no audit")
+    said: Said = dict(zip(("entries", "compared", "unlawful"), map(int, counts.groups())))
+    return said | {"first_unlawful": int(difference[1]) if difference else None}
+
+
+def read_lines(blocks: Blocks) -> Said:
+    """How many entries there are, and what the auctions that ended gave. Raises OutputFault."""
+    said: Said = {"auctions": 0, "trades": 0}
+    last = b""
+    for block in blocks:
+        last = block
+        for ending in ENDINGS:
+            place = block.find(ending)
+            if place >= 0:
+                found = read_uncross(line_at(block, place))
+                said["auctions"] += 1
+                said["trades"] += found.pop("trades")
+                said |= found
+    return said | {"entries": read_number(last) if last else 0}
+
+
+def read_uncross(line: bytes) -> Said:
+    """What the line of an uncross that ended an auction says. Raises OutputFault."""
+    found = UNCROSS.fullmatch(line)
+    if not found:
+        raise OutputFault("the program printed no line of an uncross")
+    if not found["price"]:
+        return {"trades": 0}
+    auction = found["auction"].decode()
+    said: Said = {f"{auction}_{name}": int(found[name]) for name in ("price", "volume", "surplus")}
+    return said | {f"{auction}_side": found["side"].decode(), "trades": int(found["trades"])}
+
+
+def read_number(block: bytes) -> int:
+    """The number that the last line of a block begins with. Raises OutputFault."""
+    found = NUMBERED.match(line_at(block, len(block) - 1))
+    if not found:
+        raise OutputFault("the program printed no numbered lines")
+    return int(found[1])
+
+
+def read_trades(blocks: Blocks) -> Said:
+    """How many trades there are: the records behind the header. Raises OutputFault."""
+    records = sum(block.count(b"\n") for block in blocks)
+    if records == 0:
+        raise OutputFault("the program printed no table")
+    return {"trades": records - 1}
+
+
+def read_nothing(blocks: Blocks) -> Said:
+    """No columns: the output is for keeping."""
+    for _ in blocks:
+        pass
+    return {}
+
+
+FORMS = {
+    "audit": Form(("--audit",), read_audit, "audit.txt"),
+    "lines": Form((), read_lines, "lines.txt"),
+    "trades": Form(("--print", "trades"), read_trades, "trades.csv"),
+    "book": Form(("--print", "book"), read_nothing, "book.csv"),
+    "journal": Form(("--print", "journal"), read_nothing, "journal.csv"),
+}
+"""The forms by the names that `what` may have."""
