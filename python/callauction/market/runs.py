@@ -155,13 +155,15 @@ def run(
     *,
     into: Path | None = None,
     memory: int | None = None,
+    program: Path | None = None,
 ) -> Any:
     """What the program says of each file: a pandas frame of Row's columns, a row an instrument, in
     their order.
 
     `what` is one or more of FORMS: `audit` and `lines` tell entries, `audit` what is unlawful,
     `lines` the auctions, `lines` and `trades` the trades. With `into`, a folder, the output of each
-    run is kept there. `memory` is the most bytes of address space for a run of the program.
+    run is kept there. `memory` is the most bytes of address space for a run of the program, whose
+    path is `program`, or what the worker finds.
 
     The work is done by the workers of `client`, which have to see the files by the same paths, or
     by one for each core of this machine. Raises MarketError, ValueError for another `what`, and
@@ -169,18 +171,25 @@ def run(
     file, or ends the program or its worker, is the fault in that file's row.
     """
     files, forms = files_of(paths), forms_of(what)
-    keep = None if into is None else os.path.abspath(into)
+    keep, path = (None if name is None else os.path.abspath(name) for name in (into, program))
     with contextlib.ExitStack() as stack:
-        path = None if client else finder.program()
-        client = client or stack.enter_context(local_client())
+        if client is None:
+            path = path or finder.program()
+            client = stack.enter_context(local_client())
         common_digest(client, path)
         request = Request(forms, path, memory, keep)
         found = [each.row for some in results(client, files, request) for each in some]
     return frame(found)
 
 
-def audit(paths: Paths, client: Client | None = None, *, memory: int | None = None) -> Any:
+def audit(
+    paths: Paths,
+    client: Client | None = None,
+    *,
+    memory: int | None = None,
+    program: Path | None = None,
+) -> Any:
     """Which recorded replies of each journal are unlawful, and the prices of its auctions: run with
     the forms of AUDIT.
     """
-    return run(paths, AUDIT, client, memory=memory)
+    return run(paths, AUDIT, client, memory=memory, program=program)

@@ -99,20 +99,27 @@ def frames_of(path: pathlib.Path) -> Iterator[Any]:
         else:
             with pandas.read_csv(path, dtype=str, na_filter=False, chunksize=ROWS) as reader:
                 yield from reader
-    except (ImportError, ValueError) as fault:
-        raise TableError(f"{path}: {fault}") from fault
+    except (ImportError, RuntimeError, ValueError) as fault:
+        raise TableError(f"{path}: {' '.join(str(fault).split())}") from fault
 
 
 def texts(column: Any) -> list[str]:
-    """The cells of a column as texts. What is missing is empty, and a whole number has no point, as
-    pandas makes a column of floats of integers with gaps.
-    """
+    """The cells of a column as texts: see text_of."""
     values = column.tolist()
-    if column.dtype.kind == "f":
-        return ["" if v != v else str(int(v)) if v.is_integer() else str(v) for v in values]
-    if column.hasnans:
-        values = ["" if gap else value for value, gap in zip(values, column.isna())]
-    return [value if isinstance(value, str) else str(value) for value in values]
+    try:
+        "".join(values)
+    except TypeError:
+        return list(map(text_of, values))
+    return list(values)
+
+
+def text_of(value: Any) -> str:
+    """A cell as a text. What is missing is empty, and a whole number has no point: pandas makes a
+    column of floats of integers with gaps.
+    """
+    if isinstance(value, float):
+        return "" if value != value else str(int(value)) if value.is_integer() else str(value)
+    return "" if value is None or str(value) in ("<NA>", "NaT") else str(value)
 
 
 def fields(frame: Any, name: str) -> list[str]:

@@ -1,0 +1,66 @@
+"""What the rules say of a journal, by the auction of checks/plain_auction.py, which shares no code
+with the program; and random journals.
+"""
+import pathlib
+import sys
+from typing import Any
+
+sys.path.insert(0, str(pathlib.Path(__file__).resolve().parents[2] / "checks"))
+
+import random_journals  # noqa: E402
+import random_orders  # noqa: E402
+import plain_auction  # noqa: E402
+
+AUCTIONS = ("opening", "intraday", "closing")
+UNLAWFUL = 4
+
+Texts = dict[str, str]
+"""Journals by their instruments; a character is a byte."""
+Columns = dict[str, Any]
+"""The columns of a row that are not None, without the seconds."""
+
+
+def random_texts(count: int, kind: str = "short") -> Texts:
+    """The random journals of the first seeds; one in four, about, is spoiled."""
+    texts = {}
+    for seed in range(1, count + 1):
+        given = random_orders.order_file(kind, seed)
+        texts[f"{kind} {seed}"] = random_journals.journal_of(kind, seed, *given)[1]
+    return texts
+
+
+def answer(text: str, form: str) -> plain_auction.Answer:
+    """The status, the output and the standard error that the rules give for a journal."""
+    return plain_auction.answer(text, plain_auction.DEFAULTS, form)
+
+
+def row_of(instrument: str, text: str) -> Columns:
+    """What the rules say of a journal."""
+    status, audit, fault = answer(text, "audit")
+    if fault:
+        return {"instrument": instrument, "fault": fault.strip()}
+    row: Columns = {"instrument": instrument, "auctions": 0, "trades": 0}
+    row |= {name: int(count) for name, count in map(str.split, audit.splitlines()[-4:-1])}
+    if status == UNLAWFUL:
+        row["first_unlawful"] = int(audit.split(":")[0])
+    for line in answer(text, "lines")[1].splitlines():
+        take_uncross(row, line.split(": ", 1)[1].split())
+    return row
+
+
+def take_uncross(row: Columns, words: list[str]) -> None:
+    """Takes in what the words of a reply say of an auction that ended, if they do."""
+    if words[0] not in AUCTIONS:
+        return
+    row["auctions"] += 1
+    if words[1] == "price":
+        row[f"{words[0]}_price"] = int(words[2])
+        row[f"{words[0]}_volume"] = int(words[4])
+        row[f"{words[0]}_surplus"] = int(words[6])
+        row[f"{words[0]}_side"] = words[7]
+        row["trades"] += int(words[9])
+
+
+def rows_of(texts: Texts) -> list[Columns]:
+    """What the rules say of journals, in the order of their instruments."""
+    return [row_of(instrument, texts[instrument]) for instrument in sorted(texts)]

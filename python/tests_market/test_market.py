@@ -1,0 +1,98 @@
+"""A market beside the rules: each row, by audit and by run."""
+import pathlib
+from typing import Any
+
+import pytest
+import rules
+from callauction import market
+from callauction.market import runs
+from conftest import columns, write
+from distributed import Client
+
+TEXTS = rules.random_texts(60) | rules.random_texts(4, "long")
+
+
+@pytest.fixture(scope="module")
+def paths(tmp_path_factory: pytest.TempPathFactory) -> list[str]:
+    return write(tmp_path_factory.mktemp("journals"), TEXTS)
+
+
+@pytest.fixture(scope="module")
+def found(paths: list[str], client: Client) -> Any:
+    return market.audit(paths, client)
+
+
+def test_each_row_is_that_of_the_rules(found: Any) -> None:
+    expected = rules.rows_of(TEXTS)
+    assert columns(found) == expected
+    kinds = {"fault": 0, "first_unlawful": 0, "opening_price": 0, "closing_price": 0}
+    counts = {kind: sum(kind in row for row in expected) for kind in kinds}
+    assert min(counts.values()) >= 3, f"journals of too few kinds: {counts}"
+
+
+def test_columns_have_the_types_that_are_said(found: Any) -> None:
+    assert list(found.columns) == list(market.COLUMNS)
+    told = {name: str(dtype) for name, dtype in found.dtypes.items()}
+    assert told["instrument"] == told["fault"] == told["opening_side"] == "string"
+    assert told["seconds"] == "float64"
+    assert told["entries"] == told["closing_surplus"] == told["first_unlawful"] == "Int64"
+    good = found[found.fault.isna()]
+    assert (good.seconds > 0).all() and found[found.fault.notna()].seconds.isna().all()
+
+
+ASKED: dict[str, set[str]] = {
+    "audit": {"entries", "compared", "unlawful", "first_unlawful"},
+    "trades": {"trades"},
+    "book": set(),
+    "journal": set(),
+}
+
+
+@pytest.mark.parametrize("what", ASKED)
+def test_each_form_tells_its_columns(
+    what: str, client: Client, tmp_path: pathlib.Path
+) -> None:
+    expected = [row for row in rules.rows_of(TEXTS) if "fault" not in row][:12]
+    paths = write(tmp_path, {row["instrument"]: TEXTS[row["instrument"]] for row in expected})
+    names = ASKED[what] | {"instrument"}
+    told = [{name: row[name] for name in row if name in names} for row in expected]
+    assert columns(market.run(paths, what, client)) == told
+
+
+def test_what_is_printed_is_kept(client: Client, tmp_path: pathlib.Path) -> None:
+    texts = {"A": "day,1,9,5,4,9,9,\n1,enter,bid,7,5,\n2,enter,ask,4,5,\n0,uncross,\n", "B": "day\n"}
+    paths = write(tmp_path / "journals", texts)
+    into = tmp_path / "kept"
+    into.mkdir()
+    market.run(paths, ["trades", "book", "audit", "journal", "lines"], client, into=into)
+    forms = {"trades": "csv", "book": "csv", "audit": "txt", "journal": "csv", "lines": "txt"}
+    assert {path.name for path in into.iterdir()} == {f"A.{form}.{end}" for form, end in forms.items()}
+    for form, end in forms.items():
+        expected = rules.answer(texts["A"], form)[1]
+        assert (into / f"A.{form}.{end}").read_text() == expected
+
+
+def test_two_files_of_an_instrument(client: Client) -> None:
+    with pytest.raises(market.MarketError, match="two files of one instrument"):
+        market.audit(["/a/X.csv", "/b/X.csv"], client)
+    with pytest.raises(ValueError, match="'prices' is none of"):
+        market.run(["/a/X.csv"], ["audit", "prices"], client)
+    with pytest.raises(ValueError, match="'' is none of"):
+        market.run(["/a/X.csv"], [], client)
+
+
+def test_no_files(client: Client) -> None:
+    assert market.audit([], client).empty
+
+
+def test_tasks_take_all_files_once_and_the_largest_first(tmp_path: pathlib.Path) -> None:
+    files = [str(tmp_path / f"{place}.csv") for place in range(200)]
+    for place, file in enumerate(files):
+        with open(file, "wb") as out:
+            out.truncate(place**3)
+    for threads in (1, 4, 400):
+        batches = runs.batches_of(files, threads)
+        assert sum(batches, []) == files[::-1]
+        assert len(batches) <= 2 * runs.SHARES * threads
+    assert len(runs.batches_of(files, 400)) == len(files)
+    assert len(runs.batches_of([*files, "/none.csv"], 1)) < len(files)

@@ -1,0 +1,98 @@
+"""Names of files, cells of records, and what is read of the program's output."""
+import io
+import pathlib
+
+import pytest
+from callauction.market import Row, forms, rows
+
+NAMES = ["SAP", "a b", "Ärzte", "x/y", "..", ".", "-", "A%41", "SAP.DE", "~", "c:\\d", "\n", "I" * 251]
+
+
+@pytest.mark.parametrize("name", NAMES)
+def test_an_instrument_has_a_file_of_its_own(name: str, tmp_path: pathlib.Path) -> None:
+    path = tmp_path / rows.file_of(name)
+    path.write_text("")
+    assert list(tmp_path.iterdir()) == [path]
+    assert rows.instrument_of(str(path)) == name
+
+
+@pytest.mark.parametrize("name", ["", "I" * 252, "Ä" * 42])
+def test_no_file_can_be_named(name: str) -> None:
+    with pytest.raises(ValueError, match="no file can be named"):
+        rows.file_of(name)
+
+
+def test_names_of_files_are_told_apart() -> None:
+    assert len({rows.file_of(name).lower() for name in NAMES}) == len(NAMES)
+
+
+def test_cells_are_read_as_they_were_written() -> None:
+    row = Row("5", entries=0, opening_price=7, opening_side="none", seconds=0.25, fault="a,b")
+    told = [str(cell) for cell in rows.cells(row, rows.COLUMNS)]
+    assert told[:2] == ["5", "0"] and told[2] == ""
+    assert Row(*map(rows.read_cell, rows.COLUMNS, told)) == row
+
+
+def blocks(text: bytes, size: int) -> forms.Blocks:
+    """The text as it comes in reads of so many bytes."""
+
+    class Slow(io.BytesIO):
+        def read(self, _: int | None = -1) -> bytes:
+            return super().read(size)
+
+    return forms.blocks_of(Slow(text))
+
+
+LINES = (
+    b"1: entered 1\n2: opening no price\n3: refused 6 NotOperator\n"
+    b"4: intraday price 206 volume 20 surplus 10 bid trades 2\n5: interrupted price 9 volume 1\n"
+    b"6: closing price 5 volume 3 surplus 0 none trades 1\n7: order bid 5 at 9 visible 5\n"
+)
+AUDIT = (
+    b'2: recorded "audit legal", lawful "entered 2"\n4: recorded "entries 5", lawful "deleted"\n'
+    b"entries 8\ncompared 7\nunlawful 2\naudit bad 1\n"
+)
+
+
+@pytest.mark.parametrize("size", [1, 2, 3, 7, 64, 1_000])
+def test_output_is_read_whatever_comes_together(size: int) -> None:
+    assert forms.read_lines(blocks(LINES, size)) == {
+        "entries": 7,
+        "auctions": 3,
+        "trades": 3,
+        "intraday_price": 206,
+        "intraday_volume": 20,
+        "intraday_surplus": 10,
+        "intraday_side": "bid",
+        "closing_price": 5,
+        "closing_volume": 3,
+        "closing_surplus": 0,
+        "closing_side": "none",
+    }
+    assert forms.read_audit(blocks(AUDIT, size)) == {
+        "entries": 8,
+        "compared": 7,
+        "unlawful": 2,
+        "first_unlawful": 2,
+    }
+    assert forms.read_trades(blocks(b"trade,..\n1,..\n2,..\n", size)) == {"trades": 2}
+
+
+def test_a_day_without_entries() -> None:
+    assert forms.read_lines(blocks(b"", 9)) == {"entries": 0, "auctions": 0, "trades": 0}
+    none = b"entries 0\ncompared 0\nunlawful 0\naudit legal\n"
+    assert forms.read_audit(blocks(none, 9))["first_unlawful"] is None
+
+
+@pytest.mark.parametrize("cut", [0, 10, len(AUDIT) - 30, len(AUDIT) - 1])
+def test_a_cut_audit_is_none(cut: int) -> None:
+    with pytest.raises(forms.OutputFault):
+        forms.read_audit(blocks(AUDIT[:cut], 64))
+
+
+@pytest.mark.parametrize("text", [b"1: opening price 5\n", b"hello\n", b"1: entered 1\n2"])
+def test_other_lines_are_none(text: bytes) -> None:
+    with pytest.raises(forms.OutputFault):
+        forms.read_lines(blocks(text, 64))
+    with pytest.raises(forms.OutputFault):
+        forms.read_trades(blocks(b"", 64))
