@@ -45,6 +45,7 @@ PARTS = [
     Part("compare", "random files by the rules", f"{COMPARE} --program {PROGRAM}"),
     Part("hostile", "bad files, failing ends, full boards", f"checks/hostile {PROGRAM}", "bash"),
     Part("refusals", "refused memory", f"checks/refusals {PROGRAM} {TESTS}", "cc"),
+    Part("market", "a market on workers of Dask", f"checks/market {PROGRAM}"),
 ]
 PACKAGES = {
     "bash": "bash",
