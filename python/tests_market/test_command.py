@@ -32,10 +32,11 @@ def closing(text: str) -> dict[str, float]:
     "texts, status", [(LAWFUL, 0), (LAWFUL | UNLAWFUL, 4), (LAWFUL | UNLAWFUL | BAD, 1)]
 )
 def test_statuses(
-    texts: rules.Texts, status: int, program: str, tmp_path: pathlib.Path
+    texts: rules.Texts, status: int, client: Client, program: str, tmp_path: pathlib.Path
 ) -> None:
     write(tmp_path / "journals", texts)
-    ran = command("audit", tmp_path / "journals", "--workers", 2, program=program)
+    address = client.scheduler.address
+    ran = command("audit", tmp_path / "journals", "--scheduler", address, program=program)
     assert (ran.returncode, ran.stderr) == (status, "")
     found = closing(ran.stdout)
     expected = rules.rows_of(texts)
@@ -144,14 +145,6 @@ def test_an_interrupted_run(harmful: pathlib.Path, tmp_path: pathlib.Path) -> No
         f"market: broken off: {log} has what was found; --resume\n",
     )
     assert not output.exists()
-
-
-def test_workers_of_a_scheduler(client: Client, program: str, tmp_path: pathlib.Path) -> None:
-    write(tmp_path / "journals", LAWFUL | UNLAWFUL)
-    address = client.scheduler.address
-    ran = command("audit", tmp_path / "journals", "--scheduler", address, program=program)
-    assert (ran.returncode, ran.stderr) == (4, "")
-    assert closing(ran.stdout)["instruments"] == 3
 
 
 def test_a_terminal_shows_progress(program: str, tmp_path: pathlib.Path) -> None:

@@ -60,13 +60,15 @@ def test_each_form_tells_its_columns(
 
 
 def test_what_is_printed_is_kept(client: Client, tmp_path: pathlib.Path) -> None:
-    texts = {"A": "day,1,9,5,4,9,9,\n1,enter,bid,7,5,\n2,enter,ask,4,5,\n0,uncross,\n", "B": "day\n"}
+    day = "day,1,9,5,4,9,9,\n1,enter,bid,7,5,\n2,enter,ask,4,5,\n0,uncross,\n"
+    texts = {"A": day, "B": "day\n"}
     paths = write(tmp_path / "journals", texts)
     into = tmp_path / "kept"
     into.mkdir()
     market.run(paths, ["trades", "book", "audit", "journal", "lines"], client, into=into)
     forms = {"trades": "csv", "book": "csv", "audit": "txt", "journal": "csv", "lines": "txt"}
-    assert {path.name for path in into.iterdir()} == {f"A.{form}.{end}" for form, end in forms.items()}
+    names = {f"A.{form}.{end}" for form, end in forms.items()}
+    assert {path.name for path in into.iterdir()} == names
     for form, end in forms.items():
         expected = rules.answer(texts["A"], form)[1]
         assert (into / f"A.{form}.{end}").read_text() == expected

@@ -155,7 +155,8 @@ def test_an_older_journal_is_replaced_whole(tmp_path: pathlib.Path) -> None:
 
 def test_another_column_names_the_instruments(tmp_path: pathlib.Path) -> None:
     other = TABLE.rename(columns={"instrument": "isin"})
-    paths = market.split(other, "isin", days=DAYS.rename(columns={"instrument": "isin"}), folder=tmp_path)
+    days = DAYS.rename(columns={"instrument": "isin"})
+    paths = market.split(other, "isin", days=days, folder=tmp_path)
     assert read(paths) == JOURNALS
 
 
@@ -183,5 +184,5 @@ def peak_of_split(rows_of_table: int, program: str, folder: pathlib.Path) -> int
 
 
 def test_memory_stays(program: str, tmp_path: pathlib.Path) -> None:
-    small, large = (peak_of_split(count, program, tmp_path) for count in (250_000, 1_000_000))
+    small, large = (peak_of_split(count, program, tmp_path) for count in (200_000, 600_000))
     assert large < 1.2 * small

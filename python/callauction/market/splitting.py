@@ -86,8 +86,8 @@ def partitions_of(table: Any) -> Iterator[Any]:
 
 
 def frames_of(path: pathlib.Path) -> Iterator[Any]:
-    """The frames of a file: of Parquet by its row groups, else of CSV with a header. Raises OSError,
-    and TableError where the file is bad or Parquet can't be read here.
+    """The frames of a file: of Parquet by its row groups, else of CSV with a header. Raises
+    OSError, and TableError where the file is bad or Parquet can't be read here.
     """
     import pandas
 
