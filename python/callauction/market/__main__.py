@@ -8,8 +8,8 @@ from callauction.market.forms import FORMS
 from callauction.market.rows import SUFFIX
 
 EPILOG = """statuses: 0 all is well; 4 a reply is unlawful; 1 a file or a table is bad, whether or
-not a reply is unlawful; 2 the words are wrong; 3 there is no program, no scheduler or no worker, or a
-result can't be written; 130 broken off"""
+not a reply is unlawful; 2 the words are wrong; 3 there is no program, no scheduler or no worker, or
+a result can't be written; 130 broken off"""
 
 
 def positive(text: str) -> int:
