@@ -1,5 +1,5 @@
 /* Prints what the calls of libcallauction take from C that bench/python makes from Python, in nanoseconds: an entry, a
- * question, and a command of a thousand at a time. */
+ * question, and a command of a thousand at a time. A line is the mean of a thousand calls, or commands. */
 #include <callauction.h>
 #include <stdio.h>
 #include <stdlib.h>
@@ -9,11 +9,16 @@ enum { CALLS = 50000, STANDING = 1000, AT_ONCE = 1000 };
 
 static callauction_command commands[CALLS];
 static callauction_reply replies[AT_ONCE];
+static double took[CALLS / AT_ONCE]; /* ns of each thousand */
 
 static double now(void) {
     struct timespec time;
     clock_gettime(CLOCK_MONOTONIC, &time);
     return (double)time.tv_sec * 1e9 + (double)time.tv_nsec;
+}
+
+static void print(const char *name) {
+    for (int k = 0; k < CALLS / AT_ONCE; k++) printf("%s %.1f\n", name, took[k] / AT_ONCE);
 }
 
 static void want(uint32_t answer) {
@@ -41,12 +46,15 @@ static void measure_enter(void) {
     callauction_handle auction = {0};
     callauction_reply reply;
     begin(&auction, 0);
-    double start = now();
-    for (uint32_t k = 0; k < CALLS; k++) {
-        callauction_command command = order(CALLAUCTION_BID_SIDE, 1 + k * 7919 % 1000);
-        want(callauction_apply(&auction, &command, &reply));
+    for (uint32_t first = 0; first < CALLS; first += AT_ONCE) {
+        double start = now();
+        for (uint32_t k = first; k < first + AT_ONCE; k++) {
+            callauction_command command = order(CALLAUCTION_BID_SIDE, 1 + k * 7919 % 1000);
+            want(callauction_apply(&auction, &command, &reply));
+        }
+        took[first / AT_ONCE] = now() - start;
     }
-    printf("enter %.1f\n", (now() - start) / CALLS);
+    print("enter");
     want(callauction_close(&auction));
 }
 
@@ -54,12 +62,15 @@ static void measure_ask(void) {
     callauction_handle auction = {0};
     callauction_reply reply;
     begin(&auction, STANDING);
-    double start = now();
-    for (uint32_t k = 0; k < CALLS; k++) {
-        callauction_command command = {.member = 1, .tag = CALLAUCTION_ASK};
-        want(callauction_apply(&auction, &command, &reply));
+    for (uint32_t first = 0; first < CALLS; first += AT_ONCE) {
+        double start = now();
+        for (uint32_t k = 0; k < AT_ONCE; k++) {
+            callauction_command command = {.member = 1, .tag = CALLAUCTION_ASK};
+            want(callauction_apply(&auction, &command, &reply));
+        }
+        took[first / AT_ONCE] = now() - start;
     }
-    printf("ask %.1f\n", (now() - start) / CALLS);
+    print("ask");
     want(callauction_close(&auction));
 }
 
@@ -74,10 +85,12 @@ static void measure_apply_many(void) {
         if (k % 4 == 3) commands[k].tag = CALLAUCTION_DELETE;
         commands[k].id = STANDING + 1 + k / 4;
     }
-    double start = now();
-    for (int k = 0; k < CALLS; k += AT_ONCE)
-        want(callauction_apply_many(&auction, commands + k, AT_ONCE, replies, AT_ONCE, &applied));
-    printf("apply-many %.1f\n", (now() - start) / CALLS);
+    for (int first = 0; first < CALLS; first += AT_ONCE) {
+        double start = now();
+        want(callauction_apply_many(&auction, commands + first, AT_ONCE, replies, AT_ONCE, &applied));
+        took[first / AT_ONCE] = now() - start;
+    }
+    print("apply-many");
     want(callauction_close(&auction));
 }
 

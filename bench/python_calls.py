@@ -1,14 +1,16 @@
-"""Prints what the calls of an auction take from Python, in nanoseconds: those of bench/python.c.
-bench/python runs it.
+"""Prints what the calls of an auction take from Python, in nanoseconds: those of bench/python.c, a
+line being the mean of a thousand calls, or commands. bench/python runs it.
 """
 import time
 
 import numpy
 from callauction import COMMAND, REPLY, Auction, CommandTag, Entered, Price, ReplyTag, Side
+from callauction.arrays import Structs
 
 CALLS, STANDING, AT_ONCE = 50_000, 1_000, 1_000
 SIDES = (Side.ASK, Side.BID)
 LIMITS = [1 + k * 7919 % 1000 for k in range(CALLS)]
+THOUSANDS = [LIMITS[k : k + AT_ONCE] for k in range(0, CALLS, AT_ONCE)]
 
 
 def begin(standing: int) -> Auction:
@@ -19,31 +21,38 @@ def begin(standing: int) -> Auction:
     return auction
 
 
-def measured(name: str, start: int) -> None:
-    print(f"{name} {(time.perf_counter_ns() - start) / CALLS:.1f}")
+def show(name: str, took: list[int]) -> None:
+    """Prints the nanoseconds that each thousand took."""
+    print("".join(f"{name} {it / AT_ONCE:.1f}\n" for it in took), end="")
 
 
 def measure_enter() -> None:
+    took = []
     with begin(0) as auction:
         enter, side = auction.enter, Side.BID
-        start = time.perf_counter_ns()
-        for limit in LIMITS:
-            reply = enter(1, side, 100, limit)
-        measured("enter", start)
+        for limits in THOUSANDS:
+            start = time.perf_counter_ns()
+            for limit in limits:
+                reply = enter(1, side, 100, limit)
+            took.append(time.perf_counter_ns() - start)
         assert reply == Entered(CALLS)
+    show("enter", took)
 
 
 def measure_ask() -> None:
+    took = []
     with begin(STANDING) as auction:
         ask = auction.ask
-        start = time.perf_counter_ns()
-        for _ in LIMITS:
-            reply = ask(1)
-        measured("ask", start)
+        for limits in THOUSANDS:
+            start = time.perf_counter_ns()
+            for _ in limits:
+                reply = ask(1)
+            took.append(time.perf_counter_ns() - start)
         assert isinstance(reply, Price)
+    show("ask", took)
 
 
-def commands() -> numpy.ndarray:
+def commands() -> Structs:
     """In turn an order, a question, a change of that order, and its deletion."""
     found = numpy.zeros(CALLS, COMMAND)
     places = numpy.arange(CALLS)
@@ -57,13 +66,14 @@ def commands() -> numpy.ndarray:
 
 
 def measure_apply_many() -> None:
-    given, replies = commands(), numpy.zeros(AT_ONCE, REPLY)
+    given, replies, took = commands(), numpy.zeros(AT_ONCE, REPLY), []
     with begin(STANDING) as auction:
-        start = time.perf_counter_ns()
         for k in range(0, CALLS, AT_ONCE):
+            start = time.perf_counter_ns()
             auction.apply_many(given[k : k + AT_ONCE], replies)
-        measured("apply-many", start)
+            took.append(time.perf_counter_ns() - start)
     assert ReplyTag.REFUSED not in replies["tag"]
+    show("apply-many", took)
 
 
 if __name__ == "__main__":

@@ -1,20 +1,25 @@
-"""Where the built program and its tests lie, and how they come to be there."""
+"""Where the built program, its tests and the built library lie, and how they come to be there."""
+import os
 import pathlib
 import subprocess
+import time
 
 TOP = pathlib.Path(__file__).resolve().parent.parent
 FOLDER = TOP / "crates/callboard"
 PROGRAM = FOLDER / "out/callboard"
 TESTS = FOLDER / "out/callboard_tests"
+LIBRARY = TOP / "out/library"
 
 
 class NotBuilt(Exception):
-    """There is no built program, or there are no built tests, for the reason in its text."""
+    """There is no built program, or no built tests or library, for the reason in its text."""
 
 
 def newest_source() -> float:
-    """When a file that the program is built from was last changed, in seconds since 1970."""
-    files = [TOP / "crates.txt"]
+    """When a file that the program or the library is built from was last changed, in seconds since
+    1970.
+    """
+    files = [TOP / "crates.txt", TOP / "library/build", TOP / "library/callauction.h"]
     for part in ("src", "specs", "proofs"):
         files += (TOP / "crates").glob(f"*/{part}/**/*")
     return max(file.stat().st_mtime for file in files if file.is_file())
@@ -47,3 +52,25 @@ def ensure(file: pathlib.Path, is_from_gate: bool) -> str:
             last = " / ".join((ran.stdout + ran.stderr).strip().splitlines()[-3:])
             raise NotBuilt(f"rt {verb} in crates/callboard built no {file.name}: {last}")
     return str(file)
+
+
+def ensure_library() -> str:
+    """The folder of the built library, which is proved and built here (`library/build`) unless one
+    newer than all sources is there: the gate proves its crates, but leaves nothing of them that a
+    build could begin with. Raises NotBuilt where that fails.
+    """
+    archive = LIBRARY / "libcallauction.a"
+    if not is_current(archive):
+        begin = time.time()
+        ran = subprocess.run(
+            [TOP / "library/build", LIBRARY],
+            stdin=subprocess.DEVNULL,
+            capture_output=True,
+            text=True,
+        )
+        if ran.returncode != 0:
+            last = " / ".join((ran.stdout + ran.stderr).strip().splitlines()[-3:])
+            raise NotBuilt(f"library/build built no library: {last}")
+        # A source that was changed meanwhile is newer.
+        os.utime(archive, (begin, begin))
+    return str(LIBRARY)

@@ -5,8 +5,8 @@ counts at the end.
 A part is a command, run at the top of the repository. Where its last line is `N passed, N failed`
 it counts as many; else it counts one, by its status. Its output goes to out/check/NAME.log, and is
 printed too where it failed, or with --show. A part that fails keeps no other from running. The
-status is 0 where all passed, 1 where something failed, and 2 where a part, or a tool that the
-parts need, doesn't exist; then no part runs.
+status is 0 where all passed, 1 where something failed, and 2 where a part, or a tool or a module of
+Python that the parts need, doesn't exist; then no part runs.
 """
 import argparse
 import dataclasses
@@ -18,24 +18,32 @@ import time
 
 import built
 
-PROGRAM, TESTS = "PROGRAM", "TESTS"  # words of a command that stand for the built files
+sys.path.insert(0, str(built.TOP / "build"))
+
+import debian  # noqa: E402
+
+# Words of a command that stand for what is built.
+PROGRAM, TESTS, LIBRARY = "PROGRAM", "TESTS", "LIBRARY"
 COUNTS = re.compile(r"(\d+) passed, (\d+) failed")
 LOGS = built.TOP / "out/check"
 
 
 @dataclasses.dataclass(frozen=True)
 class Part:
-    """A part of the test command: its name, what it looks at, its command, and the tools beside
-    python3 that it needs.
+    """A part of the test command: its name, what it looks at, its command, the tools beside python3
+    that it needs, and the modules of Python.
     """
 
     name: str
     what: str
     command: str
     tools: str = ""
+    modules: str = ""
 
 
 COMPARE = "checks/compare --fresh --short 480 --long 20"
+FROM_C = f"library/test --library {LIBRARY} --short 980 --long 20 --opens 100000"
+FROM_PYTHON = f"python/test --library {LIBRARY} --program {PROGRAM}"
 PARTS = [
     Part("layout", "columns, names of files and lemmas, limits by their names", "checks/layout"),
     Part("edits", "wrong bodies fit their files and are listed", "checks/wrong-bodies --fit"),
@@ -45,13 +53,26 @@ PARTS = [
     Part("compare", "random files by the rules", f"{COMPARE} --program {PROGRAM}"),
     Part("hostile", "bad files, failing ends, full boards", f"checks/hostile {PROGRAM}", "bash"),
     Part("refusals", "refused memory", f"checks/refusals {PROGRAM} {TESTS}", "cc"),
+    Part("library", "the built library from C", FROM_C, "gcc g++ clang valgrind pkg-config ar"),
+    Part(
+        "python",
+        "the package for Python: types, tests",
+        FROM_PYTHON,
+        "cc",
+        "cffi numpy Python.h pytest hypothesis mypy",
+    ),
     Part("market", "a market on workers of Dask", f"checks/market {PROGRAM}"),
 ]
 PACKAGES = {
+    "ar": "binutils",
     "bash": "bash",
     "cc": "gcc and libc6-dev",
+    "clang": "clang",
+    "g++": "g++",
     "gcc": "gcc and libc6-dev",
+    "pkg-config": "pkgconf",
     "setpriv": "util-linux",
+    "valgrind": "valgrind",
 }
 
 
@@ -65,13 +86,22 @@ def missing_tools(parts: list[Part]) -> list[str]:
     ]
 
 
+def missing_modules(parts: list[Part]) -> list[str]:
+    """What to say of each module of Python that these parts need and that isn't there."""
+    wanted = {module for part in parts for module in part.modules.split()}
+    return debian.missing(tuple(sorted(wanted))) if wanted else []
+
+
 def words_of(part: Part, is_from_gate: bool) -> list[str]:
-    """The words of its command, with the paths of the built files. Raises built.NotBuilt where
-    there is none.
+    """The words of its command, with the paths of what is built. Raises built.NotBuilt where there
+    is none.
     """
-    files = {PROGRAM: built.PROGRAM, TESTS: built.TESTS}
-    words = part.command.split()
-    return [built.ensure(files[word], is_from_gate) if word in files else word for word in words]
+    found = {
+        PROGRAM: lambda: built.ensure(built.PROGRAM, is_from_gate),
+        TESTS: lambda: built.ensure(built.TESTS, is_from_gate),
+        LIBRARY: built.ensure_library,
+    }
+    return [found[word]() if word in found else word for word in part.command.split()]
 
 
 def run(part: Part, words: list[str], shows: bool) -> tuple[int, int]:
@@ -153,7 +183,7 @@ def main() -> int:
         return 0
     try:
         parts = chosen(asked.parts)
-        faults = missing_tools(parts)
+        faults = missing_tools(parts) + missing_modules(parts)
     except KeyError as fault:
         faults = [f"there is no part {fault}; ./check --list has them"]
     if faults:

@@ -62,12 +62,13 @@ def whole(name: str, array: object, kind: "numpy.dtype[Any]", is_written: bool) 
     """
     if not isinstance(array, numpy.ndarray):
         raise TypeError(f"{name} must be a numpy array, not {type(array).__name__}")
-    if array.dtype != kind:
+    if array.dtype is not kind and array.dtype != kind:
         raise TypeError(f"{name} must be an array of another dtype than {array.dtype}")
     if array.ndim != 1:
         raise ValueError(f"{name} must have one dimension, not {array.ndim}")
-    if not array.flags.c_contiguous or not array.flags.aligned:
+    flags = array.flags
+    if not flags.c_contiguous or not flags.aligned:
         raise ValueError(f"{name} must be contiguous and aligned")
-    if is_written and not array.flags.writeable:
+    if is_written and not flags.writeable:
         raise ValueError(f"{name} must be writeable")
     return array

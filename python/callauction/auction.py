@@ -1,5 +1,4 @@
 """An auction in this process: see Auction."""
-import struct
 from types import TracebackType
 from typing import Any, Self
 
@@ -7,21 +6,23 @@ import numpy
 
 from callauction._native import ffi, lib
 from callauction.arrays import COMMAND, REPLY, TRADE, Shares, Structs, whole
-from callauction.errors import (
-    AuctionError,
-    BusyError,
-    ClosedError,
-    FullError,
-    NoCommandError,
-    RefusedError,
+from callauction.errors import ClosedError, FullError, NoCommandError
+from callauction.reading import (
+    entered,
+    error_of,
+    fault_of,
+    member_of,
+    not_entered,
+    number,
+    numbers,
+    price,
+    read,
 )
-from callauction.reading import TERMS, fault_of, member_of, number, read
 from callauction.words import (
     Ask,
     Change,
     Changed,
     Command,
-    CommandTag,
     Config,
     Delete,
     Deleted,
@@ -34,6 +35,7 @@ from callauction.words import (
     Price,
     Refused,
     Reply,
+    ReplyTag,
     Side,
     Standing,
     Status,
@@ -44,42 +46,16 @@ from callauction.words import (
 )
 
 MOST = (1 << 32) - 1
-_TERMS = struct.Struct("=QQIIBBBBBB").pack_into
-"""Writes all fields of a command struct, for an entry or a change."""
-_NAMED = struct.Struct("=IIBB").pack_into
-"""Writes the id, the limit, the member and the tag, which the other commands need."""
-_NAMED_AT = 16
-_BID_SIDE, _ASK_SIDE = Side.BID, Side.ASK
-_ID, _NUMBER = ("id", "limit", "member"), ("number", "limit", "member")
-_apply = lib.callauction_apply
-_ENTER, _CHANGE, _DELETE, _STATUS, _ASK, _TRADE, _UNCROSS = (int(tag) for tag in CommandTag)
-_CONFIG_FAULTS = {
-    lib.CALLAUCTION_BAD_BOUNDS: "low, high: not 1 <= low <= high <= 1,000,000, or more than 65,536 "
-    "ticks",
-    lib.CALLAUCTION_BAD_REFERENCE: "reference: not a tick from low to high",
-    lib.CALLAUCTION_BAD_LIMITS: "max_open, max_calls: not from 1 to 65,536 and from 1 to 1,048,576",
-}
+_TERMS = ("member", "quantity", "limit", "peak")
+_CHANGE = ("member", "id", "quantity", "limit", "has")
+_ID, _NUMBER, _MEMBER = ("member", "id"), ("member", "number"), ("member",)
+"""The numbers of each command, in the order in which the library takes them."""
+_BID, _ASK = Side.BID, Side.ASK
+_PRICED = int(ReplyTag.PRICED)
+_HAS_LIMIT, _HAS_PEAK = int(lib.PYTHON_HAS_LIMIT), int(lib.PYTHON_HAS_PEAK)
+_enter, _ask = lib.python_enter, lib.python_ask
 _AT_ONCE = 1024
 """How many trades are copied by one call of the library."""
-_NO_COMMAND = "a struct stands for no command"
-_FULL = "as many commands were applied as may be"
-
-
-def _error(answer: int) -> Exception:
-    """What is raised where a call of the library answers this error."""
-    if answer == lib.CALLAUCTION_NO_AUCTION:
-        return ClosedError("the object holds no auction")
-    if answer == lib.CALLAUCTION_FULL:
-        return FullError(_FULL)
-    if answer == lib.CALLAUCTION_NO_COMMAND:
-        return NoCommandError(_NO_COMMAND)
-    if answer == lib.CALLAUCTION_NO_MEMORY:
-        return MemoryError("an auction got no memory")
-    if answer == lib.CALLAUCTION_IN_USE:
-        return AuctionError("the object holds an auction")
-    if answer in _CONFIG_FAULTS:
-        return ValueError(_CONFIG_FAULTS[answer])
-    return AuctionError(f"the library answers {answer}")
 
 
 class Auction:
@@ -104,19 +80,16 @@ class Auction:
     Refused; with `check` RefusedError is raised instead.
     """
 
-    __slots__ = ("_idle", "__weakref__")
+    __slots__ = ("_own", "__weakref__")
 
-    _idle: list[tuple[Any, Any, Any, Any]]
-    """The handle, a command, a reply, and the command's bytes; empty while a call has them. A list
-    is popped by one thread at a time.
+    _own: Any
+    """The library's handle, and whether a call has it. It stands at one place, and closes what it
+    holds when it is dropped.
     """
 
     def __new__(cls, *_: object, **__: object) -> Self:
         self = super().__new__(cls)
-        # The handle stands at one place, and closes what it holds when it is dropped.
-        handle = ffi.gc(ffi.new("callauction_handle *"), lib.callauction_close)
-        command, reply = ffi.new("callauction_command *"), ffi.new("callauction_reply *")
-        self._idle = [(handle, command, reply, ffi.buffer(command))]
+        self._own = ffi.gc(ffi.new("python_auction *"), lib.python_close)
         return self
 
     def __init__(
@@ -136,7 +109,7 @@ class Auction:
         config.max_calls = number("max_calls", max_calls, MOST)
         config.has_range = range is not None
         config.range = 0 if range is None else number("range", range, MOST)
-        self._call(lib.callauction_open, config)
+        self._call(lib.python_open, config)
 
     def __enter__(self) -> Self:
         return self
@@ -165,15 +138,22 @@ class Auction:
         """Enters an order of so many shares, a market order without a limit, an iceberg order with
         a peak. Raises TypeError or ValueError for a side that isn't Side.BID or Side.ASK.
         """
-        if side is not _BID_SIDE and side is not _ASK_SIDE:
+        if side is not _BID and side is not _ASK:
             member_of("side", side, Side)
             raise ValueError("side must be BID or ASK")
         if type(only) is not For:
             member_of("only", only, For)
-        shown, has_peak = (0, 0) if peak is None else (peak, 1)
-        tick, has_limit = (0, 0) if limit is None else (limit, 1)
-        numbers = (quantity, shown, 0, tick, member, _ENTER, side, only, has_limit, has_peak)
-        return self._applied(_TERMS, 0, TERMS, numbers, check)
+        tick, has = (0, 0) if limit is None else (limit, _HAS_LIMIT)
+        shown = 0
+        if peak is not None:
+            shown, has = peak, has | _HAS_PEAK
+        if not type(member) is type(quantity) is type(tick) is type(shown) is int:
+            member, quantity, tick, shown = numbers(_TERMS, (member, quantity, tick, shown))
+        try:
+            answer = _enter(self._own, member, quantity, tick, shown, side, only, has)
+        except OverflowError:
+            raise fault_of(_TERMS, (member, quantity, tick, shown)) from None
+        return entered(answer) if answer > 0 else not_entered(answer, check)
 
     def change(
         self,
@@ -187,21 +167,33 @@ class Auction:
         """Gives the member's order with this id another open quantity and limit. It keeps its place
         in time where the limit stays and the quantity doesn't grow.
         """
-        tick = 0 if limit is None else limit
-        numbers = (quantity, 0, id, tick, member, _CHANGE, 0, 0, limit is not None, 0)
-        return self._applied(_TERMS, 0, TERMS, numbers, check)
+        tick, has = (0, 0) if limit is None else (limit, _HAS_LIMIT)
+        given = (member, id, quantity, tick, has)
+        reply: Changed | Refused = self._applied(lib.python_change, _CHANGE, given, check)
+        return reply
 
     def delete(self, member: int, id: int, *, check: bool = False) -> Deleted | Refused:
         """Takes the member's order with this id out."""
-        return self._applied(_NAMED, _NAMED_AT, _ID, (id, 0, member, _DELETE), check)
+        reply: Deleted | Refused = self._applied(lib.python_delete, _ID, (member, id), check)
+        return reply
 
     def status(self, member: int, id: int, *, check: bool = False) -> Standing | Refused:
         """What is open of the member's order with this id."""
-        return self._applied(_NAMED, _NAMED_AT, _ID, (id, 0, member, _STATUS), check)
+        reply: Standing | Refused = self._applied(lib.python_status, _ID, (member, id), check)
+        return reply
 
     def ask(self, member: int, *, check: bool = False) -> Price | NoPrice | Refused:
         """The indicative price, or the best limits where there is none."""
-        return self._applied(_NAMED, _NAMED_AT, _ID, (0, 0, member, _ASK), check)
+        if type(member) is not int:
+            (member,) = numbers(_MEMBER, (member,))
+        try:
+            found = _ask(self._own, member)
+        except OverflowError:
+            raise fault_of(_MEMBER, (member,)) from None
+        if found.tag == _PRICED:
+            return price(found)
+        reply: NoPrice | Refused = read(found, check)
+        return reply
 
     def uncross(
         self, member: int = 0, *, check: bool = False
@@ -209,11 +201,14 @@ class Auction:
         """Determines the price and executes. The next call phase follows at once; after the closing
         auction the day is over.
         """
-        return self._applied(_NAMED, _NAMED_AT, _ID, (0, 0, member, _UNCROSS), check)
+        reply: Uncrossed | Interrupted | Refused
+        reply = self._applied(lib.python_uncross, _MEMBER, (member,), check)
+        return reply
 
     def trade(self, member: int, number: int, *, check: bool = False) -> Traded | Refused:
         """The trade of the day with this number, from 1 on."""
-        return self._applied(_NAMED, _NAMED_AT, _NUMBER, (number, 0, member, _TRADE), check)
+        reply: Traded | Refused = self._applied(lib.python_trade, _NUMBER, (member, number), check)
+        return reply
 
     def apply(self, member: int, command: Command, *, check: bool = False) -> Reply:
         """Applies a command. Raises TypeError where it is none of Command."""
@@ -252,17 +247,14 @@ class Auction:
         if replies is None:
             replies = numpy.zeros(len(commands), REPLY)
         whole("replies", replies, REPLY, is_written=True)
-        if len(replies) != len(commands):
-            raise ValueError(f"replies must have the length {len(commands)}, not {len(replies)}")
-        if numpy.may_share_memory(commands, replies):
-            raise ValueError("replies must share no memory with commands")
-        applied = ffi.new("size_t *")
+        # The lengths are those of what is handed over, whatever the arrays say.
         given = ffi.from_buffer("callauction_command[]", commands)
         written = ffi.from_buffer("callauction_reply[]", replies, require_writable=True)
+        if len(written) != len(given):
+            raise ValueError(f"replies must have the length {len(given)}, not {len(written)}")
+        applied = ffi.new("size_t *")
         try:
-            self._call(
-                lib.callauction_apply_many, given, len(given), written, len(written), applied
-            )
+            self._call(lib.python_apply_many, given, written, len(given), applied)
         except (FullError, NoCommandError) as error:
             count = applied[0]
             raise type(error)(f"command {count}: {error}", count, replies[:count]) from None
@@ -273,9 +265,8 @@ class Auction:
     def display(self) -> Price | NoPrice:
         """What `ask` shows, without a member and not counted as a call; after the day too."""
         shown = ffi.new("callauction_reply *")
-        self._call(lib.callauction_display, shown)
-        found = read(shown)
-        assert isinstance(found, Price | NoPrice)
+        self._call(lib.python_display, shown)
+        found: Price | NoPrice = read(shown)
         return found
 
     def ladder(self) -> tuple[Shares, Shares]:
@@ -300,7 +291,7 @@ class Auction:
         while copied[0] == room:
             trades = numpy.zeros(room, TRADE)
             written = ffi.from_buffer("callauction_trade[]", trades, require_writable=True)
-            self._call(lib.callauction_trades, seen, written, room, copied)
+            self._call(lib.python_trades, seen, written, room, copied)
             found.append(trades[: copied[0]])
             seen += room
         return numpy.concatenate(found)
@@ -309,7 +300,7 @@ class Auction:
     def calls(self) -> int:
         """How many commands were applied, the refused ones among them."""
         found = ffi.new("uint32_t *")
-        self._call(lib.callauction_calls, found)
+        self._call(lib.python_calls, found)
         return int(found[0])
 
     @property
@@ -321,7 +312,7 @@ class Auction:
     def config(self) -> Config:
         """What the auction was opened with."""
         found = ffi.new("callauction_config *")
-        self._call(lib.callauction_config_of, found)
+        self._call(lib.python_config_of, found)
         return Config(
             found.low,
             found.high,
@@ -335,7 +326,7 @@ class Auction:
     def is_closed(self) -> bool:
         """Whether the object holds no auction."""
         try:
-            self._call(lib.callauction_calls, ffi.new("uint32_t *"))
+            self._call(lib.python_calls, ffi.new("uint32_t *"))
         except ClosedError:
             return True
         return False
@@ -345,7 +336,7 @@ class Auction:
     def copy(self) -> Self:
         """An auction of its own that stands where this one does. Raises MemoryError."""
         other = type(self).__new__(type(self))
-        self._call(lib.callauction_clone, other._idle[0][0])
+        self._call(lib.python_clone, other._own)
         return other
 
     def __copy__(self) -> Self:
@@ -359,59 +350,38 @@ class Auction:
 
     def reset(self) -> None:
         """Goes back to the opening, as if it had just been opened."""
-        self._call(lib.callauction_reset)
+        self._call(lib.python_reset)
 
     def close(self) -> None:
         """Gives the auction and its memory up; does nothing where it was closed before."""
         try:
-            self._call(lib.callauction_close)
+            self._call(lib.python_close)
         except ClosedError:
             pass
 
-    # ---- calls of the library, one at a time
+    # ---- calls of the library
 
     def _call(self, function: Any, *arguments: Any) -> None:
-        """Calls the library on this handle. Raises BusyError, and what stands for its error."""
-        try:
-            own = self._idle.pop()
-        except IndexError:
-            raise BusyError("another call of this auction is running") from None
-        try:
-            answer = function(own[0], *arguments)
-        finally:
-            self._idle.append(own)
+        """Calls the library on this handle. Raises what stands for its error."""
+        answer = function(self._own, *arguments)
         if answer:
-            raise _error(answer)
+            raise error_of(answer)
 
     def _applied(
-        self,
-        pack: Any,
-        place: int,
-        names: tuple[str, ...],
-        numbers: tuple[Any, ...],
-        check: bool,
+        self, function: Any, names: tuple[str, ...], given: tuple[Any, ...], check: bool
     ) -> Any:
-        """The reply to the command whose numbers are packed so at this place of its struct. The
-        first ones have these names.
+        """The reply to the command that this call of the library applies, with the numbers given,
+        which have these names.
         """
+        for value in given:
+            if type(value) is not int:
+                given = numbers(names, given)
+                break
         try:
-            own = self._idle.pop()
-        except IndexError:
-            raise BusyError("another call of this auction is running") from None
-        try:
-            handle, command, written, buffer = own
-            pack(buffer, place, *numbers)
-            answer = _apply(handle, command, written)
-            if answer:
-                raise _error(answer)
-            reply = read(written)
-        except (struct.error, TypeError):
-            raise fault_of(names, numbers) from None
-        finally:
-            self._idle.append(own)
-        if check and type(reply) is Refused:
-            raise RefusedError(reply.refusal)
-        return reply
+            reply = function(self._own, *given)
+        except OverflowError:
+            raise fault_of(names, given) from None
+        return read(reply, check)
 
     def _ladder(self) -> tuple[Shares, Shares, Market]:
         config = self.config
@@ -419,9 +389,8 @@ class Auction:
         bids, asks = numpy.zeros(ticks, numpy.uint64), numpy.zeros(ticks, numpy.uint64)
         market = ffi.new("callauction_market *")
         self._call(
-            lib.callauction_ladder,
+            lib.python_ladder,
             ffi.from_buffer("uint64_t[]", bids, require_writable=True),
-            ticks,
             ffi.from_buffer("uint64_t[]", asks, require_writable=True),
             ticks,
             market,

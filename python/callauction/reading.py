@@ -1,12 +1,20 @@
-"""What replies say, and what is wrong with the numbers of a command."""
+"""What the library's answers say, and what is wrong with the numbers of a command."""
 import operator
 from collections.abc import Callable
 from typing import Any
 
 import numpy
 
-from callauction._native import ffi
+from callauction._native import ffi, lib
 from callauction.arrays import REPLY
+from callauction.errors import (
+    AuctionError,
+    BusyError,
+    ClosedError,
+    FullError,
+    NoCommandError,
+    RefusedError,
+)
 from callauction.words import (
     Changed,
     Deleted,
@@ -18,6 +26,7 @@ from callauction.words import (
     Refusal,
     Refused,
     Reply,
+    ReplyTag,
     Side,
     Standing,
     Traded,
@@ -25,37 +34,78 @@ from callauction.words import (
 )
 
 SIDES = tuple(Side)
-KINDS = (None, *Kind)
-REFUSALS = (None, *(Refused(refusal) for refusal in Refusal))
-"""By its number, what a field of a reply says."""
+"""By its number, the side that a reply names."""
+KINDS, REFUSALS = tuple(Kind), tuple(map(Refused, Refusal))
+"""By its number less 1, the auction or the refusal that a reply names."""
+_REFUSED, _UNCROSSED = int(ReplyTag.REFUSED), int(ReplyTag.UNCROSSED)
+
+
+# ---- errors
+
+_CONFIG_FAULTS = {
+    lib.CALLAUCTION_BAD_BOUNDS: "low, high: not 1 <= low <= high <= 1,000,000, or more than 65,536 "
+    "ticks",
+    lib.CALLAUCTION_BAD_REFERENCE: "reference: not a tick from low to high",
+    lib.CALLAUCTION_BAD_LIMITS: "max_open, max_calls: not from 1 to 65,536 and from 1 to 1,048,576",
+}
+
+
+def error_of(answer: int) -> Exception:
+    """What is raised where a call of the library answers this error."""
+    if answer == lib.CALLAUCTION_NO_AUCTION:
+        return ClosedError("the object holds no auction")
+    if answer == lib.CALLAUCTION_FULL:
+        return FullError("as many commands were applied as may be")
+    if answer == lib.PYTHON_BUSY:
+        return BusyError("another call of this auction is running")
+    if answer == lib.CALLAUCTION_NO_COMMAND:
+        return NoCommandError("a struct stands for no command")
+    if answer == lib.CALLAUCTION_NO_MEMORY:
+        return MemoryError("an auction got no memory")
+    if answer == lib.CALLAUCTION_IN_USE:
+        return AuctionError("the object holds an auction")
+    if answer == lib.PYTHON_OVERLAP:
+        return ValueError("replies must share no memory with commands")
+    if answer in _CONFIG_FAULTS:
+        return ValueError(_CONFIG_FAULTS[answer])
+    return AuctionError(f"the library answers {answer}")
 
 
 # ---- replies
 
 
-# The two replies that are wanted most are made without their __init__, which takes twice as long
-# where a dataclass is frozen.
+class _OpenPrice(Price):
+    """A Price while its fields are set: a frozen dataclass takes three times as long to make by its
+    `__init__`.
+    """
+
+    __slots__ = ()
+    __init__ = object.__init__  # type: ignore[assignment]
+    __setattr__ = object.__setattr__
+    __delattr__ = object.__delattr__
+
+
 _new = object.__new__
 _set_id = vars(Entered)["id"].__set__
-_set_tick = vars(Price)["tick"].__set__
-_set_volume = vars(Price)["volume"].__set__
-_set_surplus = vars(Price)["surplus"].__set__
-_set_side = vars(Price)["side"].__set__
 
 
-def _entered(reply: Any) -> Entered:
+def entered(id: int) -> Entered:
+    """The reply to an order that got this id, made as fast as can be."""
     made = _new(Entered)
-    _set_id(made, reply.id)
+    _set_id(made, id)
     return made
 
 
-def _price(reply: Any) -> Price:
-    made = _new(Price)
-    _set_tick(made, reply.tick)
-    _set_volume(made, reply.volume)
-    _set_surplus(made, reply.surplus)
-    _set_side(made, SIDES[reply.side])
-    return made
+def price(reply: Any) -> Price:
+    """The price that a reply has, made as fast as can be."""
+    made: Any = _OpenPrice()
+    made.tick = reply.tick
+    made.volume = reply.volume
+    made.surplus = reply.surplus
+    made.side = SIDES[reply.side]
+    made.__class__ = Price
+    found: Price = made
+    return found
 
 
 def _no_price(reply: Any) -> NoPrice:
@@ -69,33 +119,48 @@ def _standing(reply: Any) -> Standing:
 
 
 def _uncrossed(reply: Any) -> Uncrossed:
-    price = _price(reply) if reply.has_tick else None
-    return Uncrossed(KINDS[reply.auction], price, reply.trades)
+    found = price(reply) if reply.has_tick else None
+    return Uncrossed(KINDS[reply.auction - 1], found, reply.trades)
 
 
-def _unknown(reply: Any) -> Reply:
-    raise ValueError("record is no reply of an auction")
+def _no_reply(reply: Any) -> Reply:
+    raise error_of(reply.id)
 
 
 _READERS: tuple[Callable[[Any], Reply], ...] = (
-    _unknown,
-    _entered,
+    _no_reply,
+    lambda reply: entered(reply.id),
     lambda reply: Changed(reply.kept == 1),
     lambda reply: Deleted(),
     _standing,
-    _price,
+    price,
     _no_price,
     lambda reply: Traded(reply.id, reply.ask, reply.quantity, reply.tick),
     _uncrossed,
-    lambda reply: Interrupted(_price(reply)),
-    lambda reply: REFUSALS[reply.refusal],
+    lambda reply: Interrupted(price(reply)),
+    lambda reply: REFUSALS[int(reply.refusal) - 1],
 )
 """By its tag, what reads a reply of the library."""
 
 
-def read(reply: Any) -> Reply:
-    """What a reply struct that the library wrote says."""
+def read(reply: Any, check: bool = False) -> Any:
+    """What a reply struct of the library says, a Reply. Raises what stands for the error of one
+    that is no reply, and with `check` RefusedError for a refusal.
+    """
+    if check and reply.tag == _REFUSED:
+        raise RefusedError(Refusal(reply.refusal))
     return _READERS[reply.tag](reply)
+
+
+def not_entered(answer: int, check: bool) -> Refused:
+    """The refusal of an order, which this answer below 0 stands for. Raises what stands for an
+    error, and with `check` RefusedError.
+    """
+    if answer <= -lib.PYTHON_ERROR:
+        raise error_of(-lib.PYTHON_ERROR - answer)
+    if check:
+        raise RefusedError(Refusal(-answer))
+    return REFUSALS[-answer - 1]
 
 
 def reply_of(record: numpy.void) -> Reply:
@@ -106,21 +171,21 @@ def reply_of(record: numpy.void) -> Reply:
     if not isinstance(record, numpy.void) or record.dtype != REPLY:
         raise TypeError("record must be an element of an array of the dtype REPLY")
     reply = ffi.from_buffer("callauction_reply *", numpy.array(record))
-    in_range = 1 <= reply.tag < len(_READERS) and reply.side < len(SIDES)
-    if not in_range or reply.auction >= len(KINDS) or reply.refusal >= len(REFUSALS):
+    is_reply = 1 <= reply.tag < len(_READERS) and reply.side < len(SIDES)
+    if reply.tag == _UNCROSSED:
+        is_reply &= 1 <= reply.auction <= len(KINDS)
+    if reply.tag == _REFUSED:
+        is_reply &= 1 <= reply.refusal <= len(REFUSALS)
+    if not is_reply:
         raise ValueError("record is no reply of an auction")
-    found = read(reply)
-    if found is None or isinstance(found, Uncrossed) and found.auction is None:
-        raise ValueError("record is no reply of an auction")
+    found: Reply = read(reply)
     return found
 
 
 # ---- the numbers of a command
 
-BITS = {"quantity": 64, "peak": 64, "id": 32, "number": 32, "limit": 32, "member": 8}
-"""The numbers of a command that a caller gives, with their sizes."""
-TERMS = ("quantity", "peak", "id", "limit", "member")
-"""Those at the begin of the struct of an entry or a change, in its order."""
+BITS = {"quantity": 64, "peak": 64, "id": 32, "number": 32, "limit": 32, "member": 8, "has": 8}
+"""The numbers of a command that the library takes, with their sizes."""
 
 
 def number(name: str, value: object, most: int) -> int:
@@ -136,14 +201,20 @@ def number(name: str, value: object, most: int) -> int:
     return found
 
 
-def fault_of(names: tuple[str, ...], numbers: tuple[Any, ...]) -> Exception:
-    """The first fault of the numbers of these names, of which some don't fit a command struct."""
-    for name, value in zip(names, numbers):
-        try:
-            number(name, value, (1 << BITS[name]) - 1)
-        except (TypeError, ValueError) as fault:
-            return fault
-    return ValueError("an argument has one value and then another")
+def numbers(names: tuple[str, ...], values: tuple[Any, ...]) -> tuple[int, ...]:
+    """The integers that the values of these arguments of a command are. Raises TypeError or
+    ValueError for the first that is none, or that the library's number can't hold.
+    """
+    return tuple(number(name, it, (1 << BITS[name]) - 1) for name, it in zip(names, values))
+
+
+def fault_of(names: tuple[str, ...], values: tuple[Any, ...]) -> Exception:
+    """The first fault of the values of these arguments of a command, of which one doesn't fit."""
+    try:
+        numbers(names, values)
+    except (TypeError, ValueError) as fault:
+        return fault
+    return OverflowError("an argument doesn't fit the library's number")
 
 
 def member_of(name: str, value: object, enumeration: type) -> None:

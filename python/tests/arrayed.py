@@ -2,6 +2,7 @@
 import callauction as words
 import numpy
 from callauction import CommandTag
+from callauction.arrays import Structs
 
 TAGS = {
     words.Enter: CommandTag.ENTER,
@@ -14,7 +15,7 @@ TAGS = {
 }
 
 
-def array_of(commands: list[tuple[int, words.Command]]) -> numpy.ndarray:
+def array_of(commands: list[tuple[int, words.Command]]) -> Structs:
     """These members' commands as an array of COMMAND."""
     found = numpy.zeros(len(commands), words.COMMAND)
     for row, (member, command) in zip(found, commands):

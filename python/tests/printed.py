@@ -1,6 +1,7 @@
 """Order files as commands, and replies as the lines of docs/FORMATS.md."""
 import sys
 from pathlib import Path
+from typing import Any
 
 import callauction as words
 from callauction import Auction
@@ -87,9 +88,13 @@ def text_of(reply: words.Reply) -> str:
     raise TypeError(type(reply))
 
 
-def opened(options: dict[str, int | None]) -> Auction:
+Options = dict[str, int | None]
+"""Options of the program with their values, None for one that wasn't given."""
+
+
+def opened(options: Options) -> Auction:
     """An auction of the program's options."""
-    given = {name: value for name, value in options.items() if name != "members"}
+    given: dict[str, Any] = {name: it for name, it in options.items() if name != "members"}
     given["max_open"], given["max_calls"] = given.pop("open"), given.pop("calls")
     return Auction(**given)
 

@@ -1,10 +1,12 @@
 """Wrong types and numbers out of range: the argument is named, and nothing is changed."""
 import decimal
 import fractions
+from collections.abc import Callable
+from typing import Any
 
 import numpy
 import pytest
-from callauction import Auction, BusyError, ClosedError, Entered, For, NoPrice, Side
+from callauction import Auction, ClosedError, Entered, For, NoPrice, Side
 
 BID = Side.BID
 NO_INTEGERS = [
@@ -22,7 +24,8 @@ NO_INTEGERS = [
     numpy.array([5, 6]),
 ]
 
-CALLS = [
+Call = Callable[[Auction, Any], object]
+CALLS: list[tuple[str, int, Call]] = [
     ("member", 2**8, lambda a, value: a.enter(value, BID, 1)),
     ("quantity", 2**64, lambda a, value: a.enter(1, BID, value)),
     ("limit", 2**32, lambda a, value: a.enter(1, BID, 1, value)),
@@ -50,7 +53,7 @@ CALLS = [
 MAY_BE_NONE = {"limit", "peak", "range"}
 
 
-def fails(fault: type[Exception], name: str, call, value: object) -> None:
+def fails(fault: type[Exception], name: str, call: Call, value: object) -> None:
     """This call with this value raises the fault, which begins with the argument's name, and
     changes nothing.
     """
@@ -62,27 +65,34 @@ def fails(fault: type[Exception], name: str, call, value: object) -> None:
 
 
 @pytest.mark.parametrize("name, beyond, call", CALLS)
-def test_no_integer(name, beyond, call) -> None:
+def test_no_integer(name: str, beyond: int, call: Call) -> None:
     for value in NO_INTEGERS:
         if value is not None or name not in MAY_BE_NONE:
             fails(TypeError, name, call, value)
 
 
 @pytest.mark.parametrize("name, beyond, call", CALLS)
-def test_out_of_range(name, beyond, call) -> None:
+def test_out_of_range(name: str, beyond: int, call: Call) -> None:
     for value in (-1, beyond, 2**100, -(2**100), numpy.int64(-1)):
         fails(ValueError, name, call, value)
 
 
 def test_integers_of_numpy_are_integers() -> None:
-    with Auction(low=numpy.int64(3), max_open=numpy.uint16(7)) as auction:
-        entered = auction.enter(numpy.uint8(1), BID, numpy.int32(5), numpy.uint64(9))
+    low, open_orders, member, quantity, limit = (
+        numpy.int64(3),
+        numpy.uint16(7),
+        numpy.uint8(1),
+        numpy.int32(5),
+        numpy.uint64(9),
+    )
+    with Auction(low=low, max_open=open_orders) as auction:  # type: ignore[arg-type]
+        entered = auction.enter(member, BID, quantity, limit)  # type: ignore[arg-type]
         assert entered == Entered(1)
         assert auction.display() == NoPrice(9, None)
 
 
 @pytest.mark.parametrize("side", [1, "bid", None, For.OPENING])
-def test_no_side(side) -> None:
+def test_no_side(side: object) -> None:
     fails(TypeError, "side", lambda auction, value: auction.enter(1, value, 1), side)
 
 
@@ -91,12 +101,12 @@ def test_a_side_that_no_order_has() -> None:
 
 
 @pytest.mark.parametrize("only", [1, "opening", None, BID])
-def test_no_auctions(only) -> None:
+def test_no_auctions(only: object) -> None:
     fails(TypeError, "only", lambda auction, value: auction.enter(1, BID, 1, only=value), only)
 
 
 @pytest.mark.parametrize("command", [None, "ask", 5, {}, Auction, object()])
-def test_no_command(command) -> None:
+def test_no_command(command: object) -> None:
     fails(TypeError, "command", lambda auction, value: auction.apply(1, value), command)
 
 
@@ -145,13 +155,21 @@ class Changing:
 
 
 class Calling:
-    """An integer that calls the auction, when it is asked for."""
+    """An integer that enters an order, when it is asked for."""
 
     def __init__(self, auction: Auction) -> None:
         self.auction = auction
 
     def __index__(self) -> int:
         self.auction.enter(1, BID, 1, 1)
+        return 5
+
+
+class Closing(Calling):
+    """An integer that closes the auction, when it is asked for."""
+
+    def __index__(self) -> int:
+        self.auction.close()
         return 5
 
 
@@ -166,12 +184,13 @@ def test_strange_integers() -> None:
     with Auction() as auction:
         with pytest.raises(ValueError):
             auction.enter(1, BID, Changing())  # type: ignore[arg-type]
-        with pytest.raises(BusyError):
-            auction.enter(1, BID, Calling(auction))  # type: ignore[arg-type]
         with pytest.raises(KeyError):
             auction.enter(1, BID, Failing())  # type: ignore[arg-type]
         assert auction.calls == 0
-        assert auction.enter(1, BID, 1) == Entered(1)
+        # What an argument does when it is asked for comes before the call.
+        assert auction.enter(1, BID, Calling(auction)) == Entered(2)  # type: ignore[arg-type]
+        with pytest.raises(ClosedError):
+            auction.enter(1, BID, Closing(auction))  # type: ignore[arg-type]
 
 
 def test_an_object_that_was_never_opened() -> None:

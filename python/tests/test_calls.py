@@ -1,6 +1,7 @@
 """Each call of an auction, with worked results, and every refusal."""
 import copy
 import pickle
+from collections.abc import Callable
 
 import numpy
 import pytest
@@ -9,6 +10,7 @@ from callauction import (
     Auction,
     Change,
     Changed,
+    Command,
     Config,
     Delete,
     Deleted,
@@ -105,7 +107,8 @@ def after_the_opening() -> Auction:
     return auction
 
 
-REFUSED = [
+Opening = Callable[[], Auction]
+REFUSED: list[tuple[Opening, int, Command, Refusal]] = [
     (Auction, 1, Enter(BID, 0, 5), Refusal.BAD_QUANTITY),
     (Auction, 1, Enter(BID, 1_000_000_001, 5), Refusal.BAD_QUANTITY),
     (Auction, 1, Enter(BID, 2**64 - 1, 5), Refusal.BAD_QUANTITY),
@@ -138,7 +141,9 @@ REFUSED = [
 
 
 @pytest.mark.parametrize("opened, member, command, refusal", REFUSED)
-def test_each_refusal_is_a_value(opened, member, command, refusal) -> None:
+def test_each_refusal_is_a_value(
+    opened: Opening, member: int, command: Command, refusal: Refusal
+) -> None:
     with opened() as auction:
         calls, ladder, shown = auction.calls, auction.ladder(), auction.display()
         assert auction.apply(member, command) == Refused(refusal)
@@ -148,7 +153,9 @@ def test_each_refusal_is_a_value(opened, member, command, refusal) -> None:
 
 
 @pytest.mark.parametrize("opened, member, command, refusal", REFUSED)
-def test_each_refusal_is_raised_with_check(opened, member, command, refusal) -> None:
+def test_each_refusal_is_raised_with_check(
+    opened: Opening, member: int, command: Command, refusal: Refusal
+) -> None:
     with opened() as auction:
         calls = auction.calls
         with pytest.raises(RefusedError, match=f"refused {refusal.value} {refusal.name}") as raised:
@@ -163,7 +170,7 @@ def test_each_refusal_stands_in_the_list() -> None:
 
 def test_every_method_raises_with_check() -> None:
     with ended() as auction:
-        for call in (
+        calls: list[Callable[[], object]] = [
             lambda: auction.enter(1, BID, 1, check=True),
             lambda: auction.change(1, 1, 1, check=True),
             lambda: auction.delete(1, 1, check=True),
@@ -171,7 +178,8 @@ def test_every_method_raises_with_check() -> None:
             lambda: auction.ask(1, check=True),
             lambda: auction.trade(1, 1, check=True),
             lambda: auction.uncross(check=True),
-        ):
+        ]
+        for call in calls:
             with pytest.raises(RefusedError):
                 call()
 
@@ -233,7 +241,7 @@ def test_a_full_auction_raises_and_stays() -> None:
 
 
 @pytest.mark.parametrize("copied", [Auction.copy, copy.copy, copy.deepcopy])
-def test_a_copy_stands_by_itself(copied) -> None:
+def test_a_copy_stands_by_itself(copied: Callable[[Auction], Auction]) -> None:
     with Auction() as auction:
         auction.enter(1, BID, 5, 100)
         with copied(auction) as other:

@@ -1,27 +1,32 @@
-"""Whole days: the example files, and random ones beside the rules."""
+"""Whole days: the example files, and random ones beside the rules and beside the program."""
+import os
+import subprocess
 from pathlib import Path
 
 import pytest
 from arrayed import array_of
-from callauction import Auction, reply_of
-from printed import TOP, commands_of, lines_of, opened, text_of
+from callauction import Auction, Traded, reply_of
+from printed import TOP, Options, commands_of, lines_of, opened, text_of
 
 import plain_auction
 import random_orders
 from plain_files import FileFault
 
 EXAMPLES = sorted((TOP / "examples").glob("*.csv"))
+PROGRAM = os.environ.get("CALLBOARD")
+"""The program that random files are given to, where python/test was told one."""
 
 
-def options_of(file: Path) -> dict[str, int | None]:
+def options_of(file: Path) -> Options:
     """The options that an example is run with."""
     beside = file.with_suffix(".args")
     given = beside.read_text(encoding="utf-8").split() if beside.exists() else []
     named = {name.removeprefix("--"): int(value) for name, value in zip(given[::2], given[1::2])}
-    return plain_auction.DEFAULTS | named
+    defaults: Options = plain_auction.DEFAULTS
+    return defaults | named
 
 
-def ways(options: dict[str, int | None], text: str) -> list[list[str]]:
+def ways(options: Options, text: str) -> list[list[str]]:
     """The lines of a file, by calls, at once by an array after a reset, and in a copy from its
     middle on.
     """
@@ -42,14 +47,21 @@ def test_there_are_examples() -> None:
     assert len(EXAMPLES) > 20
 
 
-@pytest.mark.parametrize("file", EXAMPLES, ids=lambda file: file.stem)
+@pytest.mark.parametrize("file", EXAMPLES, ids=[file.stem for file in EXAMPLES])
 def test_each_example_gives_its_lines(file: Path) -> None:
     wanted = file.with_suffix(".txt").read_text(encoding="utf-8").splitlines()
     assert ways(options_of(file), file.read_text(encoding="utf-8")) == [wanted, wanted]
 
 
+def program_lines(program: str, options: Options, text: str) -> list[str]:
+    """What the program prints for an order file."""
+    words = [program, *random_orders.option_words(options)]
+    ran = subprocess.run(words, input=text, capture_output=True, text=True, check=True, timeout=60)
+    return ran.stdout.splitlines()
+
+
 @pytest.mark.parametrize("kind, seeds", [("short", range(400)), ("long", range(12))])
-def test_random_days_agree_with_the_rules(kind: str, seeds: range) -> None:
+def test_random_days_agree_with_the_rules_and_the_program(kind: str, seeds: range) -> None:
     played = 0
     for seed in seeds:
         options, text = random_orders.order_file(kind, seed)
@@ -58,6 +70,8 @@ def test_random_days_agree_with_the_rules(kind: str, seeds: range) -> None:
         except FileFault:
             continue  # one command more than `calls`: the program runs none
         assert ways(options, text) == [wanted, wanted], f"{kind} {seed}"
+        if PROGRAM:
+            assert program_lines(PROGRAM, options, text) == wanted, f"{kind} {seed}"
         played += 1
     assert played > 0.9 * len(seeds)
 
@@ -69,8 +83,7 @@ def test_the_tape_is_that_of_the_trades_asked_for() -> None:
         tape = auction.trades()
         asked = [] if auction.is_full else [auction.trade(1, k) for k in range(1, len(tape) + 1)]
     for trade, row in zip(asked, tape):
-        wanted = {name: getattr(trade, name) for name in tape.dtype.names}
-        assert {name: row[name] for name in tape.dtype.names} == wanted
+        assert trade == Traded(*(int(row[name]) for name in ("bid", "ask", "quantity", "tick")))
 
 
 def test_an_auction_of_one_tick() -> None:

@@ -1,4 +1,7 @@
 """Arrays of commands: agreement with single calls, garbage, and arrays that are refused."""
+from collections.abc import Callable
+from typing import Any
+
 import callauction as words
 import hypothesis
 import numpy
@@ -11,18 +14,26 @@ from callauction import (
     CommandTag,
     FullError,
     NoCommandError,
+    NotAppliedError,
     Side,
     reply_of,
 )
+from callauction.arrays import Structs
 from hypothesis import strategies
 
 BID, ASK = Side.BID, Side.ASK
 SHORT = hypothesis.settings(max_examples=300, deadline=None, database=None)
 
 
-def some(count: int) -> numpy.ndarray:
+def some(count: int) -> Structs:
     """So many orders of member 1."""
     return array_of([(1, words.Enter(BID, 5, 1 + place % 1000)) for place in range(count)])
+
+
+def replied(error: NotAppliedError) -> Structs:
+    """The replies before the error, which there are where an array was given."""
+    assert error.replies is not None
+    return error.replies
 
 
 def test_many() -> None:
@@ -72,7 +83,7 @@ def test_the_first_struct_of_no_command_ends_it() -> None:
         with pytest.raises(NoCommandError, match="^command 3: ") as raised:
             auction.apply_many(commands, replies)
         assert raised.value.applied == 3
-        assert raised.value.replies["id"].tolist() == [1, 2, 3]
+        assert replied(raised.value)["id"].tolist() == [1, 2, 3]
         assert replies["id"].tolist() == [1, 2, 3, 0, 0]
         assert isinstance(raised.value, ValueError)
         assert auction.calls == 3
@@ -83,19 +94,19 @@ def test_a_full_auction_ends_it() -> None:
         with pytest.raises(FullError, match="^command 4: ") as raised:
             auction.apply_many(some(6))
         assert raised.value.applied == 4
-        assert raised.value.replies["id"].tolist() == [1, 2, 3, 4]
+        assert replied(raised.value)["id"].tolist() == [1, 2, 3, 4]
         with pytest.raises(FullError) as raised:
             auction.apply_many(some(1))
-        assert raised.value.applied == 0 and len(raised.value.replies) == 0
+        assert raised.value.applied == 0 and len(replied(raised.value)) == 0
 
 
 def test_arrays_of_another_kind() -> None:
     unaligned = numpy.zeros(3 * 32 + 1, "u1")[1:].view(COMMAND)
-    packed = numpy.dtype([(name, COMMAND[name]) for name in COMMAND.names])
+    packed = numpy.dtype([(name, COMMAND[name]) for name in COMMAND.names or ()])
     swapped = COMMAND.newbyteorder()
     fixed = numpy.zeros(3, REPLY)
     fixed.flags.writeable = False
-    for fault, name, given in [
+    bad: list[tuple[type[Exception], str, list[Any]]] = [
         (TypeError, "commands", [[1, 2]]),
         (TypeError, "commands", [None]),
         (TypeError, "commands", [bytes(32)]),
@@ -114,7 +125,8 @@ def test_arrays_of_another_kind() -> None:
         (ValueError, "replies", [some(3), numpy.zeros(2, REPLY)]),
         (ValueError, "replies", [some(3), numpy.zeros(4, REPLY)]),
         (ValueError, "replies", [some(3), numpy.zeros(6, REPLY)[::2]]),
-    ]:
+    ]
+    for fault, name, given in bad:
         with Auction() as auction:
             with pytest.raises(fault, match=f"^{name} must "):
                 auction.apply_many(*given)
@@ -148,6 +160,13 @@ def limit_of(row: numpy.void) -> int | None:
     return int(row["limit"]) if row["has_limit"] else None
 
 
+OF_AN_ID: dict[CommandTag, Callable[[int], words.Command]] = {
+    CommandTag.DELETE: words.Delete,
+    CommandTag.STATUS: words.Status,
+    CommandTag.TRADE: words.Trade,
+}
+
+
 def command_in(row: numpy.void) -> words.Command | None:
     """The command that a struct stands for, by the header, or None."""
     tag, has_limit = int(row["tag"]), int(row["has_limit"])
@@ -162,23 +181,27 @@ def command_in(row: numpy.void) -> words.Command | None:
             return None
         return words.Change(int(row["id"]), int(row["quantity"]), limit_of(row))
     if tag in (CommandTag.DELETE, CommandTag.STATUS, CommandTag.TRADE):
-        kind = {3: words.Delete, 4: words.Status, 6: words.Trade}[tag]
-        return kind(int(row["id"]))
-    return {5: words.Ask(), 7: words.Uncross()}.get(tag)
+        return OF_AN_ID[CommandTag(tag)](int(row["id"]))
+    return words.Ask() if tag == CommandTag.ASK else words.Uncross() if tag == 7 else None
 
 
-def agrees(commands: numpy.ndarray) -> None:
+def agrees(commands: Structs) -> None:
     """An array does what its commands do one by one, up to the first that is none."""
-    given = [(int(row["member"]), command_in(row)) for row in commands]
-    applied = next((place for place, (_, command) in enumerate(given) if not command), len(given))
+    given: list[tuple[int, words.Command]] = []
+    for row in commands:
+        command = command_in(row)
+        if command is None:
+            break
+        given.append((int(row["member"]), command))
+    applied = len(given)
     with Auction(max_open=4, range=3) as auction, auction.copy() as other:
         try:
             replies = auction.apply_many(commands)
             assert applied == len(commands)
         except NoCommandError as error:
             assert error.applied == applied < len(commands)
-            replies = error.replies
-        wanted = [other.apply(member, command) for member, command in given[:applied]]
+            replies = replied(error)
+        wanted = [other.apply(member, command) for member, command in given]
         assert [reply_of(reply) for reply in replies] == wanted
         assert auction.calls == other.calls == applied
         assert numpy.array_equal(auction.ladder(), other.ladder())
@@ -242,10 +265,19 @@ ANYTHING = strategies.one_of(
 @hypothesis.given(strategies.lists(ANYTHING, min_size=6, max_size=6))
 def test_any_arguments_are_answered_or_raise(given: list[object]) -> None:
     with Auction() as auction:
-        counts = {auction.enter: 6, auction.change: 4, auction.trade: 2, auction.apply: 2}
-        for call, count in counts.items():
+        calls: list[tuple[Any, int]] = [
+            (auction.enter, 6),
+            (auction.change, 4),
+            (auction.delete, 2),
+            (auction.status, 2),
+            (auction.ask, 1),
+            (auction.trade, 2),
+            (auction.uncross, 1),
+            (auction.apply, 2),
+        ]
+        for call, count in calls:
             try:
                 call(*given[:count])
             except (TypeError, ValueError):
                 pass
-        assert isinstance(auction.enter(1, BID, 1), words.Entered)
+        assert isinstance(auction.enter(1, BID, 1), words.Entered | words.Refused)

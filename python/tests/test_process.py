@@ -8,6 +8,7 @@ import sys
 import threading
 import time
 import weakref
+from collections.abc import Callable
 
 import callauction
 import numpy
@@ -20,13 +21,18 @@ from callauction import (
     ClosedError,
     Enter,
     Entered,
+    Kind,
     NoPrice,
     Price,
     Side,
+    Standing,
+    Uncrossed,
 )
+from callauction.arrays import Structs
 
 BID, ASK = Side.BID, Side.ASK
-CALLS = [
+Call = Callable[[Auction], object]
+CALLS: list[Call] = [
     lambda auction: auction.enter(1, BID, 1),
     lambda auction: auction.change(1, 1, 1),
     lambda auction: auction.delete(1, 1),
@@ -50,7 +56,7 @@ CALLS = [
 
 
 @pytest.mark.parametrize("call", CALLS)
-def test_a_closed_auction_raises(call) -> None:
+def test_a_closed_auction_raises(call: Call) -> None:
     with Auction() as auction:
         assert not auction.is_closed
     assert auction.is_closed
@@ -112,7 +118,7 @@ def refused() -> None:
 
 
 @pytest.mark.parametrize("use, count", [(closed, 100_000), (dropped, 50_000), (refused, 20_000)])
-def test_auctions_leave_nothing(use, count: int) -> None:
+def test_auctions_leave_nothing(use: Callable[[], None], count: int) -> None:
     for _ in range(1000):
         use()
     gc.collect()
@@ -148,12 +154,17 @@ def test_a_dropped_auction_is_gone() -> None:
     assert seen() is None
 
 
+def large() -> Auction:
+    return Auction(max_open=65_536, max_calls=1_048_576)
+
+
 def starved(auction: Auction) -> str:
     """What an opening and a copy raise in a process that gets 4 MiB more, and what still goes."""
     pages = int(open("/proc/self/statm", encoding="ascii").read().split()[0])
     room = pages * resource.getpagesize() + (4 << 20)
     resource.setrlimit(resource.RLIMIT_AS, (room, room))
-    for wanting in (auction.copy, lambda: Auction(max_open=65_536, max_calls=1_048_576)):
+    wantings: list[Callable[[], Auction]] = [auction.copy, large]
+    for wanting in wantings:
         try:
             wanting()
         except MemoryError as error:
@@ -165,14 +176,14 @@ def starved(auction: Auction) -> str:
 
 
 def test_want_of_memory_raises() -> None:
-    with Auction(max_open=65_536, max_calls=1_048_576) as auction:
+    with large() as auction:
         assert in_child(lambda: starved(auction)) == "NoPrice(best_bid=None, best_ask=None)"
 
 
 # ---- forks and threads
 
 
-def in_child(say) -> str:
+def in_child(say: Callable[[], str]) -> str:
     """What this says in a child of the process."""
     reading, writing = os.pipe()
     child = os.fork()
@@ -194,11 +205,12 @@ def test_a_fork_has_an_auction_of_its_own() -> None:
 
         def say() -> str:
             auction.enter(1, ASK, 5, 90)
-            said = f"{auction.calls} {auction.uncross().trades}"
+            said = f"{auction.calls} {auction.uncross()}"
             auction.close()
             return said
 
-        assert in_child(say) == "2 1"
+        price = Price(100, 5, 0, Side.NONE)  # the reference, 200, lies above 90 and 100
+        assert in_child(say) == f"2 {Uncrossed(Kind.OPENING, price, 1)}"
         assert auction.calls == 1
         assert auction.display() == NoPrice(100, None)
 
@@ -206,7 +218,8 @@ def test_a_fork_has_an_auction_of_its_own() -> None:
 def day(seed: int) -> tuple[list[int], object]:
     """The ids and the display of a day of its own."""
     with Auction(low=1, high=1000 + seed) as auction:
-        ids = [auction.enter(1, BID, 1 + seed, 1 + k % 500).id for k in range(500)]
+        entered = [auction.enter(1, BID, 1 + seed, 1 + k % 500) for k in range(500)]
+        ids = [reply.id for reply in entered if isinstance(reply, Entered)]
         many = array_of([(2, Enter(ASK, 1, 1000 - k % 400)) for k in range(1500)])
         ids += auction.apply_many(many)["id"].tolist()
         auction.enter(3, ASK, 1, 500)
@@ -221,14 +234,14 @@ def test_a_pool_of_threads_with_an_auction_each() -> None:
     assert found[0][1] == Price(500, 1, 0, Side.NONE)
 
 
-def million() -> numpy.ndarray:
+def million() -> Structs:
     """A million questions, which take some tens of milliseconds."""
     commands = numpy.zeros(1_000_000, callauction.COMMAND)
     commands["tag"] = callauction.CommandTag.ASK
     return commands
 
 
-def turns_meanwhile(auction: Auction, commands: numpy.ndarray) -> tuple[int, int]:
+def turns_meanwhile(auction: Auction, commands: Structs) -> tuple[int, int]:
     """While a thread applies these commands: how often another auction was called, and how often
     a call of this one raised BusyError.
     """
@@ -238,7 +251,7 @@ def turns_meanwhile(auction: Auction, commands: numpy.ndarray) -> tuple[int, int
         thread.start()
         while thread.is_alive():
             turns += isinstance(other.display(), NoPrice)
-            if not auction._idle:
+            if auction._own.is_busy_:
                 try:
                     auction.is_full
                 except BusyError:
@@ -262,12 +275,12 @@ def test_other_threads_go_on_meanwhile_and_a_second_call_raises() -> None:
 
 
 @pytest.mark.parametrize("call", [*CALLS, Auction.close, lambda auction: auction.is_closed])
-def test_a_second_call_raises(call) -> None:
+def test_a_second_call_raises(call: Call) -> None:
     with Auction() as auction:
-        own = auction._idle.pop()  # as a running call does
+        auction._own.is_busy_ = True  # as a running call sets it
         with pytest.raises(BusyError):
             call(auction)
-        auction._idle.append(own)
+        auction._own.is_busy_ = False
         assert auction.calls == 0
 
 
@@ -282,7 +295,7 @@ def test_threads_that_share_one_never_mix_their_calls() -> None:
                     entered = auction.enter(member, BID, member, member)
                     if isinstance(entered, Entered):
                         standing = auction.status(member, entered.id)
-                        if (standing.limit, standing.quantity) != (member, member):
+                        if standing != Standing(BID, member, member, member):
                             faults.append(standing)
                         auction.delete(member, entered.id)
                 except BusyError:
