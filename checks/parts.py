@@ -44,6 +44,7 @@ class Part:
 COMPARE = "checks/compare --fresh --short 480 --long 20"
 FROM_C = f"library/test --library {LIBRARY} --short 980 --long 20 --opens 100000"
 FROM_PYTHON = f"python/test --library {LIBRARY} --program {PROGRAM}"
+REPORT = f"checks/report {LIBRARY} {PROGRAM}"
 PARTS = [
     Part("layout", "columns, names of files and lemmas, limits by their names", "checks/layout"),
     Part("edits", "wrong bodies fit their files and are listed", "checks/wrong-bodies --fit"),
@@ -59,14 +60,28 @@ PARTS = [
         "the package for Python: types, tests",
         FROM_PYTHON,
         "cc",
-        "cffi numpy Python.h pytest hypothesis mypy",
+        "cffi numpy Python.h pytest hypothesis mypy pandas matplotlib tqdm nbclient ipykernel",
     ),
-    Part("market", "a market on workers of Dask", f"checks/market {PROGRAM}"),
+    Part(
+        "report",
+        "reports of days, as a browser has them",
+        REPORT,
+        "cc chromium",
+        "cffi numpy Python.h pandas matplotlib tqdm",
+    ),
+    Part(
+        "market",
+        "a market on workers of Dask",
+        f"checks/market {PROGRAM}",
+        "",
+        "distributed dask pandas psutil pytest tqdm",
+    ),
 ]
 PACKAGES = {
     "ar": "binutils",
     "bash": "bash",
     "cc": "gcc and libc6-dev",
+    "chromium": "chromium",
     "clang": "clang",
     "g++": "g++",
     "gcc": "gcc and libc6-dev",

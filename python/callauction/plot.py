@@ -7,6 +7,7 @@ from typing import Any, Protocol
 import matplotlib.pyplot as pyplot
 import pandas
 from matplotlib.axes import Axes
+from matplotlib.patches import StepPatch
 from matplotlib.ticker import FuncFormatter, MaxNLocator
 
 from callauction.course import INTERRUPTED, Course, course_of
@@ -19,6 +20,8 @@ SIZE = (6.0, 4.4)
 """The inches of a new figure."""
 MOST_DRAWN = 2_000
 """More levels than these are drawn as points of a picture, in place of shapes each."""
+MOST_MARKED = 100
+"""Calls of a day of no more have a mark each."""
 
 
 class HasBook(Protocol):
@@ -64,7 +67,6 @@ def book(
         axes.axvline(reference, color=REFERENCE, linestyle=":", label=f"reference {reference}")
     _label(axes, found, levels)
     axes.set_xlim(*ends)
-    axes.set_ylim(bottom=0)
     return axes
 
 
@@ -101,30 +103,30 @@ def _draw_curves(
         _numbers(levels["volume"]),
         color=VOLUME,
         alpha=0.5,
-        linewidth=min(5.0, 300 / (len(levels) or 1)) if not is_fine else 0.5,
+        linewidth=max(1.0, min(5.0, 300 / (len(levels) or 1))),
         rasterized=is_fine,
         label="executable volume",
     )
     # The demand at a limit holds from the limit below on, the supply up to the limit above.
-    axes.stairs(
-        [*_numbers(levels["demand"]), market["bid"]],
-        [low, *(ticks + 0.5), high],
-        baseline=None,
-        color=DEMAND,
-        linewidth=1.8,
-        rasterized=is_fine,
-        label="demand",
-    )
-    axes.stairs(
-        [market["ask"], *_numbers(levels["supply"])],
-        [low, *(ticks - 0.5), high],
-        baseline=None,
-        color=SUPPLY,
-        linewidth=1.8,
-        linestyle="--",
-        rasterized=is_fine,
-        label="supply",
-    )
+    demand = [*_numbers(levels["demand"]), int(market["bid"])]
+    supply = [int(market["ask"]), *_numbers(levels["supply"])]
+    for name, shares, steps, color, line in (
+        ("demand", demand, ticks + 0.5, DEMAND, "-"),
+        ("supply", supply, ticks - 0.5, SUPPLY, "--"),
+    ):
+        patch = StepPatch(
+            shares,
+            [low, *steps, high],
+            baseline=None,
+            fill=False,
+            edgecolor=color,
+            linestyle=line,
+            linewidth=1.8,
+            rasterized=is_fine,
+            label=name,
+        )
+        axes.add_artist(patch)
+    axes.set_ylim(0, 1.06 * max(*demand, *supply, 1))
 
 
 def _draw_best(axes: Axes, levels: pandas.DataFrame) -> None:
@@ -196,7 +198,8 @@ def indicative(
         label="indicative volume",
     )
     prices = shown["price"].astype("float64").to_numpy()
-    axes.step(calls, prices, where="post", color=DEMAND, marker=".", label="indicative price")
+    mark = "." if len(shown) <= MOST_MARKED else ""
+    axes.step(calls, prices, where="post", color=DEMAND, marker=mark, label="indicative price")
     _draw_uncrosses(axes, course.uncrosses)
     _label_course(axes, volume_axes)
     return axes, volume_axes

@@ -33,10 +33,11 @@ a { color: #00548a; }
 .wide { overflow-x: auto; } .wide:focus-visible { outline: 3px solid #00548a; }
 table { border-collapse: collapse; font-variant-numeric: tabular-nums; margin: 1rem 0; }
 caption { text-align: left; font-weight: 600; padding-bottom: .3rem; }
+caption span { display: inline-block; max-width: calc(100vw - 2.5rem); }
 th, td { padding: .2rem .6rem; border-bottom: 1px solid #ccc; text-align: right; }
 thead th { border-bottom: 2px solid #1a1a1a; } th { font-weight: 600; }
 .text { text-align: left; } tr.price > * { background: #e3f1ea; }
-figure { margin: 1rem 0; } img { width: 100%; max-width: 40rem; height: auto; }
+figure { margin: 1rem 0; } img { width: 100%; max-width: 36rem; height: auto; }
 .good { border-left: .4rem solid #00735a; padding-left: .6rem; }
 .bad { border-left: .4rem solid #b03a00; padding-left: .6rem; }
 @media (max-width: 36rem) { body { padding: .6rem; font-size: .95rem; }
@@ -47,8 +48,8 @@ figure { margin: 1rem 0; } img { width: 100%; max-width: 40rem; height: auto; }
   figure, tr, ol, .good, .bad { break-inside: avoid; } h2, h3, caption { break-after: avoid; }
   thead { display: table-header-group; } img { max-width: 13cm; } }
 """
-TEXTS = ("auction", "side", "price", "command", "reply", "recorded", "lawful", "number", "what")
-"""Columns of words, which stand to the left."""
+SIZE = (5.0, 4.2)
+"""The inches of a picture, whose texts are still readable on a telephone."""
 
 
 def html_of(day: Day, title: str = "A day of call auctions", watch: Watch = iter) -> str:
@@ -166,11 +167,12 @@ def _caption(rows: pandas.DataFrame, name: str) -> str:
 
 
 def _near_price(book: pandas.DataFrame) -> pandas.DataFrame:
-    """The market orders and the rows nearest to the price, or to where bids and asks part; with
+    """The market orders and the rows nearest to the price, or to where demand and supply part; with
     words for what is missing.
     """
     levels = book[1:]
-    centers = levels.index[(levels["price"] != "") | (levels["bid"] > levels["ask"])]
+    priced = levels.index[levels["price"] != ""]
+    centers = priced if len(priced) else levels.index[levels["demand"] >= levels["supply"]]
     center = centers[0] if len(centers) else 1
     first = max(1, min(center - MOST_ROWS // 2, len(book) - MOST_ROWS + 1))
     shown = pandas.concat([book[:1], book[first : first + MOST_ROWS - 1]])
@@ -183,33 +185,34 @@ def _table(frame: pandas.DataFrame, caption: str, name: str) -> str:
     """A table with a caption, whose first column heads its rows; wide ones scroll."""
     more = f" (the first {MOST_ROWS} of {len(frame):,})" if len(frame) > MOST_ROWS else ""
     columns = [str(column) for column in frame.columns]
-    heads = "".join(f'<th scope="col"{_kind(name)}>{name}</th>' for name in columns)
-    rows = "".join(_row(columns, row) for row in frame[:MOST_ROWS].itertuples(index=False))
+    kinds = [_kind(frame[name]) for name in frame]
+    heads = "".join(f'<th scope="col"{kind}>{name}</th>' for name, kind in zip(columns, kinds))
+    rows = "".join(_row(columns, kinds, row) for row in frame[:MOST_ROWS].itertuples(index=False))
     label = html.escape(caption + more)
     return (
         f'<div class="wide" role="region" tabindex="0" aria-label="{label}"><table id="{name}">'
-        f"<caption>{label}</caption><thead><tr>{heads}</tr></thead><tbody>{rows}</tbody></table>"
+        f"<caption><span>{label}</span></caption><thead><tr>{heads}</tr></thead><tbody>{rows}</tbody></table>"
         "</div>"
     )
 
 
-def _kind(column: str) -> str:
-    return ' class="text"' if column in TEXTS else ""
+def _kind(column: "pandas.Series") -> str:
+    """Words stand to the left, numbers to the right."""
+    words = {value for value in column if isinstance(value, str) and not value.isdigit()}
+    return ' class="text"' if words - {"", "market", "none"} else ""
 
 
-def _row(columns: Sequence[str], row: Iterable[Any]) -> str:
+def _row(columns: Sequence[str], kinds: Sequence[str], row: Iterable[Any]) -> str:
+    """A row, which is marked where it is the auction price's."""
     first, *others = (html.escape(_told(value)) for value in row)
-    is_price = "best" in columns and others[columns.index("price") - 1] != ""
-    cells = "".join(
-        f"<td{_kind(name)}>{value}</td>" for name, value in zip(columns[1:], others)
-    )
-    head = f'<th scope="row"{_kind(columns[0])}>{first}</th>'
+    is_price = "best" in columns and others[-1] != ""
+    cells = "".join(f"<td{kind}>{value}</td>" for kind, value in zip(kinds[1:], others))
     opening = '<tr class="price">' if is_price else "<tr>"
-    return f"{opening}{head}{cells}</tr>"
+    return f'{opening}<th scope="row"{kinds[0]}>{first}</th>{cells}</tr>'
 
 
 def _figure() -> Figure:
-    return Figure(figsize=plot.SIZE, layout="constrained")
+    return Figure(figsize=SIZE, layout="constrained")
 
 
 def _image(figure: Figure, text: str, name: str) -> str:
