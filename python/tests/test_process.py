@@ -159,14 +159,17 @@ def large() -> Auction:
 
 
 def starved(auction: Auction) -> str:
-    """What an opening and a copy raise in a process that gets 4 MiB more, and what still goes."""
+    """What openings and copies raise in the end in a process that gets 4 MiB more, and what still
+    goes.
+    """
     pages = int(open("/proc/self/statm", encoding="ascii").read().split()[0])
     room = pages * resource.getpagesize() + (4 << 20)
     resource.setrlimit(resource.RLIMIT_AS, (room, room))
     wantings: list[Callable[[], Auction]] = [auction.copy, large]
+    held: list[Auction] = []
     for wanting in wantings:
         try:
-            wanting()
+            held.extend(wanting() for _ in range(1000))
         except MemoryError as error:
             if str(error) != "an auction got no memory":
                 return f"another error: {error}"
