@@ -1,12 +1,12 @@
 -- The command as it is built up.
-use Rattle.std.proofs.Common.{◌≡◌, ◌∙◌, ◌<◌, ◌≤◌, ◌+◌, ℕ, List, [], ◌∷◌, ◌++◌, ap, ap₂, map, take, length, codes, sym, append_assoc, append-nil, slice_index_or}
+use Rattle.std.proofs.Common.{◌≡◌, ◌∙◌, ◌<◌, ◌≤◌, ◌+◌, ℕ, List, [], ◌∷◌, ◌++◌, ap, ap₂, map, take, length, codes, sym, append_assoc, append-nil, slice_index_or, true}
 use Rattle.std.proofs.lemmas.List.{map_more, take_all}
 use Rattle.std.specs.Prelude.{Result, Ok, Err, IfErr, IsErrAnd}
 use Rattle.clap.specs.Values.{kind_of}
 use Rattle.clap.specs.declared.error.Error.{Error}
 use Rattle.clap.specs.declared.error.kind.ErrorKind.TheVariants.{OutOfMemory}
 use Rattle.clap.specs.Walk.{Rule}
-use Rattle.clap.specs.Simple.{App, new_app, with_rule}
+use Rattle.clap.specs.Simple.{App, new_app, on_top, with_rule}
 use Rattle.settings.specs.Options.{callboard, flag, options, word}
 use Rattle.settings.specs.Table.{rule_for, with_rules}
 use Rattle.settings.specs.declared.options.Number.{Number}
@@ -27,13 +27,17 @@ more_rules a b c numbers i n r lt before rule added =
 pub all_rules : (a b : App) (numbers : List Number) (i : ℕ) → length numbers ≤ i → b ≡ with_rules a (map rule_for (take i numbers)) → b ≡ with_rules a (map rule_for numbers)
 all_rules a b numbers i le h = rw take_all at h
 
+-- with a version
+abbrev pub versioned : App → App
+versioned a = on_top (λ top. record top { has_version = true }) a
+
 -- the options in the order of the table, and then the four others
-pub whole : (a b c d e f : App) (numbers : List Number) (floor history print audit : Rule) → a ≡ new_app (codes "callboard") → b ≡ with_rules a (map rule_for numbers)
+pub whole : (a b c d e f : App) (numbers : List Number) (floor history print audit : Rule) → a ≡ versioned (new_app (codes "callboard")) → b ≡ with_rules a (map rule_for numbers)
     → map rule_for numbers ≡ take 7 options → floor ≡ flag (codes "floor") → c ≡ with_rule b floor → history ≡ flag (codes "history") → d ≡ with_rule c history
     → print ≡ word (codes "print") → e ≡ with_rule d print → audit ≡ flag (codes "audit") → f ≡ with_rule e audit → f ≡ callboard
 unfolding callboard
 whole a b c d e f numbers floor history print audit start table rules is_floor more_floor is_history more_history is_print more_print is_audit more_audit =
-    let d_is : d ≡ with_rule (with_rule (with_rules (new_app (codes "callboard")) (take 7 options)) (flag (codes "floor"))) (flag (codes "history")) =
+    let d_is : d ≡ with_rule (with_rule (with_rules (versioned (new_app (codes "callboard"))) (take 7 options)) (flag (codes "floor"))) (flag (codes "history")) =
     more_history ∙ ap₂ with_rule (more_floor ∙ ap₂ with_rule (table ∙ ap₂ with_rules start rules) is_floor) is_history in
     more_audit ∙ ap₂ with_rule (more_print ∙ ap₂ with_rule d_is is_print) is_audit
 

@@ -107,6 +107,11 @@ help : faults (codes "--help" ∷ []) ≡ kind.DisplayHelp ∷ []
 unfolding callboard clap_on_literals
 help = refl
 
+-- the version
+version : faults (codes "--version" ∷ []) ≡ kind.DisplayVersion ∷ []
+unfolding callboard clap_on_literals
+version = refl
+
 -- a form that there is not
 print_nonsense : faults (codes "--print" ∷ codes "nonsense" ∷ []) ≡ kind.InvalidValue ∷ []
 unfolding callboard clap_on_literals

@@ -1,5 +1,5 @@
 -- The options of the command line, as a parse reads them.
-use Rattle.std.specs.Prelude.{ℕ, pos, List, [], ◌∷◌, Option, Some, None, codes}
+use Rattle.std.specs.Prelude.{ℕ, pos, List, [], ◌∷◌, Option, Some, None, codes, true}
 use Rattle.std.specs.Option.{option_map_or}
 use Rattle.auction_terms.specs.declared.limits.TheConstants.{MAX_CALLS, MAX_MEMBERS, MAX_OPEN_ORDERS, MAX_TICK}
 use Rattle.clap.specs.Walk.{Rule, Text}
@@ -49,6 +49,6 @@ options = number (codes "low") 1 MAX_TICK (Some (codes "1"))
     ∷ flag (codes "audit")
     ∷ []
 
--- the command: its name and its options, and no subcommand
+-- the command: its name and its options, a version, and no subcommand
 unfoldable pub callboard : App
-callboard = record { top = record (new_shape (codes "callboard")) { rules = options }; subs = [] }
+callboard = record { top = record (new_shape (codes "callboard")) { rules = options; has_version = true }; subs = [] }

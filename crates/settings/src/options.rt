@@ -13,6 +13,30 @@ use clap::error::ErrorKind;
 use clap::{Arg, ArgAction, Command, Error, value_parser};
 use std::alloc::Global;
 
+/// The version: that of the newest part of CHANGELOG.md.
+const VERSION: &str = "2026.11.24";
+
+const ABOUT: &str =
+    "A call auction for one instrument: reads an order file, or the journal of a recorded day, from \
+    standard input,\nand prints a line for each command's reply. The whole input is read and checked first: a bad one \
+    runs no\ncommand and prints nothing.";
+
+const AFTER_HELP: &str =
+    "Prices are in ticks, quantities in shares. A journal says its day itself: --low to --members \
+    are for order files.
+
+Example:
+  printf '1,enter,bid,500,200\\n2,enter,ask,300,199\\n0,uncross\\n' | callboard
+  1: entered 1
+  2: entered 2
+  3: opening price 200 volume 300 surplus 200 bid trades 1
+
+Formats: the manual page (man callboard) has the records of both files, docs/FORMATS.md of the repository all of
+them, with the faults and what is printed.
+
+Status: 0 done, 1 a bad input, 2 a bad command line or bounds, 3 no memory, a read or a write that failed or a board
+that couldn't be closed, 4 an audit that found a reply that isn't lawful";
+
 /// An option with a number.
 #[derive(Clone, Copy)]
 struct Number {
@@ -27,49 +51,49 @@ struct Number {
 static NUMBERS: [Number; 7] = [
     Number {
         name: "low",
-        help: "The lowest tick",
+        help: "The lowest tick, from 1 to 1000000",
         least: 1,
         most: MAX_TICK,
         default: Some("1"),
     },
     Number {
         name: "high",
-        help: "The highest tick",
+        help: "The highest tick, from 1 to 1000000, at most 65535 above the lowest",
         least: 1,
         most: MAX_TICK,
         default: Some("1000"),
     },
     Number {
         name: "reference",
-        help: "The first reference price",
+        help: "The first reference price, in ticks, from 1 to 1000000",
         least: 1,
         most: MAX_TICK,
         default: Some("200"),
     },
     Number {
         name: "open",
-        help: "How many orders may be open",
+        help: "How many orders may be open at a time, from 1 to 65536",
         least: 1,
         most: MAX_OPEN_ORDERS,
         default: Some("4096"),
     },
     Number {
         name: "calls",
-        help: "How many commands may come",
+        help: "How many commands may come, from 1 to 1048576",
         least: 1,
         most: MAX_CALLS,
         default: Some("65536"),
     },
     Number {
         name: "range",
-        help: "How many ticks a price may lie from the reference without an interruption",
+        help: "How many ticks a price may lie from the reference uninterrupted, from 0 to 1000000",
         least: 0,
         most: MAX_TICK,
         default: None,
     },
     Number {
         name: "members",
-        help: "How many members there are",
+        help: "How many members there are, numbered from 0, from 1 to 64",
         least: 1,
         most: MAX_MEMBERS as u32,
         default: Some("4"),
@@ -121,7 +145,9 @@ fn print_option<'a>(alloc: Global) -> Arg<'a>
     Arg::new(alloc, "print")
         .long("print")
         .value_name("WHAT")
-        .help("What is printed: lines, journal, trades or book [default: lines]")
+        .help(
+            "What is printed: lines, journal (the day), trades (who with whom), book (at each price) [default: lines]",
+        )
         .action(ArgAction::Set)
 }
 
@@ -147,13 +173,26 @@ pub fn callboard<'a>(alloc: Global) -> Result<Command<'a>, Error>
     ensures options { IfOk result (λ c. app_of c ≡ callboard) }
     ensures memory { IfErr result (λ e. kind_of e ≡ ErrorKind.OutOfMemory) }
 {
-    let command = Command::new(alloc, "callboard").about(
-        "A call auction board: reads an order file or a journal, prints a line for each command",
-    );
+    let command = Command::new(alloc, "callboard")
+        .version(VERSION)
+        .about(ABOUT)
+        .after_help(AFTER_HELP);
     let command = with_numbers(alloc, command, NUMBERS.as_slice())?;
-    let floor = flag_option(alloc, "floor", "Run the members at once on a board");
-    let history = flag_option(alloc, "history", "With --floor, print the history too");
+    let floor = flag_option(
+        alloc,
+        "floor",
+        "The members call at once on a board; prints how many calls each made",
+    );
+    let history = flag_option(
+        alloc,
+        "history",
+        "With --floor, prints the board's history too",
+    );
     let print = print_option(alloc);
-    let audit = flag_option(alloc, "audit", "Read a journal and compare its replies");
+    let audit = flag_option(
+        alloc,
+        "audit",
+        "Reads a journal, and tells which recorded replies aren't the lawful ones",
+    );
     Ok(command.arg(floor)?.arg(history)?.arg(print)?.arg(audit)?)
 }

@@ -1,12 +1,12 @@
 use Rattle.std.proofs.Common.{◌∙◌, ap, map}
 use Rattle.clap.specs.Simple.{app_of_fields}
 use Rattle.settings.specs.Table.{rule_for}
-use Rattle.settings.proofs.Built.{memory_only, whole}
+use Rattle.settings.proofs.Built.{memory_only, versioned, whole}
 use Rattle.settings.proofs.options.callboard.Goals as goal
 
 pub returns-clause-options : goal.returns-clause-options
 returns-clause-options c =
-    whole _ _ _ _ _ _ _ _ _ _ _ (ap app_of_fields c.about-command.ensures ∙ c.new.ensures.app) c.in_ok-command.ensures.options (ap (map rule_for) c.as_slice.ensures)
+    whole _ _ _ _ _ _ _ _ _ _ _ (ap app_of_fields c.after_help-command.ensures ∙ ap app_of_fields c.about.ensures ∙ ap app_of_fields c.version.ensures ∙ ap versioned c.new.ensures.app) c.in_ok-command.ensures.options (ap (map rule_for) c.as_slice.ensures)
     c.flag_option-floor.ensures.rule (c.in_ok-arg.ensures.shape c.flag_option-floor.ensures.local)
     c.flag_option-history.ensures.rule (c.in_ok-arg-2.ensures.shape c.flag_option-history.ensures.local)
     c.print_option-print.ensures.rule (c.in_ok-arg-3.ensures.shape c.print_option-print.ensures.local)
