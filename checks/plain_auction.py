@@ -11,7 +11,7 @@ import sys
 from collections.abc import Callable
 
 from plain_day import OpenFault, Options
-from plain_files import FileFault, Given, given, journal
+from plain_files import FileFault, Given, given, journal, likely_cause
 from plain_tables import audit_text, book_text, journal_text, lines_text, trades_text
 
 DEFAULTS: Options = {
@@ -53,7 +53,7 @@ def answer(text: str, options: Options, form: str) -> Answer:
         is_legal, found = audit_text(journal(text))
         return 0 if is_legal else UNLAWFUL, found, ""
     except FileFault as fault:
-        return 1, "", f"{fault}\n"
+        return 1, "", f"{fault}\n{likely_cause(str(fault), text)}"
     except OpenFault as fault:
         return 2, "", f"{fault}\n"
 

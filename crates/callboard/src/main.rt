@@ -21,6 +21,7 @@ mod serve;
 use byte_streams::{Failures, FromRead, ToWrite};
 pub use fault::{Fault, Finish};
 pub use floor::run_floor;
+use input_hints::Noted;
 pub use laws::printed_journals_are_lawful;
 pub use run::run_file;
 pub use serve::serve;
@@ -63,10 +64,10 @@ fn run_program<I: Ledger, O: Ledger, E: Ledger, T: Wait + Threads + Sync>(
     requires errors_backed { 0 < E.parts }
 {
     let alloc = host.alloc();
-    let mut reader = FromRead {
+    let mut reader = Noted::new(FromRead {
         reader: host.stdin(),
         failures: Failures::<I>::new(input),
-    };
+    });
     let mut out = ToWrite {
         writer: host.stdout(),
         failures: Failures::<O>::new(output),

@@ -15,6 +15,7 @@ use crate::run::run_file;
 use byte_streams::{Sink, Source, write_all};
 use clap::Error;
 use clap::error::ErrorKind;
+use input_hints::{KeepsStart, hint_of, is_like_file};
 use journal::Day;
 use member_floor::OpenGate;
 use settings::{Settings, Task, WordsFault, settings};
@@ -36,6 +37,36 @@ fn tell<E: Sink>(err: &mut E, fault: Fault) -> u8
 {
     write_line(err, InlineText::<64>::of(fault).as_str());
     fault.status()
+}
+
+/// Writes the line of a fault, and behind it one with its likely cause in an input that begins so, where there is one.
+fn tell_of_input<E: Sink>(err: &mut E, fault: Fault, start: &[u8]) -> u8
+    ensures { result ≡ status_of fault }
+{
+    let status = tell(err, fault);
+    if let Fault::File(fault) = fault {
+        if let Some(hint) = hint_of(fault, start) {
+            write_line(err, InlineText::<64>::of(hint).as_str());
+        }
+    }
+    status
+}
+
+/// Where an argument that there isn't looks like a file, says how the program is given one.
+fn tell_of_file<E: Sink>(err: &mut E, error: &Error, words: &[&str]) {
+    let [_, words @ ..] = words else {
+        return;
+    };
+    if error.kind() != ErrorKind::UnknownArgument {
+        return;
+    }
+    for word in words {
+        if is_like_file(word) {
+            let _ = write_all(err, b"reads standard input: callboard < ".as_slice());
+            write_line(err, word);
+            return;
+        }
+    }
 }
 
 /// Tells that an audit stands alone, and answers the status of a bad command line.
@@ -114,9 +145,10 @@ fn run_settings<R: Source, O: Sink, T: Wait + Threads + Sync>(
 /// auction has, 3 want of memory, a read or a write that failed, or a floor that couldn't be closed, 4 a
 /// journal of an unlawful day.
 ///
-/// What it prints goes to `out`, the help too; a fault is one line on `err`, and for a bad command line
-/// the text of `clap`. Where the input or the command line is bad, nothing goes to `out`.
-pub fn serve<'a, R: Source, O: Sink, E: Sink, T: Wait + Threads + Sync>(
+/// What it prints goes to `out`, the help too; a fault is one line on `err`, and for a bad command line the text of
+/// `clap`, in either case with a line more where its likely cause is known. Where the input or the command line is bad,
+/// nothing goes to `out`.
+pub fn serve<'a, R: KeepsStart, O: Sink, E: Sink, T: Wait + Threads + Sync>(
     alloc: Global,
     words: &'a [&'a str],
     reader: &mut R,
@@ -137,11 +169,13 @@ pub fn serve<'a, R: Source, O: Sink, E: Sink, T: Wait + Threads + Sync>(
             let Some(text) = text_of(alloc, &error) else {
                 return tell(err, Fault::NoMemory);
             };
-            return print_text(out, err, &error, text.as_str());
+            let status = print_text(out, err, &error, text.as_str());
+            tell_of_file(err, &error, words);
+            return status;
         }
     };
     match run_settings(alloc, settings, reader, out, rt) {
         Ok(finish) => finish.status(),
-        Err(fault) => tell(err, fault),
+        Err(fault) => tell_of_input(err, fault, reader.start()),
     }
 }

@@ -5,6 +5,7 @@ ghost use Rattle.std.specs.Prelude.{◌≡◌, ◌<◌};
 use crate::{Fault, Finish, run_file, run_floor, serve};
 use auction_terms::Config;
 use byte_streams::{Failures, FromMemory, Sink, Source, ToMemory, ToWrite};
+use input_hints::Noted;
 use journal::Day;
 use member_floor::Gate;
 use settings::Form;
@@ -27,6 +28,7 @@ mod files;
 mod floor;
 mod forms;
 mod full;
+mod hints;
 mod refused;
 
 /// The program's name alone.
@@ -44,11 +46,11 @@ struct Printed {
 }
 
 /// Serves the program on this input and output: its status, and what it told as its error.
-fn served<R: Source, S: Sink, E: Ledger, T: AllocGlobal + Wait + Threads + Sync>(
+fn served<R: Source + Drop, S: Sink, E: Ledger, T: AllocGlobal + Wait + Threads + Sync>(
     rt: &T,
     errors: Blank,
     words: &[&str],
-    reader: &mut R,
+    reader: R,
     out: &mut S,
 ) -> (u8, Vec<u8>)
     requires name { errors.name ≡ E.name }
@@ -59,7 +61,8 @@ fn served<R: Source, S: Sink, E: Ledger, T: AllocGlobal + Wait + Threads + Sync>
         bytes: Vec::new(rt.alloc()),
         failures: Failures::<E>::new(errors),
     };
-    let status = serve(rt.alloc(), words, reader, out, &mut err, rt);
+    let mut reader = Noted::new(reader);
+    let status = serve(rt.alloc(), words, &mut reader, out, &mut err, rt);
     let ToMemory { bytes, failures: _ } = err;
     (status, bytes)
 }
@@ -74,12 +77,12 @@ fn run_to_memory<O: Ledger, T: AllocGlobal + Wait + Threads + Sync>(
     requires parts { output.parts ≡ O.parts }
     requires backed { 0 < O.parts }
 {
-    let mut reader = FromMemory { rest: input };
+    let reader = FromMemory { rest: input };
     let mut out = ToMemory {
         bytes: Vec::new(rt.alloc()),
         failures: Failures::<O>::new(output),
     };
-    let (status, err) = served::<_, _, Brand, T>(rt, Blank::new(1), words, &mut reader, &mut out);
+    let (status, err) = served::<_, _, Brand, T>(rt, Blank::new(1), words, reader, &mut out);
     let ToMemory {
         bytes: out,
         failures: _,

@@ -117,7 +117,7 @@ fn printed_by<I: Ledger, O: Ledger, T: AllocGlobal + Wait + Threads + Sync>(
     requires output_parts { blanks.1.parts ≡ O.parts }
     requires output_backed { 0 < O.parts }
 {
-    let mut reader = FromRead {
+    let reader = FromRead {
         reader: giver,
         failures: Failures::<I>::new(blanks.0),
     };
@@ -125,7 +125,7 @@ fn printed_by<I: Ledger, O: Ledger, T: AllocGlobal + Wait + Threads + Sync>(
         writer: taker,
         failures: Failures::<O>::new(blanks.1),
     };
-    let (status, err) = served::<_, _, Brand, T>(rt, Blank::new(1), words, &mut reader, &mut out);
+    let (status, err) = served::<_, _, Brand, T>(rt, Blank::new(1), words, reader, &mut out);
     let ToWrite {
         writer,
         failures: _,

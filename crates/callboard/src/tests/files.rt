@@ -104,13 +104,13 @@ static ROWS: [Row; 10] = [
     ),
     // A fault of the file comes before one of the config.
     (BAD_BOUNDS, b"", "", "bad bounds\n", 2),
-    (BAD_BOUNDS, b"x", "", "record 1: bad member\n", 1),
+    (BAD_BOUNDS, b"-", "", "record 1: bad member\n", 1),
     (MANY_TICKS, b"", "", "bad bounds\n", 2),
-    (MANY_TICKS, b"x", "", "record 1: bad member\n", 1),
+    (MANY_TICKS, b"-", "", "record 1: bad member\n", 1),
     (HIGH_REFERENCE, b"", "", "bad reference\n", 2),
-    (HIGH_REFERENCE, b"x", "", "record 1: bad member\n", 1),
+    (HIGH_REFERENCE, b"-", "", "record 1: bad member\n", 1),
     (LOW_REFERENCE, b"", "", "bad reference\n", 2),
-    (LOW_REFERENCE, b"x", "", "record 1: bad member\n", 1),
+    (LOW_REFERENCE, b"-", "", "record 1: bad member\n", 1),
 ];
 
 #[test]

@@ -79,9 +79,9 @@ audit legal
         1,
     ),
     (BAD_BOUNDS, b"", "", "bad bounds\n", 2),
-    (BAD_BOUNDS, b"x", "", "record 1: bad member\n", 1),
+    (BAD_BOUNDS, b"-", "", "record 1: bad member\n", 1),
     (BAD_REFERENCE, b"", "", "bad reference\n", 2),
-    (BAD_REFERENCE, b"x", "", "record 1: bad member\n", 1),
+    (BAD_REFERENCE, b"-", "", "record 1: bad member\n", 1),
 ];
 
 #[test]
