@@ -103,3 +103,23 @@ writes_begun {S = S} {s = s} {sink = sink} {a = a} {last = last} {r = r} {x = x}
       text = rw (is, ← fresh.sink_is) (rw fresh.page_is at h.text);
       failed = rw (is, ← fresh.sink_is) h.failed;
     }
+
+-- a text of any length was written behind an empty page
+written_whole : {S : Type 0} (s : Ghosts S) (a b : Printer S) (r : Result (Unit {0}) WriteFailed) (x : List ℕ)
+    → a.page ≡ [] → b.page ≡ [] → b.sink.ghost_name ≡ a.sink.ghost_name → WritesAll s a.sink.now b.sink.now r x → Prints s a b r x
+written_whole s a b (Ok u) x before after same h = record {
+  same_sink = same;
+  text = (x, rw (before, after) (append-nil x), h.text);
+  failed = h.failed;
+}
+written_whole s a b (Err e) x before after same h = record {
+  same_sink = same;
+  text = rw before h.text;
+  failed = h.failed;
+}
+
+-- it was, after what stood on the page
+pub prints_whole : {S : Type 0} {s : Ghosts S} {a b c : Printer S} {r : Result (Unit {0}) WriteFailed} {x : List ℕ}
+    → Prints s a b (Ok tt) [] → b.page ≡ [] → c.page ≡ [] → c.sink.ghost_name ≡ b.sink.ghost_name → WritesAll s b.sink.now c.sink.now r x
+    → Prints s a c r x
+prints_whole {s = s} {b = b} {c = c} {r = r} {x = x} h before after same w = prints_more h (written_whole s b c r x before after same w)

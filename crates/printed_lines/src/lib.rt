@@ -7,6 +7,7 @@
 //! of the text.
 #![tactic(auto)]
 
+mod kept;
 mod line;
 mod page;
 mod printer;
@@ -15,6 +16,7 @@ mod same;
 mod tally;
 mod words;
 
+pub use kept::KeptText;
 pub use line::print_line;
 pub use page::{LONGEST_LINE, LONGEST_NUMBER, Page, ROOM};
 pub use printer::Printer;

@@ -49,4 +49,12 @@ impl<'a, S: Sink> Printer<'a, S> {
         }
         Ok(())
     }
+    /// Writes what stands on the page, and then this text, of any length, or at a failure a beginning. The page is then
+    /// empty.
+    pub fn print_whole(&mut self, text: &[u8]) -> Result<(), WriteFailed>
+        ensures { Prints S.Sink self.old self.new result text.now }
+    {
+        self.flush()?;
+        write_all(self.sink, text)
+    }
 }
