@@ -12,3 +12,4 @@ pub mod JournalSizeLaws
 pub mod FileFitLaws
 pub mod GivenFitLaws
 pub mod WideReplyLaws
+pub mod KeptLineLaws

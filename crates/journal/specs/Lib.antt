@@ -8,3 +8,4 @@ pub mod JournalText
 pub mod PrintedJournal
 pub mod WideReplies
 pub mod JournalPromises
+pub mod KeptLines

@@ -162,7 +162,7 @@ fn put_command(page: &mut Page, command: Command)
 }
 
 /// Puts the fields of an entry and the end of its line.
-fn put_entry(page: &mut Page, entry: Entry)
+pub(crate) fn put_entry(page: &mut Page, entry: Entry)
     requires { length page.old + LONGEST_LINE ≤ ROOM }
     ensures { page.new ≡ page.old ++ call_line entry }
 {
@@ -213,7 +213,7 @@ fn put_day(page: &mut Page, day: Day)
     page.put("\n");
 }
 
-fn print_day<S: Sink>(printer: &mut Printer<'_, S>, day: Day) -> Result<(), WriteFailed>
+pub(crate) fn print_day<S: Sink>(printer: &mut Printer<'_, S>, day: Day) -> Result<(), WriteFailed>
     ensures { Prints S.Sink printer.old printer.new result (day_line day) }
 {
     printer.make_room()?;

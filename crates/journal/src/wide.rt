@@ -53,7 +53,7 @@ fn see_display(display: Display)
     }
 }
 
-fn see_reply(reply: Reply)
+pub(crate) fn see_reply(reply: Reply)
     ensures { IsWideReply reply }
 {
     match reply {

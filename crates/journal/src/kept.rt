@@ -1,0 +1,40 @@
+//! A journal that is kept entry by entry until it is printed.
+
+ghost use Rattle.std.specs.Prelude.{◌++◌, ◌∷◌, [], List, OnOk};
+ghost use Rattle.auction_terms.specs.declared.Entry.{Entry};
+ghost use Rattle.printed_lines.specs.KeptText.{text_of};
+ghost use Rattle.printed_lines.specs.Printing.{Prints};
+ghost use Rattle.journal.specs.JournalText.{journal_text};
+ghost use Rattle.journal.specs.KeptLines.{HoldsLines};
+
+use crate::day::Day;
+use crate::printing::{print_day, put_entry};
+use crate::wide::see_reply;
+use auction_terms::Entry;
+use byte_streams::{Sink, WriteFailed};
+use printed_lines::{KeptText, Printer};
+use std::alloc::AllocError;
+
+/// Keeps the line of an entry behind those of the entries before it. The error is that memory is refused.
+pub fn keep_entry(lines: &mut KeptText, entry: Entry) -> Result<(), AllocError>
+    ensures { (entries : List Entry) → HoldsLines (text_of lines.old) entries
+        → OnOk result (HoldsLines (text_of lines.new) (entries ++ entry ∷ [])) }
+{
+    see_reply(entry.reply);
+    lines.make_room()?;
+    put_entry(&mut lines.page, entry);
+    Ok(())
+}
+
+/// Prints the journal of a history whose lines were kept.
+pub fn print_kept_journal<S: Sink>(
+    printer: &mut Printer<'_, S>,
+    day: Day,
+    lines: &KeptText,
+) -> Result<(), WriteFailed>
+    ensures { (entries : List Entry) → HoldsLines (text_of lines.now) entries
+        → Prints S.Sink printer.old printer.new result (journal_text day entries) }
+{
+    print_day(printer, day)?;
+    lines.print(printer)
+}
