@@ -25,7 +25,7 @@ use Rattle.day_tables.specs.DecidingRule.{rule_of}
 use Rattle.day_tables.specs.BookTable.{Shown, shown_in, is_among, is_price, has_record, price_word, rule_word, tick_record, tick_records, market_record, book_table, table_before, text_before, tables_after}
 use Rattle.day_tables.specs.TableCurves.{HasRoom, AreCurves, TellsRule}
 use Rattle.day_tables.specs.TableRows.{HasPlaces, IsTableOf, is_at_price, is_row, side_between, rule_at, row, row_if, rows_below, market_row, tick_shown}
-use Rattle.day_tables.proofs.TickTableLaws.{limit_present}
+use Rattle.day_tables.proofs.TickTableLaws.{limit_present, long_present}
 
 -- ---- what is among some ticks
 
@@ -175,16 +175,14 @@ pub record IsDrawn (v : LadderView) (table : Table) : Type 0 where
   pub asks : table.asks.now ≡ v.asks
   pub present : table.present.now ≡ v.present
 
-pub places_drawn : (v : LadderView) (book : List Order) (table : Table) → IsLadder v → IsLadderOf v book → IsDrawn v table → HasRoom (length v.bids) table.curves.now → HasPlaces table
-places_drawn v book table sound is drawn room =
-    let parts = ladder_parts v book is in
-    record {
-      present = rw (drawn.present, drawn.bids) (ap length parts.present ∙ length-spread (presence book) v.low (length v.bids));
-      asks = rw (drawn.asks, drawn.bids) sound.same;
-      curves = rw drawn.bids room;
-      few = rw drawn.bids sound.few;
-      last = rw (drawn.bids, drawn.low) sound.last;
-    }
+pub places_drawn : (v : LadderView) (table : Table) → IsLadder v → IsDrawn v table → HasRoom (length v.bids) table.curves.now → HasPlaces table
+places_drawn v table sound drawn room = record {
+  present = rw (drawn.present, drawn.bids) (long_present v sound);
+  asks = rw (drawn.asks, drawn.bids) sound.same;
+  curves = rw drawn.bids room;
+  few = rw drawn.bids sound.few;
+  last = rw (drawn.bids, drawn.low) sound.last;
+}
 
 pub table_drawn : (v : LadderView) (shown : Shown) (table : Table) → IsLadderOf v shown.book → IsDrawn v table → table.command ≡ shown.command → table.kind ≡ shown.auction
     → AreCurves v.low (length v.bids) table.curves.now shown.book → table.price ≡ price_tick shown.book shown.reference → TellsRule shown.book table.rule → IsTableOf shown table

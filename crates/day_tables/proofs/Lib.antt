@@ -5,3 +5,5 @@ pub mod TradeTableLaws
 pub mod TickTableLaws
 pub mod BookTableLaws
 pub mod FrontTextLaws
+pub mod UncrossLaws
+pub mod KeptBookLaws

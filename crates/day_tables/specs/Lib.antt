@@ -5,3 +5,6 @@ pub mod TableMembers
 pub mod BookTable
 pub mod TableCurves
 pub mod TableRows
+pub mod AnsweredCalls
+pub mod ShownTable
+pub mod KeptBook

@@ -1,13 +1,15 @@
 //! The book behind each price of the day.
 
 ghost use Rattle.std.specs.Prelude.{◌≡◌, ◌<◌, ◌≤◌, ◌+◌, ◌-◌, ◌++◌, [], length, None, Err, IfErr, IfSome};
-ghost use Rattle.std.specs.Prelude.{false, codes, decimal};
-ghost use Rattle.auction_terms.specs.Day.{IsLegal};
+ghost use Rattle.std.specs.Prelude.{false, codes, decimal, MatchOption};
+ghost use Rattle.auction_terms.specs.declared.Config.{Config};
+ghost use Rattle.auction_terms.specs.Day.{IsLegal, State};
 ghost use Rattle.auction.specs.ConfigFault.{open_fault};
 ghost use Rattle.printed_lines.specs.Printing.{Prints};
 ghost use Rattle.printed_lines.specs.declared.page.TheConstants.{LONGEST_LINE, ROOM};
 ghost use Rattle.day_tables.specs.BookTable.{book_header, book_text, best_word, is_uncross};
 ghost use Rattle.day_tables.specs.BookTable.{table_before, tables_after, text_before};
+ghost use Rattle.day_tables.specs.ShownTable.{IsHeadingIn, IsShownIn};
 ghost use Rattle.day_tables.specs.TableCurves.{HasRoom};
 ghost use Rattle.day_tables.specs.TableRecords.{PrintsTable, WantsMemory};
 ghost use Rattle.day_tables.specs.TableRows.{HasPlaces, HasHead, side_between, is_row, row, row_end, row_if};
@@ -25,6 +27,7 @@ use auction_terms::{Config, Display, Entry, Kind, Reply, Side};
 use byte_streams::{Sink, WriteFailed};
 use printed_lines::{Page, Printer, kind_word, side_word};
 use std::alloc::Global;
+use tick_ladder::Ladder;
 
 /// A table that is printed, with its numbers tick by tick from the lowest tick on.
 #[derive(Clone, Copy)]
@@ -319,6 +322,60 @@ fn price_shown(display: Display) -> Option<u32>
     }
 }
 
+/// What a table is told by beside its ladder: the number of the command before which it stands, the current auction, and
+/// the tick of the price, if there is one.
+#[derive(Clone, Copy)]
+pub(crate) struct Heading {
+    pub command: u64,
+    pub kind: Kind,
+    pub price: Option<u32>,
+}
+
+/// Prints the table of a ladder.
+pub(crate) fn print_ladder<S: Sink>(
+    printer: &mut Printer<'_, S>,
+    ladder: &Ladder,
+    heading: Heading,
+    curves: &mut Curves,
+) -> Result<(), WriteFailed>
+    requires { HasRoom (length ladder.now.bids) curves.old }
+    ensures printed { (config : Config) (state : State) → IsShownIn config state heading ladder.now
+        → Prints S.Sink printer.old printer.new result (table_before config heading.command state) }
+    ensures room { HasRoom (length ladder.now.bids) curves.new }
+{
+    curves.follow(ladder);
+    let rule = curves.rule();
+    let table = Table {
+        command: heading.command,
+        kind: heading.kind,
+        market_bids: ladder.market(Side::Buy),
+        market_asks: ladder.market(Side::Sell),
+        low: ladder.low(),
+        bids: ladder.bids(),
+        asks: ladder.asks(),
+        present: ladder.present(),
+        curves,
+        price: heading.price,
+        rule,
+    };
+    print_rows(printer, &table)
+}
+
+/// The heading of the table of the current auction when a command comes, until the day is over.
+pub(crate) fn heading_of(auction: &mut Auction, command: u64) -> Option<Heading>
+    ensures auction { auction.new ≡ auction.old }
+    ensures heading { MatchOption result (auction.old.state.auction ≡ None)
+        (λ heading. IsHeadingIn auction.old.state command heading) }
+{
+    let kind = auction.current()?;
+    let price = price_shown(auction.show());
+    Some(Heading {
+        command,
+        kind,
+        price,
+    })
+}
+
 /// Prints the table of the current auction when a command comes, until the day is over.
 fn print_table<S: Sink>(
     printer: &mut Printer<'_, S>,
@@ -332,27 +389,10 @@ fn print_table<S: Sink>(
     ensures auction { auction.new ≡ auction.old }
     ensures room { HasRoom (auction.old.config.high + 1 - auction.old.config.low) curves.new }
 {
-    let Some(kind) = auction.current() else {
+    let Some(heading) = heading_of(auction, command) else {
         return Ok(());
     };
-    let price = price_shown(auction.show());
-    let ladder = auction.ladder();
-    curves.follow(ladder);
-    let rule = curves.rule();
-    let table = Table {
-        command,
-        kind,
-        market_bids: ladder.market(Side::Buy),
-        market_asks: ladder.market(Side::Sell),
-        low: ladder.low(),
-        bids: ladder.bids(),
-        asks: ladder.asks(),
-        present: ladder.present(),
-        curves,
-        price,
-        rule,
-    };
-    print_rows(printer, &table)
+    print_ladder(printer, auction.ladder(), heading, curves)
 }
 
 /// Whether an uncross was accepted, an interrupted one too.
@@ -382,7 +422,7 @@ fn print_before<S: Sink>(
     print_table(printer, auction, curves, command)
 }
 
-fn print_header<S: Sink>(printer: &mut Printer<'_, S>) -> Result<(), WriteFailed>
+pub(crate) fn print_header<S: Sink>(printer: &mut Printer<'_, S>) -> Result<(), WriteFailed>
     ensures { Prints S.Sink printer.old printer.new result book_header }
 {
     printer.make_room()?;

@@ -8,6 +8,7 @@ mod book;
 mod curves;
 mod fault;
 mod front_text;
+mod keeping;
 mod laws;
 mod record;
 mod rule;
@@ -15,6 +16,7 @@ mod trades;
 
 pub use book::print_book;
 pub use fault::TableFault;
+pub use keeping::KeptBook;
 pub use laws::{each_trade_is_told, rule_decides};
 pub use rule::Rule;
 pub use trades::print_trades;

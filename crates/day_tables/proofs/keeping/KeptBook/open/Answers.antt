@@ -1,0 +1,14 @@
+use Rattle.std.proofs.Common.{refl, sym, subst, length, []}
+use Rattle.day_tables.specs.KeptBook.{AreTables}
+use Rattle.day_tables.specs.TableCurves.{HasRoom}
+use Rattle.day_tables.proofs.BookTableLaws.{room_back}
+use Rattle.day_tables.proofs.KeptBookLaws.{follows-none}
+use Rattle.day_tables.proofs.keeping.KeptBook.open.Goals as goal
+
+pub returns : goal.returns
+returns c = λ fresh.
+    let auction = c.args.auction.now in
+    follows-none _ auction fresh
+    (room_back auction auction c.ladder.result.now c.in_ok-curves.curves refl c.ladder.ensures.value
+    (subst (λ ticks. HasRoom (length ticks) c.in_ok-curves.curves) c.bids.ensures.value c.in_ok-curves.ensures))
+    (subst (λ tables. AreTables auction.config tables []) (sym c.new.ensures.items) refl)

@@ -1,0 +1,160 @@
+//! The book behind each price of a day, kept while the day's calls are applied.
+
+ghost use Rattle.std.specs.Prelude.{◌≡◌, ◌<◌, ◌+◌, ◌-◌, ◌++◌, ◌∷◌, [], ℕ, List, IfOk, OnOk};
+ghost use Rattle.auction_terms.specs.declared.Config.{Config};
+ghost use Rattle.auction_terms.specs.declared.Entry.{Entry};
+ghost use Rattle.auction_terms.specs.Day.{step};
+ghost use Rattle.auction_terms.specs.Devices.Running.{called, opened};
+ghost use Rattle.printed_lines.specs.Printing.{Prints};
+ghost use Rattle.day_tables.specs.BookTable.{book_text, is_uncross, table_before, text_before};
+ghost use Rattle.day_tables.specs.KeptBook.{AreTables, FollowsBook, HoldsBook};
+ghost use Rattle.day_tables.specs.AnsweredCalls.{answered, asks_uncross};
+ghost use Rattle.day_tables.specs.TableCurves.{HasRoom};
+
+use crate::book::{Heading, heading_of, print_header, print_ladder};
+use crate::curves::Curves;
+use auction::Auction;
+use auction_terms::{Call, Command};
+use byte_streams::{Sink, WriteFailed};
+use printed_lines::Printer;
+use std::alloc::{AllocError, Global};
+use tick_ladder::Ladder;
+
+/// A table that is kept until it is printed.
+#[derive(Drop)]
+pub(crate) struct KeptTable {
+    pub heading: Heading,
+    pub ladder: Ladder,
+}
+
+/// The tables of a day's book, at most one for each accepted uncross and one for the end, with room for the curves of
+/// one.
+#[derive(Drop)]
+pub struct KeptBook {
+    pub(crate) tables: Vec<KeptTable>,
+    pub(crate) curves: Curves,
+}
+
+/// Whether a command asks for an uncross.
+fn asks_uncross(command: Command) -> bool
+    ensures { result ≡ asks_uncross command }
+{
+    matches!(command, Command::Uncross)
+}
+
+/// Whether a call will be answered as an uncross that is accepted, an interrupted one too.
+fn will_uncross(auction: &Auction, call: Call) -> bool
+    ensures { result ≡ is_uncross (step auction.now.config auction.now.state call).1 }
+{
+    if !asks_uncross(call.command) {
+        return false;
+    }
+    if call.member != 0 {
+        return false;
+    }
+    auction.current().is_some()
+}
+
+/// Prints tables, with these curves.
+fn print_tables<S: Sink>(
+    printer: &mut Printer<'_, S>,
+    tables: &[KeptTable],
+    curves: &mut Curves,
+) -> Result<(), WriteFailed>
+    requires { (config : Config) × (text : List ℕ) × HasRoom (config.high + 1 - config.low) curves.old
+        × AreTables config tables.now text }
+    ensures { (config : Config) (text : List ℕ) → AreTables config tables.now text
+        → Prints S.Sink printer.old printer.new result text }
+{
+    for table in tables {
+        print_ladder(printer, &table.ladder, table.heading, curves)?;
+    }
+    Ok(())
+}
+
+impl KeptBook {
+    /// No table yet of a day that was just opened. The error is that memory is refused.
+    pub fn open(alloc: Global, auction: &Auction) -> Result<KeptBook, AllocError>
+        ensures { auction.now ≡ opened auction.now.config → IfOk result (λ book. FollowsBook book auction.now []) }
+    {
+        let curves = Curves::open(alloc, auction.ladder().bids().len())?;
+        Ok(KeptBook {
+            tables: Vec::new(alloc),
+            curves,
+        })
+    }
+
+    /// Keeps the table of the current auction when its next command comes, until the day is over.
+    fn keep_table(&mut self, alloc: Global, auction: &mut Auction) -> Result<(), AllocError>
+        ensures auction { auction.new ≡ auction.old }
+        ensures curves { self.new.curves ≡ self.old.curves }
+        ensures tables { (front : List ℕ) → AreTables auction.old.config self.old.tables.items front
+            → OnOk result (AreTables auction.old.config self.new.tables.items
+            (front ++ table_before auction.old.config (auction.old.calls + 1) auction.old.state)) }
+    {
+        let command = u64::from(auction.calls()) + 1;
+        let Some(heading) = heading_of(auction, command) else {
+            return Ok(());
+        };
+        let ladder = auction.ladder().copied(alloc)?;
+        self.tables.push(KeptTable { heading, ladder })?;
+        Ok(())
+    }
+
+    /// Keeps the table before a call, if it is an uncross that will be accepted.
+    fn keep_before(
+        &mut self,
+        alloc: Global,
+        auction: &mut Auction,
+        call: Call,
+    ) -> Result<(), AllocError>
+        ensures auction { auction.new ≡ auction.old }
+        ensures curves { self.new.curves ≡ self.old.curves }
+        ensures tables { (front : List ℕ) → AreTables auction.old.config self.old.tables.items front
+            → OnOk result (AreTables auction.old.config self.new.tables.items
+            (front ++ text_before auction.old.config (auction.old.calls + 1) auction.old.state
+            (step auction.old.config auction.old.state call).1)) }
+    {
+        if !will_uncross(auction, call) {
+            return Ok(());
+        }
+        self.keep_table(alloc, auction)
+    }
+
+    /// Applies a call, and keeps the table before it if it is an uncross that is accepted. The error is that memory is
+    /// refused; the call is applied then too.
+    pub fn keep_call(
+        &mut self,
+        alloc: Global,
+        auction: &mut Auction,
+        call: Call,
+    ) -> Result<(), AllocError>
+        requires { auction.old.calls < auction.old.config.max_calls }
+        ensures auction { auction.new ≡ called auction.old call }
+        ensures kept { (entries : List Entry) → FollowsBook self.old auction.old entries
+            → OnOk result (FollowsBook self.new auction.new
+            (entries ++ answered call (step auction.old.config auction.old.state call).1 ∷ [])) }
+    {
+        let kept = self.keep_before(alloc, auction, call);
+        auction.apply(call.member, call.command);
+        kept
+    }
+
+    /// Keeps the table at the end of the input, if the day isn't over. The error is that memory is refused.
+    pub fn close(&mut self, alloc: Global, auction: &mut Auction) -> Result<(), AllocError>
+        ensures { (entries : List Entry) → FollowsBook self.old auction.old entries
+            → OnOk result (HoldsBook self.new auction.old.config entries) }
+    {
+        self.keep_table(alloc, auction)
+    }
+
+    /// Prints the book behind each price of the day, as [`print_book`](crate::print_book) does of its history.
+    pub fn print<S: Sink>(&mut self, printer: &mut Printer<'_, S>) -> Result<(), WriteFailed>
+        requires { (config : Config) × (entries : List Entry) × HoldsBook self.old config entries }
+        ensures { (config : Config) (entries : List Entry) → HoldsBook self.old config entries
+            → Prints S.Sink printer.old printer.new result (book_text config entries) }
+    {
+        print_header(printer)?;
+        print_tables(printer, &self.tables, &mut self.curves)
+    }
+}
