@@ -27,7 +27,7 @@ use Rattle.order_file.specs.declared.fault.FileFault.TheVariants as faults
 use Rattle.settings.specs.declared.types.Form.{Form}
 use Rattle.callboard.specs.declared.fault.Fault.TheVariants as fault
 use Rattle.callboard.specs.declared.kept.Kept.{Kept}
-use Rattle.callboard.specs.KeptEntries.{Holds, KeepsCalls, KeepsSaid, after_calls, calls_for, form_of}
+use Rattle.callboard.specs.KeptEntries.{Follows, IsClosed, KeepsCalls, KeepsSaid, after_calls, calls_for, form_of}
 use Rattle.callboard.specs.AuctionRun.{IsOfAuction, auction_job, run_text}
 use Rattle.callboard.specs.FileRun.{Ends, Runs, WritesText}
 use Rattle.callboard.specs.Printed.{IsAfterwards, IsOfPrinting, IsWideForm, IsWideIfBegun, entries_from, entry_by, history_of, printed}
@@ -48,18 +48,18 @@ entries-more config state (first ∷ front) call =
     ap (λ es. entry_by first (step config state first).1 ∷ es) (entries-more config (step config state first).0 front call)
 
 -- and is kept there
-pub holds-more : (kept : Kept) (auction now : Running) (before : List Entry) (front : List Call) (call : Call) → now ≡ after_calls auction front
-    → Holds kept ((before ++ entries_from auction.config auction.state front) ++ entry_by call (step now.config now.state call).1 ∷ [])
-    → Holds kept (before ++ entries_from auction.config auction.state (front ++ call ∷ []))
-holds-more kept auction now before front call is h =
+pub holds-more : (kept : Kept) (last auction now : Running) (before : List Entry) (front : List Call) (call : Call) → now ≡ after_calls auction front
+    → Follows kept last ((before ++ entries_from auction.config auction.state front) ++ entry_by call (step now.config now.state call).1 ∷ [])
+    → Follows kept last (before ++ entries_from auction.config auction.state (front ++ call ∷ []))
+holds-more kept last auction now before front call is h =
     let same : (before ++ entries_from auction.config auction.state front) ++ entry_by call (step now.config now.state call).1 ∷ []
     ≡ before ++ entries_from auction.config auction.state (front ++ call ∷ []) =
     rw is (append_assoc before _ _ ∙ ap (λ es. before ++ es) (sym (entries-more auction.config auction.state front call))) in
-    subst (Holds kept) same h
+    subst (Follows kept last) same h
 
 -- no call has come
-pub holds-none : (kept : Kept) (before : List Entry) → Holds kept before → Holds kept (before ++ [])
-holds-none kept before h = subst (Holds kept) (sym (append-nil before)) h
+pub holds-none : (kept : Kept) (last : Running) (before : List Entry) → Follows kept last before → Follows kept last (before ++ [])
+holds-none kept last before h = subst (Follows kept last) (sym (append-nil before)) h
 
 -- the calls that are left, after one of them
 pub call-next : (calls front : List Call) (i : ℕ) (d : Call) → front ++ drop i calls ≡ calls → i < length calls
@@ -104,19 +104,52 @@ pub orders-short : (day : Day) (bytes : List ℕ) → length bytes ≤ MAX_BYTES
 unfolding orders_for file within_limit
 orders-short day bytes h = let short : nat_lt MAX_BYTES (length bytes) ≡ false = search rules in rw short refl
 
+-- an auction that was just opened
+pub opened_so : (auction : Running) (config : Config) → auction ≡ opened config → auction ≡ opened auction.config
+opened_so auction config is = is ∙ ap (λ (c : Config). opened c) (sym (ap (λ (a : Running). a.config) is))
+
+-- what is kept of a day whose calls have all come
+kept-closed : (form : Form) (day : Day) (calls : List Call) (old : Kept) (closed : KeptDay) → form_of old ≡ form → open_fault day.config ≡ None
+    → length calls ≤ day.config.max_calls → IsClosed day old day.config (history_of day.config calls) (Ok closed)
+    → KeepsSaid form (Ok (record { day = day; calls = calls })) (Ok closed)
+kept-closed form day calls old closed for opens few (is, same, holds) =
+    (calls, ap (λ (d : Day). Ok (record { day = d; calls = calls })) (sym is), (same ∙ for, rw is opens, rw is few, rw is holds))
+
+refused-closed : (form : Form) (day : Day) (old : Kept) (config : Config) (entries : List Entry) (f : Fault) (said : Result GivenDay FileFault)
+    → IsClosed day old config entries (Err f) → KeepsSaid form said (Err f)
+refused-closed form day old config entries f said is = subst (λ (x : Fault). KeepsSaid form said (Err x)) (sym is) tt
+
+pub said_closed : (form : Form) (day : Day) (calls : List Call) (old : Kept) (r : Result KeptDay Fault) → form_of old ≡ form → open_fault day.config ≡ None
+    → length calls ≤ day.config.max_calls → IsClosed day old day.config (history_of day.config calls) r → KeepsSaid form (Ok (record { day = day; calls = calls })) r
+said_closed form day calls old (Ok closed) for opens few is = kept-closed form day calls old closed for opens few is
+said_closed form day calls old (Err f) for opens few is = refused-closed form day old day.config (history_of day.config calls) f _ is
+
 -- it is kept
-pub orders-kept : (form : Form) (day : Day) (kept : Kept) (old new : Running) (bytes : List ℕ) → old ≡ opened day.config → form_of kept ≡ form
+pub orders-kept : (form : Form) (day : Day) (kept : Kept) (old new : Running) (bytes : List ℕ) (r : Result KeptDay Fault) → old ≡ opened day.config → form_of kept ≡ form
     → open_fault day.config ≡ None → length bytes ≤ MAX_BYTES → new.calls ≤ old.config.max_calls
-    → KeepsCalls (Holds kept) [] old new (Ok tt) (calls_of day.members old.config.max_calls bytes)
-    → KeepsSaid form (orders_for day bytes) (Ok (record { day = day; kept = kept }))
-orders-kept form day kept old new bytes fresh for opens short room keeps =
-    let (calls, wanted, is, holds) = rw fresh at keeps in
+    → KeepsCalls (Follows kept new) [] old new (Ok tt) (calls_of day.members old.config.max_calls bytes)
+    → ((entries : List Entry) → Follows kept new entries → IsClosed day kept new.config entries r)
+    → KeepsSaid form (orders_for day bytes) r
+orders-kept form day kept old new bytes r fresh for opens short room keeps closes =
+    let (calls, wanted, is, follows) = rw fresh at keeps in
     let few : length calls ≤ day.config.max_calls = omega (arith, rw (is, fresh) at room) in
-    (calls, orders-short day bytes short ∙ ap (calls_for day) wanted, (for, opens, few, holds))
+    let closed : IsClosed day kept day.config (history_of day.config calls) r = rw is at (closes (history_of day.config calls) follows) in
+    rw (orders-short day bytes short, wanted) (said_closed form day calls kept r for opens few closed)
+
+-- a journal is kept
+pub journal-kept : (form : Form) (day : Day) (kept : Kept) (old new : Running) (calls : List Call) (r : Result KeptDay Fault) → old ≡ opened day.config → form_of kept ≡ form
+    → open_fault day.config ≡ None → length calls ≤ day.config.max_calls → KeepsCalls (Follows kept new) [] old new (Ok tt) (Ok calls)
+    → ((entries : List Entry) → Follows kept new entries → IsClosed day kept new.config entries r)
+    → KeepsSaid form (calls_for day (Ok calls)) r
+journal-kept form day kept old new calls r fresh for opens few keeps closes =
+    let (found, wanted, is, follows) = rw fresh at keeps in
+    let same : calls ≡ found = cc (wanted) in
+    let closed : IsClosed day kept day.config (history_of day.config found) r = rw is at (closes (history_of day.config found) follows) in
+    subst (λ said. KeepsSaid form said r) (sym (ap (calls_for day) wanted)) (said_closed form day found kept r for opens (rw same at few) closed)
 
 -- it has a fault
 pub orders-fault : (form : Form) (day : Day) (kept : Kept) (old new : Running) (bytes : List ℕ) (f : FileFault) → old ≡ opened day.config → length bytes ≤ MAX_BYTES
-    → KeepsCalls (Holds kept) [] old new (Err f) (calls_of day.members old.config.max_calls bytes)
+    → KeepsCalls (Follows kept new) [] old new (Err f) (calls_of day.members old.config.max_calls bytes)
     → KeepsSaid form (orders_for day bytes) (Err (fault.File f))
 orders-fault form day kept old new bytes f fresh short keeps =
     rw (orders-short day bytes short) (refused-records form day f (calls_of day.members day.config.max_calls bytes) (rw fresh at keeps))

@@ -1,34 +1,52 @@
 -- What a run keeps of a day's entries until they are printed.
 use Rattle.std.specs.Prelude.{◌≡◌, ◌≤◌, ◌+◌, ◌++◌, List, length, map, None, unwrap_or, Result, Ok, Err}
 use Rattle.auction_terms.specs.declared.Call.{Call}
+use Rattle.auction_terms.specs.declared.Config.{Config}
 use Rattle.auction_terms.specs.declared.Entry.{Entry}
 use Rattle.auction_terms.specs.Day.{state_after}
 use Rattle.auction_terms.specs.Devices.Running.{Running}
 use Rattle.auction.specs.ConfigFault.{open_fault}
 use Rattle.auction.specs.declared.OpenFault.TheVariants.{NoMemory}
 use Rattle.auction_terms.specs.Results.{◌>>=◌}
+use Rattle.day_tables.specs.KeptBook.{FollowsBook, HoldsBook}
+use Rattle.printed_lines.specs.KeptText.{text_of}
 use Rattle.journal.specs.GivenDay.{GivenDay}
+use Rattle.journal.specs.KeptLines.{HoldsLines}
 use Rattle.journal.specs.declared.day.Day.{Day}
 use Rattle.order_file.specs.File.{Fails}
 use Rattle.order_file.specs.declared.fault.FileFault.{FileFault}
+use Rattle.order_file.specs.declared.fault.FileFault.TheVariants as file_fault
 use Rattle.settings.specs.declared.types.Form.{Form}
 use Rattle.settings.specs.declared.types.Form.TheVariants as forms
+use Rattle.settings.specs.declared.types.Listing.TheVariants as listing
 use Rattle.callboard.specs.declared.fault.Fault.{Fault}
 use Rattle.callboard.specs.declared.fault.Fault.TheVariants as fault
 use Rattle.callboard.specs.declared.kept.Kept.{Kept}
-use Rattle.callboard.specs.declared.kept.Kept.TheVariants.{Lines, Listing}
+use Rattle.callboard.specs.declared.kept.Kept.TheVariants.{Lines, Journal, Trades, Book}
 use Rattle.callboard.specs.declared.keeping.KeptDay.{KeptDay}
 use Rattle.callboard.specs.Printed.{entries_from, history_of, reply_of}
 
 -- the form that it is kept for
 abbrev pub form_of : Kept → Form
 form_of (Lines replies) = forms.Lines
-form_of (Listing listing entries) = forms.Listing listing
+form_of (Journal lines) = forms.Listing listing.Journal
+form_of (Trades entries) = forms.Listing listing.Trades
+form_of (Book book) = forms.Listing listing.Book
 
--- what is kept is of these entries: their replies, or all of them
-abbrev pub Holds : Kept → List Entry → Type 0
-Holds (Lines replies) entries = replies ≡ map reply_of entries
-Holds (Listing listing kept) entries = kept.items ≡ entries
+-- What is kept is of these entries, after which the auction stands: their replies, their lines in the journal, all of
+-- them, or the tables before the uncrosses among them.
+abbrev pub Follows : Kept → Running → List Entry → Type 0
+Follows (Lines replies) auction entries = replies ≡ map reply_of entries
+Follows (Journal lines) auction entries = HoldsLines (text_of lines) entries
+Follows (Trades kept) auction entries = kept.items ≡ entries
+Follows (Book book) auction entries = FollowsBook book auction entries
+
+-- the same of all entries of a day, and the tables are all
+abbrev pub Holds : Kept → Config → List Entry → Type 0
+Holds (Lines replies) config entries = replies ≡ map reply_of entries
+Holds (Journal lines) config entries = HoldsLines (text_of lines) entries
+Holds (Trades kept) config entries = kept.items ≡ entries
+Holds (Book book) config entries = HoldsBook book config entries
 
 -- an auction after these calls
 abbrev pub after_calls : Running → List Call → Running
@@ -42,10 +60,10 @@ after_calls auction calls = record {
 -- the fault that was wanted.
 abbrev pub KeepsCalls : (List Entry → Type 0) → List Entry → Running → Running
     → Result (Unit {0}) FileFault → Result (List Call) FileFault → Type 0
-KeepsCalls Holds before old new (Ok u) wanted =
+KeepsCalls AreKept before old new (Ok u) wanted =
     (calls : List Call) × (wanted ≡ Ok calls) × (new ≡ after_calls old calls)
-    × Holds (before ++ entries_from old.config old.state calls)
-KeepsCalls Holds before old new (Err f) wanted = Fails f wanted
+    × AreKept (before ++ entries_from old.config old.state calls)
+KeepsCalls AreKept before old new (Err f) wanted = Fails f wanted
 
 -- a day's calls, as what was given to it
 abbrev pub calls_for : Day → Result (List Call) FileFault → Result GivenDay FileFault
@@ -55,7 +73,7 @@ calls_for day r = r >>= λ calls. Ok (record { day = day; calls = calls })
 abbrev pub IsKeptDay : Form → KeptDay → List Call → Type 0
 IsKeptDay form kept calls =
     (form_of kept.kept ≡ form) × (open_fault kept.day.config ≡ None) × (length calls ≤ kept.day.config.max_calls)
-    × Holds kept.kept (history_of kept.day.config calls)
+    × Holds kept.kept kept.day.config (history_of kept.day.config calls)
 
 -- What was said is kept, or is at fault, or couldn't be opened.
 abbrev pub KeepsSaid : Form → Result GivenDay FileFault → Result KeptDay Fault → Type 0
@@ -65,3 +83,9 @@ KeepsSaid form said (Err (fault.File f)) = Fails f said
 KeepsSaid form said (Err (fault.Open f)) =
     (given : GivenDay) × (said ≡ Ok given) × (f ≡ unwrap_or (open_fault given.day.config) NoMemory)
 KeepsSaid form said (Err f) = ⊥
+
+-- Of a day whose calls have all come what is kept is of these entries, or memory was refused.
+abbrev pub IsClosed : Day → Kept → Config → List Entry → Result KeptDay Fault → Type 0
+IsClosed day old config entries (Ok closed) =
+    (closed.day ≡ day) × (form_of closed.kept ≡ form_of old) × Holds closed.kept config entries
+IsClosed day old config entries (Err f) = f ≡ fault.File file_fault.NoMemory

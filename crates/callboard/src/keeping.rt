@@ -3,15 +3,13 @@
 ghost use Rattle.std.specs.Prelude.{◌≡◌, ◌≢◌, ◌<◌, ◌≤◌, ◌+◌, ◌++◌, ◌∷◌, [], ◌↔◌};
 ghost use Rattle.std.specs.Prelude.{List, length, unwrap_or, Result, Ok, Err, IfErr, IfSome, IsErrOf, OnOk};
 ghost use Rattle.auction_terms.specs.declared.Entry.{Entry};
-ghost use Rattle.auction_terms.specs.Day.{step};
-ghost use Rattle.auction_terms.specs.Devices.Running.{called, opened};
+ghost use Rattle.auction_terms.specs.Devices.Running.{opened};
 ghost use Rattle.auction.specs.ConfigFault.{open_fault};
 ghost use Rattle.journal.specs.GivenDay.{GivenDay, given, given_of, or_orders, orders_for};
 ghost use Rattle.order_file.specs.declared.fault.FileFault.{FileFault};
 ghost use Rattle.order_file.specs.File.{IsOfRecord, calls_after, calls_of};
 ghost use Rattle.order_file.specs.Rows.{Stands, rows_left};
-ghost use Rattle.callboard.specs.KeptEntries.{Holds, KeepsCalls, KeepsSaid, calls_for, form_of};
-ghost use Rattle.callboard.specs.Printed.{entry_by};
+ghost use Rattle.callboard.specs.KeptEntries.{Follows, IsClosed, KeepsCalls, KeepsSaid, calls_for, form_of};
 
 use crate::fault::Fault;
 use crate::kept::Kept;
@@ -22,7 +20,7 @@ use csv::{ByteRecord, Reader};
 use journal::{Day, Journal, MAX_JOURNAL_BYTES, journal_of};
 use order_file::{FileFault, MAX_BYTES, bytes_of, calls_of, next_row, numbered_call, reader_of};
 use settings::Form;
-use std::alloc::{AllocError, Global};
+use std::alloc::Global;
 
 /// A day, and what is kept of its entries.
 #[derive(Drop)]
@@ -31,17 +29,20 @@ pub struct KeptDay {
     pub kept: Kept,
 }
 
-/// Applies a call, and keeps its entry. The error is that memory is refused.
-#[inline]
-fn keep_call(auction: &mut Auction, kept: &mut Kept, call: Call) -> Result<(), AllocError>
-    requires { auction.old.calls < auction.old.config.max_calls }
-    ensures state { auction.new ≡ called auction.old call }
-    ensures form { form_of kept.new ≡ form_of kept.old }
-    ensures kept { (entries : List Entry) → Holds kept.old entries → OnOk result
-        (Holds kept.new (entries ++ entry_by call (step auction.old.config auction.old.state call).1 ∷ [])) }
+/// A day whose calls have all come, which is kept.
+fn close_day(
+    alloc: Global,
+    day: Day,
+    auction: &mut Auction,
+    mut kept: Kept,
+) -> Result<KeptDay, Fault>
+    ensures { (entries : List Entry) → Follows kept auction.old entries
+        → IsClosed day kept auction.old.config entries result }
 {
-    let reply = auction.apply(call.member, call.command);
-    kept.keep(call, reply)
+    match kept.close(alloc, auction) {
+        Ok(()) => Ok(KeptDay { day, kept }),
+        Err(_) => Err(Fault::File(FileFault::NoMemory)),
+    }
 }
 
 /// Applies the calls of the records that are left, which come after the auction's so far, and keeps their entries;
@@ -55,8 +56,8 @@ fn keep_rows(
 ) -> Result<(), FileFault>
     requires { Stands rows.old }
     ensures form { form_of kept.new ≡ form_of kept.old }
-    ensures kept { (entries : List Entry) → Holds kept.old entries
-        → KeepsCalls (Holds kept.new) entries auction.old auction.new result
+    ensures kept { (entries : List Entry) → Follows kept.old auction.old entries
+        → KeepsCalls (Follows kept.new auction.new) entries auction.old auction.new result
         (calls_after members auction.old.config.max_calls auction.old.calls (rows_left rows.old)) }
     ensures room { auction.new.calls ≤ auction.old.config.max_calls }
     ensures parsed { IfErr result IsOfRecord }
@@ -68,7 +69,7 @@ fn keep_rows(
             return Ok(());
         }
         let call = numbered_call(&row, u64::from(before) + 1, members)?;
-        if keep_call(auction, kept, call).is_err() {
+        if kept.keep_call(alloc, auction, call).is_err() {
             return Err(FileFault::NoMemory);
         }
     }
@@ -90,8 +91,8 @@ fn keep_records(
 ) -> Result<(), FileFault>
     requires opened { auction.old ≡ opened auction.old.config }
     ensures form { form_of kept.new ≡ form_of kept.old }
-    ensures kept { (entries : List Entry) → Holds kept.old entries
-        → KeepsCalls (Holds kept.new) entries auction.old auction.new result
+    ensures kept { (entries : List Entry) → Follows kept.old auction.old entries
+        → KeepsCalls (Follows kept.new auction.new) entries auction.old auction.new result
         (calls_of members auction.old.config.max_calls bytes.now) }
     ensures room { auction.new.calls ≤ auction.old.config.max_calls }
     ensures parsed { IfErr result IsOfRecord }
@@ -102,15 +103,20 @@ fn keep_records(
 
 /// Applies these calls, which come after the auction's so far, and keeps their entries. The error is that memory is
 /// refused.
-fn keep_calls(auction: &mut Auction, kept: &mut Kept, calls: &[Call]) -> Result<(), FileFault>
+fn keep_calls(
+    alloc: Global,
+    auction: &mut Auction,
+    kept: &mut Kept,
+    calls: &[Call],
+) -> Result<(), FileFault>
     requires { auction.old.calls + length calls.now ≤ auction.old.config.max_calls }
     ensures form { form_of kept.new ≡ form_of kept.old }
-    ensures kept { (entries : List Entry) → Holds kept.old entries
-        → KeepsCalls (Holds kept.new) entries auction.old auction.new result (Ok calls.now) }
+    ensures kept { (entries : List Entry) → Follows kept.old auction.old entries
+        → KeepsCalls (Follows kept.new auction.new) entries auction.old auction.new result (Ok calls.now) }
     ensures memory { IfErr result (λ e. e ≡ FileFault.NoMemory) }
 {
     for call in calls {
-        if keep_call(auction, kept, *call).is_err() {
+        if kept.keep_call(alloc, auction, *call).is_err() {
             return Err(FileFault::NoMemory);
         }
     }
@@ -128,9 +134,11 @@ fn keep_journal(alloc: Global, journal: &Journal, form: Form) -> Result<KeptDay,
         Ok(auction) => auction,
         Err(fault) => return Err(Fault::Open(fault)),
     };
-    let mut kept = Kept::new(alloc, form);
-    match keep_calls(&mut auction, &mut kept, journal.calls.as_slice()) {
-        Ok(()) => Ok(KeptDay { day, kept }),
+    let Ok(mut kept) = Kept::open(alloc, form, &auction) else {
+        return Err(Fault::File(FileFault::NoMemory));
+    };
+    match keep_calls(alloc, &mut auction, &mut kept, journal.calls.as_slice()) {
+        Ok(()) => close_day(alloc, day, &mut auction, kept),
         Err(fault) => Err(Fault::File(fault)),
     }
 }
@@ -160,9 +168,11 @@ fn keep_orders(alloc: Global, bytes: &[u8], day: Day, form: Form) -> Result<Kept
         Ok(auction) => auction,
         Err(fault) => return Err(refused_orders(alloc, bytes, day, fault)),
     };
-    let mut kept = Kept::new(alloc, form);
+    let Ok(mut kept) = Kept::open(alloc, form, &auction) else {
+        return Err(Fault::File(FileFault::NoMemory));
+    };
     match keep_records(alloc, bytes, &mut auction, &mut kept, day.members) {
-        Ok(()) => Ok(KeptDay { day, kept }),
+        Ok(()) => close_day(alloc, day, &mut auction, kept),
         Err(fault) => Err(Fault::File(fault)),
     }
 }

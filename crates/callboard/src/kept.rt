@@ -1,55 +1,101 @@
 //! What is kept of a day's entries until they are printed.
 
-ghost use Rattle.std.specs.Prelude.{◌≡◌, ◌++◌, ◌∷◌, [], List, OnOk};
+ghost use Rattle.std.specs.Prelude.{◌≡◌, ◌<◌, ◌++◌, ◌∷◌, [], List, IfOk, OnOk};
 ghost use Rattle.auction_terms.specs.declared.Entry.{Entry};
-ghost use Rattle.callboard.specs.KeptEntries.{Holds, form_of};
+ghost use Rattle.auction_terms.specs.Day.{step};
+ghost use Rattle.auction_terms.specs.Devices.Running.{called, opened};
+ghost use Rattle.callboard.specs.KeptEntries.{Follows, Holds, form_of};
 ghost use Rattle.callboard.specs.Printed.{entry_by};
 
-use auction_terms::{Call, Entry, Reply};
+use auction::Auction;
+use auction_terms::{Call, Entry};
+use day_tables::KeptBook;
+use journal::keep_entry;
+use printed_lines::KeptText;
 use reply_list::ReplyList;
 use settings::{Form, Listing};
 use std::alloc::{AllocError, Global};
 
-/// What a form needs of a day's entries: lines the replies, which are kept in a few bytes each, a listing all of them.
+/// What a form needs of a day's entries: lines the replies, which are kept in a few bytes each, a journal its lines,
+/// the trades all entries, and the book its tables.
 #[derive(Drop)]
 pub enum Kept {
     Lines(ReplyList),
-    Listing(Listing, Vec<Entry>),
+    Journal(KeptText),
+    Trades(Vec<Entry>),
+    Book(KeptBook),
+}
+
+/// Applies a call, and answers its entry.
+#[inline]
+fn apply(auction: &mut Auction, call: Call) -> Entry
+    requires { auction.old.calls < auction.old.config.max_calls }
+    ensures auction { auction.new ≡ called auction.old call }
+    ensures entry { result ≡ entry_by call (step auction.old.config auction.old.state call).1 }
+{
+    let Call { member, command } = call;
+    let reply = auction.apply(member, command);
+    Entry {
+        member,
+        command,
+        reply,
+    }
+}
+
+/// Puts an entry behind the others.
+fn keep_whole(entries: &mut Vec<Entry>, entry: Entry) -> Result<(), AllocError>
+    ensures { OnOk result (entries.new.items ≡ entries.old.items ++ entry ∷ []) }
+{
+    entries.push(entry)?;
+    Ok(())
 }
 
 impl Kept {
-    /// No entries, kept for this form.
-    pub fn new(alloc: Global, form: Form) -> Kept
-        ensures form { form_of result ≡ form }
-        ensures none { Holds result [] }
+    /// No entries of a day that was just opened, kept for this form. The error is that memory is refused.
+    pub fn open(alloc: Global, form: Form, auction: &Auction) -> Result<Kept, AllocError>
+        ensures form { IfOk result (λ kept. form_of kept ≡ form) }
+        ensures none { auction.now ≡ opened auction.now.config → IfOk result (λ kept. Follows kept auction.now []) }
     {
         match form {
-            Form::Lines => Kept::Lines(ReplyList::new(alloc)),
-            Form::Listing(listing) => Kept::Listing(listing, Vec::new(alloc)),
+            Form::Lines => Ok(Kept::Lines(ReplyList::new(alloc))),
+            Form::Listing(Listing::Journal) => Ok(Kept::Journal(KeptText::new(alloc))),
+            Form::Listing(Listing::Trades) => Ok(Kept::Trades(Vec::new(alloc))),
+            Form::Listing(Listing::Book) => Ok(Kept::Book(KeptBook::open(alloc, auction)?)),
         }
     }
 
-    /// The entry of a call with this reply, behind the others. The error is that memory is refused.
+    /// Applies a call, and keeps its entry. The error is that memory is refused; the call is applied then too.
     #[inline]
-    pub fn keep(&mut self, call: Call, reply: Reply) -> Result<(), AllocError>
+    pub fn keep_call(
+        &mut self,
+        alloc: Global,
+        auction: &mut Auction,
+        call: Call,
+    ) -> Result<(), AllocError>
+        requires { auction.old.calls < auction.old.config.max_calls }
+        ensures state { auction.new ≡ called auction.old call }
         ensures form { form_of self.new ≡ form_of self.old }
-        ensures kept { (entries : List Entry) → Holds self.old entries
-            → OnOk result (Holds self.new (entries ++ entry_by call reply ∷ [])) }
+        ensures kept { (entries : List Entry) → Follows self.old auction.old entries → OnOk result
+            (Follows self.new auction.new
+            (entries ++ entry_by call (step auction.old.config auction.old.state call).1 ∷ [])) }
     {
         match self {
-            Kept::Lines(replies) => replies.push(reply),
-            Kept::Listing(_, entries) => keep_entry(entries, call, reply),
+            Kept::Lines(replies) => replies.push(apply(auction, call).reply),
+            Kept::Journal(lines) => keep_entry(lines, apply(auction, call)),
+            Kept::Trades(entries) => keep_whole(entries, apply(auction, call)),
+            Kept::Book(book) => book.keep_call(alloc, auction, call),
         }
     }
-}
 
-fn keep_entry(entries: &mut Vec<Entry>, call: Call, reply: Reply) -> Result<(), AllocError>
-    ensures { OnOk result (entries.new.items ≡ entries.old.items ++ entry_by call reply ∷ []) }
-{
-    entries.push(Entry {
-        member: call.member,
-        command: call.command,
-        reply,
-    })?;
-    Ok(())
+    /// Keeps what stands at the end of the input, as all its calls have come. The error is that memory is refused.
+    pub fn close(&mut self, alloc: Global, auction: &mut Auction) -> Result<(), AllocError>
+        ensures form { form_of self.new ≡ form_of self.old }
+        ensures kept { (entries : List Entry) → Follows self.old auction.old entries
+            → OnOk result (Holds self.new auction.old.config entries) }
+    {
+        match self {
+            Kept::Book(book) => book.close(alloc, auction),
+            _ => Ok(()),
+        }
+    }
 }

@@ -1,9 +1,16 @@
 //! The printed text of a day that is over.
 
-ghost use Rattle.std.specs.Prelude.{◌<◌, ◌↔◌, IfErr, IsErrOf};
+ghost use Rattle.std.specs.Prelude.{◌≡◌, ◌<◌, ◌↔◌, List, IfErr, IsErrOf};
+ghost use Rattle.auction_terms.specs.declared.Config.{Config};
+ghost use Rattle.auction_terms.specs.declared.Entry.{Entry};
 ghost use Rattle.auction_terms.specs.Day.{IsLegal};
 ghost use Rattle.byte_streams.specs.Writing.{WritesAll};
+ghost use Rattle.day_tables.specs.BookTable.{book_text};
+ghost use Rattle.day_tables.specs.KeptBook.{HoldsBook};
 ghost use Rattle.day_tables.specs.TableRecords.{PrintsTable};
+ghost use Rattle.journal.specs.JournalText.{journal_text};
+ghost use Rattle.journal.specs.KeptLines.{HoldsLines};
+ghost use Rattle.printed_lines.specs.KeptText.{text_of};
 ghost use Rattle.printed_lines.specs.Printing.{Prints};
 ghost use Rattle.callboard.specs.BoardRun.{closing_text};
 ghost use Rattle.callboard.specs.FileRun.{WritesText};
@@ -13,9 +20,9 @@ use crate::fault::Fault;
 use auction_terms::Entry;
 use byte_streams::{Sink, WriteFailed};
 use call_board::Closing;
-use day_tables::{TableFault, print_book, print_trades};
-use journal::{Day, print_journal};
-use printed_lines::{Printer, print_story, print_tally};
+use day_tables::{KeptBook, TableFault, print_book, print_trades};
+use journal::{Day, print_journal, print_kept_journal};
+use printed_lines::{KeptText, Printer, print_story, print_tally};
 use settings::Listing;
 use std::alloc::Global;
 
@@ -112,4 +119,51 @@ pub fn write_listing<S: Sink>(
         Err(TableFault::Open(_)) => Err(Fault::NoMemory),
         Err(TableFault::Write(_)) => Err(Fault::WriteFailed),
     }
+}
+
+fn print_lines_kept<S: Sink>(writer: &mut S, day: Day, lines: &KeptText) -> Result<(), WriteFailed>
+    ensures { (entries : List Entry) → HoldsLines (text_of lines.now) entries
+        → WritesAll S.Sink writer.old writer.new result (journal_text day entries) }
+{
+    let mut printer = Printer::new(writer);
+    print_kept_journal(&mut printer, day, lines)?;
+    printer.flush()
+}
+
+/// Writes the journal of a day whose lines were kept. It takes no memory.
+pub fn write_journal<S: Sink>(writer: &mut S, day: Day, lines: &KeptText) -> Result<(), Fault>
+    requires { (entries : List Entry) × HoldsLines (text_of lines.now) entries }
+    ensures text { (entries : List Entry) → HoldsLines (text_of lines.now) entries
+        → WritesText (S.written writer.old) (S.written writer.new) (journal_text day entries) result }
+    ensures failed { IsErrOf result Fault.WriteFailed ↔ (S.failures writer.old < S.failures writer.new) }
+    ensures fault { IfErr result (λ f. f ≡ Fault.WriteFailed) }
+{
+    let Ok(()) = print_lines_kept(writer, day, lines) else {
+        return Err(Fault::WriteFailed);
+    };
+    Ok(())
+}
+
+fn print_book_kept<S: Sink>(writer: &mut S, book: &mut KeptBook) -> Result<(), WriteFailed>
+    requires { (config : Config) × (entries : List Entry) × HoldsBook book.old config entries }
+    ensures { (config : Config) (entries : List Entry) → HoldsBook book.old config entries
+        → WritesAll S.Sink writer.old writer.new result (book_text config entries) }
+{
+    let mut printer = Printer::new(writer);
+    book.print(&mut printer)?;
+    printer.flush()
+}
+
+/// Writes the book behind each price of a day whose tables were kept. It takes no memory.
+pub fn write_book<S: Sink>(writer: &mut S, book: &mut KeptBook) -> Result<(), Fault>
+    requires { (config : Config) × (entries : List Entry) × HoldsBook book.old config entries }
+    ensures text { (config : Config) (entries : List Entry) → HoldsBook book.old config entries
+        → WritesText (S.written writer.old) (S.written writer.new) (book_text config entries) result }
+    ensures failed { IsErrOf result Fault.WriteFailed ↔ (S.failures writer.old < S.failures writer.new) }
+    ensures fault { IfErr result (λ f. f ≡ Fault.WriteFailed) }
+{
+    let Ok(()) = print_book_kept(writer, book) else {
+        return Err(Fault::WriteFailed);
+    };
+    Ok(())
 }

@@ -14,12 +14,12 @@ ghost use Rattle.callboard.specs.Printed.{IsOfPrinting, IsWideIfBegun, printed};
 use crate::fault::{Fault, Finish};
 use crate::keeping::read_and_keep;
 use crate::kept::Kept;
-use crate::printing::write_listing;
+use crate::printing::{write_book, write_journal, write_listing};
 use byte_streams::{Sink, Source, WriteFailed};
 use journal::Day;
 use printed_lines::{Printer, print_line};
 use reply_list::ReplyList;
-use settings::Form;
+use settings::{Form, Listing};
 use std::alloc::Global;
 
 /// Prints the line of each reply.
@@ -56,20 +56,28 @@ fn write_lines<S: Sink>(writer: &mut S, replies: &ReplyList) -> Result<(), Fault
     Ok(())
 }
 
-/// Writes what is printed of a day in the form that its entries are kept for. Lines take no memory.
-fn write_kept<S: Sink>(alloc: Global, writer: &mut S, day: Day, kept: &Kept) -> Result<(), Fault>
-    requires { (entries : List Entry) × Holds kept.now entries × IsLegal day.config entries }
-    ensures text { (entries : List Entry) → Holds kept.now entries
-        → WritesText (S.written writer.old) (S.written writer.new) (printed (form_of kept.now) day entries) result }
+/// Writes what is printed of a day in the form that its entries are kept for. But for the trades it takes no memory.
+fn write_kept<S: Sink>(
+    alloc: Global,
+    writer: &mut S,
+    day: Day,
+    kept: &mut Kept,
+) -> Result<(), Fault>
+    requires { (entries : List Entry) × Holds kept.old day.config entries × IsLegal day.config entries }
+    ensures text { (entries : List Entry) → Holds kept.old day.config entries
+        → WritesText (S.written writer.old) (S.written writer.new) (printed (form_of kept.old) day entries) result }
     ensures failed { IsErrOf result Fault.WriteFailed ↔ (S.failures writer.old < S.failures writer.new) }
-    ensures fault { IfErr result (IsOfPrinting (form_of kept.now)) }
-    ensures wide { (entries : List Entry) → Holds kept.now entries → IsWideIfBegun result (form_of kept.now) entries }
+    ensures fault { IfErr result (IsOfPrinting (form_of kept.old)) }
+    ensures wide { (entries : List Entry) → Holds kept.old day.config entries
+        → IsWideIfBegun result (form_of kept.old) entries }
 {
     match kept {
         Kept::Lines(replies) => write_lines(writer, replies),
-        Kept::Listing(listing, entries) => {
-            write_listing(alloc, writer, *listing, day, entries.as_slice())
+        Kept::Journal(lines) => write_journal(writer, day, lines),
+        Kept::Trades(entries) => {
+            write_listing(alloc, writer, Listing::Trades, day, entries.as_slice())
         }
+        Kept::Book(book) => write_book(writer, book),
     }
 }
 
@@ -88,7 +96,7 @@ pub fn run_file<R: Source, S: Sink>(
     ensures { RunsOnAuction day form
         (ends_of R.Source S.Sink reader.old reader.new writer.old writer.new) result }
 {
-    let kept_day = read_and_keep(alloc, reader, day, form)?;
-    write_kept(alloc, writer, kept_day.day, &kept_day.kept)?;
+    let mut kept_day = read_and_keep(alloc, reader, day, form)?;
+    write_kept(alloc, writer, kept_day.day, &mut kept_day.kept)?;
     Ok(Finish::Lawful)
 }

@@ -17,7 +17,7 @@ loop-call-preserved c =
         _,
         called_on _ _ _ front (get_or c.args.calls.now c.loop-call.call-index _) c.keep_call.ensures.state is,
         call-next c.args.calls.now front c.loop-call.call-index _ left c.loop-call-test.true,
-        λ entries h. holds-more _ _ _ entries front (get_or c.args.calls.now c.loop-call.call-index _) is (was_put _ (sym c.is_err.ensures.value ∙ c.if-is_err.false) (c.keep_call.ensures.kept _ (holds entries h))),
+        λ entries h. holds-more _ _ _ _ entries front (get_or c.args.calls.now c.loop-call.call-index _) is (was_put _ (sym c.is_err.ensures.value ∙ c.if-is_err.false) (c.keep_call.ensures.kept _ (holds entries h))),
       );
     }
 

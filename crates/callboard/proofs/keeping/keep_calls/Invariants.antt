@@ -1,7 +1,7 @@
 use Rattle.std.proofs.Common.{◌≡◌, ◌+◌, ◌++◌, List, drop}
 use Rattle.auction_terms.specs.declared.Call.{Call}
 use Rattle.auction_terms.specs.declared.Entry.{Entry}
-use Rattle.callboard.specs.KeptEntries.{Holds, after_calls, form_of}
+use Rattle.callboard.specs.KeptEntries.{Follows, after_calls, form_of}
 use Rattle.callboard.specs.Printed.{entries_from}
 use Rattle.callboard.proofs.keeping.keep_calls.Given as goal
 
@@ -12,5 +12,5 @@ invariant-loop-call l = record {
   config : l.auction.config ≡ l.fn.auction.config;
   count : l.auction.calls ≡ l.fn.auction.calls + l.call-index;
   calls : (front : List Call) × (l.auction ≡ after_calls l.fn.auction front) × (front ++ drop l.call-index l.calls ≡ l.calls)
-      × ((entries : List Entry) → Holds l.fn.kept entries → Holds l.kept (entries ++ entries_from l.fn.auction.config l.fn.auction.state front));
+      × ((entries : List Entry) → Follows l.fn.kept l.fn.auction entries → Follows l.kept l.auction (entries ++ entries_from l.fn.auction.config l.fn.auction.state front));
 }

@@ -1,6 +1,6 @@
 use Rattle.std.proofs.Common.{◌∙◌, []}
 use Rattle.auction.specs.ConfigFault.{open_fault}
-use Rattle.callboard.proofs.KeptLaws.{orders-fault, orders-kept, orders-long, orders-refused}
+use Rattle.callboard.proofs.KeptLaws.{opened_so, orders-fault, orders-kept, orders-long, orders-refused}
 use Rattle.callboard.proofs.OpeningLaws.{none_refused}
 use Rattle.callboard.proofs.keeping.keep_orders.Goals as goal
 
@@ -14,11 +14,11 @@ returns-in-Err-clause-kept c =
 pub returns-in-Ok-keep_records-clause-kept : goal.returns-in-Ok-keep_records-clause-kept
 returns-in-Ok-keep_records-clause-kept c =
     let opens = none_refused (open_fault c.args.day.config) c.open.result c.in-Ok.auction c.in-Ok.is c.open.ensures.refused in
-    orders-kept c.args.form c.args.day c.keep_records.new.kept c.in-Ok.auction c.keep_records.new.auction c.args.bytes.now c.in-Ok.ensures.opening
-    (c.in-Ok-keep_records.ensures.form ∙ c.new-kept.ensures.form) opens c.if-bytes-gt-MAX_BYTES.false c.in-Ok-keep_records.ensures.room
-    (c.in-Ok-keep_records.ensures.kept [] c.new-kept.ensures.none)
+    orders-kept c.args.form c.args.day c.keep_records.new.kept c.in-Ok.auction c.keep_records.new.auction c.args.bytes.now c.close_day.result c.in-Ok.ensures.opening
+    (c.in-Ok-keep_records.ensures.form ∙ c.in-Ok-open.ensures.form) opens c.if-bytes-gt-MAX_BYTES.false c.in-Ok-keep_records.ensures.room
+    (c.in-Ok-keep_records.ensures.kept [] (c.in-Ok-open.ensures.none (opened_so _ _ c.in-Ok.ensures.opening))) c.close_day.ensures
 
 pub returns-clause-kept : goal.returns-clause-kept
 returns-clause-kept c =
     orders-fault c.args.form c.args.day c.keep_records.new.kept c.in-Ok.auction c.keep_records.new.auction c.args.bytes.now c.in-Err-keep_records.fault c.in-Ok.ensures.opening
-    c.if-bytes-gt-MAX_BYTES.false (c.in-Err-keep_records.ensures.kept [] c.new-kept.ensures.none)
+    c.if-bytes-gt-MAX_BYTES.false (c.in-Err-keep_records.ensures.kept [] (c.in-Ok-open.ensures.none (opened_so _ _ c.in-Ok.ensures.opening)))

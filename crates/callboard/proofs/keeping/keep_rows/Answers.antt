@@ -39,7 +39,7 @@ loop-before-preserved c =
         _,
         called_on _ _ _ front c.in_ok-call.call c.keep_call.ensures.state is,
         at-call _ _ _ front _ _ _ _ _ all found.0 room (sym call),
-        λ entries h. holds-more _ _ _ entries front c.in_ok-call.call is (was_put _ (sym c.is_err.ensures.value ∙ c.if-is_err.false) (c.keep_call.ensures.kept _ (holds entries h))),
+        λ entries h. holds-more _ _ _ _ entries front c.in_ok-call.call is (was_put _ (sym c.is_err.ensures.value ∙ c.if-is_err.false) (c.keep_call.ensures.kept _ (holds entries h))),
       );
     }
 
