@@ -3,7 +3,8 @@
 The frame has a row for each event, in the order in which the board took them. Its columns are
 
 - `event`: `new`, `replace`, `cancel`, `uncross` (an auction ended) or `trade`;
-- `order`: the order's id there; `member`: who sent it (at `replace` and `cancel` it may be missing);
+- `order`: the order's id there; `member`: who sent it, which `replace` and `cancel` may
+  leave out;
 - `side`: `bid` or `buy`, `ask` or `sell`; `price`: a decimal, missing for a market order;
 - `quantity`: shares, at `replace` what is open behind it; `peak`: of an iceberg order;
 - `only`: `opening` or `closing`, where the order is for that auction alone;

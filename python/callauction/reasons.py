@@ -151,8 +151,8 @@ def _best(book: Book) -> list[str]:
 
 
 def _decided(book: Book, price: "pandas.Series", reference: object) -> list[str]:
-    """Which rule made one of the best limits, or the reference, the price. More than two limits with
-    one demand and one supply there aren't: each order's limit changes one of them.
+    """Which rule made one of the best limits, or the reference, the price. No more than two limits
+    have one demand and one supply, as each limit changes one of them.
     """
     name, rule = book.named(price["limit"]), price["price"]
     if rule == SINGLE:

@@ -258,7 +258,7 @@ class RecordedAuction:
         return audit_of(self.day())
 
     def trades(self) -> pandas.DataFrame:
-        """The trades of the day so far, with the members that entered the orders (tables.TRADES)."""
+        """The trades of the day so far, with the members of the orders (tables.TRADES)."""
         return trades_of(self.day())
 
     def books(self) -> pandas.DataFrame:

@@ -191,8 +191,8 @@ def _table(frame: pandas.DataFrame, caption: str, name: str) -> str:
     label = html.escape(caption + more)
     return (
         f'<div class="wide" role="region" tabindex="0" aria-label="{label}"><table id="{name}">'
-        f"<caption><span>{label}</span></caption><thead><tr>{heads}</tr></thead><tbody>{rows}</tbody></table>"
-        "</div>"
+        f"<caption><span>{label}</span></caption><thead><tr>{heads}</tr></thead>"
+        f"<tbody>{rows}</tbody></table></div>"
     )
 
 

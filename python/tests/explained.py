@@ -13,7 +13,8 @@ BESIDE = (
 )
 NEITHER = "Neither leaves a surplus, so the lowest, {}, and the highest, 210, are kept."
 NOTHING = (
-    "At no limit are there both demand and supply, so nothing can be executed and there is no price."
+    "At no limit are there both demand and supply, so nothing can be executed and there is no "
+    "price."
 )
 EMPTY = "No order counts in this auction, so there is no price."
 ALONE = "There are market orders alone, {} bid and {} offered, so the reference, {}, is the price."

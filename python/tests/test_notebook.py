@@ -47,8 +47,8 @@ def test_each_rule_is_shown_by_a_book(ran: nbformat.NotebookNode) -> None:
         "Shown in its place: the highest bid limit, 199, and the lowest ask limit, 201.",
     ):
         assert sentence in shown
-    pictures = [o for c in ran.cells for o in c.get("outputs", []) if "image/png" in o.get("data", {})]
-    assert len(pictures) >= 9
+    outputs = [output for cell in ran.cells for output in cell.get("outputs", [])]
+    assert sum("image/png" in output.get("data", {}) for output in outputs) >= 9
 
 
 @pytest.mark.filterwarnings("ignore")

@@ -51,8 +51,9 @@ def points(axes: Axes, label: str) -> list[tuple[int, int]]:
 
 def test_a_book_is_drawn_by_its_table() -> None:
     axes = plot.book(table_of(form_of(Path("surplus_bid"), "book"), BOOK), reference=200)
-    assert steps(axes, "demand") == ([600, 600, 600, 400, 0], [197, 198.5, 199.5, 201.5, 202.5, 203])
-    assert steps(axes, "supply") == ([0, 200, 500, 500, 500], [197, 197.5, 198.5, 200.5, 201.5, 203])
+    demand, supply = steps(axes, "demand"), steps(axes, "supply")
+    assert demand == ([600, 600, 600, 400, 0], [197, 198.5, 199.5, 201.5, 202.5, 203])
+    assert supply == ([0, 200, 500, 500, 500], [197, 197.5, 198.5, 200.5, 201.5, 203])
     assert bars(axes, "executable volume") == [
         (198, 0, 200), (199, 0, 500), (201, 0, 500), (202, 0, 400)
     ]

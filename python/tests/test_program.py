@@ -49,7 +49,8 @@ def test_a_name_without_a_program_is_told(tmp_path: Path, monkeypatch: pytest.Mo
 def test_a_run_that_failed_is_told(
     tmp_path: Path, monkeypatch: pytest.MonkeyPatch, status: int, text: str
 ) -> None:
-    monkeypatch.setenv(program.VARIABLE, str(script(tmp_path / "x", f"echo {text} >&2; exit {status}")))
+    failing = script(tmp_path / "x", f"echo {text} >&2; exit {status}")
+    monkeypatch.setenv(program.VARIABLE, str(failing))
     with pytest.raises(FailedError, match=f"^{text}$") as failed:
         Day(b"1,ask\n").printed("book")
     assert failed.value.status == status

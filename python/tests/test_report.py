@@ -41,7 +41,7 @@ def test_a_report_has_each_part(file: Path) -> None:
 def test_the_audit_of_a_journal_comes_first() -> None:
     text = report.html_of(Day.read(CHANGED))
     assert sections(text)[0] == "Audit"
-    assert "<strong>not legal</strong>: of 8 entries 8 have a recorded reply, and 4 of these" in text
+    assert "<strong>not legal</strong>: of 8 entries 8 have a recorded reply, and 4 of" in text
     assert "entered 66" in text
 
 
@@ -114,7 +114,7 @@ def test_events_are_converted_and_audited(
     (["audit", str(EXAMPLES[0])], 1, "record 1: not a day record"),
     (["plot", str(EXAMPLES[0]), "--command", "1", "-o", "x.svg"], 2, "no book before command 1"),
     (["convert", str(EXAMPLES[0]), *CONVERSION, "-o", "x"], 1, "row 2: event is missing"),
-    (["convert", str(EXAMPLES[0]), "--tick-size", "0", "--reference", "1", "-o", "x"], 2, "tick_size"),
+    (["convert", str(CHANGED), "--tick-size", "0", "--reference", "1", "-o", "x"], 2, "tick_size"),
 ])
 def test_faults_are_one_line(
     words: list[str], status: int, text: str, capsys: pytest.CaptureFixture[str], tmp_path: Path,
@@ -127,7 +127,9 @@ def test_faults_are_one_line(
     assert not [*tmp_path.iterdir()]
 
 
-@pytest.mark.parametrize("words", [[], ["paint"], ["report"], ["report", "x", "--low", "y", "-o", "z"]])
+@pytest.mark.parametrize("words", [
+    [], ["paint"], ["report"], ["report", "x", "--low", "y", "-o", "z"]
+])
 def test_bad_command_lines_are_one_line(
     words: list[str], capsys: pytest.CaptureFixture[str]
 ) -> None:
