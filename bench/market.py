@@ -30,7 +30,7 @@ import orders
 TOP = pathlib.Path(__file__).resolve().parent.parent
 sys.path.insert(0, str(TOP / "python"))
 
-from callauction.market import finder  # noqa: E402
+from callauction import finder  # noqa: E402
 
 POWER = 0.9
 LEAST, MOST = 12, 1_000_000

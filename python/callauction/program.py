@@ -4,21 +4,20 @@ import operator
 import os
 import pathlib
 import re
-import shutil
 import subprocess
 from typing import Self
 
+from callauction import finder
 from callauction.errors import AuctionError
 
 FORMS = ("lines", "journal", "trades", "book")
 """The forms in which a day is printed (docs/FORMATS.md)."""
 OPTIONS = ("low", "high", "reference", "members", "open", "calls", "range")
 """What an order file's day is opened with, in the order of a day record."""
-VARIABLE = "CALLBOARD"
+VARIABLE = finder.VARIABLE
 DONE, BAD_FILE, BAD_DAY, FAILED, UNLAWFUL = range(5)
 """The statuses of the program."""
 NO_JOURNAL = "record 1: not a day record"
-_BUILT = pathlib.Path(__file__).resolve().parents[2] / "crates/callboard/out/callboard"
 
 
 class ProgramError(AuctionError):
@@ -58,20 +57,11 @@ class FailedError(ProgramError):
 
 
 def program() -> str:
-    """The path of the program: what the variable CALLBOARD names, or else `callboard` on the path,
-    or else the one that was built in the repository that has this package. Raises FailedError.
-    """
-    named = os.environ.get(VARIABLE)
-    if named:
-        if not shutil.which(named):
-            raise FailedError(f"{VARIABLE} names no program: {named}")
-        return named
-    found = shutil.which("callboard") or shutil.which(str(_BUILT))
-    if not found:
-        raise FailedError(
-            f"there is no program callboard: build it, and name it by {VARIABLE} or have it on PATH"
-        )
-    return found
+    """The path of the program (callauction.finder). Raises FailedError where there is none."""
+    try:
+        return finder.program()
+    except FileNotFoundError as fault:
+        raise FailedError(str(fault)) from None
 
 
 def words_of(options: dict[str, int | None]) -> tuple[str, ...]:

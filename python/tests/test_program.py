@@ -4,7 +4,7 @@ import stat
 from pathlib import Path
 
 import pytest
-from callauction import program
+from callauction import finder, program
 from callauction.program import BadDayError, Day, FailedError
 
 
@@ -31,7 +31,7 @@ def test_else_it_is_the_one_of_the_repository(
 ) -> None:
     monkeypatch.delenv(program.VARIABLE, raising=False)
     monkeypatch.setenv("PATH", str(tmp_path))
-    monkeypatch.setattr(program, "_BUILT", tmp_path / "callboard")
+    monkeypatch.setattr(finder, "BUILT", tmp_path / "callboard")
     with pytest.raises(FailedError, match="^there is no program callboard: build it"):
         program.program()
     built = script(tmp_path / "callboard", "exit 0")

@@ -11,7 +11,7 @@ from typing import Any
 from distributed import Client
 from tqdm import tqdm
 
-from callauction.market import finder
+from callauction import finder
 from callauction.market.log import Log
 from callauction.market.rows import SUFFIX, Found, Row, instrument_of, write_rows
 from callauction.market.runs import (

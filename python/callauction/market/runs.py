@@ -9,7 +9,7 @@ import dask
 from dask.system import CPU_COUNT
 from distributed import Client, KilledWorker, LocalCluster, as_completed
 
-from callauction.market import finder
+from callauction import finder
 from callauction.market.forms import FORMS
 from callauction.market.rows import Found, Row, frame, instrument_of
 from callauction.market.task import Request, examine

@@ -12,6 +12,7 @@ import uuid
 from collections.abc import Iterator
 from typing import IO
 
+from callauction.finder import program
 from callauction.market.forms import (
     BLOCK,
     FORMS,
@@ -22,7 +23,6 @@ from callauction.market.forms import (
     blocks_of,
     read_nothing,
 )
-from callauction.market.finder import program
 from callauction.market.rows import Found, Row, instrument_of
 
 GOOD = {0, 4}

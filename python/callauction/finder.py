@@ -1,28 +1,31 @@
-"""Where the built program `callboard` is."""
+"""Where the built program `callboard` is. It needs neither the library nor another package."""
 import hashlib
 import os
 import pathlib
 import shutil
 
-BUILT = pathlib.Path(__file__).resolve().parents[3] / "crates/callboard/out/callboard"
+VARIABLE = "CALLBOARD"
+BUILT = pathlib.Path(__file__).resolve().parents[2] / "crates/callboard/out/callboard"
 """Where the repository builds it, beside which this package's sources stand."""
 
 
 def program() -> str:
-    """The path of the program: what the environment's CALLBOARD says, else `callboard` on the PATH,
-    else the repository's own build.
+    """The path of the program: what the variable CALLBOARD names, or else `callboard` on the path,
+    or else the one that was built in the repository that has this package.
 
     Raises FileNotFoundError where there is none, or CALLBOARD names no file that can be run.
     """
-    named = os.environ.get("CALLBOARD")
+    named = os.environ.get(VARIABLE)
     if named:
         found = shutil.which(named)
         if not found:
-            raise FileNotFoundError(f"CALLBOARD names no program: {named}")
+            raise FileNotFoundError(f"{VARIABLE} names no program: {named}")
         return os.path.abspath(found)
     found = shutil.which("callboard") or shutil.which(str(BUILT))
     if not found:
-        raise FileNotFoundError("there is no callboard: build it, and name it in CALLBOARD")
+        raise FileNotFoundError(
+            f"there is no program callboard: build it, and name it by {VARIABLE} or have it on PATH"
+        )
     return os.path.abspath(found)
 
 
