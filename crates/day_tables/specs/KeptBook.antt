@@ -34,7 +34,8 @@ pub record FollowsBook (book : KeptBook) (auction : Running) (entries : List Ent
   pub front : List ℕ
   pub tables : AreTables auction.config book.tables.items front
   pub goes_on : (more : List Entry)
-      → front ++ tables_after auction.config (length entries) auction.state more ≡ tables_of auction.config (entries ++ more)
+      → front ++ tables_after auction.config (length entries) auction.state more
+      ≡ tables_of auction.config (entries ++ more)
 
 -- all tables of a day of these entries are kept
 pub record HoldsBook (book : KeptBook) (config : Config) (entries : List Entry) : Type 0 where

@@ -322,8 +322,8 @@ fn price_shown(display: Display) -> Option<u32>
     }
 }
 
-/// What a table is told by beside its ladder: the number of the command before which it stands, the current auction, and
-/// the tick of the price, if there is one.
+/// What a table is told by beside its ladder: the number of the command before which it stands, the current auction,
+/// and the tick of the price, if there is one.
 #[derive(Clone, Copy)]
 pub(crate) struct Heading {
     pub command: u64,
