@@ -122,7 +122,8 @@ def _answer(words: list[str], content: bytes) -> tuple[int, str]:
         raise FailedError(f"callboard can't be run: {fault.strerror}") from None
     if ran.returncode in (DONE, UNLAWFUL):
         return ran.returncode, ran.stdout.decode("ascii")
-    text = ran.stderr.decode("utf-8", "replace").strip()
+    # A second line may tell the likely cause.
+    text = ran.stderr.decode("utf-8", "replace").strip().partition("\n")[0]
     if ran.returncode == BAD_FILE:
         raise BadFileError(text)
     if ran.returncode == BAD_DAY:

@@ -38,7 +38,7 @@ def row_of(instrument: str, text: str) -> Columns:
     """What the rules say of a journal."""
     status, audit, fault = answer(text, "audit")
     if fault:
-        return {"instrument": instrument, "fault": fault.strip()}
+        return {"instrument": instrument, "fault": fault.splitlines()[0]}
     row: Columns = {"instrument": instrument, "auctions": 0, "trades": 0}
     row |= {name: int(count) for name, count in map(str.split, audit.splitlines()[-4:-1])}
     if status == UNLAWFUL:
