@@ -100,35 +100,43 @@ class RecordedAuction:
         check: bool = False,
     ) -> Entered | Refused:
         """As Auction.enter."""
-        return self._applied(member, Enter(side, quantity, limit, peak, only), check)
+        reply: Entered | Refused
+        reply = self._applied(member, Enter(side, quantity, limit, peak, only), check)
+        return reply
 
     def change(
         self, member: int, id: int, quantity: int, limit: int | None = None, *, check: bool = False
     ) -> Changed | Refused:
         """As Auction.change."""
-        return self._applied(member, Change(id, quantity, limit), check)
+        reply: Changed | Refused = self._applied(member, Change(id, quantity, limit), check)
+        return reply
 
     def delete(self, member: int, id: int, *, check: bool = False) -> Deleted | Refused:
         """As Auction.delete."""
-        return self._applied(member, Delete(id), check)
+        reply: Deleted | Refused = self._applied(member, Delete(id), check)
+        return reply
 
     def status(self, member: int, id: int, *, check: bool = False) -> Standing | Refused:
         """As Auction.status."""
-        return self._applied(member, Status(id), check)
+        reply: Standing | Refused = self._applied(member, Status(id), check)
+        return reply
 
     def ask(self, member: int, *, check: bool = False) -> Price | NoPrice | Refused:
         """As Auction.ask."""
-        return self._applied(member, Ask(), check)
+        reply: Price | NoPrice | Refused = self._applied(member, Ask(), check)
+        return reply
 
     def trade(self, member: int, number: int, *, check: bool = False) -> Traded | Refused:
         """As Auction.trade."""
-        return self._applied(member, Trade(number), check)
+        reply: Traded | Refused = self._applied(member, Trade(number), check)
+        return reply
 
     def uncross(
         self, member: int = 0, *, check: bool = False
     ) -> Uncrossed | Interrupted | Refused:
         """As Auction.uncross."""
-        return self._applied(member, Uncross(), check)
+        reply: Uncrossed | Interrupted | Refused = self._applied(member, Uncross(), check)
+        return reply
 
     def apply(self, member: int, command: Command, *, check: bool = False) -> Reply:
         """As Auction.apply."""

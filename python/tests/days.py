@@ -33,7 +33,9 @@ def form_of(file: Path, form: str) -> str:
 
 def by_the_rules(day: Day, form: str) -> tuple[int, str, str]:
     """What checks/plain_auction.py answers to a journal: a status, a text, and a fault."""
-    return plain_auction.answer(day.content.decode("ascii"), plain_auction.DEFAULTS, form)
+    content = day.content.decode("ascii")
+    answer: tuple[int, str, str] = plain_auction.answer(content, plain_auction.DEFAULTS, form)
+    return answer
 
 
 def orders() -> strategies.SearchStrategy[words.Enter]:

@@ -44,7 +44,8 @@ def adler_and_birk(**changes: dict[int, Any]) -> pandas.DataFrame:
 
 
 def converted(frame: pandas.DataFrame, **options: Any) -> Journal:
-    return from_frame(frame, "0.01", **{"reference": "19.90"} | options)
+    given: dict[str, Any] = {"reference": "19.90"} | options
+    return from_frame(frame, "0.01", **given)
 
 
 def entries_of(journal: Journal) -> list[str]:
@@ -114,8 +115,8 @@ def test_replies_are_told_in_the_names_from_there() -> None:
 
 
 def test_what_is_published_becomes_the_reply_that_says_it() -> None:
-    priced = dict(price="20.02", quantity=150, surplus=150, side="ask")
-    for cells, entries in (
+    priced: dict[str, Any] = dict(price="20.02", quantity=150, surplus=150, side="ask")
+    published: list[tuple[dict[str, Any], list[str]]] = [
         ({}, ["0,uncross,"]),
         (dict(quantity=0, price=None, auction="opening"), ["0,uncross,opening no price"]),
         (dict(quantity=0, price=None), ["0,uncross,"]),
@@ -129,7 +130,8 @@ def test_what_is_published_becomes_the_reply_that_says_it() -> None:
          ["0,uncross,interrupted price 2002 volume 150 surplus 150 ask"]),
         (priced | dict(surplus=0, side=None),
          ["0,ask,price 2002 volume 150 surplus 0 none", "0,uncross,"]),
-    ):
+    ]
+    for cells, entries in published:
         rows = [dict(event="uncross") | cells]
         assert entries_of(converted(pandas.DataFrame(rows))) == entries
 
@@ -343,8 +345,8 @@ def recorded_elsewhere(auction: RecordedAuction) -> pandas.DataFrame:
     told = 0
     for member, command, reply in auction._record:
         match command, reply:
-            case words.Enter(), words.Entered(id):
-                rows.append(entered(member, command, id))
+            case words.Enter() as order, words.Entered(id):
+                rows.append(entered(member, order, id))
             case words.Change(id, quantity, limit), words.Changed(kept):
                 rows.append(dict(event="replace", order=f"#{id}", quantity=quantity,
                                  price=cents(limit), kept=kept))
@@ -450,7 +452,8 @@ def test_any_frame_is_a_journal_or_one_error(
         journal = converted(pandas.DataFrame(rows, dtype="object"))
     except FrameError as fault:
         assert f"row {fault.row}: {fault.column}" in str(fault) and "\n" not in str(fault)
-        assert rows[fault.row][fault.column] is fault.value or fault.value is None
+        place: Any = fault.row
+        assert rows[place][fault.column] is fault.value or fault.value is None
         return
     assert len(journal.entries) == journal.text.count("\n") - 1
     audit = journal.audit()

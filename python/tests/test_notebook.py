@@ -1,9 +1,9 @@
 """The lesson runs, and its exercises are checked."""
 import json
 
-import nbclient
 import nbformat
 import pytest
+from nbclient.client import NotebookClient
 from printed import TOP
 
 NOTEBOOK = TOP / "python/notebooks/how_a_price_is_found.ipynb"
@@ -13,9 +13,11 @@ RULES = ("single", "highest", "lowest", "reference", "market")
 @pytest.fixture(scope="module", name="ran")
 def _ran() -> nbformat.NotebookNode:
     """The notebook after all of its cells ran; a cell that fails raises CellExecutionError."""
-    read = nbformat.read(NOTEBOOK, as_version=4)
+    read: nbformat.NotebookNode = nbformat.read(  # type: ignore[no-untyped-call]
+        NOTEBOOK, as_version=4
+    )
     place = {"metadata": {"path": str(NOTEBOOK.parent)}}
-    nbclient.NotebookClient(read, timeout=120, kernel_name="python3", resources=place).execute()
+    NotebookClient(read, timeout=120, kernel_name="python3", resources=place).execute()
     return read
 
 

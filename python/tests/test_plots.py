@@ -67,7 +67,7 @@ def test_a_book_is_drawn_by_its_table() -> None:
     assert (axes.get_xlabel(), axes.get_ylabel()) == ("limit (ticks)", "quantity (shares)")
 
 
-@pytest.mark.parametrize("file", EXAMPLES, ids=lambda file: file.stem)
+@pytest.mark.parametrize("file", EXAMPLES, ids=[file.stem for file in EXAMPLES])
 def test_each_example_is_drawn_by_its_table(file: Path) -> None:
     books = table_of(form_of(file, "book"), BOOK)
     for command in books["command"].unique():
@@ -134,7 +134,7 @@ def drawn(axes: Axes, folder: Path) -> bytes:
     for axis, along in ((axes.xaxis, 0), (axes.yaxis, 1)):
         texts = [text for text in axis.get_ticklabels() if text.get_text()]
         boxes = [text.get_window_extent(renderer).get_points()[:, along] for text in texts]
-        boxes = sorted(boxes, key=lambda box: box[0])
+        boxes = sorted(boxes, key=lambda box: float(box[0]))
         assert all(first[1] < second[0] for first, second in zip(boxes, boxes[1:]))
         assert 2 <= len(texts) <= 12
     assert figure.bbox.contains(*axes.get_legend().get_window_extent(renderer).min)

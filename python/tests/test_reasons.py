@@ -36,7 +36,7 @@ def test_each_example_is_worked_out() -> None:
     assert sorted(DECIDED) == [file.stem for file in EXAMPLES]
 
 
-@pytest.mark.parametrize("file", EXAMPLES, ids=lambda file: file.stem)
+@pytest.mark.parametrize("file", EXAMPLES, ids=[file.stem for file in EXAMPLES])
 def test_each_book_of_an_example_is_explained(file: Path) -> None:
     books = stored(file.stem)
     wanted = DECIDED[file.stem]

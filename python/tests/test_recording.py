@@ -1,6 +1,7 @@
 """An auction with its record: each call, and random days beside the rules and the program."""
 import copy
 import threading
+from collections.abc import Callable
 from pathlib import Path
 
 import callauction as words
@@ -31,7 +32,7 @@ def replayed(file: Path) -> RecordedAuction:
     return auction
 
 
-@pytest.mark.parametrize("file", EXAMPLES, ids=lambda file: file.stem)
+@pytest.mark.parametrize("file", EXAMPLES, ids=[file.stem for file in EXAMPLES])
 def test_an_example_has_its_tables(file: Path) -> None:
     with replayed(file) as auction:
         assert csv_of(auction.trades()) == form_of(file, "trades")
@@ -43,7 +44,8 @@ def test_an_example_has_its_tables(file: Path) -> None:
 def test_calls_are_those_of_an_auction() -> None:
     numbers = (1, 1000, 200, 5, 30, 9)
     with RecordedAuction(*numbers) as auction, Auction(*numbers) as bare:
-        for each in (auction, bare):
+        both: tuple[RecordedAuction | Auction, ...] = (auction, bare)
+        for each in both:
             each.enter(1, Side.BID, 500, 200, peak=100)
             each.enter(2, Side.ASK, 300)
             each.enter(2, Side.ASK, 30, 300, only=words.For.CLOSING)
@@ -105,12 +107,13 @@ def test_a_reference_is_the_last_price() -> None:
 
 def test_what_a_journal_cannot_say_is_refused_before_it_is_applied() -> None:
     with RecordedAuction() as auction:
-        for call, text in (
+        refused: list[tuple[Callable[[], object], str]] = [
             (lambda: auction.ask(64), "member must be from 0 to 63, not 64"),
             (lambda: auction.enter(1, Side.BID, MOST_NUMBER + 1), "quantity must be from 0 to"),
             (lambda: auction.change(1, 1, MOST_NUMBER + 1), "quantity must be from 0 to"),
             (lambda: auction.enter(1, Side.BID, 1, 1, MOST_NUMBER + 1), "peak must be from 0 to"),
-        ):
+        ]
+        for call, text in refused:
             with pytest.raises(ValueError, match=f"^{text}"):
                 call()
         with pytest.raises(TypeError, match="^member must be an integer"):
@@ -178,7 +181,8 @@ def test_threads_wait_for_one_another() -> None:
 
 def test_numbers_of_other_types_are_written_as_numbers() -> None:
     with RecordedAuction() as auction:
-        auction.enter(numpy.uint8(1), Side.BID, numpy.int64(5), numpy.int32(200), True)
+        member, quantity, limit = numpy.uint8(1), numpy.int64(5), numpy.int32(200)
+        auction.enter(member, Side.BID, quantity, limit, True)  # type: ignore[arg-type]
         assert auction.day().content.splitlines()[1] == b"1,enter,bid,5,200,1,entered 1"
 
 

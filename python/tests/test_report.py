@@ -3,6 +3,7 @@ import re
 import subprocess
 import sys
 from pathlib import Path
+from typing import Any
 
 import pytest
 from callauction import program, report
@@ -26,7 +27,7 @@ def sections(text: str) -> list[str]:
     return re.findall(r'<h2 id="part-\d+">([^<]*)</h2>', text)
 
 
-@pytest.mark.parametrize("file", EXAMPLES, ids=lambda file: file.stem)
+@pytest.mark.parametrize("file", EXAMPLES, ids=[file.stem for file in EXAMPLES])
 def test_a_report_has_each_part(file: Path) -> None:
     text = report.html_of(day_of(file))
     heads = sections(text)
@@ -167,5 +168,6 @@ def test_it_runs_as_a_module_and_reads_standard_input(tmp_path: Path) -> None:
 
 
 def test_short_work_shows_no_bar(capsys: pytest.CaptureFixture[str]) -> None:
-    assert sum(Watched(range(1000))) == 499_500
+    watched: Any = Watched(range(1000))
+    assert sum(watched) == 499_500
     assert capsys.readouterr().err == ""

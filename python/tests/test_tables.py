@@ -14,17 +14,17 @@ def csv_of(frame: pandas.DataFrame) -> str:
     written = frame.astype("object").where(frame.notna(), "")
     if "best" in written:
         written["limit"] = written["limit"].replace("", "market")
-    return written.to_csv(index=False)
+    return str(written.to_csv(index=False))
 
 
-@pytest.mark.parametrize("file", EXAMPLES, ids=lambda file: file.stem)
+@pytest.mark.parametrize("file", EXAMPLES, ids=[file.stem for file in EXAMPLES])
 def test_tables_are_the_stored_forms(file: Path) -> None:
     options = options_of(file)
     assert csv_of(callauction.read_trades(file, **options)) == form_of(file, "trades")
     assert csv_of(callauction.read_book(file, **options)) == form_of(file, "book")
 
 
-@pytest.mark.parametrize("file", EXAMPLES, ids=lambda file: file.stem)
+@pytest.mark.parametrize("file", EXAMPLES, ids=[file.stem for file in EXAMPLES])
 def test_a_journal_has_the_recorded_and_the_lawful_replies(file: Path) -> None:
     lines = file.with_suffix(".txt").read_text(encoding="utf-8").splitlines()
     texts = [line.split(": ", 1)[1] for line in lines]
@@ -84,7 +84,7 @@ def test_records_are_read_as_the_program_reads_them(text: bytes) -> None:
     assert journal_of(Day(text))["reply"].tolist() == ['a "b", c', ""]
 
 
-@pytest.mark.parametrize("file", AUDITS, ids=lambda file: file.stem)
+@pytest.mark.parametrize("file", AUDITS, ids=[file.stem for file in AUDITS])
 def test_an_audit_tells_what_the_program_prints(file: Path) -> None:
     frame = callauction.audit(file)
     lines = [
