@@ -1,16 +1,21 @@
 #!/usr/bin/env python3
 """Proves and builds the program, with progress on standard error: `build/program.py`.
 
-Crates that don't stand on each other are proved at once, as cores and memory allow: the crate with
-the longest way to the program above it first, with the cores that nothing else needs. On a terminal
-one line is rewritten; elsewhere each crate has a line of its own. What is proved is kept, so a
-build that was interrupted goes on where it stopped. How long each crate took is kept in
-out/build/seconds.txt, and the log of each in out/build/CRATE.log. The status is 0 where the
-program is built, 1 where a crate failed, which is named with its log, and 2 where a build can't
-begin.
+Crates that don't stand on each other are proved at once, as cores and memory allow. The one with
+the longest way to the program above it has all cores (at most four jobs), and what is proved beside
+it takes what it leaves (`nice`). The toolchain works in a crate's folder and in those below it, and
+of two crates that stand on one it lets the second wait. So each is proved in a room of its own,
+out/build/rooms/CRATE, with a copy of its text and of what was built below it, and what is made
+there is moved to the crate's own out/. On a terminal one line is rewritten; elsewhere each crate
+has a line of its own. What is proved is kept, so a build that was interrupted goes on where it
+stopped. How long each crate took is kept in out/build/seconds.txt, and the log of each in
+out/build/CRATE.log. The status is 0 where the program is built, 1 where a crate failed, which is
+named with its log, and 2 where a build can't begin.
 """
 import argparse
+import contextlib
 import dataclasses
+import fcntl
 import os
 import pathlib
 import re
@@ -19,37 +24,70 @@ import signal
 import subprocess
 import sys
 import time
+from collections.abc import Iterator
 
 TOP = pathlib.Path(__file__).resolve().parent.parent
 PROGRAM = "callboard"
 BUILT = TOP / "crates" / PROGRAM / "out" / PROGRAM
 LOGS = TOP / "out/build"
 SECONDS = LOGS / "seconds.txt"
+ROOMS = LOGS / "rooms"
+NO_CRATES_HERE = ROOMS / "MODULE.bazel"  # a file that keeps `rt ci` out of the rooms
 GIB = 2**30
 GIB_OF_A_CHECK = 4
 MOST_JOBS = 4  # that one crate can use
-UNKNOWN_SECONDS = 60.0  # taken for a crate that was never timed
+UNKNOWN_SECONDS = 60.0  # taken for a crate that isn't among these
+USUAL_SECONDS = {
+    "auction": 240.0,
+    "auction_terms": 60.0,
+    "allocation": 50.0,
+    "byte_streams": 20.0,
+    "call_board": 240.0,
+    "callboard": 240.0,
+    "day_audit": 60.0,
+    "day_tables": 200.0,
+    "input_hints": 30.0,
+    "journal": 120.0,
+    "lane_prefix": 20.0,
+    "lane_select": 30.0,
+    "member_floor": 60.0,
+    "order_book": 50.0,
+    "order_file": 100.0,
+    "price_rules": 60.0,
+    "printed_lines": 70.0,
+    "reply_list": 25.0,
+    "settings": 150.0,
+    "tick_ladder": 75.0,
+}
+"""About how long each crate takes, in seconds: which has the longest way to the program."""
+BESIDE_JOBS = 2  # of a crate that is proved beside the one with the longest way
 TURN = 0.2  # seconds between two looks at what runs
+SECONDS_BETWEEN_LOOKS = 5.0  # at a folder that is in use
 
 
 class CannotBuild(Exception):
     """Why a build can't begin, or which crate failed and where its log is."""
 
 
+def crate_lines(top: pathlib.Path) -> dict[str, str]:
+    """The line of crates.txt of each crate of the repository. Raises OSError."""
+    lines = (top / "crates.txt").read_text(encoding="utf-8").splitlines(keepends=True)
+    found = [line for line in lines if line.strip() and not line.startswith("#")]
+    return {line.partition(":")[0].split()[0]: line for line in found}
+
+
 def crates_below(top: pathlib.Path, program: str) -> dict[str, list[str]]:
     """The program's crate and those of the repository that it stands on, lowest first, each with
     those that it names. Raises OSError.
     """
-    lines = (top / "crates.txt").read_text(encoding="utf-8").splitlines()
-    rows = dict(line.split(":", 1) for line in lines if line and not line.startswith("#"))
-    named = {left.split()[0]: right.split() for left, right in rows.items()}
+    named = {name: line.partition(":")[2].split() for name, line in crate_lines(top).items()}
     wanted = [program, *(name for name in named[program] if name in named)]
     own = {name: [it for it in named[name] if it in named] for name in wanted}
     return {name: own[name] for name in sorted(own, key=lambda name: len(own[name]))}
 
 
 def known_seconds() -> dict[str, float]:
-    """How long each crate took at its last whole proof, in seconds, where that is known."""
+    """How long each crate took here at its last whole proof, in seconds, where that is known."""
     try:
         rows = [line.split() for line in SECONDS.read_text(encoding="utf-8").splitlines()]
     except OSError:
@@ -62,7 +100,8 @@ def seconds_to_top(crates: dict[str, list[str]], known: dict[str, float]) -> dic
     found: dict[str, float] = {}
     for name in reversed(crates):
         above = [found[it] for it in found if name in crates[it]]
-        found[name] = known.get(name, UNKNOWN_SECONDS) + max(above, default=0.0)
+        own = known.get(name, USUAL_SECONDS.get(name, UNKNOWN_SECONDS))
+        found[name] = own + max(above, default=0.0)
     return found
 
 
@@ -114,28 +153,112 @@ class Progress:
         self.say(f"proved and built in {clock_text(time.monotonic() - self.begin)}")
 
 
+def link(one: str, other: str) -> str:
+    """Gives a file a second name, or copies it where the two places can't share one. The toolchain
+    removes a file before it makes it anew, and writes into none. Raises OSError.
+    """
+    try:
+        os.link(one, other)
+    except OSError:
+        shutil.copyfile(one, other)
+    return other
+
+
+def link_folder(one: pathlib.Path, other: pathlib.Path) -> None:
+    """Gives a folder's files second names in another folder, where there is one. Raises OSError."""
+    if one.is_dir():
+        shutil.copytree(one, other, copy_function=link)
+
+
+class Room:
+    """Where a crate is proved: a folder with its text, that of the crates below it, and what was
+    built of these. Raises OSError.
+    """
+
+    def __init__(self, name: str) -> None:
+        self.name = name
+        self.top = ROOMS / name
+        self.crate = self.top / "crates" / name
+
+    def furnish(self, below: list[str]) -> None:
+        """Makes the room, with what was kept of the crate, for which these are below."""
+        shutil.rmtree(self.top, ignore_errors=True)
+        for name in [*below, self.name]:
+            own = TOP / "crates" / name
+            shutil.copytree(own, self.top / "crates" / name, ignore=shutil.ignore_patterns("out"))
+            link_folder(own / "out/rlib", self.top / "crates" / name / "out/rlib")
+        link_folder(TOP / "crates" / self.name / "out/incremental", self.crate / "out/incremental")
+        shutil.copyfile(TOP / "HANDLES", self.top / "HANDLES")
+        lines = crate_lines(TOP)
+        (self.top / "crates.txt").write_text("".join(lines[it] for it in [*below, self.name]))
+
+    def take_back(self) -> None:
+        """Moves what was made of the crate to its own folder, and takes the room away."""
+        own = TOP / "crates" / self.name / "out"
+        own.mkdir(exist_ok=True)
+        for made in (self.crate / "out").glob("*"):
+            to = own / made.name
+            if to.is_dir():
+                shutil.rmtree(to)
+            os.replace(made, to)
+        shutil.rmtree(self.top, ignore_errors=True)
+
+
+@contextlib.contextmanager
+def held(name: str) -> Iterator[bool]:
+    """Keeps the toolchain out of a crate's folder meanwhile. Whether it could: elsewhere it works
+    there.
+    """
+    folder = os.open(TOP / "crates" / name, os.O_RDONLY)
+    try:
+        fcntl.flock(folder, fcntl.LOCK_EX | fcntl.LOCK_NB)
+        yield True
+    except BlockingIOError:
+        yield False
+    finally:
+        os.close(folder)
+
+
 @dataclasses.dataclass
 class Running:
-    """A crate that is being proved."""
+    """A crate that is being proved, where, and what keeps others out of its folder."""
 
     child: subprocess.Popen[bytes]
-    jobs: int
+    room: Room
+    lock: contextlib.ExitStack
     begin: float
 
+    def stop(self) -> None:
+        """Ends it where it runs, and keeps what was done."""
+        with contextlib.suppress(ProcessLookupError):
+            os.killpg(self.child.pid, signal.SIGTERM)
+        self.child.wait()
+        self.end()
 
-def start(name: str, jobs: int) -> Running:
-    """Begins to prove and build a crate. Raises OSError."""
-    words = ["rt", "run" if name == PROGRAM else "lib", "--jobs", str(jobs)]
-    with open(LOGS / f"{name}.log", "wb") as log:
-        child = subprocess.Popen(
-            words,
-            cwd=TOP / "crates" / name,
-            stdin=subprocess.DEVNULL,
-            stdout=log,
-            stderr=subprocess.STDOUT,
-            start_new_session=True,
-        )
-    return Running(child, jobs, time.monotonic())
+    def end(self) -> None:
+        """Takes back what was made. Raises OSError."""
+        with self.lock:
+            self.room.take_back()
+
+
+def start(name: str, below: list[str], jobs: int, is_first: bool) -> Running | None:
+    """Begins to prove and build a crate, unless its folder is in use. Raises OSError."""
+    with contextlib.ExitStack() as lock:
+        if not lock.enter_context(held(name)):
+            return None
+        room = Room(name)
+        room.furnish(below)
+        words = ["rt", "run" if name == PROGRAM else "lib", "--jobs", str(jobs)]
+        with open(LOGS / f"{name}.log", "wb") as log:
+            child = subprocess.Popen(
+                words if is_first else ["nice", *words],
+                cwd=room.crate,
+                stdin=subprocess.DEVNULL,
+                stdout=log,
+                stderr=subprocess.STDOUT,
+                start_new_session=True,
+            )
+        return Running(child, room, lock.pop_all(), time.monotonic())
 
 
 class Build:
@@ -150,6 +273,7 @@ class Build:
         last = max(self.to_top.values()) if is_known else None
         self.progress = Progress(len(crates), last)
         self.cores = len(os.sched_getaffinity(0))
+        self.most = max(1, min(self.cores, int(free_gib() // GIB_OF_A_CHECK)))
 
     def ready(self) -> list[str]:
         """The crates that can be begun, the longest way to the program first."""
@@ -164,21 +288,26 @@ class Build:
 
     def fill(self) -> None:
         """Begins crates as long as there are cores and memory for them. Raises OSError."""
-        ready = self.ready()
-        for place, name in enumerate(ready):
-            free = self.cores - sum(it.jobs for it in self.running.values())
-            if self.running and (free < 1 or free_gib() < GIB_OF_A_CHECK):
+        for name in self.ready():
+            if len(self.running) >= self.most:
                 return
-            beside = len(ready) - place - 1
-            self.running[name] = start(name, max(1, min(MOST_JOBS, free - beside)))
+            is_first = all(self.to_top[name] > self.to_top[it] for it in self.running)
+            jobs = min(MOST_JOBS if is_first else BESIDE_JOBS, self.cores)
+            running = start(name, self.crates[name], jobs, is_first)
+            if running:
+                self.running[name] = running
+            elif not self.running:
+                self.progress.say(f"waiting for another rt to finish in crates/{name}")
+                time.sleep(SECONDS_BETWEEN_LOOKS)
 
     def take_in(self) -> None:
-        """Takes in the crates that have ended. Raises CannotBuild where one failed."""
+        """Takes in the crates that have ended. Raises CannotBuild where one failed, and OSError."""
         for name, it in [*self.running.items()]:
             status = it.child.poll()
             if status is None:
                 continue
             del self.running[name]
+            it.end()
             if status != 0:
                 raise CannotBuild(f"{name} isn't proved: see {LOGS / name}.log")
             self.done.add(name)
@@ -193,14 +322,9 @@ class Build:
             SECONDS.write_text("".join(rows), encoding="utf-8")
 
     def stop(self) -> None:
-        """Ends what runs."""
-        for it in self.running.values():
-            try:
-                os.killpg(it.child.pid, signal.SIGTERM)
-            except ProcessLookupError:
-                pass
-        for it in self.running.values():
-            it.child.wait()
+        """Ends what runs, and keeps what was done. Raises OSError."""
+        while self.running:
+            self.running.popitem()[1].stop()
 
     def run(self) -> None:
         """Proves and builds all. The program then counts as made when the build began, also where
@@ -233,7 +357,10 @@ def main() -> int:
     try:
         if shutil.which("rt") is None:
             raise CannotBuild("there is no rt: put the toolchain on the path")
-        LOGS.mkdir(parents=True, exist_ok=True)
+        ROOMS.mkdir(parents=True, exist_ok=True)
+        NO_CRATES_HERE.touch()
+        for left in [it for it in ROOMS.iterdir() if it.is_dir()]:  # by a build that was killed
+            Room(left.name).take_back()
         Build(crates_below(TOP, PROGRAM)).run()
     except CannotBuild as fault:
         print(f"callboard: {fault}", file=sys.stderr)
