@@ -50,6 +50,7 @@ USUAL_SECONDS = {
     "journal": 120.0,
     "lane_prefix": 20.0,
     "lane_select": 30.0,
+    "live_session": 60.0,
     "member_floor": 60.0,
     "order_book": 50.0,
     "order_file": 100.0,

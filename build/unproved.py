@@ -4,8 +4,8 @@
 The toolchain compiles the code as it stands, with checks at run time, in a minute or two, and keeps
 nothing. Standard output, the status and the program's own lines on standard error are those of the
 program; a first line on standard error says that the run is unproved. An input of more than 65,536
-bytes is refused, as such a run has 60 seconds and may print 1 MiB. The status is 3 where nothing
-could be run.
+bytes is refused, as such a run has 60 seconds and may print 1 MiB, and so is --live, as all of the
+input is read before the run begins. The status is 3 where nothing could be run.
 """
 import pathlib
 import re
@@ -26,6 +26,9 @@ def tell(text: str) -> None:
 def main() -> int:
     if shutil.which("rt") is None:
         tell("there is no rt: put the toolchain on the path")
+        return 3
+    if "--live" in sys.argv:
+        tell("an unproved run reads its whole input first, so --live wants the built program")
         return 3
     if sys.stdin.isatty():
         tell("reads order records from the terminal; end them with Ctrl-D")

@@ -53,6 +53,7 @@ PARTS = [
     Part("examples", "examples/ and the copies in the tests", f"checks/examples {PROGRAM}"),
     Part("compare", "random files by the rules", f"{COMPARE} --program {PROGRAM}"),
     Part("hostile", "bad files, failing ends, full boards", f"checks/hostile {PROGRAM}", "bash"),
+    Part("live", "answers as records come", f"checks/live {PROGRAM}", "bash"),
     Part("manual", "options, versions, installing", f"checks/manual {PROGRAM}", "bash install"),
     Part("refusals", "refused memory", f"checks/refusals {PROGRAM} {TESTS}", "cc"),
     Part("library", "the built library from C", FROM_C, "gcc g++ clang valgrind pkg-config ar"),

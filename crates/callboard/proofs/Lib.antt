@@ -6,3 +6,4 @@ pub mod EntriesLaws
 pub mod OwedLaws
 pub mod PassedOnLaws
 pub mod KeptLaws
+pub mod LiveLaws

@@ -6,5 +6,6 @@ pub mod AuditRun
 pub mod AuctionRun
 pub mod BoardRun
 pub mod PlayedDay
+pub mod LiveRun
 pub mod Served
 pub mod PassedOn

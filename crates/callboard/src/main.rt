@@ -1,6 +1,7 @@
 //! A call auction board for one instrument: reads an order file or a journal on standard input, runs it
-//! on an auction, and prints a line for each command on standard output, or the day's journal; or has its
-//! members call their commands at once on a board, and prints what the day came to; or audits a journal.
+//! on an auction, and prints a line for each command on standard output, or the day's journal; or answers each
+//! record as it comes; or has its members call their commands at once on a board, and prints what the day came to; or
+//! audits a journal.
 #![tactic(auto)]
 
 ghost use Rattle.std.specs.Prelude.{◌≡◌, ◌<◌, map, string_bytes, IfOk};
@@ -13,6 +14,7 @@ mod floor;
 mod keeping;
 mod kept;
 mod laws;
+mod live;
 mod printing;
 mod run;
 mod scripts;

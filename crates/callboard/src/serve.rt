@@ -5,20 +5,24 @@ ghost use Rattle.clap.specs.Values.{kind_of};
 ghost use Rattle.clap.specs.Walk.{texts};
 ghost use Rattle.clap.specs.declared.error.kind.ErrorKind.TheVariants.{OutOfMemory};
 ghost use Rattle.callboard.specs.FileRun.{Runs, ends_of};
-ghost use Rattle.callboard.specs.Served.{Answers, job_of, words_status};
-ghost use Rattle.callboard.specs.Status.{status_of};
+ghost use Rattle.callboard.specs.LiveRun.{live_status};
+ghost use Rattle.callboard.specs.Served.{Answers, IsQuiet, RunsSession, Serves, job_for, words_status};
+ghost use Rattle.callboard.specs.Status.{run_status, status_of};
 
 use crate::audit::run_audit;
 use crate::fault::{Fault, Finish};
 use crate::floor::run_floor;
+use crate::live::run_session;
 use crate::run::run_file;
 use byte_streams::{Sink, Source, write_all};
 use clap::Error;
 use clap::error::ErrorKind;
 use input_hints::{KeepsStart, hint_of, is_like_file};
 use journal::Day;
+use live_session::{Ending, LiveFault};
 use member_floor::OpenGate;
-use settings::{Settings, Task, WordsFault, settings};
+use order_file::FileFault;
+use settings::{Form, Settings, Task, WordsFault, settings};
 use std::alloc::Global;
 use std::fmt::InlineText;
 use std::sync::Wait;
@@ -69,14 +73,11 @@ fn tell_of_file<E: Sink>(err: &mut E, error: &Error, words: &[&str]) {
     }
 }
 
-/// Tells that an audit stands alone, and answers the status of a bad command line.
-fn refuse_audit<E: Sink>(err: &mut E) -> u8
+/// Tells what doesn't go together, and answers the status of a bad command line.
+fn refuse_mix<E: Sink>(err: &mut E, fault: &WordsFault) -> u8
     ensures { result ≡ 2 }
 {
-    write_line(
-        err,
-        InlineText::<64>::of(WordsFault::AuditNotAlone).as_str(),
-    );
+    write_line(err, InlineText::<64>::of(fault).as_str());
     2
 }
 
@@ -108,16 +109,81 @@ fn print_text<O: Sink, E: Sink>(out: &mut O, err: &mut E, error: &Error, text: &
     0
 }
 
-/// Does with the input what the settings say: runs its commands with the members at once on a board, or
-/// one after the other on an auction, or audits it.
-fn run_settings<R: Source, O: Sink, T: Wait + Threads + Sync>(
+/// Tells why a session ended before its input, and answers its status.
+fn tell_end<E: Sink>(err: &mut E, fault: LiveFault) -> u8
+    ensures { result ≡ live_status fault }
+{
+    match fault {
+        LiveFault::Open(fault) => tell(err, Fault::Open(fault)),
+        LiveFault::ReadFailed => tell(err, Fault::File(FileFault::ReadFailed)),
+        LiveFault::WriteFailed => tell(err, Fault::WriteFailed),
+        LiveFault::NoMemory => tell(err, Fault::NoMemory),
+        LiveFault::RecordTooLong { number } => {
+            let text = format_args!("record {number}: record too long");
+            write_line(err, InlineText::<64>::of(text).as_str());
+            1
+        }
+    }
+}
+
+/// Answers each record of the input as it comes, and then the status.
+fn serve_live<R: Source, O: Sink, E: Sink>(
+    alloc: Global,
+    reader: &mut R,
+    out: &mut O,
+    err: &mut E,
+    day: Day,
+) -> u8
+    ensures { RunsSession day (ends_of R.Source O.Sink reader.old reader.new out.old out.new) result }
+{
+    match run_session(alloc, reader, out, err, day) {
+        Ok(Ending::AllGood) => 0,
+        Ok(Ending::SomeBad) => 1,
+        Err(fault) => tell_end(err, fault),
+    }
+}
+
+/// Runs the input's commands with the members at once on a board, or one after the other on an auction.
+fn run_commands<R: Source, O: Sink, T: Wait + Threads + Sync>(
+    alloc: Global,
+    reader: &mut R,
+    out: &mut O,
+    day: Day,
+    floor: bool,
+    history: bool,
+    form: Form,
+    rt: &T,
+) -> Result<Finish, Fault>
+    ensures { Runs (job_for day floor history form)
+        (ends_of R.Source O.Sink reader.old reader.new out.old out.new) result }
+{
+    if floor {
+        return run_floor(alloc, reader, out, day, history, form, &OpenGate, rt);
+    }
+    run_file(alloc, reader, out, day, form)
+}
+
+/// Tells the fault of a run of an input that begins so, if there is one, and answers the run's status.
+fn tell_run<E: Sink>(err: &mut E, run: Result<Finish, Fault>, start: &[u8]) -> u8
+    ensures { result ≡ run_status run }
+{
+    match run {
+        Ok(finish) => finish.status(),
+        Err(fault) => tell_of_input(err, fault, start),
+    }
+}
+
+/// Does with the input what the settings say, and answers the status: answers its records as they come, or runs its
+/// commands, or audits it.
+fn serve_settings<R: KeepsStart, O: Sink, E: Sink, T: Wait + Threads + Sync>(
     alloc: Global,
     settings: Settings,
     reader: &mut R,
     out: &mut O,
+    err: &mut E,
     rt: &T,
-) -> Result<Finish, Fault>
-    ensures { Runs (job_of settings) (ends_of R.Source O.Sink reader.old reader.new out.old out.new) result }
+) -> u8
+    ensures { Serves settings (ends_of R.Source O.Sink reader.old reader.new out.old out.new) result }
 {
     let Settings {
         config,
@@ -126,17 +192,19 @@ fn run_settings<R: Source, O: Sink, T: Wait + Threads + Sync>(
     } = settings;
     let day = Day { config, members };
     match task {
+        Task::Live => serve_live(alloc, reader, out, err, day),
+        Task::Audit => {
+            let run = run_audit(alloc, reader, out);
+            tell_run(err, run, reader.start())
+        }
         Task::Run {
-            floor: true,
+            floor,
             history,
             form,
-        } => run_floor(alloc, reader, out, day, history, form, &OpenGate, rt),
-        Task::Run {
-            floor: false,
-            history: _,
-            form,
-        } => run_file(alloc, reader, out, day, form),
-        Task::Audit => run_audit(alloc, reader, out),
+        } => {
+            let run = run_commands(alloc, reader, out, day, floor, history, form, rt);
+            tell_run(err, run, reader.start())
+        }
     }
 }
 
@@ -147,7 +215,7 @@ fn run_settings<R: Source, O: Sink, T: Wait + Threads + Sync>(
 ///
 /// What it prints goes to `out`, the help too; a fault is one line on `err`, and for a bad command line the text of
 /// `clap`, in either case with a line more where its likely cause is known. Where the input or the command line is bad,
-/// nothing goes to `out`.
+/// nothing goes to `out`, but where records are answered as they come.
 pub fn serve<'a, R: KeepsStart, O: Sink, E: Sink, T: Wait + Threads + Sync>(
     alloc: Global,
     words: &'a [&'a str],
@@ -157,14 +225,15 @@ pub fn serve<'a, R: KeepsStart, O: Sink, E: Sink, T: Wait + Threads + Sync>(
     rt: &T,
 ) -> u8
     ensures answer { Answers (texts words.now) (ends_of R.Source O.Sink reader.old reader.new out.old out.new) result }
-    ensures quiet { (result ≡ 1) ⊎ (result ≡ 2) → O.written out.new ≡ O.written out.old }
+    ensures quiet { IsQuiet (texts words.now) result → O.written out.new ≡ O.written out.old }
     ensures read_failed { R.failures reader.old < R.failures reader.new → result ≡ 3 }
     ensures write_failed { O.failures out.old < O.failures out.new → result ≡ 3 }
     ensures status { result ≤ 4 }
 {
     let settings = match settings(alloc, words) {
         Ok(settings) => settings,
-        Err(WordsFault::AuditNotAlone) => return refuse_audit(err),
+        Err(WordsFault::AuditNotAlone) => return refuse_mix(err, &WordsFault::AuditNotAlone),
+        Err(WordsFault::LiveNotAlone) => return refuse_mix(err, &WordsFault::LiveNotAlone),
         Err(WordsFault::Parse(error)) => {
             let Some(text) = text_of(alloc, &error) else {
                 return tell(err, Fault::NoMemory);
@@ -174,8 +243,5 @@ pub fn serve<'a, R: KeepsStart, O: Sink, E: Sink, T: Wait + Threads + Sync>(
             return status;
         }
     };
-    match run_settings(alloc, settings, reader, out, rt) {
-        Ok(finish) => finish.status(),
-        Err(fault) => tell_of_input(err, fault, reader.start()),
-    }
+    serve_settings(alloc, settings, reader, out, err, rt)
 }

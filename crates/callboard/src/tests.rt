@@ -29,6 +29,7 @@ mod floor;
 mod forms;
 mod full;
 mod hints;
+mod live;
 mod refused;
 
 /// The program's name alone.

@@ -1,15 +1,30 @@
 //! A printed line.
 
+ghost use Rattle.std.specs.Prelude.{◌≡◌, ◌≤◌, ◌+◌, ◌++◌, length};
 ghost use Rattle.printed_lines.specs.Printing.{Prints};
 ghost use Rattle.printed_lines.specs.ReplyLines.{line};
+ghost use Rattle.printed_lines.specs.declared.page.TheConstants.{LONGEST_LINE, ROOM};
 
+use crate::page::Page;
 use crate::printer::Printer;
 use crate::reply::put_reply;
 use auction_terms::Reply;
 use byte_streams::{Sink, WriteFailed};
 
-/// Prints the line of a command's reply: the command's number from 1, a colon, the reply's text.
+/// Puts the line of a command's reply on the page: the command's number from 1, a colon, the reply's text.
 #[tactic(auto, unfolding(crate::specs::ReplyLines::line))]
+#[inline]
+pub fn put_line(page: &mut Page, number: u64, reply: Reply)
+    requires { length page.old + LONGEST_LINE ≤ ROOM }
+    ensures { page.new ≡ page.old ++ line number reply }
+{
+    page.put_number(number);
+    page.put(": ");
+    put_reply(page, reply);
+    page.put("\n");
+}
+
+/// Prints the line of a command's reply.
 pub fn print_line<S: Sink>(
     printer: &mut Printer<'_, S>,
     number: u64,
@@ -18,10 +33,6 @@ pub fn print_line<S: Sink>(
     ensures { Prints S.Sink printer.old printer.new result (line number reply) }
 {
     printer.make_room()?;
-    let page = &mut printer.page;
-    page.put_number(number);
-    page.put(": ");
-    put_reply(page, reply);
-    page.put("\n");
+    put_line(&mut printer.page, number, reply);
     Ok(())
 }

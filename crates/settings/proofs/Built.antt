@@ -31,15 +31,16 @@ all_rules a b numbers i le h = rw take_all at h
 abbrev pub versioned : App → App
 versioned a = on_top (λ top. record top { has_version = true }) a
 
--- the options in the order of the table, and then the four others
-pub whole : (a b c d e f : App) (numbers : List Number) (floor history print audit : Rule) → a ≡ versioned (new_app (codes "callboard")) → b ≡ with_rules a (map rule_for numbers)
+-- the options in the order of the table, and then the five others
+pub whole : (a b c d e f g : App) (numbers : List Number) (floor history print audit live : Rule) → a ≡ versioned (new_app (codes "callboard")) → b ≡ with_rules a (map rule_for numbers)
     → map rule_for numbers ≡ take 7 options → floor ≡ flag (codes "floor") → c ≡ with_rule b floor → history ≡ flag (codes "history") → d ≡ with_rule c history
-    → print ≡ word (codes "print") → e ≡ with_rule d print → audit ≡ flag (codes "audit") → f ≡ with_rule e audit → f ≡ callboard
+    → print ≡ word (codes "print") → e ≡ with_rule d print → audit ≡ flag (codes "audit") → f ≡ with_rule e audit → live ≡ flag (codes "live")
+    → g ≡ with_rule f live → g ≡ callboard
 unfolding callboard
-whole a b c d e f numbers floor history print audit start table rules is_floor more_floor is_history more_history is_print more_print is_audit more_audit =
+whole a b c d e f g numbers floor history print audit live start table rules is_floor more_floor is_history more_history is_print more_print is_audit more_audit is_live more_live =
     let d_is : d ≡ with_rule (with_rule (with_rules (versioned (new_app (codes "callboard"))) (take 7 options)) (flag (codes "floor"))) (flag (codes "history")) =
     more_history ∙ ap₂ with_rule (more_floor ∙ ap₂ with_rule (table ∙ ap₂ with_rules start rules) is_floor) is_history in
-    more_audit ∙ ap₂ with_rule (more_print ∙ ap₂ with_rule d_is is_print) is_audit
+    more_live ∙ ap₂ with_rule (more_audit ∙ ap₂ with_rule (more_print ∙ ap₂ with_rule d_is is_print) is_audit) is_live
 
 -- what a `?` hands on for want of memory
 pub memory_only : {T : Type 0} (r : Result T Error) → IsErrAnd r (λ e. kind_of e ≡ OutOfMemory) → IfErr r (λ e. kind_of e ≡ OutOfMemory)

@@ -6,11 +6,11 @@ use Rattle.clap.specs.declared.error.kind.ErrorKind.TheVariants as kind
 use Rattle.clap.proofs.OnLiterals.{clap_on_literals}
 use Rattle.settings.specs.Options.{callboard}
 use Rattle.settings.specs.CommandLine.{Accepts, Refuses, words_kinds}
-use Rattle.settings.specs.declared.fault.WordsFault.TheVariants.{AuditNotAlone}
+use Rattle.settings.specs.declared.fault.WordsFault.TheVariants.{AuditNotAlone, LiveNotAlone}
 use Rattle.settings.specs.declared.types.Form.TheVariants.{Lines, Listing}
 use Rattle.settings.specs.declared.types.Listing.TheVariants.{Journal, Trades, Book}
 use Rattle.settings.specs.declared.types.Settings.{Settings}
-use Rattle.settings.specs.declared.types.Task.TheVariants.{Audit, Run}
+use Rattle.settings.specs.declared.types.Task.TheVariants.{Audit, Live, Run}
 
 -- the settings where no word is given
 abbrev plain : Settings
@@ -23,17 +23,17 @@ plain = record {
 -- no word
 no_words : Accepts (codes "callboard" ∷ []) plain
 unfolding callboard clap_on_literals
-no_words = (refl, record { low = refl; high = refl; reference = refl; max_open = refl; max_calls = refl; range = refl; members = refl; task = refl }, refl)
+no_words = (refl, record { low = refl; high = refl; reference = refl; max_open = refl; max_calls = refl; range = refl; members = refl; task = refl }, refl, refl)
 
 -- `--low 5 --floor`
 low_and_floor : Accepts (codes "callboard" ∷ codes "--low" ∷ codes "5" ∷ codes "--floor" ∷ []) (record plain { config = record plain.config { low = 5 }; task = Run true false Lines })
 unfolding callboard clap_on_literals
-low_and_floor = (refl, record { low = refl; high = refl; reference = refl; max_open = refl; max_calls = refl; range = refl; members = refl; task = refl }, refl)
+low_and_floor = (refl, record { low = refl; high = refl; reference = refl; max_open = refl; max_calls = refl; range = refl; members = refl; task = refl }, refl, refl)
 
 -- `--range 0`
 range_of_zero : Accepts (codes "callboard" ∷ codes "--range" ∷ codes "0" ∷ []) (record plain { config = record plain.config { range = Some 0 } })
 unfolding callboard clap_on_literals
-range_of_zero = (refl, record { low = refl; high = refl; reference = refl; max_open = refl; max_calls = refl; range = refl; members = refl; task = refl }, refl)
+range_of_zero = (refl, record { low = refl; high = refl; reference = refl; max_open = refl; max_calls = refl; range = refl; members = refl; task = refl }, refl, refl)
 
 -- each option of a run
 every_option : Accepts (codes "callboard" ∷ codes "--low" ∷ codes "5" ∷ codes "--high=6" ∷ codes "--reference" ∷ codes "1000000" ∷ codes "--members=64" ∷ codes "--open" ∷ codes "65536"
@@ -44,27 +44,33 @@ every_option : Accepts (codes "callboard" ∷ codes "--low" ∷ codes "5" ∷ co
       task = Run true true (Listing Journal);
     })
 unfolding callboard clap_on_literals
-every_option = (refl, record { low = refl; high = refl; reference = refl; max_open = refl; max_calls = refl; range = refl; members = refl; task = refl }, refl)
+every_option = (refl, record { low = refl; high = refl; reference = refl; max_open = refl; max_calls = refl; range = refl; members = refl; task = refl }, refl, refl)
 
 -- `--print lines`
 lines_asked_for : Accepts (codes "callboard" ∷ codes "--print" ∷ codes "lines" ∷ []) plain
 unfolding callboard clap_on_literals
-lines_asked_for = (refl, record { low = refl; high = refl; reference = refl; max_open = refl; max_calls = refl; range = refl; members = refl; task = refl }, refl)
+lines_asked_for = (refl, record { low = refl; high = refl; reference = refl; max_open = refl; max_calls = refl; range = refl; members = refl; task = refl }, refl, refl)
 
 -- `--print trades`
 trades_asked_for : Accepts (codes "callboard" ∷ codes "--print" ∷ codes "trades" ∷ []) (record plain { task = Run false false (Listing Trades) })
 unfolding callboard clap_on_literals
-trades_asked_for = (refl, record { low = refl; high = refl; reference = refl; max_open = refl; max_calls = refl; range = refl; members = refl; task = refl }, refl)
+trades_asked_for = (refl, record { low = refl; high = refl; reference = refl; max_open = refl; max_calls = refl; range = refl; members = refl; task = refl }, refl, refl)
 
 -- `--floor --print book`
 book_of_a_floor : Accepts (codes "callboard" ∷ codes "--floor" ∷ codes "--print" ∷ codes "book" ∷ []) (record plain { task = Run true false (Listing Book) })
 unfolding callboard clap_on_literals
-book_of_a_floor = (refl, record { low = refl; high = refl; reference = refl; max_open = refl; max_calls = refl; range = refl; members = refl; task = refl }, refl)
+book_of_a_floor = (refl, record { low = refl; high = refl; reference = refl; max_open = refl; max_calls = refl; range = refl; members = refl; task = refl }, refl, refl)
 
 -- `--audit`
 audit_alone : Accepts (codes "callboard" ∷ codes "--audit" ∷ codes "--members" ∷ codes "2" ∷ []) (record plain { members = 2; task = Audit })
 unfolding callboard clap_on_literals
-audit_alone = (refl, record { low = refl; high = refl; reference = refl; max_open = refl; max_calls = refl; range = refl; members = refl; task = refl }, refl)
+audit_alone = (refl, record { low = refl; high = refl; reference = refl; max_open = refl; max_calls = refl; range = refl; members = refl; task = refl }, refl, refl)
+
+-- `--live`, also with the lines
+live_asked_for : Accepts (codes "callboard" ∷ codes "--live" ∷ codes "--print" ∷ codes "lines" ∷ codes "--range" ∷ codes "3" ∷ [])
+    (record plain { config = record plain.config { range = Some 3 }; task = Live })
+unfolding callboard clap_on_literals
+live_asked_for = (refl, record { low = refl; high = refl; reference = refl; max_open = refl; max_calls = refl; range = refl; members = refl; task = refl }, refl, refl)
 
 -- ---- words that are refused
 
@@ -134,3 +140,20 @@ audit_and_history = (refl, refl)
 audit_and_lines : Refuses (codes "callboard" ∷ codes "--audit" ∷ codes "--print=lines" ∷ []) AuditNotAlone
 unfolding callboard clap_on_literals
 audit_and_lines = (refl, refl)
+
+-- and answers as records come beside each option that they don't go with
+live_and_floor : Refuses (codes "callboard" ∷ codes "--live" ∷ codes "--floor" ∷ []) LiveNotAlone
+unfolding callboard clap_on_literals
+live_and_floor = (refl, refl, refl)
+
+live_and_history : Refuses (codes "callboard" ∷ codes "--history" ∷ codes "--live" ∷ []) LiveNotAlone
+unfolding callboard clap_on_literals
+live_and_history = (refl, refl, refl)
+
+live_and_audit : Refuses (codes "callboard" ∷ codes "--live" ∷ codes "--audit" ∷ []) LiveNotAlone
+unfolding callboard clap_on_literals
+live_and_audit = (refl, refl, refl)
+
+live_and_journal : Refuses (codes "callboard" ∷ codes "--live" ∷ codes "--print=journal" ∷ []) LiveNotAlone
+unfolding callboard clap_on_literals
+live_and_journal = (refl, refl, refl)

@@ -1,12 +1,11 @@
 -- What the getters read of the options.
 use Rattle.std.proofs.Common.{◌≡◌, ◌∙◌, ◌⊎◌, ◌≤◌, ◌||◌, ap, ℕ, Bool, true, false, refl, sym, subst, arith, List, [], Option, Some, None, Result, codes, inl, inr}
-use Rattle.std.specs.Prelude.{IfSome, IsErr, IsErrAnd, IsSomeAnd, option_map, pos, slice_get, unwrap_or}
+use Rattle.std.specs.Prelude.{IfSome, IsSomeAnd, option_map, pos, slice_get, unwrap_or}
 use Rattle.std.specs.Str.{bytes_eq}
 use Rattle.std.specs.Str.Parse.{ParsesUnsigned}
 use Rattle.std.proofs.lemmas.Slice.Eq.{bytes_eq-Decides}
 use Rattle.auction_terms.specs.declared.limits.TheConstants.{MAX_CALLS, MAX_MEMBERS, MAX_OPEN_ORDERS, MAX_TICK}
 use Rattle.clap.specs.Faults.{fault_of, is_simple_and_free}
-use Rattle.clap.specs.Kinds.{FailsBy, HasKind}
 use Rattle.clap.specs.Matches.{ReadsOne, found_of, one_text}
 use Rattle.clap.specs.Simple.{App, HasMatchesOf, app_of, is_simple, matches_of}
 use Rattle.clap.specs.Walk.{Row, Text, one_of, rows_of}
@@ -14,13 +13,10 @@ use Rattle.clap.specs.declared.builder.command.Command.{Command}
 use Rattle.clap.specs.declared.builder.value_parser.ValueParser.TheVariants as parser
 use Rattle.clap.specs.declared.parser.matches.ArgMatches.{ArgMatches}
 use Rattle.clap.specs.declared.parser.matches.Found.{Found}
-use Rattle.clap.specs.declared.error.Error.{Error}
-use Rattle.clap.proofs.KindLemmas.{fails_by_from}
 use Rattle.clap.proofs.WalkLemmas.{one_text-rows}
 use Rattle.settings.specs.Options.{callboard, flag, number}
-use Rattle.settings.specs.declared.types.Settings.{Settings}
 use Rattle.settings.specs.OptionTexts.{HasFlag, HasNumber, IsNumberIn, IsParsed, MayHaveNumber}
-use Rattle.settings.specs.CommandLine.{Says, number_at, number_in}
+use Rattle.settings.specs.CommandLine.{number_at, number_in}
 use Rattle.settings.specs.Tasks.{is_given, is_yes}
 use Rattle.settings.proofs.Numbers.{number_read, passed_text}
 use Rattle.settings.proofs.Parsed.{IsOption, IsReadBy, option_text, option_there}
@@ -112,6 +108,7 @@ pub record HasOptions (rows : List Row) : Type 0 where
   pub floor : HasFlag (codes "floor") rows
   pub history : HasFlag (codes "history") rows
   pub audit : HasFlag (codes "audit") rows
+  pub live : HasFlag (codes "live") rows
 
 pub has_options : (m : ArgMatches) → IsParsed m → HasOptions (rows_of (found_of m))
 unfolding callboard
@@ -126,6 +123,7 @@ has_options m parsed = record {
   floor = a_flag m 7 (codes "floor") parsed refl refl;
   history = a_flag m 8 (codes "history") parsed refl refl;
   audit = a_flag m 10 (codes "audit") parsed refl refl;
+  live = a_flag m 11 (codes "live") parsed refl refl;
 }
 
 -- ---- their ranges

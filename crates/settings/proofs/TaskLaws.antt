@@ -1,5 +1,5 @@
 -- What the words ask for, from what was read of the matches of a parse.
-use Rattle.std.proofs.Common.{◌≡◌, ◌∙◌, ◌||◌, ◌&&◌, ap, Bool, true, false, refl, sym, subst, List, [], ◌∷◌, Option, Some, None, codes, inl, inr}
+use Rattle.std.proofs.Common.{◌≡◌, ◌∙◌, ap, Bool, true, false, refl, sym, subst, List, [], ◌∷◌, Option, Some, None, codes, inl, inr}
 use Rattle.std.specs.Prelude.{if◌then◌else◌, Result, Ok, Err, IfErr, IsErrAnd, is_some, option_map}
 use Rattle.std.specs.Borrow.{Bor}
 use Rattle.clap.specs.Faults.{fault_of, is_simple_and_free}
@@ -13,11 +13,11 @@ use Rattle.clap.specs.declared.parser.matches.Found.{Found}
 use Rattle.clap.proofs.WalkLemmas.{first_value-rows}
 use Rattle.settings.specs.Options.{callboard}
 use Rattle.settings.specs.CommandLine.{Refuses}
-use Rattle.settings.specs.Tasks.{RefusesTask, form_asked, form_kinds, is_given, is_mixed, task_at, word_in}
+use Rattle.settings.specs.Tasks.{RefusesTask, form_asked, form_kinds, is_given, is_live_mixed, is_mixed, task_at, word_in}
 use Rattle.settings.specs.declared.fault.WordsFault.{WordsFault}
-use Rattle.settings.specs.declared.fault.WordsFault.TheVariants.{Parse, AuditNotAlone}
+use Rattle.settings.specs.declared.fault.WordsFault.TheVariants.{Parse, AuditNotAlone, LiveNotAlone}
 use Rattle.settings.specs.declared.types.Form.{Form}
-use Rattle.settings.specs.declared.types.Task.TheVariants.{Run, Audit}
+use Rattle.settings.specs.declared.types.Task.TheVariants.{Run, Audit, Live}
 use Rattle.settings.proofs.Readings.{free_command}
 
 -- what a `?` hands on
@@ -40,14 +40,10 @@ some_word f word got = ap is_some (word_got f word got) ∙ some_text word
 -- ---- the task
 
 pub runs : (rows : List Row) (word : Option Text) (floor history : Bool) (form : Form) → word_in rows ≡ word → form_asked word ≡ Some form
-    → is_given (codes "floor") rows ≡ floor → is_given (codes "history") rows ≡ history → is_given (codes "audit") rows ≡ false → task_at rows ≡ Some (Run floor history form)
-runs rows word floor history form same asked is_floor is_history no_audit =
-    (λ i. if no_audit i then Some Audit else option_map (Run (is_floor i) (is_history i)) (form_asked (same i))) ∙ ap (option_map (Run floor history)) asked
-
--- what was given beside an audit
-pub mixed_by : (rows : List Row) (audit floor history word : Bool) → is_given (codes "audit") rows ≡ audit → is_given (codes "floor") rows ≡ floor
-    → is_given (codes "history") rows ≡ history → is_some (word_in rows) ≡ word → is_mixed rows ≡ (audit && (floor || (history || word)))
-mixed_by rows audit floor history word is_audit is_floor is_history is_word = λ i. is_audit i && (is_floor i || (is_history i || is_word i))
+    → is_given (codes "floor") rows ≡ floor → is_given (codes "history") rows ≡ history → is_given (codes "audit") rows ≡ false
+    → is_given (codes "live") rows ≡ false → task_at rows ≡ Some (Run floor history form)
+runs rows word floor history form same asked is_floor is_history no_audit no_live =
+    (λ i. if no_live i then Some Live else if no_audit i then Some Audit else option_map (Run (is_floor i) (is_history i)) (form_asked (same i))) ∙ ap (option_map (Run floor history)) asked
 
 -- ---- why words are refused
 
@@ -68,4 +64,9 @@ refused_task words rows (Parse e) none same has =
 refused_task words rows AuditNotAlone none same mixed = (
   (λ i. or_else (none i) (form_kinds (word_in (matches_of callboard words)))) ∙ ap (λ rs. form_kinds (word_in rs)) (sym same) ∙ mixed.0,
   ap is_mixed (sym same) ∙ mixed.1,
+)
+refused_task words rows LiveNotAlone none same mixed = (
+  (λ i. or_else (none i) (form_kinds (word_in (matches_of callboard words)))) ∙ ap (λ rs. form_kinds (word_in rs)) (sym same) ∙ mixed.0,
+  ap is_mixed (sym same) ∙ mixed.1,
+  ap is_live_mixed (sym same) ∙ mixed.2,
 )

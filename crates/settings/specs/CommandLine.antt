@@ -6,9 +6,9 @@ use Rattle.clap.specs.Kinds.{HasKind, Kinds, or_else}
 use Rattle.clap.specs.Simple.{matches_of}
 use Rattle.clap.specs.Walk.{Row, Text, one_of}
 use Rattle.settings.specs.Options.{callboard}
-use Rattle.settings.specs.Tasks.{form_kinds, is_mixed, task_at, word_in}
+use Rattle.settings.specs.Tasks.{form_kinds, is_live_mixed, is_mixed, task_at, word_in}
 use Rattle.settings.specs.declared.fault.WordsFault.{WordsFault}
-use Rattle.settings.specs.declared.fault.WordsFault.TheVariants.{Parse, AuditNotAlone}
+use Rattle.settings.specs.declared.fault.WordsFault.TheVariants.{Parse, AuditNotAlone, LiveNotAlone}
 use Rattle.settings.specs.declared.types.Settings.{Settings}
 
 -- the number that a text is read as
@@ -30,17 +30,20 @@ pub record Says (rows : List Row) (s : Settings) : Type 0 where
   pub members : number_at (codes "members") rows ≡ Some s.members
   pub task : task_at rows ≡ Some s.task
 
--- the words, the program's name first, have no fault and say these settings, and an audit stands alone
+-- the words, the program's name first, have no fault and say these settings, and an audit stands alone, and so do
+-- answers as records come
 abbrev pub Accepts : List Text → Settings → Type 0
 Accepts words s = (fault_of callboard words ≡ []) × Says (matches_of callboard words) s
-    × (is_mixed (matches_of callboard words) ≡ false)
+    × (is_mixed (matches_of callboard words) ≡ false) × (is_live_mixed (matches_of callboard words) ≡ false)
 
 -- the kinds of fault of the words: those of the parse, and where it has none, of the form
 abbrev pub words_kinds : List Text → Kinds
 words_kinds words = or_else (fault_of callboard words) (form_kinds (word_in (matches_of callboard words)))
 
--- Why words are refused: a fault of theirs, want of memory aside, and where they have none, an audit that doesn't stand
--- alone.
+-- Why words are refused: a fault of theirs, want of memory aside; where they have none, an audit that doesn't stand
+-- alone; and where it does, answers as records come that don't.
 abbrev pub Refuses : List Text → WordsFault → Type 0
 Refuses words (Parse error) = HasKind (words_kinds words) error
 Refuses words AuditNotAlone = (words_kinds words ≡ []) × (is_mixed (matches_of callboard words) ≡ true)
+Refuses words LiveNotAlone = (words_kinds words ≡ []) × (is_mixed (matches_of callboard words) ≡ false)
+    × (is_live_mixed (matches_of callboard words) ≡ true)

@@ -7,12 +7,12 @@ use Rattle.clap.specs.Kinds.{HasKind, Kinds}
 use Rattle.clap.specs.Walk.{Row, Text, first_of, one_of}
 use Rattle.clap.specs.declared.error.kind.ErrorKind.TheVariants.{InvalidValue}
 use Rattle.settings.specs.declared.fault.WordsFault.{WordsFault}
-use Rattle.settings.specs.declared.fault.WordsFault.TheVariants.{Parse, AuditNotAlone}
+use Rattle.settings.specs.declared.fault.WordsFault.TheVariants.{Parse, AuditNotAlone, LiveNotAlone}
 use Rattle.settings.specs.declared.types.Form.{Form}
 use Rattle.settings.specs.declared.types.Form.TheVariants.{Lines, Listing}
 use Rattle.settings.specs.declared.types.Listing.TheVariants.{Journal, Trades, Book}
 use Rattle.settings.specs.declared.types.Task.{Task}
-use Rattle.settings.specs.declared.types.Task.TheVariants.{Run, Audit}
+use Rattle.settings.specs.declared.types.Task.TheVariants.{Run, Audit, Live}
 
 -- the text of a flag, if it has one, says that it was given
 abbrev pub is_yes : Option Text → Bool
@@ -43,10 +43,11 @@ form_asked word = option_map_or form_of word (Some Lines)
 abbrev pub form_kinds : Option Text → Kinds
 form_kinds word = if is_some (form_asked word) then [] else InvalidValue ∷ []
 
--- what is to be done: an audit where it is asked for, and else a run
+-- what is to be done: the answers as records come or an audit, where they are asked for, and else a run
 abbrev pub task_at : List Row → Option Task
 task_at rows =
-    if is_given (codes "audit") rows then Some Audit
+    if is_given (codes "live") rows then Some Live
+    else if is_given (codes "audit") rows then Some Audit
     else option_map (Run (is_given (codes "floor") rows) (is_given (codes "history") rows)) (form_asked (word_in rows))
 
 -- an audit was asked for beside something that only a run has
@@ -54,7 +55,22 @@ abbrev pub is_mixed : List Row → Bool
 is_mixed rows = is_given (codes "audit") rows
     && (is_given (codes "floor") rows || (is_given (codes "history") rows || is_some (word_in rows)))
 
--- Why options that have no fault of their own say no task. The form comes first.
+abbrev pub is_listing : Form → Bool
+is_listing Lines = false
+is_listing (Listing listing) = true
+
+-- a listing was asked for in place of the lines
+abbrev pub asks_listing : List Row → Bool
+asks_listing rows = option_map_or is_listing (form_asked (word_in rows)) false
+
+-- answers as records come were asked for beside something that goes without them
+abbrev pub is_live_mixed : List Row → Bool
+is_live_mixed rows = is_given (codes "live") rows && (is_given (codes "audit") rows
+    || (is_given (codes "floor") rows || (is_given (codes "history") rows || asks_listing rows)))
+
+-- Why options that have no fault of their own say no task. The form comes first, then what stands beside an audit.
 abbrev pub RefusesTask : List Row → WordsFault → Type 0
 RefusesTask rows (Parse error) = HasKind (form_kinds (word_in rows)) error
 RefusesTask rows AuditNotAlone = (form_kinds (word_in rows) ≡ []) × (is_mixed rows ≡ true)
+RefusesTask rows LiveNotAlone =
+    (form_kinds (word_in rows) ≡ []) × (is_mixed rows ≡ false) × (is_live_mixed rows ≡ true)

@@ -15,6 +15,9 @@ pub enum WordsFault {
     Parse(Error),
     /// `--audit` was given beside `--floor`, `--history` or `--print`. The text is one line.
     AuditNotAlone,
+    /// `--live` was given beside `--floor`, `--history`, `--audit` or a form of `--print` other than the lines. The
+    /// text is one line.
+    LiveNotAlone,
 }
 
 impl From<Error> for WordsFault {
@@ -31,6 +34,9 @@ impl Display for WordsFault {
             WordsFault::Parse(error) => error.fmt(f),
             WordsFault::AuditNotAlone => {
                 f.write_str("--audit goes with none of --floor, --history and --print")
+            }
+            WordsFault::LiveNotAlone => {
+                f.write_str("--live prints lines, without --floor, --history or --audit")
             }
         }
     }

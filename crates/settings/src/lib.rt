@@ -70,7 +70,7 @@ fn settings_of(matches: &ArgMatches<'_>, task: Task) -> Settings
 /// is in its option's range; what two options say together is for the auction to judge. An error is
 /// clap's own: its text for the help that was asked for, for words that are none of these options, a
 /// number out of its range or a form that there is not, and for want of memory. Where none of these
-/// is so, it is that `--audit` doesn't stand alone.
+/// is so, it is that `--audit` doesn't stand alone, and where that does, that `--live` doesn't.
 pub fn settings<'a>(alloc: Global, words: &'a [&'a str]) -> Result<Settings, WordsFault>
     ensures refused { IfErr result (Refuses (texts words.now)) }
     ensures words { IfOk result (Accepts (texts words.now)) }

@@ -18,8 +18,8 @@ const VERSION: &str = "2026.11.24";
 
 const ABOUT: &str =
     "A call auction for one instrument: reads an order file, or the journal of a recorded day, from \
-    standard input,\nand prints a line for each command's reply. The whole input is read and checked first: a bad one \
-    runs no\ncommand and prints nothing.";
+    standard input,\nand prints a line for each command's reply. The whole input is read and checked first, but \
+    with --live: a bad\none runs no command and prints nothing.";
 
 const AFTER_HELP: &str =
     "Prices are in ticks, quantities in shares. A journal says its day itself: --low to --members \
@@ -168,7 +168,8 @@ fn with_numbers<'a>(
 }
 
 /// The command with all its options: the numbers in ticks, orders, calls and members, each with its range, the two
-/// flags of the members' floor, what is printed, and the audit. The error is want of memory.
+/// flags of the members' floor, what is printed, the audit, and the answers as records come. The error is want of
+/// memory.
 pub fn callboard<'a>(alloc: Global) -> Result<Command<'a>, Error>
     ensures options { IfOk result (λ c. app_of c ≡ callboard) }
     ensures memory { IfErr result (λ e. kind_of e ≡ ErrorKind.OutOfMemory) }
@@ -194,5 +195,17 @@ pub fn callboard<'a>(alloc: Global) -> Result<Command<'a>, Error>
         "audit",
         "Reads a journal, and tells which recorded replies aren't the lawful ones",
     );
-    Ok(command.arg(floor)?.arg(history)?.arg(print)?.arg(audit)?)
+    let live = flag_option(
+        alloc,
+        "live",
+        "Answers each record as it comes; a bad one is told, and the rest goes on",
+    );
+    Ok(
+        command
+            .arg(floor)?
+            .arg(history)?
+            .arg(print)?
+            .arg(audit)?
+            .arg(live)?,
+    )
 }

@@ -1,11 +1,12 @@
 //! What is done with the input.
 
-ghost use Rattle.std.specs.Prelude.{◌≡◌, ◌⊎◌, Some, IfErr, IfOk, codes, false, option_map};
+ghost use Rattle.std.specs.Prelude.{◌≡◌, ◌⊎◌, Some, IfErr, IfOk, codes, false, is_some, option_map};
 ghost use Rattle.clap.specs.Kinds.{FailsBy};
 ghost use Rattle.clap.specs.Values.{kind_of};
 ghost use Rattle.clap.specs.declared.error.kind.ErrorKind.TheVariants.{InvalidValue, OutOfMemory};
 ghost use Rattle.settings.specs.OptionTexts.{HasFlag, IsParsed, rows_in};
-ghost use Rattle.settings.specs.Tasks.{RefusesTask, form_asked, form_kinds, form_of, is_given, is_mixed, task_at};
+ghost use Rattle.settings.specs.Tasks.{RefusesTask, form_asked, form_kinds, form_of, is_given, is_live_mixed, is_mixed};
+ghost use Rattle.settings.specs.Tasks.{task_at, word_in};
 
 use crate::fault::WordsFault;
 use crate::options;
@@ -64,26 +65,67 @@ fn form_asked(alloc: Global, word: Option<&str>) -> Result<Form, Error>
     }
 }
 
-/// What the matches of a parse ask for. An audit stands alone.
+/// Whether a form was asked for, be it the lines.
+fn has_form(matches: &ArgMatches<'_>) -> bool
+    ensures { is_some (word_in (rows_in matches.now)) ≡ result }
+{
+    matches.get_str("print").is_some()
+}
+
+/// Whether an audit was asked for beside something that only a run has.
+fn is_mixed(matches: &ArgMatches<'_>) -> bool
+    requires { IsParsed matches.now }
+    ensures { is_mixed (rows_in matches.now) ≡ result }
+{
+    let audit = flag_of(matches, "audit");
+    let floor = flag_of(matches, "floor");
+    let history = flag_of(matches, "history");
+    let form = has_form(matches);
+    audit && (floor || history || form)
+}
+
+/// Whether answers as records come were asked for beside something that goes without them.
+fn is_live_mixed(matches: &ArgMatches<'_>, form: Form) -> bool
+    requires parsed { IsParsed matches.now }
+    requires form { form_asked (word_in (rows_in matches.now)) ≡ Some form }
+    ensures { is_live_mixed (rows_in matches.now) ≡ result }
+{
+    let live = flag_of(matches, "live");
+    let audit = flag_of(matches, "audit");
+    let floor = flag_of(matches, "floor");
+    let history = flag_of(matches, "history");
+    let listing = matches!(form, Form::Listing(_));
+    live && (audit || floor || history || listing)
+}
+
+/// What the matches of a parse ask for. An audit stands alone, and so do answers as records come.
 pub fn task_of(alloc: Global, matches: &ArgMatches<'_>) -> Result<Task, WordsFault>
     requires { IsParsed matches.now }
     ensures refused { IfErr result (RefusesTask (rows_in matches.now)) }
     ensures task { IfOk result (λ task. task_at (rows_in matches.now) ≡ Some task) }
     ensures alone { IfOk result (λ _. is_mixed (rows_in matches.now) ≡ false) }
+    ensures live_alone { IfOk result (λ _. is_live_mixed (rows_in matches.now) ≡ false) }
 {
-    let word = matches.get_str("print");
-    let form = form_asked(alloc, word)?;
-    let floor = flag_of(matches, "floor");
-    let history = flag_of(matches, "history");
-    if !flag_of(matches, "audit") {
-        return Ok(Task::Run {
-            floor,
-            history,
-            form,
-        });
-    }
-    if floor || history || word.is_some() {
+    let form = form_asked(alloc, matches.get_str("print"))?;
+    if is_mixed(matches) {
         return Err(WordsFault::AuditNotAlone);
     }
-    Ok(Task::Audit)
+    if is_live_mixed(matches, form) {
+        return Err(WordsFault::LiveNotAlone);
+    }
+    let live = flag_of(matches, "live");
+    let audit = flag_of(matches, "audit");
+    let floor = flag_of(matches, "floor");
+    let history = flag_of(matches, "history");
+    if live {
+        return Ok(Task::Live);
+    }
+    if audit {
+        return Ok(Task::Audit);
+    }
+    Ok(Task::Run {
+        floor,
+        history,
+        form,
+    })
 }

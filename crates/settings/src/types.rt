@@ -35,6 +35,8 @@ pub enum Task {
     },
     /// It is a journal, and its replies are compared with the lawful ones.
     Audit,
+    /// Each of its records is answered as it comes.
+    Live,
 }
 
 /// What the command line says: what an auction is opened with and how many members it has, where the

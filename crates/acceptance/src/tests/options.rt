@@ -72,6 +72,7 @@ fn other_words_are_refused(rt: HostRuntime) {
         ["--range", "1000001"],
         ["--floor", "x"],
         ["--audit", "x"],
+        ["--live", "x"],
         ["--print", "text"],
         ["--nothing", "1"],
     ];
@@ -99,6 +100,28 @@ fn an_audit_stands_alone(rt: HostRuntime) -> Result<(), Fail> {
     assert_eq!(rt; settings(rt.alloc(), &["callboard", "--audit"])?, wanted);
     for other in ["--floor", "--history", "--print=lines"] {
         let Err(WordsFault::AuditNotAlone) = settings(rt.alloc(), &["callboard", "--audit", other])
+        else {
+            assert!(rt; false);
+            return Ok(());
+        };
+    }
+    Ok(())
+}
+
+#[test]
+fn answers_as_records_come_stand_alone(rt: HostRuntime) -> Result<(), Fail> {
+    let wanted = Settings {
+        config: DAY,
+        members: 4,
+        task: Task::Live,
+    };
+    assert_eq!(rt; settings(rt.alloc(), &["callboard", "--live"])?, wanted);
+    assert_eq!(rt;
+        settings(rt.alloc(), &["callboard", "--live", "--print=lines"])?,
+        wanted
+    );
+    for other in ["--floor", "--history", "--audit", "--print=book"] {
+        let Err(WordsFault::LiveNotAlone) = settings(rt.alloc(), &["callboard", "--live", other])
         else {
             assert!(rt; false);
             return Ok(());

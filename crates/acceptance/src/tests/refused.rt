@@ -70,7 +70,7 @@ fn the_words_are_read(rt: HostRuntime) -> Result<(), AllocError> {
             assert!(rt; error.kind() == ErrorKind::OutOfMemory);
             Err(AllocError)
         }
-        Err(WordsFault::AuditNotAlone) => {
+        Err(WordsFault::AuditNotAlone | WordsFault::LiveNotAlone) => {
             assert!(rt; false);
             Ok(())
         }

@@ -13,9 +13,9 @@ use std::sync::Wait;
 use std::sync::ledger::{Blank, Ledger};
 use std::thread::Threads;
 
-const INPUT: &str = "0,enter,bid,100,200\n0,enter,ask,60,200\n0,uncross\n0,status,1\n";
+pub(super) const INPUT: &str = "0,enter,bid,100,200\n0,enter,ask,60,200\n0,uncross\n0,status,1\n";
 
-const LINES: &str = "\
+pub(super) const LINES: &str = "\
 1: entered 1
 2: entered 2
 3: opening price 200 volume 60 surplus 40 bid trades 1
@@ -138,7 +138,7 @@ fn printed_by<I: Ledger, O: Ledger, T: AllocGlobal + Wait + Threads + Sync>(
 }
 
 /// A run that reads and writes `step` bytes at a time, so many times.
-fn run_devices<T: AllocGlobal + Wait + Threads + Sync>(
+pub(super) fn run_devices<T: AllocGlobal + Wait + Threads + Sync>(
     rt: &T,
     words: &[&str],
     step: usize,
@@ -162,7 +162,7 @@ fn run_devices<T: AllocGlobal + Wait + Threads + Sync>(
 }
 
 /// What a failing device ends with: status 3, this line, and so much of the output as was taken.
-fn ends_with<T: Abort>(rt: &T, written: &Printed, line: &str, taken: Option<&[u8]>) {
+pub(super) fn ends_with<T: Abort>(rt: &T, written: &Printed, line: &str, taken: Option<&[u8]>) {
     assert_eq!(rt; written.status, 3);
     assert_eq!(rt; from_utf8(written.err.as_slice()).unwrap_or("?"), line);
     assert!(rt; Some(written.out.as_slice()) == taken);

@@ -5,6 +5,7 @@
 //! first, the second and each later request refused, one a run. There each of them returns the fault that
 //! its call documents, or fails; in the run that meets no refusal, as here, it looks at the right answer.
 
+use super::live::LIVE;
 use super::{PLAIN, Ran, run, run_under};
 use crate::Fault;
 use auction_terms::Config;
@@ -72,5 +73,21 @@ fn the_program_is_served(rt: HostRuntime) -> Result<(), AllocError> {
         return Err(AllocError);
     }
     assert_eq!(rt; from_utf8(printed.out.as_slice()).unwrap_or("?"), OUTPUT);
+    Ok(())
+}
+
+#[test]
+fn a_session_is_held(rt: HostRuntime) -> Result<(), AllocError> {
+    let printed = run(&rt, LIVE, INPUT);
+    let out = from_utf8(printed.out.as_slice()).unwrap_or("?");
+    if printed.status != 0 {
+        let told = from_utf8(printed.err.as_slice()).unwrap_or("?");
+        assert_eq!(rt; printed.status, 3);
+        assert!(rt; OUTPUT.starts_with(out));
+        // Here the output is kept in memory too, and so its write may fail.
+        assert!(rt; told == "out of memory\n" || told == "write failed\n");
+        return Err(AllocError);
+    }
+    assert_eq!(rt; out, OUTPUT);
     Ok(())
 }

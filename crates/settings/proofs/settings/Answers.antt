@@ -2,7 +2,7 @@ use Rattle.std.proofs.Common.{◌∙◌, ap, inl, subst, sym}
 use Rattle.clap.specs.Walk.{texts}
 use Rattle.settings.specs.CommandLine.{Refuses, Says}
 use Rattle.settings.specs.OptionTexts.{rows_in}
-use Rattle.settings.specs.Tasks.{is_mixed}
+use Rattle.settings.specs.Tasks.{is_live_mixed, is_mixed}
 use Rattle.settings.specs.declared.fault.WordsFault.TheVariants.{Parse}
 use Rattle.settings.proofs.Readings.{no_fault, rows_are}
 use Rattle.settings.proofs.TaskLaws.{handed_on, refused_task, refused_words}
@@ -33,4 +33,5 @@ returns-clause-words c =
       no_fault c.in_ok-command.command words c.in_ok-command.ensures.options c.in_ok-matches.ensures.kinds,
       subst (λ rs. Says rs c.settings_of.result) rows c.settings_of.ensures.words,
       ap is_mixed (sym rows) ∙ c.in_ok-task.ensures.alone,
+      ap is_live_mixed (sym rows) ∙ c.in_ok-task.ensures.live_alone,
     )

@@ -1,15 +1,18 @@
-use Rattle.std.proofs.Common.{◌≡◌, ◌∙◌, rules, true, false, refl}
-use Rattle.std.specs.Prelude.{is_some}
+use Rattle.std.proofs.Common.{◌∙◌, ap, subst, sym}
+use Rattle.clap.specs.Kinds.{HasKind}
 use Rattle.clap.specs.Matches.{found_of}
 use Rattle.settings.specs.OptionTexts.{rows_in}
-use Rattle.settings.specs.Tasks.{RefusesTask, form_kinds}
+use Rattle.settings.specs.Tasks.{RefusesTask, form_asked, form_kinds}
 use Rattle.settings.specs.declared.fault.WordsFault.TheVariants.{Parse}
-use Rattle.clap.specs.Kinds.{HasKind}
-use Rattle.std.proofs.Common.{ap, sym, subst}
 use Rattle.settings.proofs.Readings.{has_options}
-use Rattle.settings.proofs.TaskLaws.{handed_on, mixed_by, runs, some_word, word_got}
+use Rattle.settings.proofs.TaskLaws.{handed_on, runs, word_got}
 use Rattle.settings.proofs.task.task_of.Goals as goal
-use Rattle.settings.proofs.task.task_of.Goals.{then-floor-via-then-floor, then-floor-via-else-floor+then-history, then-floor-via-else-floor+else-history+then-is_some}
+
+pub flag_of-live-requires : goal.flag_of-live-requires
+flag_of-live-requires c = (has_options c.args.matches.now c.requires).live
+
+pub flag_of-audit-requires : goal.flag_of-audit-requires
+flag_of-audit-requires c = (has_options c.args.matches.now c.requires).audit
 
 pub flag_of-floor-requires : goal.flag_of-floor-requires
 flag_of-floor-requires c = (has_options c.args.matches.now c.requires).floor
@@ -17,43 +20,30 @@ flag_of-floor-requires c = (has_options c.args.matches.now c.requires).floor
 pub flag_of-history-requires : goal.flag_of-history-requires
 flag_of-history-requires c = (has_options c.args.matches.now c.requires).history
 
-pub flag_of-requires : goal.flag_of-requires
-flag_of-requires c = (has_options c.args.matches.now c.requires).audit
-
 pub returns-in_err-form-clause-refused : goal.returns-in_err-form-clause-refused
 returns-in_err-form-clause-refused c =
-    let word = word_got (found_of c.args.matches.now) c.get_str-word.result c.get_str-word.ensures in
+    let word = word_got (found_of c.args.matches.now) c.get_str.result c.get_str.ensures in
     handed_on (RefusesTask (rows_in c.args.matches.now)) c.from_residual.result (Parse c.in_err-form.field-0.0)
     (subst (λ w. HasKind (form_kinds w) c.in_err-form.field-0.0) (sym word) c.in_err-form.ensures.refused) c.from_residual.ensures.1
 
-pub returns-then-not-flag_of-clause-task : goal.returns-then-not-flag_of-clause-task
-returns-then-not-flag_of-clause-task c =
-    let off : c.flag_of.result ≡ false = search rules in
-    runs (rows_in c.args.matches.now) _ _ _ _ (word_got (found_of c.args.matches.now) c.get_str-word.result c.get_str-word.ensures) c.in_ok-form.ensures.form
-    c.flag_of-floor.ensures c.flag_of-history.ensures (c.flag_of.ensures ∙ off)
+pub is_live_mixed-requires-clause-form : goal.is_live_mixed-requires-clause-form
+is_live_mixed-requires-clause-form c =
+    ap form_asked (word_got (found_of c.args.matches.now) c.get_str.result c.get_str.ensures) ∙ c.in_ok-form.ensures.form
 
-pub returns-then-floor-clause-refused : goal.returns-then-floor-clause-refused
-returns-then-floor-clause-refused c =
-    let rows = rows_in c.args.matches.now in
-    let asked : c.flag_of.result ≡ true = search rules in
-    let audit = c.flag_of.ensures ∙ asked in
-    let word = word_got (found_of c.args.matches.now) c.get_str-word.result c.get_str-word.ensures in
-    let some = some_word (found_of c.args.matches.now) c.get_str-word.result c.get_str-word.ensures in (
-      ap form_kinds word ∙ c.in_ok-form.ensures.refused,
-      elim c.then-floor.branch [
-        | then-floor-via-then-floor w ↦ mixed_by rows true true _ _ audit (c.flag_of-floor.ensures ∙ w.if-floor.true) refl refl
-        | then-floor-via-else-floor+then-history w ↦
-            mixed_by rows true false true _ audit (c.flag_of-floor.ensures ∙ w.if-floor.false) (c.flag_of-history.ensures ∙ w.if-history.true) refl
-        | then-floor-via-else-floor+else-history+then-is_some w ↦
-            let given : is_some c.get_str-word.result ≡ true = search rules in
-            mixed_by rows true false false true audit (c.flag_of-floor.ensures ∙ w.if-floor.false) (c.flag_of-history.ensures ∙ w.if-history.false) (some ∙ given)
-      ],
-    )
+pub returns-then-is_mixed-clause-refused : goal.returns-then-is_mixed-clause-refused
+returns-then-is_mixed-clause-refused c = (
+  ap form_kinds (word_got (found_of c.args.matches.now) c.get_str.result c.get_str.ensures) ∙ c.in_ok-form.ensures.refused,
+  c.is_mixed.ensures ∙ c.if-is_mixed.true,
+)
 
-pub returns-clause-alone : goal.returns-clause-alone
-returns-clause-alone c =
-    let rows = rows_in c.args.matches.now in
-    let asked : c.flag_of.result ≡ true = search rules in
-    let none : is_some c.get_str-word.result ≡ false = search rules in
-    let some = some_word (found_of c.args.matches.now) c.get_str-word.result c.get_str-word.ensures in
-    mixed_by rows true false false false (c.flag_of.ensures ∙ asked) (c.flag_of-floor.ensures ∙ c.if-floor.false) (c.flag_of-history.ensures ∙ c.if-history.false) (some ∙ none)
+pub returns-then-is_live_mixed-clause-refused : goal.returns-then-is_live_mixed-clause-refused
+returns-then-is_live_mixed-clause-refused c = (
+  ap form_kinds (word_got (found_of c.args.matches.now) c.get_str.result c.get_str.ensures) ∙ c.in_ok-form.ensures.refused,
+  c.is_mixed.ensures ∙ c.if-is_mixed.false,
+  c.is_live_mixed.ensures ∙ c.if-is_live_mixed.true,
+)
+
+pub returns-clause-task : goal.returns-clause-task
+returns-clause-task c =
+    runs (rows_in c.args.matches.now) _ _ _ _ (word_got (found_of c.args.matches.now) c.get_str.result c.get_str.ensures) c.in_ok-form.ensures.form
+    c.flag_of-floor.ensures c.flag_of-history.ensures (c.flag_of-audit.ensures ∙ c.if-audit.false) (c.flag_of-live.ensures ∙ c.if-live.false)
