@@ -145,7 +145,7 @@ brings-first held heard now whole mark first = by held.begun refl
           within = omega (arith, within, ap (λ (b : List ℕ). length b) first.bytes);
           first = ap (take 1) first.bytes;
           rows = sym (ap (λ (rs : List (List (List ℕ))). rs ++ records default_config (strip_bom (take whole held.bytes.items))) none
-          ∙ ap (λ (n : ℕ). records default_config (strip_bom (take n held.bytes.items))) is ∙ rows-of_front wc (strip_bom now) held.bytes.items first.bytes);
+              ∙ ap (λ (n : ℕ). records default_config (strip_bom (take n held.bytes.items))) is ∙ rows-of_front wc (strip_bom now) held.bytes.items first.bytes);
           rest = λ short. ap (λ (n : ℕ). drop n held.bytes.items) is ∙ ap (drop (1 + wc)) first.bytes ∙ front-drop wc (strip_bom now);
           long = ap is_too_long (rw e at first.place);
           begun = first.begun;
@@ -159,9 +159,9 @@ brings-first held heard now whole mark first = by held.begun refl
           within = omega (arith, ap (λ (b : List ℕ). length b) first.bytes);
           first = ap (take 1) first.bytes;
           rows = unknown.none ∙ sym (ap (λ (rs : List (List (List ℕ))). rs ++ records default_config (strip_bom (take whole held.bytes.items))) none
-          ∙ ap (λ (n : ℕ). records default_config (strip_bom (take n held.bytes.items))) is ∙ rows-of_front 0 (strip_bom now) held.bytes.items first.bytes ∙ records_from-done default_config 1);
+              ∙ ap (λ (n : ℕ). records default_config (strip_bom (take n held.bytes.items))) is ∙ rows-of_front 0 (strip_bom now) held.bytes.items first.bytes ∙ records_from-done default_config 1);
           rest = λ short. ap (λ (n : ℕ). drop n held.bytes.items) is ∙ ap (drop (1 + 0)) first.bytes ∙ front-drop 0 (strip_bom now)
-          ∙ ap (λ (n : ℕ). drop n (strip_bom now)) (sym unknown.whole);
+              ∙ ap (λ (n : ℕ). drop n (strip_bom now)) (sym unknown.whole);
           long = ap is_too_long (rw e at first.place) ∙ sym unknown.short;
           begun = first.begun;
           place = first.place;
@@ -195,10 +195,10 @@ brings-more old held heard new t whole h was is bytes place begun whole_is =
       within = omega (arith, k, m.bound, ap (λ (b : List ℕ). length b) all);
       first = ap (take 1) all;
       rows = ap (λ (x : List ℕ). records default_config (take (whole_count (taken_from start x)) x)) now ∙ m.whole
-      ∙ ap (λ (rs : List (List (List ℕ))). complete heard ++ rs)
-      (sym (ap (λ (n : ℕ). records default_config (strip_bom (take n held.bytes.items))) k ∙ rows-of_front (whole_more text new) (at_hand text ++ new) held.bytes.items all));
+          ∙ ap (λ (rs : List (List (List ℕ))). complete heard ++ rs)
+          (sym (ap (λ (n : ℕ). records default_config (strip_bom (take n held.bytes.items))) k ∙ rows-of_front (whole_more text new) (at_hand text ++ new) held.bytes.items all));
       rest = λ short. ap (λ (n : ℕ). drop n held.bytes.items) k ∙ ap (drop (1 + whole_more text new)) all ∙ front-drop (whole_more text new) (at_hand text ++ new)
-      ∙ sym m.rest ∙ ap (λ (x : List ℕ). drop (whole_count (taken_from start x)) x) (sym now);
+          ∙ sym m.rest ∙ ap (λ (x : List ℕ). drop (whole_count (taken_from start x)) x) (sym now);
       long = ap is_too_long same_place;
       begun = begun ∙ sym (ap not (mark-known heard new known));
       place = rw begun same_place;
@@ -218,8 +218,7 @@ complete-first heard new short = by (is_mark_begun heard) refl
     by false e =
         let text = strip_bom heard in
         let n = whole_count (taken heard) in
-        let parted : text ++ new ≡ take n text ++ (drop n text ++ new) = ap (λ (x : List ℕ). x ++ new) (sym (take-append-drop n text)) ∙ append_assoc (take n text) (drop n text) new in
-        (
+        let parted : text ++ new ≡ take n text ++ (drop n text ++ new) = ap (λ (x : List ℕ). x ++ new) (sym (take-append-drop n text)) ∙ append_assoc (take n text) (drop n text) new in (
           records default_config (drop n text ++ new),
           sym (ap (records default_config) (mark-more heard new e ∙ parted) ∙ records-then (take n text) (drop n text ++ new) (whole-closed text)),
         )
@@ -262,7 +261,7 @@ first-waits held h mark =
     let heard = drop 1 held.bytes.items in
     record {
       bytes = sym (take-append-drop 1 held.bytes.items) ∙ ap (λ (front : List ℕ). front ++ heard) h.first
-      ∙ ap (λ (rest : List ℕ). 10 ∷ rest) (sym (begun-mark heard mark).same);
+          ∙ ap (λ (rest : List ℕ). 10 ∷ rest) (sym (begun-mark heard mark).same);
       begun = h.begun ∙ sym (ap not mark);
       place = rw h.begun h.place;
       whole_is = rw h.begun refl;

@@ -19,7 +19,13 @@ const MIXED: [&[&str]; 5] = [
 
 const ROWS: &[Row] = &[
     (LIVE, b"", "", "", 0),
-    (&["callboard", "--live", "--print=lines"], b"1,ask\n", SHOWN, "", 0),
+    (
+        &["callboard", "--live", "--print=lines"],
+        b"1,ask\n",
+        SHOWN,
+        "",
+        0,
+    ),
     (
         LIVE,
         b"1,enter,bid,500,200\n1,sell\n2,enter,ask,300,199\r\n0,uncross",
@@ -65,7 +71,11 @@ fn live_goes_with_lines_alone(rt: HostRuntime) {
 
 /// The lines of the records that are complete in so many bytes of the input.
 fn lines_within(bytes: usize) -> Option<&'static [u8]> {
-    let whole = INPUT.bytes().take(bytes).filter(|byte| *byte == b'\n').count();
+    let whole = INPUT
+        .bytes()
+        .take(bytes)
+        .filter(|byte| *byte == b'\n')
+        .count();
     let mut length = 0usize;
     for line in LINES.lines().take(whole) {
         length = length.saturating_add(line.len()).saturating_add(1);
@@ -89,7 +99,12 @@ fn taken_by(writes: usize) -> Option<&'static [u8]> {
 fn a_device_that_fails_ends_a_session_with_all_before_it_answered(rt: HostRuntime) {
     for reads in 0..=INPUT.len().div_ceil(8) {
         let written = run_devices(&rt, LIVE, 8, reads, 10_000, true);
-        ends_with(&rt, &written, "read failed\n", lines_within(reads.saturating_mul(8)));
+        ends_with(
+            &rt,
+            &written,
+            "read failed\n",
+            lines_within(reads.saturating_mul(8)),
+        );
     }
     for writes in 0..12 {
         let taken = taken_by(writes);

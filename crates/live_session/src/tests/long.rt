@@ -75,7 +75,9 @@ impl Conversation for LongRecord {
     }
 
     fn write(&mut self, text: &[u8]) -> Result<(), WriteFailed> {
-        self.lines = self.lines.saturating_add(text.iter().filter(|byte| **byte == b'\n').count());
+        self.lines = self
+            .lines
+            .saturating_add(text.iter().filter(|byte| **byte == b'\n').count());
         Ok(())
     }
 

@@ -130,10 +130,12 @@ impl Table {
     /// Takes the line of the next row from the front of what was written.
     fn take_line<'a>(&mut self, text: &'a [u8]) -> &'a [u8] {
         let line = match ROWS.get(self.answered) {
-            Some(Row {
-                answer: Answer::Line(line),
-                ..
-            }) => line.as_bytes(),
+            Some(
+                Row {
+                    answer: Answer::Line(line),
+                    ..
+                },
+            ) => line.as_bytes(),
             _ => &[],
         };
         self.is_right &= !line.is_empty();
@@ -193,10 +195,12 @@ impl Conversation for Table {
 
     fn tell(&mut self, fault: FileFault) {
         let is_next = match ROWS.get(self.answered) {
-            Some(Row {
-                answer: Answer::Fault(wanted),
-                ..
-            }) => *wanted == fault,
+            Some(
+                Row {
+                    answer: Answer::Fault(wanted),
+                    ..
+                },
+            ) => *wanted == fault,
             _ => false,
         };
         self.is_right &= is_next;

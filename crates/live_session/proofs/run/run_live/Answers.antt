@@ -15,7 +15,7 @@ pub turns-init : goal.turns-init
 turns-init g c = (
   [],
   begins g.C.Conversation c.args.config c.args.members c.args.talk.now c.in_ok-session.session c.in-Ok.held (g.met.C.Conversation.becomes_itself c.args.talk.now)
-  c.in_ok-session.ensures c.in-Ok.ensures,
+      c.in_ok-session.ensures c.in-Ok.ensures,
   c.in_ok-session.ensures.opens,
 )
 
@@ -65,10 +65,13 @@ turns-preserved g c =
     let r = c.in-Ok-read.ensures in
     let speaks = reads-on g.C.Conversation c.args.talk.now c.turns.talk c.read.new.self c.turns.session heard _ _ waits.speaks
     (g.met.C.Conversation.becomes_on _ _ _ waits.speaks.device.same r.same) r.bytes.0 r.written r.told r.failures r.writes in
-    let now = heard ++ take c.in-Ok-read.count c.read.new.buffer in
-    (now, subst (λ (m : ℕ). Waits g.C.Conversation c.args.config m c.args.talk.now c.take_turn.new.talk c.take_turn.new.session c.take_turn.new.held now) waits.members_are
-    (c.in_ok-take_turn.ensures c.args.talk.now c.args.config heard waits.input
-    (subst (λ (m : ℕ). Speaks g.C.Conversation c.args.talk.now c.read.new.self c.turns.session now (answered c.args.config m (complete heard))) (sym waits.members_are) speaks)), opens)
+    let now = heard ++ take c.in-Ok-read.count c.read.new.buffer in (
+      now,
+      subst (λ (m : ℕ). Waits g.C.Conversation c.args.config m c.args.talk.now c.take_turn.new.talk c.take_turn.new.session c.take_turn.new.held now) waits.members_are
+          (c.in_ok-take_turn.ensures c.args.talk.now c.args.config heard waits.input
+          (subst (λ (m : ℕ). Speaks g.C.Conversation c.args.talk.now c.read.new.self c.turns.session now (answered c.args.config m (complete heard))) (sym waits.members_are) speaks)),
+      opens,
+    )
 
 pub returns : goal.returns
 returns g c =
