@@ -243,7 +243,11 @@ class Running:
 
 
 def start(name: str, below: list[str], jobs: int, is_first: bool) -> Running | None:
-    """Begins to prove and build a crate, unless its folder is in use. Raises OSError."""
+    """Begins to prove and build a crate, unless its folder is in use. Raises OSError.
+
+    It gets a process group and no session of its own: Linux gives sessions equal shares of the
+    cores, whatever `nice` says (autogroups).
+    """
     with contextlib.ExitStack() as lock:
         if not lock.enter_context(held(name)):
             return None
@@ -257,7 +261,7 @@ def start(name: str, below: list[str], jobs: int, is_first: bool) -> Running | N
                 stdin=subprocess.DEVNULL,
                 stdout=log,
                 stderr=subprocess.STDOUT,
-                start_new_session=True,
+                process_group=0,
             )
         return Running(child, room, lock.pop_all(), time.monotonic())
 
