@@ -1,9 +1,9 @@
 #!/usr/bin/env python3
 """Proves and builds the program, with progress on standard error: `build/program.py`.
 
-Crates that don't stand on each other are proved at once, as cores and memory allow. The one with
-the longest way to the program above it has all cores (at most four jobs), and what is proved beside
-it takes what it leaves (`nice`). The toolchain works in a crate's folder and in those below it, and
+Crates that don't stand on each other are proved at once, as cores and memory allow. Those with the
+longest way to the program above them have all cores (at most four jobs), and what is proved beside
+them takes what they leave (`nice`). The toolchain works in a crate's folder and in those below it, and
 of two crates that stand on one it lets the second wait. So each is proved in a room of its own,
 out/build/rooms/CRATE, with a copy of its text and of what was built below it, and what is made
 there is moved to the crate's own out/. On a terminal one line is rewritten; elsewhere each crate
@@ -61,7 +61,8 @@ USUAL_SECONDS = {
     "tick_ladder": 75.0,
 }
 """About how long each crate takes, in seconds: which has the longest way to the program."""
-BESIDE_JOBS = 2  # of a crate that is proved beside the one with the longest way
+BESIDE_JOBS = 2  # of a crate that is proved beside those with the longest way
+NEAR_LONGEST = 0.9  # a way that counts among the longest, as a part of the longest
 TURN = 0.2  # seconds between two looks at what runs
 SECONDS_BETWEEN_LOOKS = 5.0  # at a folder that is in use
 
@@ -293,10 +294,11 @@ class Build:
 
     def fill(self) -> None:
         """Begins crates as long as there are cores and memory for them. Raises OSError."""
+        longest = max((self.to_top[it] for it in self.crates if it not in self.done), default=0.0)
         for name in self.ready():
             if len(self.running) >= self.most:
                 return
-            is_first = all(self.to_top[name] > self.to_top[it] for it in self.running)
+            is_first = self.to_top[name] >= NEAR_LONGEST * longest
             jobs = min(MOST_JOBS if is_first else BESIDE_JOBS, self.cores)
             running = start(name, self.crates[name], jobs, is_first)
             if running:
