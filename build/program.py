@@ -3,8 +3,8 @@
 
 Crates that don't stand on each other are proved at once, as cores and memory allow. Those with the
 longest way to the program above them have all cores (at most four jobs), and what is proved beside
-them takes what they leave (`nice`). The toolchain works in a crate's folder and in those below it, and
-of two crates that stand on one it lets the second wait. So each is proved in a room of its own,
+them takes what they leave (`nice`). The toolchain works in a crate's folder and in those below it,
+and of two crates that stand on one it lets the second wait. So each is proved in a room of its own,
 out/build/rooms/CRATE, with a copy of its text and of what was built below it, and what is made
 there is moved to the crate's own out/. On a terminal one line is rewritten; elsewhere each crate
 has a line of its own. What is proved is kept, so a build that was interrupted goes on where it
