@@ -7,3 +7,5 @@ pub mod OwedLaws
 pub mod PassedOnLaws
 pub mod KeptLaws
 pub mod LiveLaws
+pub mod BlockRunLaws
+pub mod FileSaidLaws

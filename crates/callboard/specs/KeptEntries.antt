@@ -1,5 +1,6 @@
 -- What a run keeps of a day's entries until they are printed.
-use Rattle.std.specs.Prelude.{◌≡◌, ◌≤◌, ◌+◌, ◌++◌, List, length, map, None, unwrap_or, Result, Ok, Err}
+use Rattle.std.specs.Prelude.{◌≡◌, ◌≤◌, ℕ, ◌+◌, ◌++◌, List, length, map}
+use Rattle.std.specs.Prelude.{Option, None, IfSome, unwrap_or, Result, Ok, Err}
 use Rattle.auction_terms.specs.declared.Call.{Call}
 use Rattle.auction_terms.specs.declared.Config.{Config}
 use Rattle.auction_terms.specs.declared.Entry.{Entry}
@@ -65,6 +66,13 @@ KeepsCalls AreKept before old new (Ok u) wanted =
     × AreKept (before ++ entries_from old.config old.state calls)
 KeepsCalls AreKept before old new (Err f) wanted = Fails f wanted
 
+-- The same of a file, where its text is known.
+abbrev pub KeepsFile : (List Entry → Type 0) → List Entry → Running → Running
+    → Result (Unit {0}) FileFault → (List ℕ → Result (List Call) FileFault) → Option (List ℕ) → Type 0
+KeepsFile AreKept before old new result says text =
+    (wanted : Result (List Call) FileFault) × KeepsCalls AreKept before old new result wanted
+    × IfSome text (λ bytes. says bytes ≡ wanted)
+
 -- a day's calls, as what was given to it
 abbrev pub calls_for : Day → Result (List Call) FileFault → Result GivenDay FileFault
 calls_for day r = r >>= λ calls. Ok (record { day = day; calls = calls })
@@ -83,6 +91,11 @@ KeepsSaid form said (Err (fault.File f)) = Fails f said
 KeepsSaid form said (Err (fault.Open f)) =
     (given : GivenDay) × (said ≡ Ok given) × (f ≡ unwrap_or (open_fault given.day.config) NoMemory)
 KeepsSaid form said (Err f) = ⊥
+
+-- What was said is kept, or is at fault, or couldn't be opened; where the text is known, it is what that says.
+abbrev pub SaidOf : Form → Result KeptDay Fault → Option (List ℕ) → (List ℕ → Result GivenDay FileFault) → Type 0
+SaidOf form result text says =
+    (said : Result GivenDay FileFault) × KeepsSaid form said result × IfSome text (λ bytes. said ≡ says bytes)
 
 -- Of a day whose calls have all come what is kept is of these entries, or memory was refused.
 abbrev pub IsClosed : Day → Kept → Config → List Entry → Result KeptDay Fault → Type 0

@@ -1,15 +1,17 @@
 //! The run of an input's commands on an auction, with what its form needs kept of them.
 
 ghost use Rattle.std.specs.Prelude.{◌≡◌, ◌≢◌, ◌<◌, ◌≤◌, ◌+◌, ◌++◌, ◌∷◌, [], ◌↔◌};
-ghost use Rattle.std.specs.Prelude.{List, length, unwrap_or, Result, Ok, Err, IfErr, IfSome, IsErrOf, OnOk};
+ghost use Rattle.std.specs.Prelude.{ℕ, List, length, true, unwrap_or, Ok, Err, IfErr, IsErrOf, OnOk};
+ghost use Rattle.std.specs.Io.KnownBytes.{prepend_known};
 ghost use Rattle.auction_terms.specs.declared.Entry.{Entry};
 ghost use Rattle.auction_terms.specs.Devices.Running.{opened};
 ghost use Rattle.auction.specs.ConfigFault.{open_fault};
-ghost use Rattle.journal.specs.GivenDay.{GivenDay, given, given_of, or_orders, orders_for};
-ghost use Rattle.order_file.specs.declared.fault.FileFault.{FileFault};
-ghost use Rattle.order_file.specs.File.{IsOfRecord, calls_after, calls_of};
+ghost use Rattle.journal.specs.GivenDay.{given, given_of, or_orders, orders_for};
+ghost use Rattle.order_file.specs.Blocks.{block_rows};
+ghost use Rattle.order_file.specs.File.{IsOfRecord, calls_after, calls_of, file};
 ghost use Rattle.order_file.specs.Rows.{Stands, rows_left};
-ghost use Rattle.callboard.specs.KeptEntries.{Follows, IsClosed, KeepsCalls, KeepsSaid, calls_for, form_of};
+ghost use Rattle.callboard.specs.KeptEntries.{Follows, IsClosed, KeepsCalls, KeepsFile, KeepsSaid, SaidOf};
+ghost use Rattle.callboard.specs.KeptEntries.{calls_for, form_of};
 
 use crate::fault::Fault;
 use crate::kept::Kept;
@@ -18,7 +20,10 @@ use auction_terms::Call;
 use byte_streams::Source;
 use csv::{ByteRecord, Reader};
 use journal::{Day, Journal, MAX_JOURNAL_BYTES, journal_of};
-use order_file::{FileFault, MAX_BYTES, bytes_of, calls_of, next_row, numbered_call, reader_of};
+use order_file::{
+    Blocks, FileFault, MAX_BYTES, bytes_after, calls_of, next_row, numbered_call, read_start,
+    reader_of,
+};
 use settings::Form;
 use std::alloc::Global;
 
@@ -206,8 +211,147 @@ fn keep_input(alloc: Global, bytes: &[u8], day: Day, form: Form) -> Result<KeptD
     }
 }
 
+/// Applies the calls of the records of a block, which come after the auction's so far, and keeps their entries.
+fn keep_block(
+    alloc: Global,
+    blocks: &Blocks,
+    auction: &mut Auction,
+    kept: &mut Kept,
+    members: u8,
+) -> Result<(), FileFault>
+    requires { auction.old.calls ≤ auction.old.config.max_calls }
+    ensures form { form_of kept.new ≡ form_of kept.old }
+    ensures kept { (entries : List Entry) → Follows kept.old auction.old entries
+        → KeepsCalls (Follows kept.new auction.new) entries auction.old auction.new result
+        (calls_after members auction.old.config.max_calls auction.old.calls (block_rows blocks.now)) }
+    ensures room { auction.new.calls ≤ auction.old.config.max_calls }
+    ensures parsed { IfErr result IsOfRecord }
+{
+    let mut rows = blocks.rows(alloc)?;
+    keep_rows(alloc, &mut rows, auction, kept, members)
+}
+
+/// Reads an order file of which these bytes at the start were read, block by block, applies its calls to an auction
+/// that was just opened, and keeps their entries.
+fn keep_blocks<R: Source>(
+    alloc: Global,
+    start: &[u8],
+    reader: &mut R,
+    auction: &mut Auction,
+    kept: &mut Kept,
+    members: u8,
+) -> Result<(), FileFault>
+    requires opened { auction.old ≡ opened auction.old.config }
+    requires follows { (entries : List Entry) × Follows kept.old auction.old entries }
+    requires short { length start.now ≤ MAX_BYTES }
+    ensures form { form_of kept.new ≡ form_of kept.old }
+    ensures failed { IsErrOf result FileFault.ReadFailed ↔ (R.failures reader.old < R.failures reader.new) }
+    ensures kept { (entries : List Entry) → Follows kept.old auction.old entries
+        → KeepsFile (Follows kept.new auction.new) entries auction.old auction.new result
+        (λ text. file text members auction.old.config.max_calls) (prepend_known start.now (R.left reader.old)) }
+    ensures room { auction.new.calls ≤ auction.old.config.max_calls }
+{
+    let mut blocks = Blocks::open(alloc, start, reader, MAX_BYTES)?;
+    'turns: loop {
+        if let Err(fault) = keep_block(alloc, &blocks, auction, kept, members) {
+            blocks.drain(reader)?;
+            return Err(fault);
+        }
+        if !blocks.next(reader)? {
+            return Ok(());
+        }
+    }
+}
+
+/// What an order file owes whose day can't be opened, and of which these bytes at the start were read: a fault of its
+/// own comes first.
+fn refused_file<R: Source>(
+    alloc: Global,
+    start: Vec<u8>,
+    reader: &mut R,
+    day: Day,
+    fault: OpenFault,
+) -> Fault
+    requires short { length start.items ≤ MAX_BYTES }
+    requires fault { fault ≡ unwrap_or (open_fault day.config) OpenFault.NoMemory }
+    ensures failed { (result ≡ Fault.File FileFault.ReadFailed) ↔ (R.failures reader.old < R.failures reader.new) }
+    ensures kept { (form : Form)
+        → SaidOf form (Err result) (prepend_known start.items (R.left reader.old)) (orders_for day) }
+{
+    match bytes_after(start, reader, MAX_BYTES) {
+        Ok(bytes) => refused_orders(alloc, bytes.as_slice(), day, fault),
+        Err(fault) => Fault::File(fault),
+    }
+}
+
+/// Runs the commands of an order file of this day, of which these bytes at the start were read.
+fn keep_file<R: Source>(
+    alloc: Global,
+    start: Vec<u8>,
+    reader: &mut R,
+    day: Day,
+    form: Form,
+) -> Result<KeptDay, Fault>
+    requires { length start.items ≤ MAX_BYTES }
+    ensures failed { IsErrOf result (Fault.File FileFault.ReadFailed)
+        ↔ (R.failures reader.old < R.failures reader.new) }
+    ensures kept { SaidOf form result (prepend_known start.items (R.left reader.old)) (orders_for day) }
+{
+    let mut auction = match Auction::open(alloc, day.config) {
+        Ok(auction) => auction,
+        Err(fault) => return Err(refused_file(alloc, start, reader, day, fault)),
+    };
+    let Ok(mut kept) = Kept::open(alloc, form, &auction) else {
+        return Err(Fault::File(FileFault::NoMemory));
+    };
+    match keep_blocks(
+        alloc,
+        start.as_slice(),
+        reader,
+        &mut auction,
+        &mut kept,
+        day.members,
+    ) {
+        Ok(()) => close_day(alloc, day, &mut auction, kept),
+        Err(fault) => Err(Fault::File(fault)),
+    }
+}
+
+/// Whether the first of these bytes is a digit, so that what they begin is no journal.
+fn begins_with_digit(start: &[u8]) -> bool
+    ensures { result ≡ true
+        → (digit : ℕ) × (rest : List ℕ) × (start.now ≡ digit ∷ rest) × (48 ≤ digit) × (digit ≤ 57) }
+{
+    match start.first() {
+        Some(byte) => byte.is_ascii_digit(),
+        None => false,
+    }
+}
+
+/// Runs the commands of an input of which these bytes at the start were read.
+fn keep_from<R: Source>(
+    alloc: Global,
+    start: Vec<u8>,
+    reader: &mut R,
+    day: Day,
+    form: Form,
+) -> Result<KeptDay, Fault>
+    requires { length start.items ≤ MAX_BYTES }
+    ensures failed { IsErrOf result (Fault.File FileFault.ReadFailed)
+        ↔ (R.failures reader.old < R.failures reader.new) }
+    ensures kept { SaidOf form result (prepend_known start.items (R.left reader.old)) (given day) }
+{
+    if begins_with_digit(start.as_slice()) {
+        return keep_file(alloc, start, reader, day, form);
+    }
+    match bytes_after(start, reader, MAX_JOURNAL_BYTES) {
+        Ok(bytes) => keep_input(alloc, bytes.as_slice(), day, form),
+        Err(fault) => Err(Fault::File(fault)),
+    }
+}
+
 /// Reads an input, a journal or an order file of this day, runs its commands on an auction, and keeps what this form
-/// needs of them.
+/// needs of them. An order file that begins with a digit is read block by block.
 ///
 /// A fault of the input comes before one of the config.
 pub fn read_and_keep<R: Source>(
@@ -218,11 +362,10 @@ pub fn read_and_keep<R: Source>(
 ) -> Result<KeptDay, Fault>
     ensures failed { IsErrOf result (Fault.File FileFault.ReadFailed)
         ↔ (R.failures reader.old < R.failures reader.new) }
-    ensures kept { (said : Result GivenDay FileFault) × KeepsSaid form said result
-        × IfSome (R.left reader.old) (λ bytes. said ≡ given day bytes) }
+    ensures kept { SaidOf form result (R.left reader.old) (given day) }
 {
-    match bytes_of(alloc, reader, MAX_JOURNAL_BYTES) {
-        Ok(bytes) => keep_input(alloc, bytes.as_slice(), day, form),
+    match read_start(alloc, reader) {
+        Ok(start) => keep_from(alloc, start, reader, day, form),
         Err(fault) => Err(Fault::File(fault)),
     }
 }

@@ -1,5 +1,5 @@
 -- Calls that go before others.
-use Rattle.std.proofs.Common.{◌≡◌, ◌<◌, ◌≤◌, ◌+◌, ℕ, List, ◌++◌, [], ◌∷◌, Result, Ok, Err, false, nat_le, refl, ap, append_assoc, rules, arith}
+use Rattle.std.proofs.Common.{◌≡◌, ◌<◌, ◌≤◌, ◌+◌, ℕ, List, ◌++◌, [], ◌∷◌, Result, Ok, Err, false, nat_le, refl, ap, sym, length, Bool, true, ◌∙◌, append_assoc, rules, arith}
 use Rattle.std.proofs.lemmas.List.{append-nil}
 use Rattle.auction_terms.specs.declared.Call.{Call}
 use Rattle.auction_terms.specs.Results.{◌>>=◌}
@@ -65,3 +65,58 @@ fails-at (file.BadField n f) wanted h = h
 fails-at (file.TooManyCommands n) wanted h = h
 fails-at file.NotADay wanted h = h
 fails-at file.NoMemory wanted h = tt
+
+-- nothing goes before
+pub nothing-before : (r : Result (List Call) FileFault) → after [] r ≡ r
+nothing-before (Ok x) = refl
+nothing-before (Err e) = refl
+
+-- a call goes before the calls at the front
+after-first : (call : Call) (front : List Call) (r : Result (List Call) FileFault)
+    → (after front r >>= λ rest. Ok (call ∷ rest)) ≡ after (call ∷ front) r
+after-first call front (Ok x) = refl
+after-first call front (Err e) = refl
+
+-- the calls of some records, and then those of others, which come after them
+pub calls-append : (members max_calls before : ℕ) (xs ys : List (List (List ℕ)))
+    → calls_after members max_calls before (xs ++ ys)
+    ≡ (calls_after members max_calls before xs >>= λ front. after front (calls_after members max_calls (before + length xs) ys))
+unfolding calls_after
+calls-append members max_calls before [] ys =
+    let none : before + length {A = List (List ℕ)} [] ≡ before = omega arith in
+    rw none (sym (nothing-before (calls_after members max_calls before ys)))
+calls-append members max_calls before (r ∷ rs) ys = by (nat_le max_calls before) (numbered_call members (before + 1) r) refl refl (calls-append members max_calls (before + 1) rs ys)
+  where
+    wanted : Result (List Call) FileFault
+    wanted = calls_after members max_calls (before + length (r ∷ rs)) ys
+
+    same : before + 1 + length rs ≡ before + length (r ∷ rs)
+    same = omega arith
+
+    more : (call : Call) (some : Result (List Call) FileFault)
+        → ((some >>= λ front. after front wanted) >>= λ rest. Ok (call ∷ rest)) ≡ ((some >>= λ rest. Ok (call ∷ rest)) >>= λ front. after front wanted)
+    more call (Ok front) = after-first call front wanted
+    more call (Err e) = refl
+
+    by : (full : Bool) (first : Result Call FileFault) → nat_le max_calls before ≡ full → numbered_call members (before + 1) r ≡ first
+        → (calls_after members max_calls (before + 1) (rs ++ ys) ≡ (calls_after members max_calls (before + 1) rs >>= λ front. after front (calls_after members max_calls (before + 1 + length rs) ys)))
+        → calls_after members max_calls before (r ∷ (rs ++ ys)) ≡ (calls_after members max_calls before (r ∷ rs) >>= λ front. after front wanted)
+    by true first e d later = rw e refl
+    by false (Err fault) e d later = rw (e, d) refl
+    by false (Ok call) e d later = rw (e, d) (ap (λ (some : Result (List Call) FileFault). some >>= λ rest. Ok (call ∷ rest)) (rw same at later) ∙ more call (calls_after members max_calls (before + 1) rs))
+
+-- each record has a call
+pub calls-length : (members max_calls before : ℕ) (rows : List (List (List ℕ))) (calls : List Call)
+    → calls_after members max_calls before rows ≡ Ok calls → length calls ≡ length rows
+unfolding calls_after
+calls-length members max_calls before [] calls is = let none : [] ≡ calls = cc in ap length (sym none)
+calls-length members max_calls before (r ∷ rs) calls is =
+    by (nat_le max_calls before) (numbered_call members (before + 1) r) (calls_after members max_calls (before + 1) rs) refl refl refl (calls-length members max_calls (before + 1) rs)
+  where
+    by : (full : Bool) (first : Result Call FileFault) (rest : Result (List Call) FileFault) → nat_le max_calls before ≡ full
+        → numbered_call members (before + 1) r ≡ first → calls_after members max_calls (before + 1) rs ≡ rest
+        → ((some : List Call) → calls_after members max_calls (before + 1) rs ≡ Ok some → length some ≡ length rs) → length calls ≡ length (r ∷ rs)
+    by true first rest e d f later = let no_calls : Err (file.TooManyCommands (before + 1)) ≡ Ok calls = rw e at is in absurd (cc)
+    by false (Err fault) rest e d f later = let no_calls : Err fault ≡ Ok calls = rw (e, d) at is in absurd (cc)
+    by false (Ok call) (Err fault) e d f later = let no_calls : Err fault ≡ Ok calls = rw (e, d, f) at is in absurd (cc)
+    by false (Ok call) (Ok some) e d f later = let same : Ok (call ∷ some) ≡ Ok calls = rw (e, d, f) at is in let found = later some f in let one : call ∷ some ≡ calls = cc in omega (arith, found, ap length one)

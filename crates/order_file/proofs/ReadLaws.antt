@@ -1,8 +1,9 @@
 -- The bytes that were read so far.
-use Rattle.std.proofs.Common.{◌≡◌, ◌<◌, ◌≤◌, ℕ, List, ◌++◌, length, take, Option, Some, None, Ok, Err, true, nat_lt, sym, append_assoc, arith, rules}
+use Rattle.std.proofs.Common.{◌≡◌, ◌<◌, ◌≤◌, ◌+◌, ◌-◌, ◌∙◌, ℕ, List, [], ◌++◌, ap, refl, length, length-append, take, Option, Some, None, Ok, Err, true, nat_lt, sym, append_assoc, arith, rules}
 use Rattle.std.proofs.lemmas.List.{append-nil}
 use Rattle.std.specs.Prelude.{IfSome}
-use Rattle.std.specs.Io.KnownBytes.{Consumes, IsAtEnd}
+use Rattle.std.specs.Io.KnownBytes.{Consumes, IsAtEnd, Keeps, prepend_known}
+use Rattle.byte_streams.specs.Streams.{TakesAtMost}
 use Rattle.order_file.specs.File.{within_limit}
 use Rattle.order_file.specs.declared.fault.FileFault.TheVariants.{TooLong}
 use Rattle.std.proofs.lemmas.Grind.{common_steps}
@@ -32,3 +33,39 @@ unfolding within_limit
 read-too-much most None b x h long = tt
 read-too-much most (Some p) None x h long = absurd h
 read-too-much most (Some p) (Some q) x h long = grind (arith, common_steps, long_test)
+
+-- ---- behind bytes that were read before
+
+pub behind : (start all more : List ℕ) (a b : Option (List ℕ)) → all ≡ start ++ more → Consumes a b more → Consumes (prepend_known start a) b all
+behind start all more None b is h = tt
+behind start all more (Some p) None is h = absurd h
+behind start all more (Some p) (Some q) is h = ap (λ (xs : List ℕ). start ++ xs) h ∙ sym (append_assoc start more q) ∙ ap (λ (xs : List ℕ). xs ++ q) (sym is)
+
+-- no byte is put behind
+pub nothing-behind : (start all : List ℕ) (a : Option (List ℕ)) → all ≡ start → (more : List ℕ) × (all ≡ start ++ more) × Consumes a a more
+nothing-behind start all None is = ([], is ∙ sym (append-nil start), tt)
+nothing-behind start all (Some p) is = ([], is ∙ sym (append-nil start), refl)
+
+-- more bytes are
+pub more-behind : (start all now x : List ℕ) (a b c : Option (List ℕ)) → (more : List ℕ) × (all ≡ start ++ more) × Consumes a b more → Consumes b c x → now ≡ all ++ x
+    → (more : List ℕ) × (now ≡ start ++ more) × Consumes a c more
+more-behind start all now x a b c (more, is, h) k grown = (more ++ x, grown ∙ ap (λ (xs : List ℕ). xs ++ x) is ∙ append_assoc start more x, consumes-more a b c more x h k)
+
+-- so many were taken
+pub taken-behind : (start all : List ℕ) (a b : Option (List ℕ)) (most : ℕ) → (more : List ℕ) × (all ≡ start ++ more) × Consumes a b more → length all ≤ most
+    → TakesAtMost (most - length start) a b
+taken-behind start all a b most (more, is, h) few = (more, h, omega (arith, few, ap length is, length-append start more))
+
+-- a read that failed took none
+pub kept-behind : (start all : List ℕ) (a b c : Option (List ℕ)) (most : ℕ) → (more : List ℕ) × (all ≡ start ++ more) × Consumes a b more → Keeps b c → length all ≤ most
+    → TakesAtMost (most - length start) a c
+kept-behind start all None b c most (more, is, h) k few = (more, tt, omega (arith, few, ap length is, length-append start more))
+kept-behind start all (Some p) None c most (more, is, h) k few = absurd h
+kept-behind start all (Some p) (Some q) None most (more, is, h) k few = absurd k
+kept-behind start all (Some p) (Some q) (Some r) most (more, is, h) k few = (more, rw (← k) at h, omega (arith, few, ap length is, length-append start more))
+
+-- bytes that were read after them
+pub read-behind : (start all x : List ℕ) (a b c : Option (List ℕ)) (most : ℕ) → (more : List ℕ) × (all ≡ start ++ more) × Consumes a b more → Consumes b c x
+    → length all + length x ≤ most → TakesAtMost (most - length start) a c
+read-behind start all x a b c most was k few =
+    taken-behind start (all ++ x) a c most (more-behind start all (all ++ x) x a b c was k refl) (omega (arith, few, length-append all x))

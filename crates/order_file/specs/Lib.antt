@@ -4,3 +4,4 @@ pub mod CommandWord
 pub mod Record
 pub mod File
 pub mod Rows
+pub mod Blocks

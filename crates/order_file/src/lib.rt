@@ -2,15 +2,22 @@
 //!
 //! `read_orders` reads a whole file, and answers its calls, each a member and a command, or the
 //! file's first fault; no command is handed out of a file that has one. What it is made of is public, for
-//! other files in the same form: the bytes up to a limit, the records one by one, and the parts of a record.
+//! other files in the same form: the bytes up to a limit, at once or in blocks of whole lines, the records one by one,
+//! and the parts of a record.
 #![tactic(auto)]
 
+mod blocks;
 mod fault;
 mod field;
 mod reading;
 mod record;
+#[cfg(test)]
+mod tests;
 
+pub use blocks::Blocks;
 pub use fault::{FileFault, RecordFault};
 pub use field::number_of;
-pub use reading::{MAX_BYTES, bytes_of, calls_of, next_row, read_orders, reader_of};
+pub use reading::{
+    MAX_BYTES, bytes_after, bytes_of, calls_of, next_row, read_orders, read_start, reader_of,
+};
 pub use record::{Word, command_of, count_within, member_of, number_at, numbered_call, word_at};

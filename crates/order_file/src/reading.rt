@@ -1,7 +1,8 @@
 //! Reading an order file.
 
-ghost use Rattle.std.specs.Prelude.{◌≡◌, ◌<◌, ◌≤◌, ◌↔◌, ◌+◌, ◌∷◌, All, [], length, IfErr, IfOk, IfSome, IsErrOf};
-ghost use Rattle.std.specs.Prelude.{MatchBool};
+ghost use Rattle.std.specs.Prelude.{◌≡◌, ◌<◌, ◌≤◌, ◌↔◌, ◌⊎◌, ◌+◌, ◌-◌, ◌∷◌, All, [], length};
+ghost use Rattle.std.specs.Prelude.{IfErr, IfOk, IfSome, IsErrOf, MatchBool};
+ghost use Rattle.std.specs.Io.KnownBytes.{Consumes, IsAtEnd, prepend_known};
 ghost use Rattle.byte_streams.specs.Streams.{TakesAtMost};
 ghost use Rattle.csv.specs.Reading.{default_config, records, strip_bom};
 ghost use Rattle.csv.specs.Records.{fields_of};
@@ -22,15 +23,43 @@ pub const MAX_BYTES: usize = 67_108_864;
 // How many bytes are asked for at a time.
 const CHUNK: usize = 65_536;
 
-/// Everything that is left to read, which may be `most` bytes: more is `FileFault::TooLong`, a read that fails
-/// `ReadFailed`, and where memory is refused it is `NoMemory`. However much is left, at most `most` bytes and one are
-/// taken.
-pub fn bytes_of<R: Source>(alloc: Global, reader: &mut R, most: usize) -> Result<Vec<u8>, FileFault>
+/// The first bytes of an input: some, where there are any, and at most 65,536. A read that fails is
+/// `FileFault::ReadFailed`, and where memory is refused it is `NoMemory`.
+pub fn read_start<R: Source>(alloc: Global, reader: &mut R) -> Result<Vec<u8>, FileFault>
     ensures failed { IsErrOf result FileFault.ReadFailed ↔ (R.failures reader.old < R.failures reader.new) }
-    ensures bytes { IfSome (R.left reader.old) (λ left. Gives (λ v. v.items) result (within_limit most left)) }
-    ensures taken { TakesAtMost (most + 1) (R.left reader.old) (R.left reader.new) }
+    ensures steady { IfOk result (λ _. R.failures reader.new ≡ R.failures reader.old) }
+    ensures faults { IfErr result (λ e. (e ≡ FileFault.ReadFailed) ⊎ (e ≡ FileFault.NoMemory)) }
+    ensures start { IfOk result (λ start. Consumes (R.left reader.old) (R.left reader.new) start.items
+        × (length start.items ≤ CHUNK)) }
+    ensures ended { IfOk result (λ start. length start.items ≡ 0 → IsAtEnd (R.left reader.new)) }
+    ensures taken { TakesAtMost CHUNK (R.left reader.old) (R.left reader.new) }
 {
-    let mut bytes = Vec::new(alloc);
+    let mut start = Vec::new(alloc);
+    let mut chunk = [0u8; CHUNK];
+    let Ok(count) = reader.read(&mut chunk) else {
+        return Err(FileFault::ReadFailed);
+    };
+    if start.extend_from_slice(&chunk[..count]).is_err() {
+        return Err(FileFault::NoMemory);
+    }
+    Ok(start)
+}
+
+/// These bytes, and then everything that is left to read, in all `most` bytes at most: more is `FileFault::TooLong`, a
+/// read that fails `ReadFailed`, and where memory is refused it is `NoMemory`. However much is left, no more than
+/// `most` bytes and one are held.
+pub fn bytes_after<R: Source>(
+    start: Vec<u8>,
+    reader: &mut R,
+    most: usize,
+) -> Result<Vec<u8>, FileFault>
+    requires { length start.items ≤ most + 1 }
+    ensures failed { IsErrOf result FileFault.ReadFailed ↔ (R.failures reader.old < R.failures reader.new) }
+    ensures bytes { IfSome (prepend_known start.items (R.left reader.old))
+        (λ text. Gives (λ v. v.items) result (within_limit most text)) }
+    ensures taken { TakesAtMost (most + 1 - length start.items) (R.left reader.old) (R.left reader.new) }
+{
+    let mut bytes = start;
     let mut chunk = [0u8; CHUNK];
     'reads: while bytes.len() <= most {
         let room = (most - bytes.len()).saturating_add(1).min(CHUNK);
@@ -46,6 +75,15 @@ pub fn bytes_of<R: Source>(alloc: Global, reader: &mut R, most: usize) -> Result
         }
     }
     Err(FileFault::TooLong)
+}
+
+/// Everything that is left to read, with the faults of [`bytes_after`].
+pub fn bytes_of<R: Source>(alloc: Global, reader: &mut R, most: usize) -> Result<Vec<u8>, FileFault>
+    ensures failed { IsErrOf result FileFault.ReadFailed ↔ (R.failures reader.old < R.failures reader.new) }
+    ensures bytes { IfSome (R.left reader.old) (λ left. Gives (λ v. v.items) result (within_limit most left)) }
+    ensures taken { TakesAtMost (most + 1) (R.left reader.old) (R.left reader.new) }
+{
+    bytes_after(Vec::new(alloc), reader, most)
 }
 
 /// The next record of a file, and whether there was one. The fault is want of memory.

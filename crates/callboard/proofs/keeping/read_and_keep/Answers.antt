@@ -1,9 +1,9 @@
-use Rattle.callboard.proofs.KeptLaws.{known_said, unread_said}
+use Rattle.journal.specs.GivenDay.{given}
+use Rattle.callboard.proofs.FileSaidLaws.{start-said, start-unread}
 use Rattle.callboard.proofs.keeping.read_and_keep.Goals as goal
 
 pub returns-in-Ok-clause-kept : goal.returns-in-Ok-clause-kept
-returns-in-Ok-clause-kept g c =
-    known_said c.args.form c.args.day _ c.in-Ok.bytes.items c.keep_input.result c.in-Ok.ensures.bytes (rw c.as_slice.ensures.value at c.keep_input.ensures.kept)
+returns-in-Ok-clause-kept g c = start-said c.args.form c.in-Ok.start.items _ _ c.keep_from.result (given c.args.day) c.in-Ok.ensures.start.0 c.keep_from.ensures.kept
 
 pub returns-in-Err-clause-kept : goal.returns-in-Err-clause-kept
-returns-in-Err-clause-kept g c = unread_said c.args.day _ c.in-Err.fault c.in-Err.ensures.bytes
+returns-in-Err-clause-kept g c = start-unread c.args.form _ c.in-Err.fault (given c.args.day) c.in-Err.ensures.faults
