@@ -167,9 +167,10 @@ impl Day {
 
     /// What a member's command comes to: the reply, or why it is refused. A refused command changes nothing.
     #[tactic(auto, unfolding(auction_terms::specs::Day::decide))]
-    pub(crate) fn decide(&mut self, call: Call) -> Result<Reply, Refused>
+    pub(crate) fn decide(&mut self, call: &Call) -> Result<Reply, Refused>
         requires { self.old.stamps < self.old.config.max_calls }
-        ensures outcome { outcome self.new result ≡ day.decide self.old.config self.old.state call.member call.command }
+        ensures outcome { outcome self.new result
+            ≡ day.decide self.old.config self.old.state call.now.member call.now.command }
         ensures refused { OnErr result (self.new ≡ self.old) }
         ensures one { IsOneCommand self.old self.new }
     {

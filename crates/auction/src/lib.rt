@@ -194,13 +194,22 @@ impl Auction {
     ///   the new reference. Orders for this auction alone leave, and the next auction's call phase begins. The first
     ///   price of a call phase that lies more than the range away from the reference executes nothing: the call phase
     ///   goes on.
-    #[tactic(auto, unfolding(auction_terms::specs::Day::step))]
     pub fn apply(&mut self, member: u8, command: Command) -> Reply
         requires { self.old.calls < self.old.config.max_calls }
         ensures state { self.new ≡ called self.old (call_by member command) }
         ensures reply { result ≡ (step self.old.config self.old.state (call_by member command)).1 }
     {
-        let outcome = self.day.decide(Call { member, command });
+        self.apply_call(&Call { member, command })
+    }
+
+    /// The same as [`Auction::apply`], of a call that is lent, as it isn't copied then.
+    #[tactic(auto, unfolding(auction_terms::specs::Day::step))]
+    pub fn apply_call(&mut self, call: &Call) -> Reply
+        requires { self.old.calls < self.old.config.max_calls }
+        ensures state { self.new ≡ called self.old call.now }
+        ensures reply { result ≡ (step self.old.config self.old.state call.now).1 }
+    {
+        let outcome = self.day.decide(call);
         self.calls += 1;
         outcome.unwrap_or_else(Reply::Refused)
     }

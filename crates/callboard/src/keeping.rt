@@ -74,7 +74,7 @@ fn keep_rows(
             return Ok(());
         }
         let call = numbered_call(&row, u64::from(before) + 1, members)?;
-        if kept.keep_call(alloc, auction, call).is_err() {
+        if kept.keep_call(alloc, auction, &call).is_err() {
             return Err(FileFault::NoMemory);
         }
     }
@@ -121,7 +121,7 @@ fn keep_calls(
     ensures memory { IfErr result (λ e. e ≡ FileFault.NoMemory) }
 {
     for call in calls {
-        if kept.keep_call(alloc, auction, *call).is_err() {
+        if kept.keep_call(alloc, auction, call).is_err() {
             return Err(FileFault::NoMemory);
         }
     }

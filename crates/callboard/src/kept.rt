@@ -28,13 +28,13 @@ pub enum Kept {
 
 /// Applies a call, and answers its entry.
 #[inline]
-fn apply(auction: &mut Auction, call: Call) -> Entry
+fn apply(auction: &mut Auction, call: &Call) -> Entry
     requires { auction.old.calls < auction.old.config.max_calls }
-    ensures auction { auction.new ≡ called auction.old call }
-    ensures entry { result ≡ entry_by call (step auction.old.config auction.old.state call).1 }
+    ensures auction { auction.new ≡ called auction.old call.now }
+    ensures entry { result ≡ entry_by call.now (step auction.old.config auction.old.state call.now).1 }
 {
-    let Call { member, command } = call;
-    let reply = auction.apply(member, command);
+    let reply = auction.apply_call(call);
+    let Call { member, command } = *call;
     Entry {
         member,
         command,
@@ -70,20 +70,20 @@ impl Kept {
         &mut self,
         alloc: Global,
         auction: &mut Auction,
-        call: Call,
+        call: &Call,
     ) -> Result<(), AllocError>
         requires { auction.old.calls < auction.old.config.max_calls }
-        ensures state { auction.new ≡ called auction.old call }
+        ensures state { auction.new ≡ called auction.old call.now }
         ensures form { form_of self.new ≡ form_of self.old }
         ensures kept { (entries : List Entry) → Follows self.old auction.old entries → OnOk result
             (Follows self.new auction.new
-            (entries ++ entry_by call (step auction.old.config auction.old.state call).1 ∷ [])) }
+            (entries ++ entry_by call.now (step auction.old.config auction.old.state call.now).1 ∷ [])) }
     {
         match self {
-            Kept::Lines(replies) => replies.push(apply(auction, call).reply),
+            Kept::Lines(replies) => replies.push(auction.apply_call(call)),
             Kept::Journal(lines) => keep_entry(lines, apply(auction, call)),
             Kept::Trades(entries) => keep_whole(entries, apply(auction, call)),
-            Kept::Book(book) => book.keep_call(alloc, auction, call),
+            Kept::Book(book) => book.keep_call(alloc, auction, *call),
         }
     }
 
