@@ -6,7 +6,8 @@ use auction_terms::{Command, Limit, Only, Reply, Side};
 /// How many orders are open before the measuring.
 pub const STANDING: u32 = 1000;
 
-fn order(side: Side, tick: u32) -> Command {
+/// An order of 100 shares for every auction.
+pub fn order(side: Side, tick: u32) -> Command {
     Command::Enter {
         side,
         limit: Limit::At(tick),
@@ -47,10 +48,10 @@ pub fn last_id(reply: Reply, before: u32) -> u32 {
     }
 }
 
-/// Applies a command where the auction isn't full.
-fn apply(auction: &mut Auction, command: Command, id: u32) -> u32 {
+/// Applies a member's command where the auction isn't full. Gives the id of the order that was entered last.
+pub fn apply(auction: &mut Auction, member: u8, command: Command, id: u32) -> u32 {
     if auction.calls() < auction.config().max_calls {
-        last_id(auction.apply(1, command), id)
+        last_id(auction.apply(member, command), id)
     } else {
         id
     }
@@ -59,7 +60,7 @@ fn apply(auction: &mut Auction, command: Command, id: u32) -> u32 {
 /// Enters the orders that are open before the measuring.
 pub fn fill(auction: &mut Auction) {
     for k in 0..STANDING {
-        let _ = apply(auction, standing(k), 0);
+        let _ = apply(auction, 1, standing(k), 0);
     }
 }
 
@@ -67,7 +68,7 @@ pub fn fill(auction: &mut Auction) {
 pub fn apply_many(auction: &mut Auction, count: u32, is_shown: bool) -> u32 {
     let mut id = 0;
     for k in 0..count {
-        id = apply(auction, command(k, id), id);
+        id = apply(auction, 1, command(k, id), id);
         if is_shown {
             let _ = auction.show();
         }

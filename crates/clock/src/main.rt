@@ -1,5 +1,5 @@
-//! Prints what prices, calls and looks take, or reads the records of standard input. It measures where a word is
-//! given, `price`, `board` or `records`, and else does nothing.
+//! Prints what prices, calls, looks and uncrosses take, or reads the records of standard input. It measures where a
+//! word is given, `price`, `board`, `uncross` or `records`, and else does nothing.
 #![tactic(auto)]
 
 mod board;
@@ -7,6 +7,7 @@ mod commands;
 mod price;
 mod records;
 mod tasks;
+mod uncross;
 
 use std::{env, io};
 
@@ -15,6 +16,7 @@ fn main(rt: HostRuntime) -> io::Result<()> {
     match words.get(1).map(|word| word.as_str()) {
         Some("price") => price::measure_all(&rt),
         Some("board") => board::measure_all(&rt),
+        Some("uncross") => uncross::measure_all(&rt),
         Some("records") => records::measure_all(&rt),
         _ => Ok(()),
     }
