@@ -85,24 +85,33 @@ def written(most: int, only: str | None, folder: str) -> list[File]:
 
 
 def once(command: list[str], path: pathlib.Path, measured: Measured) -> None:
-    """Runs a command on a file, and keeps the better figures. Exits where the command fails.
-
-    checks/measured.py starts it, a small process: a child begins with the peak memory of what
-    starts it.
-    """
+    """Runs a command on a file, and keeps the better seconds. Exits where the command fails."""
     with open(path, encoding="ascii") as stdin, tempfile.NamedTemporaryFile("r") as figures:
         words = [sys.executable, str(TOP / "checks/measured.py"), figures.name, *command]
         status = subprocess.run(words, stdin=stdin, stdout=subprocess.DEVNULL, check=False)
         if status.returncode != 0:
             sys.exit(f"{command[0]} ended with {status.returncode} on {path.name}")
-        seconds, _, peak = map(float, figures.read().split())
+        seconds, _, _ = map(float, figures.read().split())
     measured.seconds = min(measured.seconds, seconds)
-    measured.memory = max(measured.memory, peak / 1024)
+
+
+def peak_memory(command: list[str], path: pathlib.Path) -> float:
+    """Runs a command on a file, and gives its peak memory in MiB. Exits where the command fails.
+
+    GNU time starts it: a child begins with the peak memory of what starts it, which is 10 MiB of
+    a program in Python, and of GNU time one or two.
+    """
+    with open(path, encoding="ascii") as stdin, tempfile.NamedTemporaryFile("r") as figures:
+        words = ["time", "--format", "%M", "--output", figures.name, *command]
+        status = subprocess.run(words, stdin=stdin, stdout=subprocess.DEVNULL, check=False)
+        if status.returncode != 0:
+            sys.exit(f"{command[0]} ended with {status.returncode} on {path.name}")
+        return int(figures.read()) / 1024
 
 
 def in_turns(commands: list[list[str]], path: pathlib.Path, runs: int) -> list[Measured]:
     """Runs commands on a file in turns, so many times each, and gives what each took."""
-    found = [Measured() for _ in commands]
+    found = [Measured(memory=peak_memory(command, path)) for command in commands]
     for _ in range(runs):
         for command, measured in zip(commands, found):
             once(command, path, measured)
