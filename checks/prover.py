@@ -37,7 +37,7 @@ def toolchain() -> types.ModuleType:
     was_written, sys.dont_write_bytecode = sys.dont_write_bytecode, True
     loader.exec_module(made)
     sys.dont_write_bytecode = was_written
-    wanted = ("rtlib", "must_fail", "checked", "REFUSED", "AT_LIMIT")
+    wanted = ("rtlib", "must_fail", "checked")
     lacking = [name for name in wanted if not hasattr(made, name)]
     if lacking:
         raise NoProver(
@@ -79,20 +79,28 @@ def prove_whole(top: str, name: str, kept: str) -> str:
     return "" if ran.returncode == 0 else " / ".join(said[-2:])
 
 
+def is_refusal(verdict: object) -> bool:
+    """Whether a verdict of `rt must-fail` is a refusal. Kits tell that as True or False, or name
+    the kind of the verdict; as in the gate, a body at which the prover comes to a limit is refused.
+    """
+    if isinstance(verdict, bool):
+        return verdict
+    rt = toolchain()
+    return verdict in (rt.REFUSED, rt.AT_LIMIT)
+
+
 def try_body(top: str, name: str, edit: str, kept: str) -> tuple[bool, str]:
     """Whether the prover refuses the crate with this edit, and what it says.
 
     It works over a copy of what was kept of the crate as it stands. A body that isn't refused so,
-    or that doesn't compile, is tried again from nothing. As in the gate, one at which the prover
-    comes to a limit is refused too.
+    or that doesn't compile, is tried again from nothing.
     """
     crate, rt = crate_of(top, name), toolchain()
-    refusals = rt.REFUSED, rt.AT_LIMIT
     with tempfile.TemporaryDirectory(prefix="kept-") as room:
         copy = str(pathlib.Path(room) / "kept")
         shutil.copytree(kept, copy)
-        kind, said = rt.must_fail(crate, edit, ONE_JOB, copy)
-    if kind not in refusals:
-        kind, said = rt.must_fail(crate, edit, ONE_JOB)
+        verdict, said = rt.must_fail(crate, edit, ONE_JOB, copy)
+    if not is_refusal(verdict):
+        verdict, said = rt.must_fail(crate, edit, ONE_JOB)
     said = re.sub(r"^must-fail \S+: (refused, as it must be(: )?)?", "", said)
-    return kind in refusals, " / ".join(said.splitlines())
+    return is_refusal(verdict), " / ".join(said.splitlines())
