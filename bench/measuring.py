@@ -96,11 +96,14 @@ def once(command: list[str], path: pathlib.Path, measured: Measured) -> None:
 
 
 def peak_memory(command: list[str], path: pathlib.Path) -> float:
-    """Runs a command on a file, and gives its peak memory in MiB. Exits where the command fails.
+    """Runs a command on a file, and gives its peak memory in MiB. Exits where the command fails, or
+    GNU time isn't installed.
 
     GNU time starts it: a child begins with the peak memory of what starts it, which is 10 MiB of
     a program in Python, and of GNU time one or two.
     """
+    if shutil.which("time") is None:
+        sys.exit("there is no GNU time: Debian has it in time")
     with open(path, encoding="ascii") as stdin, tempfile.NamedTemporaryFile("r") as figures:
         words = ["time", "--format", "%M", "--output", figures.name, *command]
         status = subprocess.run(words, stdin=stdin, stdout=subprocess.DEVNULL, check=False)
