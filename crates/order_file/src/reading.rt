@@ -86,15 +86,6 @@ pub fn bytes_of<R: Source>(alloc: Global, reader: &mut R, most: usize) -> Result
     bytes_after(Vec::new(alloc), reader, most)
 }
 
-// What a record that isn't read tells: bytes in memory are read without a failure, so what fails is memory. It stands
-// alone, so that the room in which `csv`'s fault is dropped is made where there is one, and not for each record.
-#[inline(never)]
-fn refused(_fault: csv::Error) -> FileFault
-    ensures { result ≡ FileFault.NoMemory }
-{
-    FileFault::NoMemory
-}
-
 /// The next record of a file, and whether there was one. The fault is want of memory.
 #[inline]
 pub fn next_row(reader: &mut Reader<&[u8]>, row: &mut ByteRecord) -> Result<bool, FileFault>
@@ -104,10 +95,11 @@ pub fn next_row(reader: &mut Reader<&[u8]>, row: &mut ByteRecord) -> Result<bool
         ((rows_left reader.old ≡ fields_of row.new ∷ rows_left reader.new) × Stands reader.new)
         (rows_left reader.old ≡ [])) }
 {
-    match reader.read_byte_record(row) {
-        Ok(found) => Ok(found),
-        Err(fault) => Err(refused(fault)),
-    }
+    // Bytes in memory are read without a failure, so what fails is memory.
+    let Ok(found) = reader.read_byte_record(row) else {
+        return Err(FileFault::NoMemory);
+    };
+    Ok(found)
 }
 
 /// The calls of the records that a reader has left.
