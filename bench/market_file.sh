@@ -1,4 +1,3 @@
-# What bench/market measures on one file: its audit, and the lines of the uncrosses that ended an auction. It is
-# `sh bench/market_file.sh FILE`, with the program in CALLBOARD. An audit that finds something has status 4.
-"$CALLBOARD" --audit < "$1" || [ $? -eq 4 ] || exit
-"$CALLBOARD" < "$1" | grep -E '^[0-9]+: (opening|intraday|closing) ' || [ $? -eq 1 ]
+# What the measure market does with one file: its audit with the results of its auctions. It is `sh
+# bench/market_file.sh FILE`, with the program in CALLBOARD. An audit that finds something has status 4.
+"$CALLBOARD" --audit --results < "$1" || [ $? -eq 4 ]

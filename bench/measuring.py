@@ -1,10 +1,11 @@
-"""What the scripts of this folder share: the files, what a command takes, tables."""
+"""What the measures share: the files, what a command takes, tables."""
 import argparse
 import dataclasses
 import pathlib
 import re
 import shlex
 import shutil
+import statistics
 import subprocess
 import sys
 import tempfile
@@ -35,15 +36,23 @@ class Program:
 
 @dataclasses.dataclass
 class Measured:
-    """What was measured of a program on a file: the best seconds, the peak memory in MiB."""
+    """What was measured of a command: the best seconds, the best seconds of the processor, the
+    peak memory in MiB.
+    """
 
     seconds: float = float("inf")
+    processor: float = float("inf")
     memory: float = 0.0
 
     @property
     def milliseconds(self) -> str:
-        """As it stands in a table."""
+        """The wall's, as it is printed in a table."""
         return f"{self.seconds * 1000:.0f}"
+
+    @property
+    def processor_milliseconds(self) -> str:
+        """The processor's, as it is printed in a table."""
+        return f"{self.processor * 1000:.0f}"
 
 
 @dataclasses.dataclass(frozen=True)
@@ -85,14 +94,15 @@ def written(most: int, only: str | None, folder: str) -> list[File]:
 
 
 def once(command: list[str], path: pathlib.Path, measured: Measured) -> None:
-    """Runs a command on a file, and keeps the better seconds. Exits where the command fails."""
+    """Runs a command on a file, and keeps the better times. Exits where the command fails."""
     with open(path, encoding="ascii") as stdin, tempfile.NamedTemporaryFile("r") as figures:
         words = [sys.executable, str(TOP / "checks/measured.py"), figures.name, *command]
         status = subprocess.run(words, stdin=stdin, stdout=subprocess.DEVNULL, check=False)
         if status.returncode != 0:
             sys.exit(f"{command[0]} ended with {status.returncode} on {path.name}")
-        seconds, _, _ = map(float, figures.read().split())
+        seconds, processor, _ = map(float, figures.read().split())
     measured.seconds = min(measured.seconds, seconds)
+    measured.processor = min(measured.processor, processor)
 
 
 def peak_memory(command: list[str], path: pathlib.Path) -> float:
@@ -149,6 +159,46 @@ def our_clock(path: str | None) -> str:
     if made.returncode != 0:
         sys.exit(f"{made.stdout}clock isn't proved")
     return str(TOP / "crates/clock/out/clock")
+
+
+def our_library(path: str | None) -> pathlib.Path:
+    """The built library, at this path, or proved and built. Raises CalledProcessError."""
+    if path:
+        return pathlib.Path(path).resolve()
+    print("proving and building the library, which takes minutes at first", file=sys.stderr)
+    made = TOP / "out/library"
+    subprocess.run([str(TOP / "library/build"), str(made)], check=True, stdout=sys.stderr)
+    return made
+
+
+def compiled(source: str, library: pathlib.Path, folder: str) -> str:
+    """Compiles a program of this folder with the library. Raises CalledProcessError."""
+    made = str(pathlib.Path(folder) / source.removesuffix(".c"))
+    words = ["cc", "-std=c11", "-D_POSIX_C_SOURCE=200809L", "-O2", "-Wall", "-Wextra"]
+    words += [f"-I{library}", str(TOP / "bench" / source), str(library / "libcallauction.a")]
+    subprocess.run([*words, "-pthread", "-o", made], check=True)
+    return made
+
+
+Figures = dict[str, list[float]]
+"""What was printed in all runs, by its name."""
+
+
+def printed(command: list[str], found: Figures, environment: dict[str, str] | None = None) -> None:
+    """Runs a command that prints lines `NAME.. NUMBER`, and keeps its numbers. Raises
+    CalledProcessError.
+    """
+    run = subprocess.run(
+        command, stdout=subprocess.PIPE, text=True, check=True, env=environment
+    )
+    for line in run.stdout.splitlines():
+        name, _, number = line.rpartition(" ")
+        found.setdefault(name, []).append(float(number))
+
+
+def middle(numbers: list[float]) -> float:
+    """The middle one, the lower of two."""
+    return statistics.median_low(numbers)
 
 
 def row(*cells: str) -> None:

@@ -2,8 +2,8 @@
 """Writes the order files that speed is measured on: `orders.py KIND COUNT`, COUNT commands.
 
 The same KIND and COUNT always give the same file. No command of any is refused, on a board of the
-options that bench/run gives it: which orders are open is known here, so each change and each
-delete names one that is, by its own member, and the book never fills.
+options that `bench/bench run` gives it: which orders are open is known here, so each change and
+each delete names one that is, by its own member, and the book never fills.
 
 - `mixed-1000`, `mixed-65536`: entries until a book of 3,000 orders over 1,000 ticks, or of 60,000
   over 65,536, is there, and then 10 % asks, 25 % changes, and as many entries as deletes, so that

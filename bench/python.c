@@ -1,5 +1,5 @@
-/* Prints what the calls of libcallauction take from C that bench/python makes from Python, in nanoseconds: an entry, a
- * question, and a command of a thousand at a time. A line is the mean of a thousand calls, or commands. */
+/* Prints what the calls of libcallauction take from C that bench/python_calls.py makes from Python, in nanoseconds: an
+ * entry, a question, and a command of a thousand at a time. A line is the mean of a thousand calls, or commands. */
 #include <callauction.h>
 #include <stdio.h>
 #include <stdlib.h>
@@ -26,7 +26,7 @@ static void want(uint32_t answer) {
 }
 
 static callauction_command order(uint8_t side, uint32_t tick) {
-    callauction_command command = {.member = 1, .tag = CALLAUCTION_ENTER, .side = side, .quantity = 100};
+    callauction_command command = {.member = 1, .tag = CALLAUCTION_COMMAND_ENTER, .side = side, .quantity = 100};
     command.has_limit = 1;
     command.limit = tick;
     return command;
@@ -37,7 +37,7 @@ static void begin(callauction_handle *auction, uint32_t standing) {
     callauction_reply reply;
     want(callauction_open(auction, &config));
     for (uint32_t k = 0; k < standing; k++) {
-        callauction_command command = order(k % 2 ? CALLAUCTION_BID_SIDE : CALLAUCTION_ASK_SIDE, 1 + k % 1000);
+        callauction_command command = order(k % 2 ? CALLAUCTION_SIDE_BID : CALLAUCTION_SIDE_ASK, 1 + k % 1000);
         want(callauction_apply(auction, &command, &reply));
     }
 }
@@ -49,7 +49,7 @@ static void measure_enter(void) {
     for (uint32_t first = 0; first < CALLS; first += AT_ONCE) {
         double start = now();
         for (uint32_t k = first; k < first + AT_ONCE; k++) {
-            callauction_command command = order(CALLAUCTION_BID_SIDE, 1 + k * 7919 % 1000);
+            callauction_command command = order(CALLAUCTION_SIDE_BID, 1 + k * 7919 % 1000);
             want(callauction_apply(&auction, &command, &reply));
         }
         took[first / AT_ONCE] = now() - start;
@@ -58,19 +58,19 @@ static void measure_enter(void) {
     want(callauction_close(&auction));
 }
 
-static void measure_ask(void) {
+static void measure_indicate(void) {
     callauction_handle auction = {0};
     callauction_reply reply;
     begin(&auction, STANDING);
     for (uint32_t first = 0; first < CALLS; first += AT_ONCE) {
         double start = now();
         for (uint32_t k = 0; k < AT_ONCE; k++) {
-            callauction_command command = {.member = 1, .tag = CALLAUCTION_ASK};
+            callauction_command command = {.member = 1, .tag = CALLAUCTION_COMMAND_INDICATE};
             want(callauction_apply(&auction, &command, &reply));
         }
         took[first / AT_ONCE] = now() - start;
     }
-    print("ask");
+    print("indicate");
     want(callauction_close(&auction));
 }
 
@@ -79,10 +79,10 @@ static void measure_apply_many(void) {
     size_t applied;
     begin(&auction, STANDING);
     for (uint32_t k = 0; k < CALLS; k++) {
-        commands[k] = order(k % 8 < 4 ? CALLAUCTION_BID_SIDE : CALLAUCTION_ASK_SIDE, 1 + k * 7919 % 1000);
-        if (k % 4 == 1) commands[k].tag = CALLAUCTION_ASK;
-        if (k % 4 == 2) commands[k].tag = CALLAUCTION_CHANGE, commands[k].quantity = 50;
-        if (k % 4 == 3) commands[k].tag = CALLAUCTION_DELETE;
+        commands[k] = order(k % 8 < 4 ? CALLAUCTION_SIDE_BID : CALLAUCTION_SIDE_ASK, 1 + k * 7919 % 1000);
+        if (k % 4 == 1) commands[k].tag = CALLAUCTION_COMMAND_INDICATE;
+        if (k % 4 == 2) commands[k].tag = CALLAUCTION_COMMAND_CHANGE, commands[k].quantity = 50;
+        if (k % 4 == 3) commands[k].tag = CALLAUCTION_COMMAND_DELETE;
         commands[k].id = STANDING + 1 + k / 4;
     }
     for (int first = 0; first < CALLS; first += AT_ONCE) {
@@ -96,7 +96,7 @@ static void measure_apply_many(void) {
 
 int main(void) {
     measure_enter();
-    measure_ask();
+    measure_indicate();
     measure_apply_many();
     return 0;
 }

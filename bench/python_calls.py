@@ -1,5 +1,5 @@
 """Prints what the calls of an auction take from Python, in nanoseconds: those of bench/python.c, a
-line being the mean of a thousand calls, or commands. bench/python runs it.
+line being the mean of a thousand calls, or commands. `bench/bench python` runs it.
 """
 import time
 
@@ -39,24 +39,24 @@ def measure_enter() -> None:
     show("enter", took)
 
 
-def measure_ask() -> None:
+def measure_indicate() -> None:
     took = []
     with begin(STANDING) as auction:
-        ask = auction.ask
+        indicate = auction.indicate
         for limits in THOUSANDS:
             start = time.perf_counter_ns()
             for _ in limits:
-                reply = ask(1)
+                reply = indicate(1)
             took.append(time.perf_counter_ns() - start)
         assert isinstance(reply, Price)
-    show("ask", took)
+    show("indicate", took)
 
 
 def commands() -> Structs:
     """In turn an order, a question, a change of that order, and its deletion."""
     found = numpy.zeros(CALLS, COMMAND)
     places = numpy.arange(CALLS)
-    kinds = [CommandTag.ENTER, CommandTag.ASK, CommandTag.CHANGE, CommandTag.DELETE]
+    kinds = [CommandTag.ENTER, CommandTag.INDICATE, CommandTag.CHANGE, CommandTag.DELETE]
     found["member"], found["has_limit"], found["limit"] = 1, 1, LIMITS
     found["tag"] = numpy.array(kinds)[places % 4]
     found["side"] = numpy.where(places % 8 < 4, Side.BID, Side.ASK)
@@ -78,5 +78,5 @@ def measure_apply_many() -> None:
 
 if __name__ == "__main__":
     measure_enter()
-    measure_ask()
+    measure_indicate()
     measure_apply_many()

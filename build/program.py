@@ -41,8 +41,9 @@ USUAL_SECONDS = {
     "auction": 240.0,
     "auction_terms": 60.0,
     "allocation": 50.0,
+    "board_terms": 60.0,
     "byte_streams": 20.0,
-    "call_board": 240.0,
+    "member_board": 240.0,
     "callboard": 240.0,
     "day_audit": 60.0,
     "day_tables": 200.0,
@@ -61,6 +62,8 @@ USUAL_SECONDS = {
     "tick_ladder": 75.0,
 }
 """About how long each crate takes, in seconds: which has the longest way to the program."""
+USUAL_PROCESSOR_SECONDS = 3_900.0
+"""About how long one core takes for all crates."""
 BESIDE_JOBS = 2  # of a crate that is proved beside those with the longest way
 NEAR_LONGEST = 0.9  # a way that counts among the longest, as a part of the longest
 TURN = 0.2  # seconds between two looks at what runs
@@ -120,6 +123,11 @@ def free_gib() -> float:
 def clock_text(seconds: float) -> str:
     """A time as minutes and seconds."""
     return f"{int(seconds) // 60}:{int(seconds) % 60:02}"
+
+
+def plural(count: int, word: str) -> str:
+    """A count of things with their word."""
+    return f"{count} {word}" + ("" if count == 1 else "s")
 
 
 class Progress:
@@ -276,10 +284,15 @@ class Build:
         self.done: set[str] = set()
         self.running: dict[str, Running] = {}
         is_known = all(name in self.known for name in crates)
-        last = max(self.to_top.values()) if is_known else None
+        longest = max(self.to_top.values())
+        last = longest if is_known else None
         self.progress = Progress(len(crates), last)
         self.cores = len(os.sched_getaffinity(0))
         self.most = max(1, min(self.cores, int(free_gib() // GIB_OF_A_CHECK)))
+        about = last or max(longest, USUAL_PROCESSOR_SECONDS / self.cores)
+        known = "as the last time here" if last else "where nothing is proved yet"
+        minutes, cores = max(1, round(about / 60)), plural(self.cores, "core")
+        self.progress.say(f"about {plural(minutes, 'minute')} on {cores}, {known}")
 
     def ready(self) -> list[str]:
         """The crates that can be begun, the longest way to the program first."""

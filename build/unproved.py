@@ -36,7 +36,10 @@ def main() -> int:
     if len(given) > MOST_BYTES:
         tell(f"an unproved run takes at most {MOST_BYTES:,} bytes; build the program for more")
         return 3
-    tell("this run is unproved: the code is compiled as it is, which takes a minute or two")
+    tell(
+        "this run is unproved: the code is compiled as it is, which takes a minute or two each "
+        "time, since the toolchain keeps nothing of it"
+    )
     run = subprocess.run(
         ["rt", "try", "--", *sys.argv[1:]], cwd=FOLDER, input=given, capture_output=True
     )

@@ -1,11 +1,10 @@
-"""The wrong bodies: where their edits stand, and what makes one fit the code that it edits."""
+"""The wrong bodies: their edits, what makes one fit the code that it edits, and what each means."""
 import dataclasses
 import pathlib
 import re
 from collections.abc import Iterator
 
 TOP = pathlib.Path(__file__).resolve().parent.parent
-LISTED = re.compile(r"\b([a-z_]+)/([A-Za-z0-9_]+)\b")
 
 
 class BadEdit(Exception):
@@ -22,7 +21,7 @@ class Edit:
 
     @property
     def name(self) -> str:
-        """As docs/WRONG_BODIES.md names it."""
+        """Its crate and the name of its file."""
         return f"{self.crate}/{self.file.stem}"
 
     def pairs(self) -> Iterator[tuple[str, str, str]]:
@@ -71,17 +70,84 @@ def all_edits(top: pathlib.Path = TOP) -> list[Edit]:
     return found + [Edit(file.parent.name, file, False) for file in beside]
 
 
-def listed_names(top: pathlib.Path = TOP) -> set[str]:
-    """The names of edits that stand in the second column of a table of docs/WRONG_BODIES.md."""
-    crates = {folder.name for folder in (top / "crates").iterdir()}
-    rows = (top / "docs/WRONG_BODIES.md").read_text(encoding="utf-8").splitlines()
-    cells = [row.split("|")[2] for row in rows if row.startswith("|") and row.count("|") > 3]
-    pairs = (pair for cell in cells for pair in LISTED.findall(cell))
-    return {f"{crate}/{name}" for crate, name in pairs if crate in crates}
+@dataclasses.dataclass(frozen=True)
+class Row:
+    """A line of checks/wrong_bodies/CRATE/meanings.txt: `EDIT[, EDIT..] | MEANING | REFUSED BY`.
+
+    MEANING says what is wrong with the body, or with each of them; REFUSED BY is the function with
+    its clause, or the law. A body that no clause refuses has no edit: in place of its name is the
+    test that fails on it, in backticks.
+    """
+
+    crate: str
+    place: str
+    names: str
+    meaning: str
+    refused_by: str
+
+    @property
+    def edits(self) -> list[str]:
+        """The edits that it names, as CRATE/EDIT; a name of another crate's has its crate."""
+        plain = re.sub(r"`[^`]*`", "", self.names)
+        found = re.findall(r"(?:^|, )((?:[a-z_]+/)?[A-Za-z0-9_]+)(?=,|$| \()", plain)
+        return [name if "/" in name else f"{self.crate}/{name}" for name in found]
+
+    @property
+    def cells(self) -> str:
+        """The row of the document."""
+        return f"| {self.meaning} | {self.names} | {self.refused_by} |"
+
+
+HEAD = """# Wrong bodies, and what refuses each
+
+A contract is worth as much as the wrong bodies that it refuses. Each row has bodies that read well
+and are wrong. Most are edits: `X.edit` is in `crates/CRATE/must-fail`, where `rt ci` has the prover
+refuse it, or in `checks/wrong_bodies/CRATE`, where `checks/wrong-bodies` does the same, which the
+gate leaves out for its time. Where no clause refuses a body, a test fails on it. The last column
+has the function with its clause, or the law, that refuses the body.
+
+This list is made by `checks/wrong-bodies --document`, of the lines of
+`checks/wrong_bodies/CRATE/meanings.txt`.
+"""
+
+
+def crates(top: pathlib.Path) -> list[str]:
+    """The crates of crates.txt, lowest first."""
+    lines = (top / "crates.txt").read_text(encoding="utf-8").splitlines()
+    return [line.split(":")[0].split()[0] for line in lines if line and line[0] != "#"]
+
+
+def rows(top: pathlib.Path = TOP) -> list[Row]:
+    """The lines of all files of meanings, crate by crate. Raises BadEdit where one is no row."""
+    found = []
+    for crate in crates(top):
+        file = top / "checks/wrong_bodies" / crate / "meanings.txt"
+        text = file.read_text(encoding="utf-8") if file.is_file() else ""
+        for number, line in enumerate(text.splitlines(), 1):
+            place = f"{file.relative_to(top)}:{number}"
+            cells = line.split(" | ")
+            if len(cells) != 3 or not all(cell.strip() for cell in cells):
+                raise BadEdit(f"{place}: this is no `EDIT, .. | MEANING | REFUSED BY`: {line}")
+            found.append(Row(crate, place, *cells))
+    return found
+
+
+def document(top: pathlib.Path = TOP) -> str:
+    """The text of docs/WRONG_BODIES.md. Raises BadEdit."""
+    text = HEAD
+    crate = ""
+    for row in rows(top):
+        if row.crate != crate:
+            crate = row.crate
+            text += f"\n## {crate}\n\n| Wrong body | Edit or test | Refused by |\n|---|---|---|\n"
+        text += row.cells + "\n"
+    return text
 
 
 def misfits(top: pathlib.Path = TOP) -> Iterator[str]:
-    """What is wrong with an edit, or with its row in the document."""
+    """What is wrong with an edit or with its line of meanings, and whether the document is that of
+    the lines.
+    """
     edits = all_edits(top)
     names = [edit.name for edit in edits]
     for edit in edits:
@@ -91,7 +157,23 @@ def misfits(top: pathlib.Path = TOP) -> Iterator[str]:
             yield f"{edit.file.relative_to(top)}: {fault}"
         if names.count(edit.name) > 1:
             yield f"{edit.file.relative_to(top)}: another edit is named {edit.name} too"
-    for name in sorted(set(names) - listed_names(top)):
-        yield f"docs/WRONG_BODIES.md doesn't name the edit {name}"
-    for name in sorted(listed_names(top) - set(names)):
-        yield f"docs/WRONG_BODIES.md names {name}, and there is no such edit"
+    try:
+        yield from wrong_rows(names, rows(top))
+        if (top / "docs/WRONG_BODIES.md").read_text(encoding="utf-8") != document(top):
+            yield "docs/WRONG_BODIES.md: run checks/wrong-bodies --document > docs/WRONG_BODIES.md"
+    except (BadEdit, OSError) as fault:
+        yield str(fault)
+
+
+def wrong_rows(names: list[str], rows: list[Row]) -> Iterator[str]:
+    """Edits without a line or with two, and lines of edits that don't exist."""
+    places: dict[str, str] = {}
+    for row in rows:
+        for name in row.edits:
+            if name not in names:
+                yield f"{row.place}: there is no edit {name}"
+            if name in places:
+                yield f"{row.place}: {name} has a line in {places[name]} too"
+            places[name] = row.place
+    for name in sorted(set(names) - set(places)):
+        yield f"checks/wrong_bodies/{name.split('/')[0]}/meanings.txt has no line for {name}"

@@ -1,16 +1,29 @@
 /* A proved call auction of one instrument over one day, for C11 and C++17: libcallauction.
  *
- * An auction is held by a handle. A handle of zeros holds none, and each call on it but callauction_open answers
- * CALLAUCTION_NO_AUCTION and does nothing else. Each call answers CALLAUCTION_DONE or the number of an error, and an
- * error changes nothing (callauction_apply_many says how many commands it had applied before one).
+ * There are two ways to have one. An auction of one thread is held by one handle (callauction_open, callauction_apply
+ * and so on). A board is one auction for many members, who call at once: each member has a handle of its own
+ * (callauction_board_open, callauction_board_call and so on), which goes to a thread of its own.
  *
- * What a command does, when it is refused and what it is answered stand in docs/MODEL.md. Limits and prices are ticks,
+ * A handle of zeros holds nothing, and each call on it but an opening answers CALLAUCTION_ERROR_NO_AUCTION, or
+ * CALLAUCTION_ERROR_NO_MEMBER, and does nothing else. Each call answers CALLAUCTION_DONE or the number of an error, and
+ * an error changes nothing but a count that it writes as 0 (callauction_apply_many says how many commands it had
+ * applied before one; a call on a full board says what it has shown the member).
+ *
+ * docs/MODEL.md says what a command does, when it is refused and what it is answered. Limits and prices are ticks,
  * quantities whole shares. Members are numbered from 0, and member 0 is the operator, who alone uncrosses.
+ *
+ * Limits: ticks from 1 to 1,000,000, at most 65,536 of them; orders of 1 to 1,000,000,000 shares; 1 to 65,536 open
+ * orders; 1 to 1,048,576 calls a day; members 0 to 255 of an auction of one thread, 1 to 64 members of a board. C
+ * converts an integer to a field's type without a word: 256 as a member is member 0. callauction.hpp checks that.
  *
  * What each call does is proved, as long as its caller keeps to this:
  *
- * - A handle begins as zeros, its fields are neither read nor written, and it isn't copied; it may be moved between
- *   two calls. One call at a time has a handle. Handles of their own may be used by threads of their own.
+ * - A handle begins as zeros, its fields are neither read nor written, and it isn't copied. Between two calls it may be
+ *   moved, if its old place is set to zeros, and given to another thread.
+ * - One call at a time has a handle; callauction_board_open and callauction_board_close have all handles of their
+ *   board. Two calls at once on one handle are found by a flag in it, and the later one answers
+ *   CALLAUCTION_ERROR_BUSY and does nothing. The flag is set in one atomic step, so calls at once are always found;
+ *   it doesn't find a handle that was copied, moved or freed while a call has it.
  * - No pointer is NULL, but that of an array of length 0. Each points at as many structs as the call says, aligned as
  *   their type wants, and what one pointer of a call leads to doesn't overlap what another does.
  */
@@ -21,99 +34,137 @@
 #include <stddef.h>
 #include <stdint.h>
 
+#define CALLAUCTION_VERSION "2026.11.24"
+
+#if defined(__GNUC__) || defined(__clang__)
+#define CALLAUCTION_RESULT __attribute__((warn_unused_result))
+#else
+#define CALLAUCTION_RESULT
+#endif
+
 #ifdef __cplusplus
 extern "C" {
 #endif
 
 /* ---- what calls answer: each number has one meaning at every call ---- */
 
-enum {
+typedef enum callauction_error {
     CALLAUCTION_DONE = 0,
-    CALLAUCTION_BAD_BOUNDS = 1,    /* not 1 <= low <= high <= 1,000,000, or more than 65,536 ticks */
-    CALLAUCTION_BAD_REFERENCE = 2, /* the reference isn't a tick from low to high */
-    CALLAUCTION_BAD_LIMITS = 3,    /* max_open isn't from 1 to 65,536, or max_calls isn't from 1 to 1,048,576 */
-    CALLAUCTION_NO_MEMORY = 4,     /* memory was refused */
-    CALLAUCTION_IN_USE = 5,        /* the handle that was to get an auction holds one */
-    CALLAUCTION_NO_AUCTION = 6,    /* the handle holds no auction */
-    CALLAUCTION_NO_COMMAND = 7,    /* the struct stands for no command */
-    CALLAUCTION_FULL = 8,          /* as many commands were applied as may be */
-    CALLAUCTION_BAD_LENGTH = 9     /* an array has another length than the call wants */
-};
+    CALLAUCTION_ERROR_BAD_BOUNDS = 1,    /* not 1 <= low <= high <= 1,000,000, or more than 65,536 ticks */
+    CALLAUCTION_ERROR_BAD_REFERENCE = 2, /* the reference isn't a tick from low to high */
+    CALLAUCTION_ERROR_BAD_CAPACITY = 3,  /* max_open isn't from 1 to 65,536, max_calls isn't from 1 to 1,048,576, or a
+                                            board hasn't 1 to 64 members */
+    CALLAUCTION_ERROR_NO_MEMORY = 4,     /* memory was refused */
+    CALLAUCTION_ERROR_IN_USE = 5,        /* a handle that was to get an auction or a member holds one */
+    CALLAUCTION_ERROR_NO_AUCTION = 6,    /* the handle holds no auction */
+    CALLAUCTION_ERROR_NO_COMMAND = 7,    /* the struct is no command */
+    CALLAUCTION_ERROR_FULL = 8,          /* as many commands were applied or recorded as may be */
+    CALLAUCTION_ERROR_BAD_LENGTH = 9,    /* an array has another length than the call wants */
+    CALLAUCTION_ERROR_NO_CONFIG = 10,    /* the struct is no config */
+    CALLAUCTION_ERROR_BUSY = 11,         /* another call has the handle, or the board: try again */
+    CALLAUCTION_ERROR_BEHIND = 12,       /* the member has seen or counted other calls than the board's history has */
+    CALLAUCTION_ERROR_CLOSED = 13,       /* the board was closed */
+    CALLAUCTION_ERROR_NO_MEMBER = 14,    /* the handle holds no member */
+    CALLAUCTION_ERROR_MISSING_MEMBER = 15, /* the handles don't hold all members of a board in their order */
+    CALLAUCTION_ERROR_OVERTAKEN = 16     /* the board's story has a call that its history hasn't; no run is known to
+                                            meet it */
+} callauction_error;
 
-/* ---- the structs: a flag is 0 or 1 ---- */
+/* ---- the structs: a flag is 0 or 1, and a value whose flag is 0 is 0 ---- */
 
 /* Begin with one of zeros: callauction_handle handle = {0}; */
 typedef struct callauction_handle {
     void *held_;
     bool is_open_;
+    uint8_t busy_;
 } callauction_handle;
+
+/* A member of a board. Begin with zeros: callauction_member members[8] = {{0}}; */
+typedef struct callauction_member {
+    void *held_;
+    bool is_open_;
+    uint8_t busy_;
+} callauction_member;
 
 typedef struct callauction_config {
     uint32_t low, high; /* the lowest and the highest tick */
     uint32_t reference; /* the first reference price */
     uint32_t max_open;  /* how many orders may be open at a time */
     uint32_t max_calls; /* how many commands may be applied */
-    uint32_t has_range; /* 0: no price interrupts an uncross; else one more than range ticks from the reference does */
+    uint32_t has_range; /* 0: no price interrupts an uncross; 1: one more than range ticks from the reference does */
     uint32_t range;
 } callauction_config;
 
-/* The tags of a command, with the fields that each needs; no other is read. Each needs member. */
-enum {
-    CALLAUCTION_ENTER = 1,  /* side, only, has_limit and limit, quantity, has_peak and peak */
-    CALLAUCTION_CHANGE = 2, /* id, has_limit and limit, quantity */
-    CALLAUCTION_DELETE = 3, /* id */
-    CALLAUCTION_STATUS = 4, /* id */
-    CALLAUCTION_ASK = 5,
-    CALLAUCTION_TRADE = 6, /* id: the number of the trade, from 1 on */
-    CALLAUCTION_UNCROSS = 7
-};
+/* The tags of a command, with the fields that each needs; no other is read. Each needs member, but for a board's call,
+ * whose member is the handle's. */
+typedef enum callauction_command_tag {
+    CALLAUCTION_COMMAND_ENTER = 1,        /* side, restriction, has_limit and limit, quantity, has_peak and peak */
+    CALLAUCTION_COMMAND_CHANGE = 2,       /* id, has_limit and limit, quantity */
+    CALLAUCTION_COMMAND_DELETE = 3,       /* id */
+    CALLAUCTION_COMMAND_ORDER_STATUS = 4, /* id */
+    CALLAUCTION_COMMAND_INDICATE = 5,
+    CALLAUCTION_COMMAND_READ_TRADE = 6, /* id: the number of the trade, from 1 on */
+    CALLAUCTION_COMMAND_UNCROSS = 7
+} callauction_command_tag;
 
-enum { CALLAUCTION_NO_SIDE = 0, CALLAUCTION_BID_SIDE = 1, CALLAUCTION_ASK_SIDE = 2 };
+typedef enum callauction_side {
+    CALLAUCTION_SIDE_NONE = 0,
+    CALLAUCTION_SIDE_BID = 1,
+    CALLAUCTION_SIDE_ASK = 2
+} callauction_side;
 
-/* The auctions that an order is for. */
-enum { CALLAUCTION_FOR_ALL = 0, CALLAUCTION_FOR_OPENING = 1, CALLAUCTION_FOR_CLOSING = 2 };
+/* The auctions that an order is for: every one, the opening alone, the closing alone. */
+typedef enum callauction_restriction {
+    CALLAUCTION_RESTRICTION_NONE = 0,
+    CALLAUCTION_RESTRICTION_OPENING_ONLY = 1,
+    CALLAUCTION_RESTRICTION_CLOSING_ONLY = 2
+} callauction_restriction;
 
 typedef struct callauction_command {
-    uint64_t quantity; /* shares */
-    uint64_t peak;     /* the most shares that an iceberg order shows; read where has_peak is 1 */
-    uint32_t id;       /* of an order, or the number of a trade */
-    uint32_t limit;    /* a tick; read where has_limit is 1, else it is a market order */
-    uint8_t member;
-    uint8_t tag;
-    uint8_t side; /* CALLAUCTION_BID_SIDE or CALLAUCTION_ASK_SIDE */
-    uint8_t only;
+    uint64_t quantity;   /* shares */
+    uint64_t peak;       /* the most shares that an iceberg order shows; 0 where has_peak is 0 */
+    uint32_t id;         /* of an order, or the number of a trade */
+    uint32_t limit;      /* a tick; 0 where has_limit is 0, which makes a market order */
+    uint8_t member;      /* 0 to 255 */
+    uint8_t tag;         /* callauction_command_tag */
+    uint8_t side;        /* CALLAUCTION_SIDE_BID or CALLAUCTION_SIDE_ASK */
+    uint8_t restriction; /* callauction_restriction */
     uint8_t has_limit;
     uint8_t has_peak;
 } callauction_command;
 
 /* The tags of a reply, with the fields that each fills; all others are 0. A price is tick, volume, surplus and side. */
-enum {
-    CALLAUCTION_ENTERED = 1,     /* id */
-    CALLAUCTION_CHANGED = 2,     /* kept */
-    CALLAUCTION_DELETED = 3,
-    CALLAUCTION_STANDING = 4,    /* side, has_tick and tick (its limit), quantity, visible */
-    CALLAUCTION_PRICED = 5,      /* a price, has_tick 1 */
-    CALLAUCTION_UNPRICED = 6,    /* has_best_bid and best_bid, has_best_ask and best_ask */
-    CALLAUCTION_TRADED = 7,      /* id (its bid), ask, tick, quantity */
-    CALLAUCTION_UNCROSSED = 8,   /* auction, trades; has_tick and, where it is 1, a price */
-    CALLAUCTION_INTERRUPTED = 9, /* a price, has_tick 1 */
-    CALLAUCTION_REFUSED = 10     /* refusal */
-};
+typedef enum callauction_reply_tag {
+    CALLAUCTION_REPLY_ENTERED = 1,      /* id */
+    CALLAUCTION_REPLY_CHANGED = 2,      /* kept */
+    CALLAUCTION_REPLY_DELETED = 3,
+    CALLAUCTION_REPLY_OPEN_ORDER = 4,   /* side, has_tick and tick (its limit), quantity, visible */
+    CALLAUCTION_REPLY_PRICED = 5,       /* a price, has_tick 1 */
+    CALLAUCTION_REPLY_UNPRICED = 6,     /* has_best_bid and best_bid, has_best_ask and best_ask */
+    CALLAUCTION_REPLY_TRADED = 7,       /* id (its bid), ask, tick, quantity */
+    CALLAUCTION_REPLY_UNCROSSED = 8,    /* auction, trades; has_tick and, where it is 1, a price */
+    CALLAUCTION_REPLY_INTERRUPTED = 9,  /* a price, has_tick 1 */
+    CALLAUCTION_REPLY_REFUSED = 10      /* refusal */
+} callauction_reply_tag;
 
-enum { CALLAUCTION_OPENING = 1, CALLAUCTION_INTRADAY = 2, CALLAUCTION_CLOSING = 3 };
+typedef enum callauction_auction_kind {
+    CALLAUCTION_AUCTION_OPENING = 1,
+    CALLAUCTION_AUCTION_INTRADAY = 2,
+    CALLAUCTION_AUCTION_CLOSING = 3
+} callauction_auction_kind;
 
 /* Why a command was refused. A refused command counts as a call, and leaves all else as it was. */
-enum {
-    CALLAUCTION_BAD_QUANTITY = 1,
-    CALLAUCTION_BAD_LIMIT = 2,
-    CALLAUCTION_BAD_PEAK = 3,
-    CALLAUCTION_BOOK_FULL = 4,
-    CALLAUCTION_UNKNOWN_ORDER = 5,
-    CALLAUCTION_NOT_OPERATOR = 6,
-    CALLAUCTION_DAY_OVER = 7,
-    CALLAUCTION_NO_SUCH_TRADE = 8,
-    CALLAUCTION_PAST_AUCTION = 9
-};
+typedef enum callauction_refusal {
+    CALLAUCTION_REFUSAL_BAD_QUANTITY = 1,
+    CALLAUCTION_REFUSAL_BAD_LIMIT = 2,
+    CALLAUCTION_REFUSAL_BAD_PEAK = 3,
+    CALLAUCTION_REFUSAL_BOOK_FULL = 4,
+    CALLAUCTION_REFUSAL_UNKNOWN_ORDER = 5,
+    CALLAUCTION_REFUSAL_NOT_OPERATOR = 6,
+    CALLAUCTION_REFUSAL_DAY_OVER = 7,
+    CALLAUCTION_REFUSAL_NO_SUCH_TRADE = 8,
+    CALLAUCTION_REFUSAL_PAST_AUCTION = 9
+} callauction_refusal;
 
 typedef struct callauction_reply {
     uint64_t quantity, visible; /* shares of an order or a trade */
@@ -123,11 +174,11 @@ typedef struct callauction_reply {
     uint32_t tick;
     uint32_t trades; /* how many trades an uncross made */
     uint32_t best_bid, best_ask;
-    uint8_t tag;
-    uint8_t side;    /* of an order or of a surplus: CALLAUCTION_NO_SIDE where the surplus is 0 */
-    uint8_t auction; /* the one that was uncrossed */
+    uint8_t tag;     /* callauction_reply_tag */
+    uint8_t side;    /* of an order or of a surplus: CALLAUCTION_SIDE_NONE where the surplus is 0 */
+    uint8_t auction; /* callauction_auction_kind of the one that was uncrossed */
     uint8_t kept;    /* 1 where a changed order kept its place in time */
-    uint8_t refusal;
+    uint8_t refusal; /* callauction_refusal */
     uint8_t has_tick, has_best_bid, has_best_ask;
 } callauction_reply;
 
@@ -142,61 +193,174 @@ typedef struct callauction_market {
     uint64_t bids, asks;
 } callauction_market;
 
-/* ---- the calls ---- */
+/* What a recorded call is answered: its number in the board's history, from 1 on, and the auction's reply. */
+typedef struct callauction_receipt {
+    callauction_reply reply;
+    uint32_t number;
+} callauction_receipt;
+
+/* How many calls a board has had, and what is shown after them, PRICED or UNPRICED. */
+typedef struct callauction_shown {
+    callauction_reply display;
+    uint32_t calls;
+} callauction_shown;
+
+/* A call of a board's history, with its reply. */
+typedef struct callauction_entry {
+    callauction_command command;
+    callauction_reply reply;
+} callauction_entry;
+
+/* ---- the library ---- */
+
+/* The version of the library that is linked, as CALLAUCTION_VERSION is that of the header. */
+const char *callauction_version(void);
+
+/* One line of English, without a full stop: of what a call answered, of why a command was refused. For any other number
+ * "unknown error" and "unknown refusal". */
+const char *callauction_error_text(uint32_t error);
+const char *callauction_refusal_text(uint32_t refusal);
+
+/* ---- an auction of one thread ---- */
 
 /* The handle gets an auction at its opening: no orders, no trades, the reference of the config. All memory that the
- * day wants is taken here. IN_USE where the handle holds an auction; else the first fault of the config, BAD_BOUNDS,
- * BAD_REFERENCE or BAD_LIMITS; else NO_MEMORY. */
-uint32_t callauction_open(callauction_handle *handle, const callauction_config *config);
+ * day wants is taken here. IN_USE where the handle holds an auction; else NO_CONFIG where has_range isn't 0 or 1, or
+ * range isn't 0 without it; else the first fault of the config, BAD_BOUNDS, BAD_REFERENCE or BAD_CAPACITY; else
+ * NO_MEMORY where memory is refused. */
+CALLAUCTION_RESULT uint32_t callauction_open(callauction_handle *handle, const callauction_config *config);
 
-/* Applies a command and writes its reply. NO_COMMAND where a number of the struct stands for nothing; FULL where
- * max_calls commands were applied. A command that the auction refuses is no error: its reply is REFUSED. */
-uint32_t callauction_apply(callauction_handle *handle, const callauction_command *command, callauction_reply *reply);
+/* Applies a command and writes its reply. NO_COMMAND where a number of the struct that its tag needs is none of its
+ * enum, a flag isn't 0 or 1, or a value isn't 0 whose flag is; FULL where max_calls commands were applied. A command
+ * that the auction refuses is no error: its reply is REFUSED. */
+CALLAUCTION_RESULT uint32_t callauction_apply(callauction_handle *handle, const callauction_command *command,
+                                              callauction_reply *reply);
 
 /* Applies commands one after another, each as callauction_apply, up to the first error, which it answers, and writes
  * how many were applied, and their replies; those behind stay as they were. BAD_LENGTH where the two counts differ. */
-uint32_t callauction_apply_many(callauction_handle *handle, const callauction_command *commands, size_t command_count,
-                                callauction_reply *replies, size_t reply_count, size_t *applied);
+CALLAUCTION_RESULT uint32_t callauction_apply_many(callauction_handle *handle, const callauction_command *commands,
+                                                   size_t command_count, callauction_reply *replies,
+                                                   size_t reply_count, size_t *applied);
 
 /* Writes what is shown, PRICED or UNPRICED. It isn't counted as a call of a member, and works after the day too. */
-uint32_t callauction_display(callauction_handle *handle, callauction_reply *shown);
+CALLAUCTION_RESULT uint32_t callauction_display(const callauction_handle *handle, callauction_reply *shown);
 
 /* Copies the shares bid and offered by the orders that count, with a limit at each tick from low to high, and writes
  * those of the market orders. BAD_LENGTH where a count isn't high - low + 1. */
-uint32_t callauction_ladder(callauction_handle *handle, uint64_t *bids, size_t bid_count, uint64_t *asks,
-                            size_t ask_count, callauction_market *market);
+CALLAUCTION_RESULT uint32_t callauction_ladder(const callauction_handle *handle, uint64_t *bids, size_t bid_count,
+                                               uint64_t *asks, size_t ask_count, callauction_market *market);
 
 /* Copies the trades of the day after the first `seen`, as many as there are and as fit, and writes how many it
  * copied. */
-uint32_t callauction_trades(callauction_handle *handle, size_t seen, callauction_trade *trades, size_t trade_count,
-                            size_t *copied);
+CALLAUCTION_RESULT uint32_t callauction_trades(const callauction_handle *handle, size_t seen,
+                                               callauction_trade *trades, size_t trade_count, size_t *copied);
 
 /* Writes how many commands were applied, the refused ones among them. */
-uint32_t callauction_calls(callauction_handle *handle, uint32_t *calls);
+CALLAUCTION_RESULT uint32_t callauction_calls(const callauction_handle *handle, uint32_t *calls);
 
-/* Writes what the auction was opened with; has_range is 0 or 1, and without it range is 0. */
-uint32_t callauction_config_of(callauction_handle *handle, callauction_config *config);
+/* Writes what the auction was opened with. */
+CALLAUCTION_RESULT uint32_t callauction_config_of(const callauction_handle *handle, callauction_config *config);
 
 /* Goes back to the opening, as if the auction had just been opened. It takes no memory. */
-uint32_t callauction_reset(callauction_handle *handle);
+CALLAUCTION_RESULT uint32_t callauction_reset(callauction_handle *handle);
 
-/* The other handle gets an auction of its own that stands where this one does; what is done to one isn't seen in the
- * other. NO_AUCTION where `handle` holds none; else IN_USE where `other` holds one; else NO_MEMORY. */
-uint32_t callauction_clone(callauction_handle *handle, callauction_handle *other);
+/* The other handle gets an auction of its own, a copy of this one as it is now; what is done to one isn't seen in the
+ * other. NO_AUCTION where `handle` holds none; else IN_USE where `other` holds one; else NO_MEMORY where memory is
+ * refused. BUSY where both are one. */
+CALLAUCTION_RESULT uint32_t callauction_clone(const callauction_handle *handle, callauction_handle *other);
 
 /* Gives up the auction and its memory; the handle then holds none, and may be opened again. On a handle that holds
  * none, as at a second close, it answers NO_AUCTION and does nothing. */
 uint32_t callauction_close(callauction_handle *handle);
 
+/* ---- a board: members call at once, one thread each ---- */
+
+/* Opens a board, and each handle gets the member whose number is its place in the array, from 0. All memory that the
+ * day wants is taken here. IN_USE where a handle holds a member; else NO_CONFIG; else BAD_CAPACITY for more than 255
+ * handles; else BAD_BOUNDS, BAD_REFERENCE or BAD_CAPACITY, the first of these, the last one too where there aren't 1 to
+ * 64 handles; else NO_MEMORY. */
+CALLAUCTION_RESULT uint32_t callauction_board_open(callauction_member *members, size_t member_count,
+                                                   const callauction_config *config);
+
+/* Calls a command of the handle's member on its board; the struct's `member` isn't read. The call is recorded in the
+ * board's history after all that this member has seen, and its receipt has its number there and the reply of one
+ * auction to which the history's calls were applied one by one. NO_COMMAND as callauction_apply; BUSY where another
+ * call had the board at each of some hundred tries (callauction_board_call_waiting waits); CLOSED; FULL where the
+ * history has max_calls entries; BEHIND; OVERTAKEN. */
+CALLAUCTION_RESULT uint32_t callauction_board_call(callauction_member *member, const callauction_command *command,
+                                                   callauction_receipt *receipt);
+
+/* Writes how many calls the board has had and what is shown after them. It takes no lock and waits for nobody. It never
+ * goes back: all that the member has seen, its own calls among it, comes before. After the board was closed it shows
+ * the last again. */
+CALLAUCTION_RESULT uint32_t callauction_board_look(callauction_member *member, callauction_shown *shown);
+
+/* As callauction_ladder and callauction_trades, after as many calls as it writes, none of which the member hasn't seen
+ * then. They take the lock as a call does: BUSY, CLOSED and BEHIND as callauction_board_call; BAD_LENGTH. */
+CALLAUCTION_RESULT uint32_t callauction_board_ladder(callauction_member *member, uint64_t *bids, size_t bid_count,
+                                                     uint64_t *asks, size_t ask_count, callauction_market *market,
+                                                     uint32_t *calls);
+CALLAUCTION_RESULT uint32_t callauction_board_trades(callauction_member *member, size_t seen,
+                                                     callauction_trade *trades, size_t trade_count, size_t *copied,
+                                                     uint32_t *calls);
+
+/* Copies the entries of the board's history after the first `seen`, as many as there are and as fit, and writes how
+ * many it copied, for a thread that writes them down while the day runs. Errors as callauction_board_trades. */
+CALLAUCTION_RESULT uint32_t callauction_board_history(callauction_member *member, size_t seen,
+                                                      callauction_entry *entries, size_t entry_count,
+                                                      size_t *copied);
+
+/* Writes how many calls of this member were recorded. */
+CALLAUCTION_RESULT uint32_t callauction_board_calls(const callauction_member *member, uint32_t *calls);
+
+/* Writes what the board was opened with. */
+CALLAUCTION_RESULT uint32_t callauction_board_config_of(const callauction_member *member,
+                                                        callauction_config *config);
+
+/* Closes the board: writes its history, how many entries that has, and each member's count of them, by number. The
+ * handles are those of all members of one board, in their order. The history's entries are those of one auction of one
+ * thread; they are as many as the counts add up to; and each member's account agrees: what it saw is a beginning of the
+ * history's calls, and the history's calls of its number are its own. The handles hold their members still, whose calls
+ * answer CLOSED; give each up by callauction_board_leave. BAD_LENGTH where there is no handle, the history has room for
+ * fewer than max_calls entries, or the counts aren't as many as the members; NO_MEMBER; BUSY; CLOSED at a second close;
+ * MISSING_MEMBER where the handles aren't all of the board's members in their order; BEHIND where an account doesn't
+ * agree. */
+CALLAUCTION_RESULT uint32_t callauction_board_close(callauction_member *members, size_t member_count,
+                                                    callauction_entry *entries, size_t entry_count, uint32_t *counts,
+                                                    size_t count_count, size_t *written);
+
+/* Gives up the handle's member, and the board with the last of its members. On a handle that holds none it answers
+ * NO_MEMBER and does nothing. */
+uint32_t callauction_board_leave(callauction_member *member);
+
 #ifdef __cplusplus
 }
-#define CALLAUCTION_ASSERT(holds, text) static_assert(holds, text)
-#else
-#define CALLAUCTION_ASSERT(holds, text) _Static_assert(holds, text)
+#endif
+
+#ifdef CALLAUCTION_WITH_PTHREAD
+#include <pthread.h>
+
+/* As callauction_board_call, but waits while another call has the board: its thread sleeps at the mutex, one for a
+ * board, which its callers share. Nothing of this function is proved, and nothing that is proved rests on it. BUSY is
+ * answered where two calls at once have this handle. A thread that is ended within a call leaves the board BUSY for
+ * good. */
+static inline uint32_t callauction_board_call_waiting(pthread_mutex_t *mutex, callauction_member *member,
+                                                      const callauction_command *command,
+                                                      callauction_receipt *receipt)
+{
+    pthread_mutex_lock(mutex);
+    const uint32_t answer = callauction_board_call(member, command, receipt);
+    pthread_mutex_unlock(mutex);
+    return answer;
+}
 #endif
 
 /* ---- the layout that the library was built with ---- */
 
+#ifdef __cplusplus
+#define CALLAUCTION_ASSERT(holds, text) static_assert(holds, text)
+#else
+#define CALLAUCTION_ASSERT(holds, text) _Static_assert(holds, text)
+#endif
 #define CALLAUCTION_SIZE(type, size) CALLAUCTION_ASSERT(sizeof(callauction_##type) == (size), #type)
 #define CALLAUCTION_AT(type, field, offset) \
     CALLAUCTION_ASSERT(offsetof(callauction_##type, field) == (offset), #type "." #field)
@@ -204,6 +368,11 @@ uint32_t callauction_close(callauction_handle *handle);
 CALLAUCTION_SIZE(handle, 16);
 CALLAUCTION_AT(handle, held_, 0);
 CALLAUCTION_AT(handle, is_open_, 8);
+CALLAUCTION_AT(handle, busy_, 9);
+CALLAUCTION_SIZE(member, 16);
+CALLAUCTION_AT(member, held_, 0);
+CALLAUCTION_AT(member, is_open_, 8);
+CALLAUCTION_AT(member, busy_, 9);
 CALLAUCTION_SIZE(config, 28);
 CALLAUCTION_AT(config, low, 0);
 CALLAUCTION_AT(config, high, 4);
@@ -220,7 +389,7 @@ CALLAUCTION_AT(command, limit, 20);
 CALLAUCTION_AT(command, member, 24);
 CALLAUCTION_AT(command, tag, 25);
 CALLAUCTION_AT(command, side, 26);
-CALLAUCTION_AT(command, only, 27);
+CALLAUCTION_AT(command, restriction, 27);
 CALLAUCTION_AT(command, has_limit, 28);
 CALLAUCTION_AT(command, has_peak, 29);
 CALLAUCTION_SIZE(reply, 64);
@@ -250,6 +419,15 @@ CALLAUCTION_AT(trade, tick, 16);
 CALLAUCTION_SIZE(market, 16);
 CALLAUCTION_AT(market, bids, 0);
 CALLAUCTION_AT(market, asks, 8);
+CALLAUCTION_SIZE(receipt, 72);
+CALLAUCTION_AT(receipt, reply, 0);
+CALLAUCTION_AT(receipt, number, 64);
+CALLAUCTION_SIZE(shown, 72);
+CALLAUCTION_AT(shown, display, 0);
+CALLAUCTION_AT(shown, calls, 64);
+CALLAUCTION_SIZE(entry, 96);
+CALLAUCTION_AT(entry, command, 0);
+CALLAUCTION_AT(entry, reply, 32);
 
 #undef CALLAUCTION_AT
 #undef CALLAUCTION_SIZE

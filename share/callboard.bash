@@ -13,7 +13,7 @@ _callboard() {
     esac
     if [[ $word == -* ]]; then
         mapfile -t COMPREPLY < <(compgen -W '--low --high --reference --open --calls --range --members
-            --floor --history --print --audit --live --help --version' -- "$word")
+            --floor --history --print --audit --results --live --help --version' -- "$word")
     fi
 }
 complete -F _callboard callboard

@@ -16,7 +16,7 @@ enum { LOW = 190, HIGH = 210, TICKS = HIGH - LOW + 1 };
 static const callauction_config usual = {LOW, HIGH, 200, 8, 20, 0, 0};
 
 static callauction_command order(uint8_t member, uint8_t side, uint32_t tick, uint64_t quantity) {
-    callauction_command command = {.member = member, .tag = CALLAUCTION_ENTER, .side = side, .quantity = quantity};
+    callauction_command command = {.member = member, .tag = CALLAUCTION_COMMAND_ENTER, .side = side, .quantity = quantity};
     command.has_limit = tick != 0;
     command.limit = tick;
     return command;
@@ -45,7 +45,7 @@ static uint32_t calls_of(callauction_handle *auction) {
 /* A handle of zeros answers NO_AUCTION at each call, and writes nothing but counts of 0. */
 static void a_handle_of_zeros(void) {
     callauction_handle none = {0}, second = {0};
-    callauction_command ask = other(1, CALLAUCTION_ASK, 0);
+    callauction_command ask = other(1, CALLAUCTION_COMMAND_INDICATE, 0);
     callauction_reply reply = {.tag = 99}, shown = {.tag = 98};
     callauction_config config = {.low = 97};
     callauction_market market = {96, 95};
@@ -53,21 +53,21 @@ static void a_handle_of_zeros(void) {
     uint64_t bids[TICKS] = {93}, asks[TICKS] = {92};
     uint32_t calls = 91;
     size_t count = 90, copied = 89;
-    WANT(callauction_apply(&none, &ask, &reply) == CALLAUCTION_NO_AUCTION && reply.tag == 99);
-    WANT(callauction_apply_many(&none, &ask, 1, &reply, 1, &count) == CALLAUCTION_NO_AUCTION && count == 0);
-    WANT(callauction_apply_many(&none, NULL, 0, NULL, 0, &count) == CALLAUCTION_NO_AUCTION && reply.tag == 99);
-    WANT(callauction_display(&none, &shown) == CALLAUCTION_NO_AUCTION && shown.tag == 98);
-    WANT(callauction_ladder(&none, bids, TICKS, asks, TICKS, &market) == CALLAUCTION_NO_AUCTION);
-    WANT(callauction_ladder(&none, NULL, 0, NULL, 0, &market) == CALLAUCTION_NO_AUCTION);
+    WANT(callauction_apply(&none, &ask, &reply) == CALLAUCTION_ERROR_NO_AUCTION && reply.tag == 99);
+    WANT(callauction_apply_many(&none, &ask, 1, &reply, 1, &count) == CALLAUCTION_ERROR_NO_AUCTION && count == 0);
+    WANT(callauction_apply_many(&none, NULL, 0, NULL, 0, &count) == CALLAUCTION_ERROR_NO_AUCTION && reply.tag == 99);
+    WANT(callauction_display(&none, &shown) == CALLAUCTION_ERROR_NO_AUCTION && shown.tag == 98);
+    WANT(callauction_ladder(&none, bids, TICKS, asks, TICKS, &market) == CALLAUCTION_ERROR_NO_AUCTION);
+    WANT(callauction_ladder(&none, NULL, 0, NULL, 0, &market) == CALLAUCTION_ERROR_NO_AUCTION);
     WANT(bids[0] == 93 && asks[0] == 92 && market.bids == 96 && market.asks == 95);
-    WANT(callauction_trades(&none, 0, &trade, 1, &copied) == CALLAUCTION_NO_AUCTION);
+    WANT(callauction_trades(&none, 0, &trade, 1, &copied) == CALLAUCTION_ERROR_NO_AUCTION);
     WANT(copied == 0 && trade.bid == 94);
-    WANT(callauction_calls(&none, &calls) == CALLAUCTION_NO_AUCTION && calls == 91);
-    WANT(callauction_config_of(&none, &config) == CALLAUCTION_NO_AUCTION && config.low == 97);
-    WANT(callauction_reset(&none) == CALLAUCTION_NO_AUCTION);
-    WANT(callauction_clone(&none, &second) == CALLAUCTION_NO_AUCTION);
-    WANT(callauction_calls(&second, &calls) == CALLAUCTION_NO_AUCTION);
-    WANT(callauction_close(&none) == CALLAUCTION_NO_AUCTION && callauction_close(&none) == CALLAUCTION_NO_AUCTION);
+    WANT(callauction_calls(&none, &calls) == CALLAUCTION_ERROR_NO_AUCTION && calls == 91);
+    WANT(callauction_config_of(&none, &config) == CALLAUCTION_ERROR_NO_AUCTION && config.low == 97);
+    WANT(callauction_reset(&none) == CALLAUCTION_ERROR_NO_AUCTION);
+    WANT(callauction_clone(&none, &second) == CALLAUCTION_ERROR_NO_AUCTION);
+    WANT(callauction_calls(&second, &calls) == CALLAUCTION_ERROR_NO_AUCTION);
+    WANT(callauction_close(&none) == CALLAUCTION_ERROR_NO_AUCTION && callauction_close(&none) == CALLAUCTION_ERROR_NO_AUCTION);
 }
 
 /* Each fault of an opening, at its edges, in the order in which they are looked for. */
@@ -76,43 +76,46 @@ static void openings(void) {
         callauction_config config;
         uint32_t answer;
     } table[] = {
-        {{0, 210, 200, 8, 20, 0, 0}, CALLAUCTION_BAD_BOUNDS},
-        {{211, 210, 200, 8, 20, 0, 0}, CALLAUCTION_BAD_BOUNDS},
-        {{999990, 1000001, 999995, 8, 20, 0, 0}, CALLAUCTION_BAD_BOUNDS},
-        {{1, 65537, 200, 8, 20, 0, 0}, CALLAUCTION_BAD_BOUNDS},
+        {{0, 210, 200, 8, 20, 0, 0}, CALLAUCTION_ERROR_BAD_BOUNDS},
+        {{211, 210, 200, 8, 20, 0, 0}, CALLAUCTION_ERROR_BAD_BOUNDS},
+        {{999990, 1000001, 999995, 8, 20, 0, 0}, CALLAUCTION_ERROR_BAD_BOUNDS},
+        {{1, 65537, 200, 8, 20, 0, 0}, CALLAUCTION_ERROR_BAD_BOUNDS},
         {{1, 65536, 65536, 1, 1, 0, 0}, CALLAUCTION_DONE},
         {{1000000, 1000000, 1000000, 1, 1, 0, 0}, CALLAUCTION_DONE},
-        {{LOW, HIGH, LOW - 1, 8, 20, 0, 0}, CALLAUCTION_BAD_REFERENCE},
-        {{LOW, HIGH, HIGH + 1, 8, 20, 0, 0}, CALLAUCTION_BAD_REFERENCE},
-        {{LOW, HIGH, 200, 0, 20, 0, 0}, CALLAUCTION_BAD_LIMITS},
-        {{LOW, HIGH, 200, 65537, 20, 0, 0}, CALLAUCTION_BAD_LIMITS},
-        {{LOW, HIGH, 200, 8, 0, 0, 0}, CALLAUCTION_BAD_LIMITS},
-        {{LOW, HIGH, 200, 8, 1048577, 0, 0}, CALLAUCTION_BAD_LIMITS},
+        {{LOW, HIGH, LOW - 1, 8, 20, 0, 0}, CALLAUCTION_ERROR_BAD_REFERENCE},
+        {{LOW, HIGH, HIGH + 1, 8, 20, 0, 0}, CALLAUCTION_ERROR_BAD_REFERENCE},
+        {{LOW, HIGH, 200, 0, 20, 0, 0}, CALLAUCTION_ERROR_BAD_CAPACITY},
+        {{LOW, HIGH, 200, 65537, 20, 0, 0}, CALLAUCTION_ERROR_BAD_CAPACITY},
+        {{LOW, HIGH, 200, 8, 0, 0, 0}, CALLAUCTION_ERROR_BAD_CAPACITY},
+        {{LOW, HIGH, 200, 8, 1048577, 0, 0}, CALLAUCTION_ERROR_BAD_CAPACITY},
         {{LOW, HIGH, 200, 65536, 1048576, 1, 0}, CALLAUCTION_DONE},
-        {{0, 210, 211, 0, 0, 0, 0}, CALLAUCTION_BAD_BOUNDS},
-        {{LOW, HIGH, 211, 0, 0, 0, 0}, CALLAUCTION_BAD_REFERENCE},
+        {{0, 210, 211, 0, 0, 0, 0}, CALLAUCTION_ERROR_BAD_BOUNDS},
+        {{LOW, HIGH, 211, 0, 0, 0, 0}, CALLAUCTION_ERROR_BAD_REFERENCE},
     };
     for (size_t i = 0; i < sizeof table / sizeof *table; i++) {
         callauction_handle auction = {0};
         bool opens = table[i].answer == CALLAUCTION_DONE;
         WANT(callauction_open(&auction, &table[i].config) == table[i].answer);
-        WANT(callauction_close(&auction) == (opens ? CALLAUCTION_DONE : CALLAUCTION_NO_AUCTION));
+        WANT(callauction_close(&auction) == (opens ? CALLAUCTION_DONE : CALLAUCTION_ERROR_NO_AUCTION));
     }
     callauction_handle auction = {0};
     callauction_config bad = {0}, config;
     opened(&auction);
-    WANT(callauction_open(&auction, &usual) == CALLAUCTION_IN_USE);
-    WANT(callauction_open(&auction, &bad) == CALLAUCTION_IN_USE);
+    WANT(callauction_open(&auction, &usual) == CALLAUCTION_ERROR_IN_USE);
+    WANT(callauction_open(&auction, &bad) == CALLAUCTION_ERROR_IN_USE);
     WANT(callauction_config_of(&auction, &config) == CALLAUCTION_DONE && memcmp(&config, &usual, sizeof usual) == 0);
-    WANT(callauction_close(&auction) == CALLAUCTION_DONE && callauction_close(&auction) == CALLAUCTION_NO_AUCTION);
+    WANT(callauction_close(&auction) == CALLAUCTION_DONE && callauction_close(&auction) == CALLAUCTION_ERROR_NO_AUCTION);
     opened(&auction);
     WANT(callauction_close(&auction) == CALLAUCTION_DONE);
 }
 
-/* A range may be any number, and comes back with a flag of 1. */
+/* A range may be any number with a flag of 1; without it, or with another flag, the struct is no config. */
 static void the_config(void) {
     callauction_handle auction = {0};
-    callauction_config ranged = {LOW, HIGH, 200, 8, 20, 7, 3}, config;
+    callauction_config ranged = {LOW, HIGH, 200, 8, 20, 1, 3}, config;
+    const callauction_config bad[] = {{LOW, HIGH, 200, 8, 20, 7, 3}, {LOW, HIGH, 200, 8, 20, 0, 3}, {0, 0, 0, 0, 0, 2, 0}};
+    for (size_t i = 0; i < sizeof bad / sizeof *bad; i++)
+        WANT(callauction_open(&auction, &bad[i]) == CALLAUCTION_ERROR_NO_CONFIG);
     WANT(callauction_open(&auction, &ranged) == CALLAUCTION_DONE);
     WANT(callauction_config_of(&auction, &config) == CALLAUCTION_DONE && config.has_range == 1 && config.range == 3);
     WANT(callauction_close(&auction) == CALLAUCTION_DONE);
@@ -124,23 +127,26 @@ static void no_commands(void) {
         {.tag = 0},
         {.tag = 8},
         {.tag = 255},
-        {.tag = CALLAUCTION_ENTER, .quantity = 5},
-        {.tag = CALLAUCTION_ENTER, .quantity = 5, .side = 3},
-        {.tag = CALLAUCTION_ENTER, .quantity = 5, .side = 1, .only = 3},
-        {.tag = CALLAUCTION_ENTER, .quantity = 5, .side = 1, .has_limit = 2, .limit = 200},
-        {.tag = CALLAUCTION_ENTER, .quantity = 5, .side = 1, .has_peak = 2, .peak = 1},
-        {.tag = CALLAUCTION_CHANGE, .quantity = 5, .id = 1, .has_limit = 255},
+        {.tag = CALLAUCTION_COMMAND_ENTER, .quantity = 5},
+        {.tag = CALLAUCTION_COMMAND_ENTER, .quantity = 5, .side = 3},
+        {.tag = CALLAUCTION_COMMAND_ENTER, .quantity = 5, .side = 1, .restriction = 3},
+        {.tag = CALLAUCTION_COMMAND_ENTER, .quantity = 5, .side = 1, .has_limit = 2, .limit = 200},
+        {.tag = CALLAUCTION_COMMAND_ENTER, .quantity = 5, .side = 1, .has_peak = 2, .peak = 1},
+        {.tag = CALLAUCTION_COMMAND_CHANGE, .quantity = 5, .id = 1, .has_limit = 255},
+        {.tag = CALLAUCTION_COMMAND_ENTER, .quantity = 5, .side = 1, .limit = 200},
+        {.tag = CALLAUCTION_COMMAND_ENTER, .quantity = 5, .side = 1, .has_limit = 1, .limit = 200, .peak = 1},
+        {.tag = CALLAUCTION_COMMAND_CHANGE, .quantity = 5, .id = 1, .limit = 200},
     };
     callauction_handle auction = {0};
     callauction_reply reply = {.tag = 99, .id = 7};
     opened(&auction);
-    applied(&auction, order(1, CALLAUCTION_BID_SIDE, 200, 5));
+    applied(&auction, order(1, CALLAUCTION_SIDE_BID, 200, 5));
     for (size_t i = 0; i < sizeof bad / sizeof *bad; i++)
-        WANT(callauction_apply(&auction, &bad[i], &reply) == CALLAUCTION_NO_COMMAND);
+        WANT(callauction_apply(&auction, &bad[i], &reply) == CALLAUCTION_ERROR_NO_COMMAND);
     WANT(reply.tag == 99 && reply.id == 7 && calls_of(&auction) == 1);
-    callauction_command ask = {.tag = CALLAUCTION_ASK, .side = 9, .only = 9, .has_limit = 9, .has_peak = 9};
+    callauction_command ask = {.tag = CALLAUCTION_COMMAND_INDICATE, .side = 9, .restriction = 9, .has_limit = 9, .has_peak = 9};
     reply = applied(&auction, ask);
-    WANT(reply.tag == CALLAUCTION_UNPRICED);
+    WANT(reply.tag == CALLAUCTION_REPLY_UNPRICED);
     WANT(reply.has_best_bid == 1 && reply.best_bid == 200 && reply.has_best_ask == 0);
     WANT(callauction_close(&auction) == CALLAUCTION_DONE);
 }
@@ -148,15 +154,15 @@ static void no_commands(void) {
 /* After max_calls commands no more are taken, and nothing changes. */
 static void a_full_auction(void) {
     callauction_handle auction = {0};
-    callauction_command ask = other(1, CALLAUCTION_ASK, 0), none = {0};
+    callauction_command ask = other(1, CALLAUCTION_COMMAND_INDICATE, 0), none = {0};
     callauction_reply reply = {.tag = 99};
     opened(&auction);
     for (uint32_t i = 0; i < usual.max_calls; i++) applied(&auction, ask);
-    WANT(callauction_apply(&auction, &ask, &reply) == CALLAUCTION_FULL && reply.tag == 99);
-    WANT(callauction_apply(&auction, &none, &reply) == CALLAUCTION_NO_COMMAND && calls_of(&auction) == usual.max_calls);
-    WANT(callauction_display(&auction, &reply) == CALLAUCTION_DONE && reply.tag == CALLAUCTION_UNPRICED);
+    WANT(callauction_apply(&auction, &ask, &reply) == CALLAUCTION_ERROR_FULL && reply.tag == 99);
+    WANT(callauction_apply(&auction, &none, &reply) == CALLAUCTION_ERROR_NO_COMMAND && calls_of(&auction) == usual.max_calls);
+    WANT(callauction_display(&auction, &reply) == CALLAUCTION_DONE && reply.tag == CALLAUCTION_REPLY_UNPRICED);
     WANT(callauction_reset(&auction) == CALLAUCTION_DONE && calls_of(&auction) == 0);
-    WANT(applied(&auction, ask).tag == CALLAUCTION_UNPRICED && calls_of(&auction) == 1);
+    WANT(applied(&auction, ask).tag == CALLAUCTION_REPLY_UNPRICED && calls_of(&auction) == 1);
     WANT(callauction_close(&auction) == CALLAUCTION_DONE);
 }
 
@@ -164,46 +170,46 @@ static void a_full_auction(void) {
 static void every_reply(void) {
     callauction_handle auction = {0};
     callauction_config config = usual;
-    callauction_command iceberg = order(2, CALLAUCTION_ASK_SIDE, 199, 30), shorter = order(1, 0, 201, 40);
+    callauction_command iceberg = order(2, CALLAUCTION_SIDE_ASK, 199, 30), shorter = order(1, 0, 201, 40);
     callauction_reply reply;
     callauction_trade trade = {0};
     size_t copied;
     config.has_range = 1;
     config.range = 5;
     WANT(callauction_open(&auction, &config) == CALLAUCTION_DONE);
-    reply = applied(&auction, order(1, CALLAUCTION_BID_SIDE, 201, 50));
-    WANT(reply.tag == CALLAUCTION_ENTERED && reply.id == 1);
+    reply = applied(&auction, order(1, CALLAUCTION_SIDE_BID, 201, 50));
+    WANT(reply.tag == CALLAUCTION_REPLY_ENTERED && reply.id == 1);
     iceberg.has_peak = 1;
     iceberg.peak = 10;
     WANT(applied(&auction, iceberg).id == 2);
-    reply = applied(&auction, other(2, CALLAUCTION_STATUS, 2));
-    WANT(reply.tag == CALLAUCTION_STANDING && reply.side == CALLAUCTION_ASK_SIDE && reply.has_tick == 1);
+    reply = applied(&auction, other(2, CALLAUCTION_COMMAND_ORDER_STATUS, 2));
+    WANT(reply.tag == CALLAUCTION_REPLY_OPEN_ORDER && reply.side == CALLAUCTION_SIDE_ASK && reply.has_tick == 1);
     WANT(reply.tick == 199 && reply.quantity == 30 && reply.visible == 10);
-    shorter.tag = CALLAUCTION_CHANGE;
+    shorter.tag = CALLAUCTION_COMMAND_CHANGE;
     shorter.id = 1;
     reply = applied(&auction, shorter);
-    WANT(reply.tag == CALLAUCTION_CHANGED && reply.kept == 1);
+    WANT(reply.tag == CALLAUCTION_REPLY_CHANGED && reply.kept == 1);
     /* 30 shares at 199 or 201 with 10 more bid: the surplus is on the bid side, the highest limit is the price */
-    reply = applied(&auction, other(3, CALLAUCTION_ASK, 0));
-    WANT(reply.tag == CALLAUCTION_PRICED && reply.has_tick == 1 && reply.tick == 201 && reply.volume == 30);
-    WANT(reply.surplus == 10 && reply.side == CALLAUCTION_BID_SIDE);
-    reply = applied(&auction, other(1, CALLAUCTION_UNCROSS, 0));
-    WANT(reply.tag == CALLAUCTION_REFUSED && reply.refusal == CALLAUCTION_NOT_OPERATOR);
-    reply = applied(&auction, other(0, CALLAUCTION_UNCROSS, 0));
-    WANT(reply.tag == CALLAUCTION_UNCROSSED && reply.auction == CALLAUCTION_OPENING && reply.trades == 1);
+    reply = applied(&auction, other(3, CALLAUCTION_COMMAND_INDICATE, 0));
+    WANT(reply.tag == CALLAUCTION_REPLY_PRICED && reply.has_tick == 1 && reply.tick == 201 && reply.volume == 30);
+    WANT(reply.surplus == 10 && reply.side == CALLAUCTION_SIDE_BID);
+    reply = applied(&auction, other(1, CALLAUCTION_COMMAND_UNCROSS, 0));
+    WANT(reply.tag == CALLAUCTION_REPLY_REFUSED && reply.refusal == CALLAUCTION_REFUSAL_NOT_OPERATOR);
+    reply = applied(&auction, other(0, CALLAUCTION_COMMAND_UNCROSS, 0));
+    WANT(reply.tag == CALLAUCTION_REPLY_UNCROSSED && reply.auction == CALLAUCTION_AUCTION_OPENING && reply.trades == 1);
     WANT(reply.has_tick == 1 && reply.tick == 201 && reply.volume == 30 && reply.surplus == 10);
-    reply = applied(&auction, other(9, CALLAUCTION_TRADE, 1));
-    WANT(reply.tag == CALLAUCTION_TRADED && reply.id == 1 && reply.ask == 2);
+    reply = applied(&auction, other(9, CALLAUCTION_COMMAND_READ_TRADE, 1));
+    WANT(reply.tag == CALLAUCTION_REPLY_TRADED && reply.id == 1 && reply.ask == 2);
     WANT(reply.tick == 201 && reply.quantity == 30);
     WANT(callauction_trades(&auction, 0, &trade, 1, &copied) == CALLAUCTION_DONE && copied == 1);
     WANT(trade.bid == 1 && trade.ask == 2 && trade.tick == 201 && trade.quantity == 30);
     /* what is left is a bid for 10 at 201; a price of 208 lies 7 ticks from the reference of 201 */
-    WANT(applied(&auction, other(1, CALLAUCTION_DELETE, 1)).tag == CALLAUCTION_DELETED);
-    applied(&auction, order(1, CALLAUCTION_BID_SIDE, 208, 5));
-    applied(&auction, order(2, CALLAUCTION_ASK_SIDE, 208, 5));
-    reply = applied(&auction, other(0, CALLAUCTION_UNCROSS, 0));
-    WANT(reply.tag == CALLAUCTION_INTERRUPTED && reply.tick == 208);
-    WANT(reply.volume == 5 && reply.surplus == 0 && reply.side == CALLAUCTION_NO_SIDE);
+    WANT(applied(&auction, other(1, CALLAUCTION_COMMAND_DELETE, 1)).tag == CALLAUCTION_REPLY_DELETED);
+    applied(&auction, order(1, CALLAUCTION_SIDE_BID, 208, 5));
+    applied(&auction, order(2, CALLAUCTION_SIDE_ASK, 208, 5));
+    reply = applied(&auction, other(0, CALLAUCTION_COMMAND_UNCROSS, 0));
+    WANT(reply.tag == CALLAUCTION_REPLY_INTERRUPTED && reply.tick == 208);
+    WANT(reply.volume == 5 && reply.surplus == 0 && reply.side == CALLAUCTION_SIDE_NONE);
     WANT(callauction_close(&auction) == CALLAUCTION_DONE);
 }
 
@@ -211,43 +217,43 @@ static void every_reply(void) {
 static void many(void) {
     callauction_handle auction = {0};
     callauction_command commands[6] = {
-        order(1, CALLAUCTION_BID_SIDE, 200, 5), order(2, CALLAUCTION_ASK_SIDE, 200, 5), other(1, CALLAUCTION_ASK, 0),
-        {.tag = 9},                             other(1, CALLAUCTION_DELETE, 1),        other(1, CALLAUCTION_ASK, 0),
+        order(1, CALLAUCTION_SIDE_BID, 200, 5), order(2, CALLAUCTION_SIDE_ASK, 200, 5), other(1, CALLAUCTION_COMMAND_INDICATE, 0),
+        {.tag = 9},                             other(1, CALLAUCTION_COMMAND_DELETE, 1),        other(1, CALLAUCTION_COMMAND_INDICATE, 0),
     };
     callauction_reply replies[6];
     size_t done = 77;
     memset(replies, 0xAA, sizeof replies);
     opened(&auction);
-    WANT(callauction_apply_many(&auction, commands, 6, replies, 5, &done) == CALLAUCTION_BAD_LENGTH && done == 0);
-    WANT(callauction_apply_many(&auction, commands, 2, replies, 3, &done) == CALLAUCTION_BAD_LENGTH && done == 0);
+    WANT(callauction_apply_many(&auction, commands, 6, replies, 5, &done) == CALLAUCTION_ERROR_BAD_LENGTH && done == 0);
+    WANT(callauction_apply_many(&auction, commands, 2, replies, 3, &done) == CALLAUCTION_ERROR_BAD_LENGTH && done == 0);
     WANT(calls_of(&auction) == 0 && replies[0].tag == 0xAA);
     WANT(callauction_apply_many(&auction, NULL, 0, NULL, 0, &done) == CALLAUCTION_DONE && done == 0);
-    WANT(callauction_apply_many(&auction, commands, 6, replies, 6, &done) == CALLAUCTION_NO_COMMAND && done == 3);
-    WANT(replies[0].id == 1 && replies[1].id == 2 && replies[2].tag == CALLAUCTION_PRICED && replies[3].tag == 0xAA);
+    WANT(callauction_apply_many(&auction, commands, 6, replies, 6, &done) == CALLAUCTION_ERROR_NO_COMMAND && done == 3);
+    WANT(replies[0].id == 1 && replies[1].id == 2 && replies[2].tag == CALLAUCTION_REPLY_PRICED && replies[3].tag == 0xAA);
     WANT(calls_of(&auction) == 3);
     WANT(callauction_apply_many(&auction, commands + 4, 2, replies + 4, 2, &done) == CALLAUCTION_DONE && done == 2);
-    WANT(replies[4].tag == CALLAUCTION_DELETED && replies[5].tag == CALLAUCTION_UNPRICED && calls_of(&auction) == 5);
+    WANT(replies[4].tag == CALLAUCTION_REPLY_DELETED && replies[5].tag == CALLAUCTION_REPLY_UNPRICED && calls_of(&auction) == 5);
     WANT(callauction_close(&auction) == CALLAUCTION_DONE);
 }
 
 /* The ladder has the orders that count, bids as bids and asks as asks, and wants arrays of just its length. */
 static void the_ladder(void) {
     callauction_handle auction = {0};
-    callauction_command waiting = order(1, CALLAUCTION_BID_SIDE, 195, 1000);
+    callauction_command waiting = order(1, CALLAUCTION_SIDE_BID, 195, 1000);
     callauction_market market = {77, 78};
     uint64_t bids[TICKS + 1] = {79}, asks[TICKS + 1] = {80};
     opened(&auction);
-    waiting.only = CALLAUCTION_FOR_CLOSING;
+    waiting.restriction = CALLAUCTION_RESTRICTION_CLOSING_ONLY;
     applied(&auction, waiting);
-    applied(&auction, order(1, CALLAUCTION_BID_SIDE, LOW, 5));
-    applied(&auction, order(1, CALLAUCTION_BID_SIDE, 195, 6));
-    applied(&auction, order(2, CALLAUCTION_ASK_SIDE, 195, 7));
-    applied(&auction, order(2, CALLAUCTION_ASK_SIDE, HIGH, 8));
-    applied(&auction, order(1, CALLAUCTION_BID_SIDE, 0, 9));
-    applied(&auction, order(2, CALLAUCTION_ASK_SIDE, 0, 11));
-    WANT(callauction_ladder(&auction, bids, TICKS + 1, asks, TICKS, &market) == CALLAUCTION_BAD_LENGTH);
-    WANT(callauction_ladder(&auction, bids, TICKS, asks, TICKS - 1, &market) == CALLAUCTION_BAD_LENGTH);
-    WANT(callauction_ladder(&auction, NULL, 0, NULL, 0, &market) == CALLAUCTION_BAD_LENGTH);
+    applied(&auction, order(1, CALLAUCTION_SIDE_BID, LOW, 5));
+    applied(&auction, order(1, CALLAUCTION_SIDE_BID, 195, 6));
+    applied(&auction, order(2, CALLAUCTION_SIDE_ASK, 195, 7));
+    applied(&auction, order(2, CALLAUCTION_SIDE_ASK, HIGH, 8));
+    applied(&auction, order(1, CALLAUCTION_SIDE_BID, 0, 9));
+    applied(&auction, order(2, CALLAUCTION_SIDE_ASK, 0, 11));
+    WANT(callauction_ladder(&auction, bids, TICKS + 1, asks, TICKS, &market) == CALLAUCTION_ERROR_BAD_LENGTH);
+    WANT(callauction_ladder(&auction, bids, TICKS, asks, TICKS - 1, &market) == CALLAUCTION_ERROR_BAD_LENGTH);
+    WANT(callauction_ladder(&auction, NULL, 0, NULL, 0, &market) == CALLAUCTION_ERROR_BAD_LENGTH);
     WANT(bids[0] == 79 && asks[0] == 80 && market.bids == 77 && market.asks == 78);
     WANT(callauction_ladder(&auction, bids, TICKS, asks, TICKS, &market) == CALLAUCTION_DONE);
     for (int tick = LOW; tick <= HIGH; tick++) {
@@ -264,10 +270,10 @@ static void the_trades(void) {
     callauction_trade trades[4] = {{.bid = 77}, {.bid = 77}, {.bid = 77}, {.bid = 77}};
     size_t copied = 76;
     opened(&auction);
-    for (int i = 0; i < 3; i++) applied(&auction, order(1, CALLAUCTION_BID_SIDE, 200, 5));
-    applied(&auction, order(2, CALLAUCTION_ASK_SIDE, 200, 12));
+    for (int i = 0; i < 3; i++) applied(&auction, order(1, CALLAUCTION_SIDE_BID, 200, 5));
+    applied(&auction, order(2, CALLAUCTION_SIDE_ASK, 200, 12));
     WANT(callauction_trades(&auction, 0, trades, 4, &copied) == CALLAUCTION_DONE && copied == 0 && trades[0].bid == 77);
-    WANT(applied(&auction, other(0, CALLAUCTION_UNCROSS, 0)).trades == 3);
+    WANT(applied(&auction, other(0, CALLAUCTION_COMMAND_UNCROSS, 0)).trades == 3);
     WANT(callauction_trades(&auction, 0, trades, 2, &copied) == CALLAUCTION_DONE && copied == 2);
     WANT(trades[0].bid == 1 && trades[1].bid == 2 && trades[1].quantity == 5 && trades[2].bid == 77);
     WANT(callauction_trades(&auction, 2, trades, 4, &copied) == CALLAUCTION_DONE && copied == 1);
@@ -283,19 +289,19 @@ static void copies(void) {
     callauction_handle auction = {0}, copy = {0}, third = {0};
     callauction_reply here, there;
     opened(&auction);
-    applied(&auction, order(1, CALLAUCTION_BID_SIDE, 200, 5));
-    applied(&auction, order(2, CALLAUCTION_ASK_SIDE, 200, 5));
+    applied(&auction, order(1, CALLAUCTION_SIDE_BID, 200, 5));
+    applied(&auction, order(2, CALLAUCTION_SIDE_ASK, 200, 5));
     WANT(callauction_clone(&auction, &copy) == CALLAUCTION_DONE && calls_of(&copy) == 2);
-    WANT(callauction_clone(&auction, &copy) == CALLAUCTION_IN_USE);
-    WANT(applied(&copy, other(0, CALLAUCTION_UNCROSS, 0)).trades == 1);
+    WANT(callauction_clone(&auction, &copy) == CALLAUCTION_ERROR_IN_USE);
+    WANT(applied(&copy, other(0, CALLAUCTION_COMMAND_UNCROSS, 0)).trades == 1);
     WANT(callauction_display(&auction, &here) == CALLAUCTION_DONE);
-    WANT(here.tag == CALLAUCTION_PRICED && here.volume == 5);
-    WANT(callauction_display(&copy, &there) == CALLAUCTION_DONE && there.tag == CALLAUCTION_UNPRICED);
+    WANT(here.tag == CALLAUCTION_REPLY_PRICED && here.volume == 5);
+    WANT(callauction_display(&copy, &there) == CALLAUCTION_DONE && there.tag == CALLAUCTION_REPLY_UNPRICED);
     WANT(calls_of(&auction) == 2 && calls_of(&copy) == 3);
-    WANT(callauction_clone(&third, &copy) == CALLAUCTION_NO_AUCTION && callauction_reset(&auction) == CALLAUCTION_DONE);
-    WANT(applied(&copy, other(1, CALLAUCTION_TRADE, 1)).quantity == 5);
+    WANT(callauction_clone(&third, &copy) == CALLAUCTION_ERROR_NO_AUCTION && callauction_reset(&auction) == CALLAUCTION_DONE);
+    WANT(applied(&copy, other(1, CALLAUCTION_COMMAND_READ_TRADE, 1)).quantity == 5);
     WANT(callauction_close(&auction) == CALLAUCTION_DONE);
-    WANT(applied(&copy, order(3, CALLAUCTION_BID_SIDE, 0, 1)).id == 3);
+    WANT(applied(&copy, order(3, CALLAUCTION_SIDE_BID, 0, 1)).id == 3);
     WANT(callauction_close(&copy) == CALLAUCTION_DONE);
 }
 
@@ -304,19 +310,19 @@ static void a_reset(void) {
     callauction_handle auction = {0};
     callauction_reply shown;
     opened(&auction);
-    applied(&auction, order(1, CALLAUCTION_BID_SIDE, 205, 5));
-    applied(&auction, order(2, CALLAUCTION_ASK_SIDE, 205, 5));
-    WANT(applied(&auction, other(0, CALLAUCTION_UNCROSS, 0)).tick == 205);
-    applied(&auction, order(1, CALLAUCTION_BID_SIDE, 201, 5));
+    applied(&auction, order(1, CALLAUCTION_SIDE_BID, 205, 5));
+    applied(&auction, order(2, CALLAUCTION_SIDE_ASK, 205, 5));
+    WANT(applied(&auction, other(0, CALLAUCTION_COMMAND_UNCROSS, 0)).tick == 205);
+    applied(&auction, order(1, CALLAUCTION_SIDE_BID, 201, 5));
     WANT(callauction_reset(&auction) == CALLAUCTION_DONE && callauction_reset(&auction) == CALLAUCTION_DONE);
-    WANT(callauction_display(&auction, &shown) == CALLAUCTION_DONE && shown.tag == CALLAUCTION_UNPRICED);
+    WANT(callauction_display(&auction, &shown) == CALLAUCTION_DONE && shown.tag == CALLAUCTION_REPLY_UNPRICED);
     WANT(shown.has_best_bid == 0 && shown.has_best_ask == 0 && calls_of(&auction) == 0);
-    WANT(applied(&auction, other(1, CALLAUCTION_TRADE, 1)).refusal == CALLAUCTION_NO_SUCH_TRADE);
-    WANT(applied(&auction, order(1, CALLAUCTION_BID_SIDE, 0, 5)).id == 1);
-    WANT(applied(&auction, order(2, CALLAUCTION_ASK_SIDE, 0, 5)).id == 2);
+    WANT(applied(&auction, other(1, CALLAUCTION_COMMAND_READ_TRADE, 1)).refusal == CALLAUCTION_REFUSAL_NO_SUCH_TRADE);
+    WANT(applied(&auction, order(1, CALLAUCTION_SIDE_BID, 0, 5)).id == 1);
+    WANT(applied(&auction, order(2, CALLAUCTION_SIDE_ASK, 0, 5)).id == 2);
     /* market orders alone are executed at the reference, which is the config's again */
-    shown = applied(&auction, other(0, CALLAUCTION_UNCROSS, 0));
-    WANT(shown.tick == 200 && shown.auction == CALLAUCTION_OPENING && shown.trades == 1);
+    shown = applied(&auction, other(0, CALLAUCTION_COMMAND_UNCROSS, 0));
+    WANT(shown.tick == 200 && shown.auction == CALLAUCTION_AUCTION_OPENING && shown.trades == 1);
     WANT(callauction_close(&auction) == CALLAUCTION_DONE);
 }
 

@@ -1,4 +1,4 @@
-/* Memory, with the heap of checks/refusing_memory.c: `memory open`, `memory day`, `memory many COUNT`.
+/* Memory, with the heap of checks/parts/refusing_memory.c: `memory open`, `memory day`, `memory many COUNT`.
  *
  * open: opens an auction, clones it and closes both; where memory is refused the call answers so, and nothing is kept.
  * day: the same, and between them commands, displays and resets, which ask for no memory.
@@ -21,11 +21,11 @@ static bool plays(callauction_handle *auction) {
     bool is_right = true;
     for (uint32_t i = 0; i < 5000; i++) {
         callauction_command command = {.member = (uint8_t)(i % 3), .side = (uint8_t)(1 + i % 2), .quantity = 1 + i % 9};
-        command.tag = (uint8_t)(i % 900 == 899 ? CALLAUCTION_UNCROSS : 1 + i % 6);
+        command.tag = (uint8_t)(i % 900 == 899 ? CALLAUCTION_COMMAND_UNCROSS : 1 + i % 6);
         command.has_limit = i % 5 != 0;
-        command.limit = 490 + i % 21;
+        if (command.has_limit) command.limit = 490 + i % 21;
         command.id = i / 12;
-        if (command.tag == CALLAUCTION_UNCROSS) command.member = 0;
+        if (command.tag == CALLAUCTION_COMMAND_UNCROSS) command.member = 0;
         is_right &= callauction_apply(auction, &command, &reply) == CALLAUCTION_DONE;
         is_right &= callauction_display(auction, &reply) == CALLAUCTION_DONE;
     }
@@ -36,11 +36,11 @@ static bool plays(callauction_handle *auction) {
 static int opens(bool has_day) {
     callauction_handle auction = {0}, copy = {0}, none = {0};
     uint32_t answer = callauction_open(&auction, &config);
-    if (answer == CALLAUCTION_NO_MEMORY) return memcmp(&auction, &none, sizeof none) ? leave("a handle changed") : 3;
+    if (answer == CALLAUCTION_ERROR_NO_MEMORY) return memcmp(&auction, &none, sizeof none) ? leave("a handle changed") : 3;
     if (answer != CALLAUCTION_DONE) return leave("another answer of an opening");
     if (has_day && !plays(&auction)) return leave("the day went otherwise");
     answer = callauction_clone(&auction, &copy);
-    if (answer == CALLAUCTION_NO_MEMORY) {
+    if (answer == CALLAUCTION_ERROR_NO_MEMORY) {
         if (memcmp(&copy, &none, sizeof none)) return leave("a handle changed");
         return callauction_close(&auction) == CALLAUCTION_DONE ? 3 : leave("not closed");
     }

@@ -26,22 +26,22 @@ static void read_limit(const char *field, callauction_command *command) {
 
 static bool read_enter(int count, char **fields, callauction_command *command) {
     if (count < 5) return false;
-    command->tag = CALLAUCTION_ENTER;
-    command->side = strcmp(fields[2], "bid") == 0 ? CALLAUCTION_BID_SIDE : CALLAUCTION_ASK_SIDE;
+    command->tag = CALLAUCTION_COMMAND_ENTER;
+    command->side = strcmp(fields[2], "bid") == 0 ? CALLAUCTION_SIDE_BID : CALLAUCTION_SIDE_ASK;
     command->quantity = number(fields[3]);
     read_limit(fields[4], command);
     if (count > 5 && *fields[5]) {
         command->has_peak = 1;
         command->peak = number(fields[5]);
     }
-    if (count > 6 && strcmp(fields[6], "opening") == 0) command->only = CALLAUCTION_FOR_OPENING;
-    if (count > 6 && strcmp(fields[6], "closing") == 0) command->only = CALLAUCTION_FOR_CLOSING;
+    if (count > 6 && strcmp(fields[6], "opening") == 0) command->restriction = CALLAUCTION_RESTRICTION_OPENING_ONLY;
+    if (count > 6 && strcmp(fields[6], "closing") == 0) command->restriction = CALLAUCTION_RESTRICTION_CLOSING_ONLY;
     return true;
 }
 
 static bool read_change(int count, char **fields, callauction_command *command) {
     if (count != 5) return false;
-    command->tag = CALLAUCTION_CHANGE;
+    command->tag = CALLAUCTION_COMMAND_CHANGE;
     command->id = number(fields[2]);
     command->quantity = number(fields[3]);
     read_limit(fields[4], command);
@@ -63,11 +63,11 @@ bool read_record(char *record, callauction_command *command) {
     command->member = (uint8_t)number(fields[0]);
     if (strcmp(fields[1], "enter") == 0) return read_enter(count, fields, command);
     if (strcmp(fields[1], "change") == 0) return read_change(count, fields, command);
-    if (strcmp(fields[1], "delete") == 0) return read_numbered(count, fields, CALLAUCTION_DELETE, command);
-    if (strcmp(fields[1], "status") == 0) return read_numbered(count, fields, CALLAUCTION_STATUS, command);
-    if (strcmp(fields[1], "trade") == 0) return read_numbered(count, fields, CALLAUCTION_TRADE, command);
-    command->tag = strcmp(fields[1], "ask") == 0 ? CALLAUCTION_ASK : CALLAUCTION_UNCROSS;
-    return count == 2 && (command->tag == CALLAUCTION_ASK || strcmp(fields[1], "uncross") == 0);
+    if (strcmp(fields[1], "delete") == 0) return read_numbered(count, fields, CALLAUCTION_COMMAND_DELETE, command);
+    if (strcmp(fields[1], "status") == 0) return read_numbered(count, fields, CALLAUCTION_COMMAND_ORDER_STATUS, command);
+    if (strcmp(fields[1], "trade") == 0) return read_numbered(count, fields, CALLAUCTION_COMMAND_READ_TRADE, command);
+    command->tag = strcmp(fields[1], "ask") == 0 ? CALLAUCTION_COMMAND_INDICATE : CALLAUCTION_COMMAND_UNCROSS;
+    return count == 2 && (command->tag == CALLAUCTION_COMMAND_INDICATE || strcmp(fields[1], "uncross") == 0);
 }
 
 static const char *const sides[] = {"none", "bid", "ask"};
@@ -104,25 +104,25 @@ static void print_uncrossed(FILE *to, const callauction_reply *r) {
 
 void print_reply(FILE *to, const callauction_reply *r) {
     switch (r->tag) {
-    case CALLAUCTION_ENTERED: fprintf(to, "entered %" PRIu32, r->id); break;
-    case CALLAUCTION_CHANGED: fprintf(to, "changed %s", r->kept ? "kept" : "moved"); break;
-    case CALLAUCTION_DELETED: fputs("deleted", to); break;
-    case CALLAUCTION_STANDING: print_standing(to, r); break;
-    case CALLAUCTION_PRICED: print_price(to, r); break;
-    case CALLAUCTION_UNPRICED:
+    case CALLAUCTION_REPLY_ENTERED: fprintf(to, "entered %" PRIu32, r->id); break;
+    case CALLAUCTION_REPLY_CHANGED: fprintf(to, "changed %s", r->kept ? "kept" : "moved"); break;
+    case CALLAUCTION_REPLY_DELETED: fputs("deleted", to); break;
+    case CALLAUCTION_REPLY_OPEN_ORDER: print_standing(to, r); break;
+    case CALLAUCTION_REPLY_PRICED: print_price(to, r); break;
+    case CALLAUCTION_REPLY_UNPRICED:
         fputs("no price", to);
         print_best(to, "bid", r->has_best_bid, r->best_bid);
         print_best(to, "ask", r->has_best_ask, r->best_ask);
         break;
-    case CALLAUCTION_TRADED:
+    case CALLAUCTION_REPLY_TRADED:
         fprintf(to, "trade %" PRIu32 " %" PRIu32 " %" PRIu64 " at %" PRIu32, r->id, r->ask, r->quantity, r->tick);
         break;
-    case CALLAUCTION_UNCROSSED: print_uncrossed(to, r); break;
-    case CALLAUCTION_INTERRUPTED:
+    case CALLAUCTION_REPLY_UNCROSSED: print_uncrossed(to, r); break;
+    case CALLAUCTION_REPLY_INTERRUPTED:
         fputs("interrupted ", to);
         print_price(to, r);
         break;
-    case CALLAUCTION_REFUSED: fprintf(to, "refused %d %s", r->refusal, refusals[r->refusal]); break;
+    case CALLAUCTION_REPLY_REFUSED: fprintf(to, "refused %d %s", r->refusal, refusals[r->refusal]); break;
     default: fprintf(to, "a reply with the tag %d", r->tag);
     }
 }

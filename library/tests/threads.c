@@ -31,7 +31,7 @@ static void write_day(day *of) {
         command->limit = 450 + drawn(&seed, 100);
         command->quantity = 1 + drawn(&seed, 500);
         command->id = 1 + drawn(&seed, 20000);
-        if (i % 20000 == 19999) command->tag = CALLAUCTION_UNCROSS;
+        if (i % 20000 == 19999) command->tag = CALLAUCTION_COMMAND_UNCROSS;
     }
 }
 

@@ -5,18 +5,19 @@
     with Auction(low=1, high=1000, reference=200) as auction:
         auction.enter(1, Side.BID, 500, limit=200)
         auction.enter(2, Side.ASK, 300, limit=200)
-        print(auction.ask(1), auction.uncross())
+        print(auction.indicate(1), auction.uncross())
 
 docs/LIBRARY.md has the calls, the errors, and what is proved; docs/MODEL.md has the rules. Tables,
 pictures, sentences and files from elsewhere: python/README.md.
 """
 import importlib
-from typing import TYPE_CHECKING, Any
+from typing import TYPE_CHECKING
 
 if TYPE_CHECKING:
-    from callauction import journal, plot, report
-    from callauction.arrays import COMMAND, REPLY, TRADE
+    from callauction import journal, plot, report, verdict
+    from callauction.arrays import COMMAND, ENTRY, REPLY, TRADE
     from callauction.auction import Auction
+    from callauction.board import Board, Member, Receipt, Shown
     from callauction.errors import (
         AuctionError,
         BusyError,
@@ -30,8 +31,9 @@ if TYPE_CHECKING:
     from callauction.reasons import explain
     from callauction.recording import RecordedAuction
     from callauction.tables import audit, read_book, read_journal, read_trades
+    from callauction.verdict import audit_auction, audit_events
     from callauction.words import (
-        Ask,
+        Indicate,
         Change,
         Changed,
         Command,
@@ -41,9 +43,9 @@ if TYPE_CHECKING:
         Deleted,
         Enter,
         Entered,
-        For,
+        Restriction,
         Interrupted,
-        Kind,
+        AuctionKind,
         Market,
         NoPrice,
         Price,
@@ -52,18 +54,19 @@ if TYPE_CHECKING:
         Reply,
         ReplyTag,
         Side,
-        Standing,
-        Status,
-        Trade,
+        OpenOrder,
+        OrderStatus,
+        ReadTrade,
         Traded,
         Uncross,
         Uncrossed,
     )
 
 __all__ = [
-    "Ask",
+    "Indicate",
     "Auction",
     "AuctionError",
+    "Board",
     "BusyError",
     "COMMAND",
     "Change",
@@ -74,33 +77,39 @@ __all__ = [
     "Config",
     "Delete",
     "Deleted",
+    "ENTRY",
     "Enter",
     "Entered",
-    "For",
+    "Restriction",
     "FullError",
     "Interrupted",
-    "Kind",
+    "AuctionKind",
     "Market",
+    "Member",
     "NoCommandError",
     "NoPrice",
     "NotAppliedError",
     "Price",
     "REPLY",
+    "Receipt",
     "RecordedAuction",
     "Refusal",
     "Refused",
     "RefusedError",
     "Reply",
     "ReplyTag",
+    "Shown",
     "Side",
-    "Standing",
-    "Status",
+    "OpenOrder",
+    "OrderStatus",
     "TRADE",
-    "Trade",
+    "ReadTrade",
     "Traded",
     "Uncross",
     "Uncrossed",
     "audit",
+    "audit_auction",
+    "audit_events",
     "explain",
     "journal",
     "plot",
@@ -109,25 +118,41 @@ __all__ = [
     "read_trades",
     "reply_of",
     "report",
+    "verdict",
 ]
 
-_MODULES = ("journal", "plot", "report")
+__version__ = "2026.11.24"
+
+_MODULES = ("journal", "plot", "report", "verdict")
 _LATER = {
     "RecordedAuction": "recording",
     "audit": "tables",
+    "audit_auction": "verdict",
+    "audit_events": "verdict",
     "explain": "reasons",
     "read_book": "tables",
     "read_journal": "tables",
     "read_trades": "tables",
 }
-_PLACES = ("arrays", "auction", "errors", "reading", "words")
+_PLACES = ("words", "arrays", "errors", "reading", "auction", "board")
 
 
-def __getattr__(name: str) -> Any:
-    """A public name, imported when it is first used: so callauction.market needs no library, which
-    a machine of a cluster may not have, and a simulator no pandas. Raises AttributeError for
-    another name.
+def __getattr__(name: str) -> object:
+    """A public name, imported when it is first used, and then kept: so callauction.market needs no
+    library, which a machine of a cluster may not have, and a simulator no pandas. Raises
+    AttributeError for another name.
     """
+    found = globals()[name] = _looked_up(name)
+    return found
+
+
+def __dir__() -> list[str]:
+    """The public names, those that weren't used yet among them."""
+    return sorted({*globals(), *__all__})
+
+
+def _looked_up(name: str) -> object:
+    """A public name from its module. Raises AttributeError."""
     if name in _MODULES:
         return importlib.import_module(f"callauction.{name}")
     if name in _LATER:

@@ -1,33 +1,32 @@
 """The command line: `python3 -m callauction report|audit|plot|convert`, each with `--help`.
 
 The statuses are the program's: 0; 1 for a bad file; 2 for a bad command line or a day that can't be
-opened; 3 where the program is missing, or a read or a write failed; 4 where an audit finds a
-recorded reply that isn't lawful. An error is one line on standard error.
+opened; 3 where the program is missing, or a read or a write failed; 4 where an audit finds
+something unlawful; and 5 where it finds nothing unlawful, but not all was published or compared. An
+error is one line on standard error. What needs the library is imported where it is used, so that an
+audit runs without it.
 """
 import argparse
 import functools
 import os
 import pathlib
 import sys
-from typing import Any, NoReturn
+from collections.abc import Iterable
+from typing import TYPE_CHECKING, NoReturn
 
-import pandas
 import tqdm
-from matplotlib.figure import Figure
 
-from callauction import journal, plot, report
-from callauction.course import course_of, references_of
-from callauction.program import (
-    BAD_DAY,
-    BAD_FILE,
-    DONE,
-    FAILED,
-    OPTIONS,
-    UNLAWFUL,
-    Day,
-    ProgramError,
-)
+from callauction.grid import FrameError
+from callauction.program import OPTIONS, Day, ProgramError
+from callauction.statuses import BAD_DAY, BAD_FILE, DONE, FAILED
 from callauction.tables import book_at, books_of, journal_of
+from callauction.verdict import command
+from callauction.verdict.columns import ColumnError
+from callauction.verdict.reading import ExtractError
+
+if TYPE_CHECKING:
+    from callauction.course import Watch
+    from callauction.journal import Journal
 
 SECONDS = 2
 """Work that takes longer shows how far it is."""
@@ -35,7 +34,13 @@ CONVERTED = ("reference", "low", "high", "range")
 Watched = functools.partial(tqdm.tqdm, delay=SECONDS, leave=False, file=sys.stderr)
 
 
-_PARSING = (pandas.errors.ParserError, pandas.errors.EmptyDataError)
+_BAD_FILES = (
+    FrameError,
+    ColumnError,
+    ExtractError,
+    UnicodeDecodeError,
+)
+"""What says that a file is a bad one."""
 
 
 class Parser(argparse.ArgumentParser):
@@ -59,7 +64,7 @@ def main(words: list[str] | None = None) -> int:
         if isinstance(fault, BrokenPipeError):
             os.dup2(os.open(os.devnull, os.O_WRONLY), sys.stdout.fileno())
         return _told(str(fault) or "out of memory", FAILED)
-    except (journal.FrameError, UnicodeDecodeError, *_PARSING) as fault:
+    except _BAD_FILES as fault:
         return _told(str(fault), BAD_FILE)
     except ValueError as fault:
         return _told(str(fault), BAD_DAY)
@@ -76,10 +81,10 @@ def _parser() -> argparse.ArgumentParser:
     )
     commands = parser.add_subparsers(required=True, metavar="COMMAND")
     made = {
-        name: commands.add_parser(name, help=text, description=text, **_AFTER)
+        name: commands.add_parser(name, help=text, description=text, epilog=_AFTER)
         for name, text in (
-            ("report", "write the report of an order file or a journal as one HTML file"),
-            ("audit", "say whether what a journal or a CSV file of order events has is lawful"),
+            ("report", "write the report of an order file, a journal or an extract as an HTML file"),
+            ("audit", "say whether what was published is lawful: of a journal or an extract"),
             ("plot", "draw the book before an uncross, or the course of the day"),
             ("convert", "make a journal of a CSV file of order events"),
         )
@@ -90,31 +95,36 @@ def _parser() -> argparse.ArgumentParser:
         made[name].set_defaults(run=run)
     for name in ("report", "plot", "convert"):
         made[name].add_argument("-o", "--output", required=True, help="the file to write")
-    for name in ("report", "plot"):
-        _add_day(made[name])
+    _add_day(made["plot"], OPTIONS)
+    _add_day(made["report"], [name for name in OPTIONS if name not in CONVERTED])
     made["plot"].add_argument("--command", type=int, help="the uncross, by its number")
     made["plot"].add_argument("--course", action="store_true", help="draw the course of the day")
-    _add_conversion(made["audit"], is_needed=False)
-    _add_conversion(made["convert"], is_needed=True)
+    for name in ("audit", "report"):
+        command.add_options(made[name])
+    made["audit"].add_argument("-o", "--output", help="write a row for each instrument, as CSV")
+    made["audit"].add_argument("--explain", action="store_true", help="explain each finding")
+    made["audit"].add_argument("--check", action="store_true", help="say how a file is understood")
+    command.add_reading(made["convert"])
+    _add_conversion(made["convert"])
     made["convert"].add_argument("--orders", help="also write a CSV file of our ids and theirs")
     return parser
 
 
-_AFTER: dict[str, Any] = {"epilog": "docs/FORMATS.md has order files, journals and statuses."}
+_AFTER = "docs/FORMATS.md has order files, journals and statuses; docs/AUDIT.md has extracts."
 
 
-def _add_day(parser: argparse.ArgumentParser) -> None:
+def _add_day(parser: argparse.ArgumentParser, names: Iterable[str]) -> None:
     """The options of an order file."""
     group = parser.add_argument_group("the day of an order file (a journal has its own)")
-    for name in OPTIONS:
+    for name in names:
         group.add_argument(f"--{name}", type=int, metavar="N")
 
 
-def _add_conversion(parser: argparse.ArgumentParser, is_needed: bool) -> None:
+def _add_conversion(parser: argparse.ArgumentParser) -> None:
     """The options of a CSV file of order events."""
     group = parser.add_argument_group("a CSV file of order events (prices are decimals)")
-    group.add_argument("--tick-size", required=is_needed, help="the step between two prices")
-    group.add_argument("--reference", required=is_needed, help="the last price before the day")
+    group.add_argument("--tick-size", required=True, help="the step between two prices")
+    group.add_argument("--reference", required=True, help="the last price before the day")
     group.add_argument("--low", help="the lowest price (that of the orders)")
     group.add_argument("--high", help="the highest price (that of the orders)")
     group.add_argument("--range", help="how far a price may lie from the reference")
@@ -127,26 +137,40 @@ def _content(file: str) -> bytes:
     return sys.stdin.buffer.read() if file == "-" else pathlib.Path(file).read_bytes()
 
 
-def _day(asked: argparse.Namespace) -> Day:
-    """The day of the file and the options of a command."""
+def _day(asked: argparse.Namespace, content: bytes) -> Day:
+    """The day of a file and the options of a command. Raises ValueError."""
     options = vars(asked)
     given = [(name, options[name]) for name in OPTIONS if options[name] is not None]
-    return Day(_content(asked.file), tuple(f for n, v in given for f in (f"--{n}", str(v))))
+    words = [(f"--{name}", str(int(value))) for name, value in given]
+    return Day(content, tuple(word for pair in words for word in pair))
 
 
 def _report(asked: argparse.Namespace) -> int:
+    from callauction import report
+    from callauction.verdict import page
+
     title = "A day of call auctions" if asked.file == "-" else pathlib.Path(asked.file).name
-    text = report.html_of(_day(asked), title, _watch("auctions"))
+    content, watch = _content(asked.file), _watch("auctions")
+    if command.is_recorded(content):
+        text = report.html_of(_day(asked, content), title, watch)
+    else:
+        text = page.html_of(command.verdict_of(content, asked), title, watch)
     pathlib.Path(asked.output).write_text(text, encoding="utf-8")
     return DONE
 
 
-def _watch(unit: str) -> Any:
-    return functools.partial(Watched, unit=f" {unit}")
+def _watch(unit: str) -> "Watch":
+    found: Watch = functools.partial(Watched, unit=f" {unit}")
+    return found
 
 
 def _plot(asked: argparse.Namespace) -> int:
-    day = _day(asked)
+    from matplotlib.figure import Figure
+
+    from callauction import plot
+    from callauction.course import course_of, references_of
+
+    day = _day(asked, _content(asked.file))
     figure = Figure(figsize=plot.SIZE, layout="constrained")
     if asked.course:
         plot.indicative(course_of(day, _watch("steps")), ax=figure.subplots())
@@ -159,14 +183,12 @@ def _plot(asked: argparse.Namespace) -> int:
     return DONE
 
 
-def _journal(asked: argparse.Namespace) -> journal.Journal:
+def _journal(asked: argparse.Namespace) -> "Journal":
     """The journal of a CSV file of order events. Raises ValueError."""
-    source: Any = sys.stdin.buffer if asked.file == "-" else asked.file
-    frame = pandas.read_csv(source, dtype="str", keep_default_na=False, encoding="utf-8")
-    if "kept" in frame:
-        frame["kept"] = frame["kept"].map({"true": True, "false": False, "": None}.get)
+    from callauction import journal
+
+    frame = command.plain_table(_content(asked.file), asked)
     options = {name: getattr(asked, name) for name in CONVERTED}
-    frame.index += 2  # a row is named by its line, below that of the heads
     return journal.from_frame(frame, asked.tick_size, watch=_watch("rows"), **options)
 
 
@@ -179,25 +201,7 @@ def _convert(asked: argparse.Namespace) -> int:
 
 
 def _audit(asked: argparse.Namespace) -> int:
-    """The lines of the program for a journal, and the like in their own names for events."""
-    if asked.tick_size is None:
-        text = Day(_content(asked.file)).audited()
-        print(text, end="")
-        return DONE if text.endswith("audit legal\n") else UNLAWFUL
-    found = _journal(asked).audit()
-    for row in found.itertuples():
-        print(_line(row))
-    for name in ("entries", "compared", "unlawful"):
-        print(name, found.attrs[name])
-    print("audit legal" if found.attrs["is_legal"] else "audit not legal")
-    return DONE if found.attrs["is_legal"] else UNLAWFUL
-
-
-def _line(row: Any) -> str:
-    """A finding, by its row, time, event and order there."""
-    named = [f"row {row.row}", row.time, row.event, row.order]
-    head = ", ".join(str(part) for part in named if part)
-    return f'{head}: recorded "{row.recorded}", lawful "{row.lawful}"'
+    return command.audit(_content(asked.file), asked)
 
 
 if __name__ == "__main__":

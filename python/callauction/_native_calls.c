@@ -32,45 +32,45 @@ static callauction_reply reply_to(python_auction *own, callauction_command comma
 }
 
 int64_t python_enter(python_auction *own, uint8_t member, uint64_t quantity, uint32_t limit, uint64_t peak,
-                     uint8_t side, uint8_t only, uint8_t has) {
-    callauction_command command = {.tag = CALLAUCTION_ENTER, .member = member, .quantity = quantity, .limit = limit};
+                     uint8_t side, uint8_t restriction, uint8_t has) {
+    callauction_command command = {.tag = CALLAUCTION_COMMAND_ENTER, .member = member, .quantity = quantity, .limit = limit};
     command.peak = peak;
     command.side = side;
-    command.only = only;
+    command.restriction = restriction;
     command.has_limit = (has & PYTHON_HAS_LIMIT) != 0;
     command.has_peak = (has & PYTHON_HAS_PEAK) != 0;
     callauction_reply reply;
     uint32_t error = answer_to(own, &command, &reply);
     if (error != CALLAUCTION_DONE) return -(int64_t)(PYTHON_ERROR + error);
-    return reply.tag == CALLAUCTION_ENTERED ? (int64_t)reply.id : -(int64_t)reply.refusal;
+    return reply.tag == CALLAUCTION_REPLY_ENTERED ? (int64_t)reply.id : -(int64_t)reply.refusal;
 }
 
 callauction_reply python_change(python_auction *own, uint8_t member, uint32_t id, uint64_t quantity, uint32_t limit,
                                 uint8_t has) {
-    callauction_command command = {.tag = CALLAUCTION_CHANGE, .member = member, .id = id, .quantity = quantity};
+    callauction_command command = {.tag = CALLAUCTION_COMMAND_CHANGE, .member = member, .id = id, .quantity = quantity};
     command.limit = limit;
     command.has_limit = (has & PYTHON_HAS_LIMIT) != 0;
     return reply_to(own, command);
 }
 
 callauction_reply python_delete(python_auction *own, uint8_t member, uint32_t id) {
-    return reply_to(own, (callauction_command){.tag = CALLAUCTION_DELETE, .member = member, .id = id});
+    return reply_to(own, (callauction_command){.tag = CALLAUCTION_COMMAND_DELETE, .member = member, .id = id});
 }
 
 callauction_reply python_status(python_auction *own, uint8_t member, uint32_t id) {
-    return reply_to(own, (callauction_command){.tag = CALLAUCTION_STATUS, .member = member, .id = id});
+    return reply_to(own, (callauction_command){.tag = CALLAUCTION_COMMAND_ORDER_STATUS, .member = member, .id = id});
 }
 
 callauction_reply python_ask(python_auction *own, uint8_t member) {
-    return reply_to(own, (callauction_command){.tag = CALLAUCTION_ASK, .member = member});
+    return reply_to(own, (callauction_command){.tag = CALLAUCTION_COMMAND_INDICATE, .member = member});
 }
 
 callauction_reply python_trade(python_auction *own, uint8_t member, uint32_t number) {
-    return reply_to(own, (callauction_command){.tag = CALLAUCTION_TRADE, .member = member, .id = number});
+    return reply_to(own, (callauction_command){.tag = CALLAUCTION_COMMAND_READ_TRADE, .member = member, .id = number});
 }
 
 callauction_reply python_uncross(python_auction *own, uint8_t member) {
-    return reply_to(own, (callauction_command){.tag = CALLAUCTION_UNCROSS, .member = member});
+    return reply_to(own, (callauction_command){.tag = CALLAUCTION_COMMAND_UNCROSS, .member = member});
 }
 
 /* ---- the others ---- */

@@ -12,8 +12,8 @@ typedef struct python_auction {
 
 /* What calls answer beside the numbers of callauction.h. */
 enum {
-    PYTHON_BUSY = 10,   /* another call has the auction */
-    PYTHON_OVERLAP = 11 /* two arrays share memory */
+    PYTHON_BUSY = 20,   /* another call has the auction */
+    PYTHON_OVERLAP = 21 /* two arrays share memory */
 };
 
 /* ---- one command: its reply, or one with the tag PYTHON_NO_REPLY and the number of the error for its id ---- */
@@ -27,7 +27,7 @@ enum { PYTHON_HAS_LIMIT = 1, PYTHON_HAS_PEAK = 2 };
  * e. */
 enum { PYTHON_ERROR = 100 };
 int64_t python_enter(python_auction *own, uint8_t member, uint64_t quantity, uint32_t limit, uint64_t peak,
-                     uint8_t side, uint8_t only, uint8_t has);
+                     uint8_t side, uint8_t restriction, uint8_t has);
 
 callauction_reply python_change(python_auction *own, uint8_t member, uint32_t id, uint64_t quantity, uint32_t limit,
                                 uint8_t has);

@@ -2,8 +2,6 @@
 
 A flag is 0 or 1. callauction.h says which fields a tag needs, and docs/LIBRARY.md.
 """
-from typing import Any
-
 import numpy
 from numpy.typing import NDArray
 
@@ -19,13 +17,13 @@ COMMAND = numpy.dtype(
         ("member", "u1"),
         ("tag", "u1"),
         ("side", "u1"),
-        ("only", "u1"),
+        ("restriction", "u1"),
         ("has_limit", "u1"),
         ("has_peak", "u1"),
     ],
     align=True,
 )
-"""A command of 32 bytes; its tag is a CommandTag, its side a Side, `only` a For."""
+"""A command of 32 bytes; its tag is a CommandTag, its side a Side, `restriction` a Restriction."""
 
 REPLY = numpy.dtype(
     [
@@ -50,13 +48,16 @@ REPLY = numpy.dtype(
     ],
     align=True,
 )
-"""A reply of 64 bytes; its tag is a ReplyTag, its auction a Kind, its refusal a Refusal."""
+"""A reply of 64 bytes; its tag is a ReplyTag, its auction an AuctionKind, its refusal a Refusal."""
 
 TRADE = numpy.dtype([("quantity", "u8"), ("bid", "u4"), ("ask", "u4"), ("tick", "u4")], align=True)
 """A trade of 24 bytes: its shares, the ids of its two orders, its price."""
 
+ENTRY = numpy.dtype([("command", COMMAND), ("reply", REPLY)], align=True)
+"""An entry of a board's history of 96 bytes: a call with its reply."""
 
-def whole(name: str, array: object, kind: "numpy.dtype[Any]", is_written: bool) -> Structs:
+
+def whole(name: str, array: object, kind: "numpy.dtype[numpy.void]", is_written: bool) -> Structs:
     """The array itself, which is one-dimensional, of this dtype, contiguous and aligned, and may be
     written where it is to be. Raises TypeError for another dtype or no array, else ValueError.
     """

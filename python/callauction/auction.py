@@ -1,4 +1,5 @@
 """An auction in this process: see Auction."""
+import inspect
 from types import TracebackType
 from typing import Any, Self
 
@@ -6,7 +7,7 @@ import numpy
 
 from callauction._native import ffi, lib
 from callauction.arrays import COMMAND, REPLY, TRADE, Shares, Structs, whole
-from callauction.errors import ClosedError, FullError, NoCommandError
+from callauction.errors import AuctionError, ClosedError, FullError, NoCommandError
 from callauction.reading import (
     entered,
     error_of,
@@ -19,7 +20,7 @@ from callauction.reading import (
     read,
 )
 from callauction.words import (
-    Ask,
+    Indicate,
     Change,
     Changed,
     Command,
@@ -28,7 +29,7 @@ from callauction.words import (
     Deleted,
     Enter,
     Entered,
-    For,
+    Restriction,
     Interrupted,
     Market,
     NoPrice,
@@ -37,9 +38,9 @@ from callauction.words import (
     Reply,
     ReplyTag,
     Side,
-    Standing,
-    Status,
-    Trade,
+    OpenOrder,
+    OrderStatus,
+    ReadTrade,
     Traded,
     Uncross,
     Uncrossed,
@@ -56,6 +57,38 @@ _HAS_LIMIT, _HAS_PEAK = int(lib.PYTHON_HAS_LIMIT), int(lib.PYTHON_HAS_PEAK)
 _enter, _ask = lib.python_enter, lib.python_ask
 _AT_ONCE = 1024
 """How many trades are copied by one call of the library."""
+
+
+class _Signature:
+    """The signature of a class whose `__new__` takes whatever its `__init__` does."""
+
+    def __get__(self, _: object, owner: type) -> inspect.Signature:
+        made = inspect.signature(owner.__init__)  # type: ignore[misc]
+        return made.replace(parameters=[*made.parameters.values()][1:])
+
+
+def config_struct(
+    low: int, high: int, reference: int, max_open: int, max_calls: int, range: int | None
+) -> Any:
+    """These numbers as a struct of the library. Raises TypeError or ValueError with the name of
+    one that is no integer or doesn't fit.
+    """
+    config = ffi.new("callauction_config *")
+    config.low = number("low", low, MOST)
+    config.high = number("high", high, MOST)
+    config.reference = number("reference", reference, MOST)
+    config.max_open = number("max_open", max_open, MOST)
+    config.max_calls = number("max_calls", max_calls, MOST)
+    config.has_range = range is not None
+    config.range = 0 if range is None else number("range", range, MOST)
+    return config
+
+
+def config_of(found: Any) -> Config:
+    """What a struct of the library says."""
+    most = found.range if found.has_range else None
+    numbers = found.low, found.high, found.reference, found.max_open, found.max_calls
+    return Config(*numbers, most)
 
 
 class Auction:
@@ -81,6 +114,7 @@ class Auction:
     """
 
     __slots__ = ("_own", "__weakref__")
+    __signature__ = _Signature()
 
     _own: Any
     """The library's handle, and whether a call has it. It stands at one place, and closes what it
@@ -101,15 +135,19 @@ class Auction:
         max_calls: int = 65536,
         range: int | None = None,
     ) -> None:
-        config = ffi.new("callauction_config *")
-        config.low = number("low", low, MOST)
-        config.high = number("high", high, MOST)
-        config.reference = number("reference", reference, MOST)
-        config.max_open = number("max_open", max_open, MOST)
-        config.max_calls = number("max_calls", max_calls, MOST)
-        config.has_range = range is not None
-        config.range = 0 if range is None else number("range", range, MOST)
+        config = config_struct(low, high, reference, max_open, max_calls, range)
         self._call(lib.python_open, config)
+
+    def __repr__(self) -> str:
+        try:
+            config, calls = self.config, self.calls
+        except AuctionError as error:
+            return f"<{type(self).__name__}: {error}>"
+        span = "" if config.range is None else f" range {config.range}"
+        return (
+            f"<{type(self).__name__} low {config.low} high {config.high} reference "
+            f"{config.reference}{span}: calls {calls} of {config.max_calls}>"
+        )
 
     def __enter__(self) -> Self:
         return self
@@ -131,7 +169,7 @@ class Auction:
         quantity: int,
         limit: int | None = None,
         peak: int | None = None,
-        only: For = For.ALL,
+        restriction: Restriction = Restriction.NONE,
         *,
         check: bool = False,
     ) -> Entered | Refused:
@@ -141,8 +179,8 @@ class Auction:
         if side is not _BID and side is not _ASK:
             member_of("side", side, Side)
             raise ValueError("side must be BID or ASK")
-        if type(only) is not For:
-            member_of("only", only, For)
+        if type(restriction) is not Restriction:
+            member_of("restriction", restriction, Restriction)
         tick, has = (0, 0) if limit is None else (limit, _HAS_LIMIT)
         shown = 0
         if peak is not None:
@@ -150,7 +188,7 @@ class Auction:
         if not type(member) is type(quantity) is type(tick) is type(shown) is int:
             member, quantity, tick, shown = numbers(_TERMS, (member, quantity, tick, shown))
         try:
-            answer = _enter(self._own, member, quantity, tick, shown, side, only, has)
+            answer = _enter(self._own, member, quantity, tick, shown, side, restriction, has)
         except OverflowError:
             raise fault_of(_TERMS, (member, quantity, tick, shown)) from None
         return entered(answer) if answer > 0 else not_entered(answer, check)
@@ -177,12 +215,12 @@ class Auction:
         reply: Deleted | Refused = self._applied(lib.python_delete, _ID, (member, id), check)
         return reply
 
-    def status(self, member: int, id: int, *, check: bool = False) -> Standing | Refused:
+    def order_status(self, member: int, id: int, *, check: bool = False) -> OpenOrder | Refused:
         """What is open of the member's order with this id."""
-        reply: Standing | Refused = self._applied(lib.python_status, _ID, (member, id), check)
+        reply: OpenOrder | Refused = self._applied(lib.python_status, _ID, (member, id), check)
         return reply
 
-    def ask(self, member: int, *, check: bool = False) -> Price | NoPrice | Refused:
+    def indicate(self, member: int, *, check: bool = False) -> Price | NoPrice | Refused:
         """The indicative price, or the best limits where there is none."""
         if type(member) is not int:
             (member,) = numbers(_MEMBER, (member,))
@@ -205,7 +243,7 @@ class Auction:
         reply = self._applied(lib.python_uncross, _MEMBER, (member,), check)
         return reply
 
-    def trade(self, member: int, number: int, *, check: bool = False) -> Traded | Refused:
+    def read_trade(self, member: int, number: int, *, check: bool = False) -> Traded | Refused:
         """The trade of the day with this number, from 1 on."""
         reply: Traded | Refused = self._applied(lib.python_trade, _NUMBER, (member, number), check)
         return reply
@@ -213,18 +251,18 @@ class Auction:
     def apply(self, member: int, command: Command, *, check: bool = False) -> Reply:
         """Applies a command. Raises TypeError where it is none of Command."""
         match command:
-            case Enter(side, quantity, limit, peak, only):
-                return self.enter(member, side, quantity, limit, peak, only, check=check)
+            case Enter(side, quantity, limit, peak, restriction):
+                return self.enter(member, side, quantity, limit, peak, restriction, check=check)
             case Change(id, quantity, limit):
                 return self.change(member, id, quantity, limit, check=check)
             case Delete(id):
                 return self.delete(member, id, check=check)
-            case Status(id):
-                return self.status(member, id, check=check)
-            case Ask():
-                return self.ask(member, check=check)
-            case Trade(number):
-                return self.trade(member, number, check=check)
+            case OrderStatus(id):
+                return self.order_status(member, id, check=check)
+            case Indicate():
+                return self.indicate(member, check=check)
+            case ReadTrade(number):
+                return self.read_trade(member, number, check=check)
             case Uncross():
                 return self.uncross(member, check=check)
         raise TypeError(f"command must be one of Command, not {type(command).__name__}")
@@ -313,14 +351,7 @@ class Auction:
         """What the auction was opened with."""
         found = ffi.new("callauction_config *")
         self._call(lib.python_config_of, found)
-        return Config(
-            found.low,
-            found.high,
-            found.reference,
-            found.max_open,
-            found.max_calls,
-            found.range if found.has_range else None,
-        )
+        return config_of(found)
 
     @property
     def is_closed(self) -> bool:
@@ -342,7 +373,7 @@ class Auction:
     def __copy__(self) -> Self:
         return self.copy()
 
-    def __deepcopy__(self, _: dict[int, Any]) -> Self:
+    def __deepcopy__(self, _: dict[int, object]) -> Self:
         return self.copy()
 
     def __reduce__(self) -> str:
@@ -368,7 +399,7 @@ class Auction:
             raise error_of(answer)
 
     def _applied(
-        self, function: Any, names: tuple[str, ...], given: tuple[Any, ...], check: bool
+        self, function: Any, names: tuple[str, ...], given: tuple[object, ...], check: bool
     ) -> Any:
         """The reply to the command that this call of the library applies, with the numbers given,
         which have these names.

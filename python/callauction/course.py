@@ -3,16 +3,18 @@ reference price before a command. The day is played by an Auction, command by co
 """
 import dataclasses
 from collections.abc import Callable, Iterable
-from typing import Any
+from typing import TYPE_CHECKING, Any
 
 import numpy
 import pandas
 
 from callauction.arrays import COMMAND, REPLY, Structs
-from callauction.auction import Auction
 from callauction.program import Day
 from callauction.tables import journal_of
-from callauction.words import CommandTag, For, Kind, NoPrice, Price, ReplyTag, Side
+from callauction.words import CommandTag, Restriction, AuctionKind, NoPrice, Price, ReplyTag, Side
+
+if TYPE_CHECKING:
+    from callauction.auction import Auction
 
 MOST_CALLS = 1_048_576
 MOST_LOOKS = 20_000
@@ -42,8 +44,18 @@ UNCROSSES = {
 executed as the price lay too far from the reference.
 """
 INTERRUPTED = "interrupted"
+_TAGS = {
+    "enter": CommandTag.ENTER,
+    "change": CommandTag.CHANGE,
+    "delete": CommandTag.DELETE,
+    "status": CommandTag.ORDER_STATUS,
+    "ask": CommandTag.INDICATE,
+    "trade": CommandTag.READ_TRADE,
+    "uncross": CommandTag.UNCROSS,
+}
+"""The tags of the commands by their words in a file."""
 _SIDES = {"bid": Side.BID, "ask": Side.ASK}
-_ONLY = {"opening": For.OPENING, "closing": For.CLOSING}
+_RESTRICTIONS = {"opening": Restriction.OPENING_ONLY, "closing": Restriction.CLOSING_ONLY}
 Watch = Callable[[Iterable[Any]], Iterable[Any]]
 """What steps are taken through, such as a progress bar."""
 
@@ -71,7 +83,7 @@ def course_of(day: Day | pandas.DataFrame, watch: Watch = iter) -> Course:
             auction.apply_many(commands[begin:end], replies[begin:end])
             looks.append((end, auction.display()))
     uncrosses = _uncrosses(replies)
-    closings = uncrosses["command"][uncrosses["auction"] == Kind.CLOSING.name.lower()]
+    closings = uncrosses["command"][uncrosses["auction"] == AuctionKind.CLOSING.name.lower()]
     return Course(_indicative(looks, closings.min() if len(closings) else None), uncrosses)
 
 
@@ -96,7 +108,7 @@ def _uncrosses(replies: Structs) -> pandas.DataFrame:
         has_price = bool(row["has_tick"]) or not is_done
         price = [int(row[name]) if has_price else None for name in ("tick", "volume", "surplus")]
         side = Side(row["side"]).name.lower() if has_price else ""
-        name = Kind(row["auction"]).name.lower() if is_done else INTERRUPTED
+        name = AuctionKind(row["auction"]).name.lower() if is_done else INTERRUPTED
         rows.append((place + 1, name, *price, side, int(row["trades"])))
     return pandas.DataFrame(rows, columns=list(UNCROSSES)).astype(UNCROSSES)
 
@@ -104,8 +116,12 @@ def _uncrosses(replies: Structs) -> pandas.DataFrame:
 # ---- a journal's frame for the library
 
 
-def opened(journal: pandas.DataFrame) -> Auction:
-    """An auction at the opening of a journal's day, which takes as many calls as there may be."""
+def opened(journal: pandas.DataFrame) -> "Auction":
+    """An auction at the opening of a journal's day, which takes as many calls as there may be. The
+    library is imported here, so that a report of an extract needs none.
+    """
+    from callauction.auction import Auction
+
     day = journal.attrs
     return Auction(
         day["low"], day["high"], day["reference"], day["open"], MOST_CALLS, range=day["range"]
@@ -115,12 +131,11 @@ def opened(journal: pandas.DataFrame) -> Auction:
 def commands_of(journal: pandas.DataFrame) -> Structs:
     """The commands of a journal's frame: an array of COMMAND of its length."""
     commands = numpy.zeros(len(journal), COMMAND)
-    tags = {tag.name.lower(): tag for tag in CommandTag}
     commands["member"] = journal["member"]
-    commands["tag"] = journal["command"].map(tags)
+    commands["tag"] = journal["command"].map(_TAGS)
     commands["id"] = journal["id"].fillna(journal["number"]).fillna(0)
     commands["side"] = journal["side"].map(_SIDES).fillna(Side.NONE)
-    commands["only"] = journal["only"].map(_ONLY).fillna(For.ALL)
+    commands["restriction"] = journal["only"].map(_RESTRICTIONS).fillna(Restriction.NONE)
     for name in ("quantity", "limit", "peak"):
         commands[name] = journal[name].fillna(0)
     commands["has_limit"] = journal["limit"].notna()
@@ -152,7 +167,7 @@ def references_of(journal: pandas.DataFrame, numbers: Iterable[int]) -> dict[int
     return found
 
 
-def _probed(auction: Auction, commands: Structs, replies: Structs) -> int | None:
+def _probed(auction: "Auction", commands: Structs, replies: Structs) -> int | None:
     """The price of two market orders alone, in a copy of this auction after these commands."""
     entered = replies["tag"] == ReplyTag.ENTERED
     probe = numpy.zeros(entered.sum() + 3, COMMAND)
@@ -168,4 +183,4 @@ def _probed(auction: Auction, commands: Structs, replies: Structs) -> int | None
     return int(shown["tick"]) if shown["tag"] == ReplyTag.PRICED else None
 
 
-_PROBE = (CommandTag.ENTER, CommandTag.ENTER, CommandTag.ASK)
+_PROBE = (CommandTag.ENTER, CommandTag.ENTER, CommandTag.INDICATE)

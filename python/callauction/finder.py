@@ -5,13 +5,16 @@ import pathlib
 import shutil
 
 VARIABLE = "CALLBOARD"
+HELD = pathlib.Path(__file__).with_name("bin") / "callboard"
+"""Where a wheel of this package holds it."""
 BUILT = pathlib.Path(__file__).resolve().parents[2] / "crates/callboard/out/callboard"
 """Where the repository builds it, beside which this package's sources stand."""
 
 
 def program() -> str:
-    """The path of the program: what the variable CALLBOARD names, or else `callboard` on the path,
-    or else the one that was built in the repository that has this package.
+    """The path of the program: what the variable CALLBOARD names, or else the one that came with
+    this package in a wheel, or `callboard` on the path, or the one that was built in the repository
+    that has this package.
 
     Raises FileNotFoundError where there is none, or CALLBOARD names no file that can be run.
     """
@@ -21,7 +24,7 @@ def program() -> str:
         if not found:
             raise FileNotFoundError(f"{VARIABLE} names no program: {named}")
         return os.path.abspath(found)
-    found = shutil.which("callboard") or shutil.which(str(BUILT))
+    found = shutil.which(str(HELD)) or shutil.which("callboard") or shutil.which(str(BUILT))
     if not found:
         raise FileNotFoundError(
             f"there is no program callboard: build it, and name it by {VARIABLE} or have it on PATH"

@@ -19,6 +19,25 @@ class BadCellError(ValueError):
     """A cell has no value of its kind; the text says what is wrong with it."""
 
 
+class FrameError(ValueError):
+    """A row of a frame can't be written into a journal: `row` is its label in the frame's index,
+    `column` and `value` say what is wrong there.
+    """
+
+    def __init__(self, row: object, column: str, value: object, why: str) -> None:
+        super().__init__(f"row {row}: {column} {_shown(value)}{why}")
+        self.row, self.column, self.value = row, column, value
+
+
+def _shown(value: object) -> str:
+    """A value as an error tells it: nothing for a missing one, and no float for a whole number."""
+    if isinstance(value, Decimal):
+        return f"{value} "
+    if pandas.api.types.is_scalar(value) and pandas.isna(value):
+        return ""
+    return f"{value:.0f} " if isinstance(value, float) and value.is_integer() else f"{value!r} "
+
+
 def cell_of(value: object) -> Any:
     """The value of a cell, None where it is missing or empty. Raises BadCellError for a value that
     is no scalar.

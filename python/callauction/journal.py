@@ -6,15 +6,17 @@ The frame has a row for each event, in the order in which the board took them. I
 - `order`: the order's id there; `member`: who sent it, which `replace` and `cancel` may
   leave out;
 - `side`: `bid` or `buy`, `ask` or `sell`; `price`: a decimal, missing for a market order;
-- `quantity`: shares, at `replace` what is open behind it; `peak`: of an iceberg order;
-- `only`: `opening` or `closing`, where the order is for that auction alone;
+- `quantity`: shares, at `replace` what is open behind it, at `cancel` what is taken out where
+  that isn't all; `peak`: of an iceberg order;
+- `restriction`: `opening` or `closing`, where the order is for that auction alone;
 - `time`: any; `kept`: at `replace`, whether the place in time was kept, if that is known.
 
 What was published of an auction stands in the row `uncross`, as far as it is known: `price`,
 `quantity` (what was executed), `surplus` and its `side`, `trades` (how many) and `auction`
 (`opening`, `intraday`, `closing`, or `interrupted` where nothing was executed). A row `trade` has
 the ids of both orders in `bid` and `ask`, `quantity` and `price`, in the order in which they were
-made. Columns that nobody needs may be missing. docs/AUDIT.md says what becomes of each.
+made. Columns that nobody needs may be missing; another column is refused, since it may be one of
+these by another name: without `price` each order is a market order.
 
 Nothing is decided here: which id an order gets, and whether it is taken, says the library.
 """
@@ -22,7 +24,7 @@ import dataclasses
 import os
 import pathlib
 import re
-from collections.abc import Iterable
+from collections.abc import Collection, Iterable
 from decimal import Decimal
 from typing import Any
 
@@ -34,6 +36,7 @@ from callauction.reasons import Explanation, explain
 from callauction.grid import (
     MOST_TICKS,
     BadCellError,
+    FrameError,
     Grid,
     cell_of,
     decimal_of,
@@ -43,19 +46,21 @@ from callauction.grid import (
 )
 from callauction.program import Day
 from callauction.tables import audit_of, book_at, books_of, journal_of, trades_of
+from callauction.verdict.columns import OTHER_NAMES, refuse_unknown
 from callauction.words import (
-    Ask,
+    Indicate,
+    OpenOrder,
     Change,
     Command,
     Delete,
     Enter,
     Entered,
-    For,
+    Restriction,
     Refusal,
     Refused,
     Reply,
     Side,
-    Trade,
+    ReadTrade,
     Uncross,
 )
 from callauction.written import fields_of, text_of
@@ -65,34 +70,33 @@ SHARED = 63
 """The numbers that members have; more members share them. Number 0 is the operator's."""
 MOST_OPEN = 65_536
 SIDES = {"bid": Side.BID, "buy": Side.BID, "ask": Side.ASK, "sell": Side.ASK}
-ONLY = {"opening": For.OPENING, "closing": For.CLOSING}
+RESTRICTIONS = {"opening": Restriction.OPENING_ONLY, "closing": Restriction.CLOSING_ONLY}
 AUCTIONS = ("opening", "intraday", "closing", "interrupted")
+COLUMNS = (
+    "event",
+    "order",
+    "member",
+    "side",
+    "price",
+    "quantity",
+    "peak",
+    "restriction",
+    "time",
+    "kept",
+    "surplus",
+    "trades",
+    "auction",
+    "bid",
+    "ask",
+)
+"""The columns that a frame may have."""
 _AT_FAULT = {
     Refusal.BAD_QUANTITY: "quantity",
     Refusal.BAD_LIMIT: "price",
     Refusal.BAD_PEAK: "peak",
-    Refusal.PAST_AUCTION: "only",
+    Refusal.PAST_AUCTION: "restriction",
 }
 """The column of what a refused order is refused for; for the others it is the order."""
-
-
-class FrameError(ValueError):
-    """A row of a frame can't be written into a journal: `row` is its label in the frame's index,
-    `column` and `value` say what is wrong there.
-    """
-
-    def __init__(self, row: object, column: str, value: object, why: str) -> None:
-        super().__init__(f"row {row}: {column} {_shown(value)}{why}")
-        self.row, self.column, self.value = row, column, value
-
-
-def _shown(value: object) -> str:
-    """A value as an error tells it: nothing for a missing one, and no float for a whole number."""
-    if isinstance(value, Decimal):
-        return f"{value} "
-    if pandas.api.types.is_scalar(value) and pandas.isna(value):
-        return ""
-    return f"{value:.0f} " if isinstance(value, float) and value.is_integer() else f"{value!r} "
 
 
 @dataclasses.dataclass(frozen=True)
@@ -167,7 +171,7 @@ class Row:
 
 @dataclasses.dataclass(frozen=True)
 class Journal:
-    """A frame as a journal, and the maps back.
+    """A frame as a journal, and the maps back to its own ids, members, times and prices.
 
     `text` is the journal; `grid` has the price of each tick; `orders` has by our id the order's id
     there (`order`), its `member` there and the `number` that it has here, and the `row`; `entries`
@@ -179,6 +183,9 @@ class Journal:
     grid: Grid
     orders: pandas.DataFrame
     entries: pandas.DataFrame
+
+    def __repr__(self) -> str:
+        return f"<Journal of {len(self.entries):,} entries and {len(self.orders):,} orders>"
 
     def day(self) -> Day:
         """The journal for the program, in its own ids, numbers and ticks."""
@@ -291,8 +298,7 @@ class _Conversion:
             case "replace":
                 self._replace(row)
             case "cancel":
-                order, id, member = self._known(row, "order")
-                self._write(row, member, Delete(id), "deleted", order)
+                self._cancel(row)
             case "uncross":
                 self._uncross(row)
             case "trade":
@@ -303,15 +309,28 @@ class _Conversion:
         if order in self.orders:
             raise row.fault("order", f"was entered before, in row {self.orders[order][2]}")
         side = SIDES[row.word("side", SIDES)]
-        only = ONLY[row.word("only", ONLY)] if row.get("only") is not None else For.ALL
+        restriction = Restriction.NONE
+        if row.get("restriction") is not None:
+            restriction = RESTRICTIONS[row.word("restriction", RESTRICTIONS)]
         quantity, peak = row.needed_whole("quantity"), row.whole("peak")
-        command = Enter(side, quantity, row.tick(self.grid), peak, only)
+        command = Enter(side, quantity, row.tick(self.grid), peak, restriction)
         reply = self._write(row, member, command, "", order)
         if isinstance(reply, Refused):
             column = _AT_FAULT.get(reply.refusal, "order")
             raise row.fault(column, f"can't be entered: {text_of(reply)}")
         assert isinstance(reply, Entered)
         self.orders[order] = reply.id, member, row.label
+
+    def _cancel(self, row: Row) -> None:
+        """A cancel of less than what is open is a change, which keeps the place in time."""
+        order, id, member = self._known(row, "order")
+        part = row.whole("quantity")
+        status = self.auction.order_status(self.numbers[member], id) if part else None
+        if part and isinstance(status, OpenOrder) and part < status.quantity:
+            change = Change(id, status.quantity - part, status.limit)
+            self._write(row, member, change, "", order)
+        else:
+            self._write(row, member, Delete(id), "deleted", order)
 
     def _replace(self, row: Row) -> None:
         order, id, member = self._known(row, "order")
@@ -336,7 +355,7 @@ class _Conversion:
         elif price and auction and trades is not None:
             self._write(row, None, Uncross(), f"{auction} {price} trades {trades}")
         elif price:
-            self._write(row, None, Ask(), price)
+            self._write(row, None, Indicate(), price)
             self._write(row, None, Uncross(), "")
         else:
             is_none = row.get("price") is None and row.whole("quantity") == 0
@@ -361,7 +380,7 @@ class _Conversion:
             raise row.fault("price", "is missing")
         self.trades += 1
         text = f"trade {bid} {ask} {row.needed_whole('quantity')} at {tick}"
-        self._write(row, None, Trade(self.trades), text)
+        self._write(row, None, ReadTrade(self.trades), text)
 
     def _known(self, row: Row, column: str) -> tuple[Any, int, Any]:
         """The id there of an order that was entered, its id here, and its member."""
@@ -395,6 +414,7 @@ def from_frame(
     low: object = None,
     high: object = None,
     range: object = None,
+    ignore: Collection[str] = (),
     watch: Watch = iter,
 ) -> Journal:
     """The journal of a frame of order events (see the module).
@@ -403,15 +423,18 @@ def from_frame(
     `high` are the lowest and the highest price, without them those of the orders and the reference;
     `range` is how far a price may lie from the reference before an uncross is interrupted. All are
     decimals: a Decimal, a text, an int, or a float, which stands for the shortest decimal that
-    gives it. `watch` is given the rows, such as tqdm.tqdm.
+    gives it. `ignore` names columns that are passed over, `*` each unknown one. `watch` is given
+    the rows, such as tqdm.tqdm.
 
-    Raises FrameError with the row and the value where a price is off the grid of ticks, an id is
+    Raises ColumnError for an unknown column; FrameError with the row and the value where a price is off the grid of ticks, an id is
     unknown or used twice, a word or a number is none, the prices span more than 65,536 ticks, there
     are more than 1,048,576 entries, times fall, or the board would refuse a new order; ValueError
     for the other arguments.
     """
+    frame = frame.rename(columns=OTHER_NAMES)
     if not frame.columns.is_unique:
         raise ValueError("frame has a column twice")
+    refuse_unknown(frame.columns, COLUMNS, ignore)
     rows = [Row(*pair) for pair in zip(frame.index, frame.to_dict("records"))]
     _look_at_times(frame)
     size = tick_size_of(tick_size)

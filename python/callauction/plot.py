@@ -2,6 +2,7 @@
 
 Ticks are the unit of limits and prices, shares that of quantities and volumes.
 """
+from collections.abc import Callable
 from typing import Any, Protocol
 
 import matplotlib.pyplot as pyplot
@@ -42,6 +43,7 @@ def book(
     command: int | None = None,
     *,
     reference: int | None = None,
+    named: Callable[[int], str] | None = None,
     ax: Axes | None = None,
 ) -> Axes:
     """Draws a book: demand and supply as steps over the ticks, the executable volume at each limit,
@@ -49,8 +51,8 @@ def book(
 
     `auction` is a RecordedAuction or a table of books (tables.BOOK). The book is the one before the
     command with this number, without one the last. A RecordedAuction knows the reference; to a
-    table `reference` adds it, in ticks. Draws on `ax`, or on a new figure, and answers the axes.
-    Raises ValueError where there is no such book.
+    table `reference` adds it, in ticks. `named` gives a tick its name, such as a price. Draws on
+    `ax`, or on a new figure, and answers the axes. Raises ValueError where there is no such book.
     """
     if isinstance(auction, pandas.DataFrame):
         table = auction
@@ -62,12 +64,21 @@ def book(
     levels = found[found["limit"].notna()][::-1]
     ends = _ends(levels, reference)
     _draw_curves(axes, found[found["limit"].isna()].iloc[0], levels, ends)
-    _draw_best(axes, levels)
+    name = named or _tick_name
+    _draw_best(axes, levels, name)
     if reference is not None:
-        axes.axvline(reference, color=REFERENCE, linestyle=":", label=f"reference {reference}")
-    _label(axes, found, levels)
+        label = f"reference {name(reference)}"
+        axes.axvline(reference, color=REFERENCE, linestyle=":", label=label)
+    _label(axes, found, levels, name)
+    if named is not None:
+        axes.set_xlabel("limit")
+        axes.xaxis.set_major_formatter(FuncFormatter(lambda tick, _: named(round(tick))))
     axes.set_xlim(*ends)
     return axes
+
+
+def _tick_name(tick: int) -> str:
+    return str(tick)
 
 
 def _new_axes() -> Axes:
@@ -129,7 +140,7 @@ def _draw_curves(
     axes.set_ylim(0, 1.06 * max(*demand, *supply, 1))
 
 
-def _draw_best(axes: Axes, levels: pandas.DataFrame) -> None:
+def _draw_best(axes: Axes, levels: pandas.DataFrame, named: Callable[[int], str]) -> None:
     """The best limits and the auction price, each at its volume, and the price's surplus."""
     best = levels[levels["best"] == 1]
     if len(best):
@@ -146,13 +157,16 @@ def _draw_best(axes: Axes, levels: pandas.DataFrame) -> None:
     for _, price in levels[levels["price"] != ""].iterrows():
         tick, volume, surplus = (int(price[name]) for name in ("limit", "volume", "surplus"))
         axes.vlines(tick, volume, volume + surplus, color=PRICE, linewidth=2.5, label="surplus")
-        axes.plot([tick], [volume], linestyle="", marker="o", color=PRICE, label=f"price {tick}")
+        label = f"price {named(tick)}"
+        axes.plot([tick], [volume], linestyle="", marker="o", color=PRICE, label=label)
 
 
-def _label(axes: Axes, found: pandas.DataFrame, levels: pandas.DataFrame) -> None:
+def _label(
+    axes: Axes, found: pandas.DataFrame, levels: pandas.DataFrame, named: Callable[[int], str]
+) -> None:
     """What the picture shows, and in which units."""
     command, auction = found["command"].iloc[0], found["auction"].iloc[0]
-    axes.set_title(f"{auction}, before command {command}\n{_told(levels)}", loc="left")
+    axes.set_title(f"{auction}, before command {command}\n{_told(levels, named)}", loc="left")
     axes.set_xlabel("limit (ticks)")
     axes.set_ylabel("quantity (shares)")
     axes.xaxis.set_major_locator(MaxNLocator(nbins=8, integer=True))
@@ -162,14 +176,12 @@ def _label(axes: Axes, found: pandas.DataFrame, levels: pandas.DataFrame) -> Non
     axes.legend(loc="upper center", bbox_to_anchor=(0.5, -0.16), ncols=3, frameon=False)
 
 
-def _told(levels: pandas.DataFrame) -> str:
+def _told(levels: pandas.DataFrame, named: Callable[[int], str]) -> str:
     """The auction price of a book in words."""
     for _, price in levels[levels["price"] != ""].iterrows():
         side = "" if price["side"] == "none" else f" {price['side']}"
-        return (
-            f"price {price['limit']}, volume {price['volume']:,}, surplus {price['surplus']:,}"
-            f"{side}"
-        )
+        name = named(int(price["limit"]))
+        return f"price {name}, volume {price['volume']:,}, surplus {price['surplus']:,}{side}"
     return "no price"
 
 

@@ -9,14 +9,13 @@ from typing import Self
 
 from callauction import finder
 from callauction.errors import AuctionError
+from callauction.statuses import BAD_DAY, BAD_FILE, DONE, FAILED, UNLAWFUL
 
 FORMS = ("lines", "journal", "trades", "book")
 """The forms in which a day is printed (docs/FORMATS.md)."""
 OPTIONS = ("low", "high", "reference", "members", "open", "calls", "range")
 """What an order file's day is opened with, in the order of a day record."""
 VARIABLE = finder.VARIABLE
-DONE, BAD_FILE, BAD_DAY, FAILED, UNLAWFUL = range(5)
-"""The statuses of the program."""
 NO_JOURNAL = "record 1: not a day record"
 
 
@@ -86,6 +85,9 @@ class Day:
     content: bytes
     words: tuple[str, ...] = ()
 
+    def __repr__(self) -> str:
+        return f"<Day {' '.join([f'{len(self.content):,} bytes', *self.words])}>"
+
     @classmethod
     def read(cls, path: str | os.PathLike[str], **options: int | None) -> Self:
         """The day of a file; the options are those of OPTIONS. Raises OSError and TypeError."""
@@ -101,6 +103,13 @@ class Day:
         for an order file.
         """
         _, text = _answer(["--audit"], self.content)
+        return text
+
+    def results(self) -> str:
+        """What the program prints of the audit of a journal with the lawful results of its day: the
+        audit's lines, that of each uncross, and where the day is. Raises as audited.
+        """
+        _, text = _answer(["--audit", "--results"], self.content)
         return text
 
     def is_journal(self) -> bool:

@@ -20,7 +20,7 @@ from callauction.words import (
     Deleted,
     Entered,
     Interrupted,
-    Kind,
+    AuctionKind,
     NoPrice,
     Price,
     Refusal,
@@ -28,14 +28,14 @@ from callauction.words import (
     Reply,
     ReplyTag,
     Side,
-    Standing,
+    OpenOrder,
     Traded,
     Uncrossed,
 )
 
 SIDES = tuple(Side)
 """By its number, the side that a reply names."""
-KINDS, REFUSALS = tuple(Kind), tuple(map(Refused, Refusal))
+KINDS, REFUSALS = tuple(AuctionKind), tuple(map(Refused, Refusal))
 """By its number less 1, the auction or the refusal that a reply names."""
 _REFUSED, _UNCROSSED = int(ReplyTag.REFUSED), int(ReplyTag.UNCROSSED)
 
@@ -43,32 +43,43 @@ _REFUSED, _UNCROSSED = int(ReplyTag.REFUSED), int(ReplyTag.UNCROSSED)
 # ---- errors
 
 _CONFIG_FAULTS = {
-    lib.CALLAUCTION_BAD_BOUNDS: "low, high: not 1 <= low <= high <= 1,000,000, or more than 65,536 "
+    lib.CALLAUCTION_ERROR_BAD_BOUNDS: "low, high: not 1 <= low <= high <= 1,000,000, or more than 65,536 "
     "ticks",
-    lib.CALLAUCTION_BAD_REFERENCE: "reference: not a tick from low to high",
-    lib.CALLAUCTION_BAD_LIMITS: "max_open, max_calls: not from 1 to 65,536 and from 1 to 1,048,576",
+    lib.CALLAUCTION_ERROR_BAD_REFERENCE: "reference: not a tick from low to high",
+    lib.CALLAUCTION_ERROR_BAD_CAPACITY: "max_open, max_calls: not from 1 to 65,536 and from 1 to 1,048,576",
 }
 
 
 def error_of(answer: int) -> Exception:
     """What is raised where a call of the library answers this error."""
-    if answer == lib.CALLAUCTION_NO_AUCTION:
+    if answer == lib.CALLAUCTION_ERROR_NO_AUCTION:
         return ClosedError("the object holds no auction")
-    if answer == lib.CALLAUCTION_FULL:
+    if answer == lib.CALLAUCTION_ERROR_FULL:
         return FullError("as many commands were applied as may be")
     if answer == lib.PYTHON_BUSY:
         return BusyError("another call of this auction is running")
-    if answer == lib.CALLAUCTION_NO_COMMAND:
+    if answer == lib.CALLAUCTION_ERROR_NO_COMMAND:
         return NoCommandError("a struct stands for no command")
-    if answer == lib.CALLAUCTION_NO_MEMORY:
+    if answer == lib.CALLAUCTION_ERROR_NO_MEMORY:
         return MemoryError("an auction got no memory")
-    if answer == lib.CALLAUCTION_IN_USE:
+    if answer == lib.CALLAUCTION_ERROR_IN_USE:
         return AuctionError("the object holds an auction")
     if answer == lib.PYTHON_OVERLAP:
         return ValueError("replies must share no memory with commands")
     if answer in _CONFIG_FAULTS:
         return ValueError(_CONFIG_FAULTS[answer])
     return AuctionError(f"the library answers {answer}")
+
+
+def board_error_of(answer: int) -> Exception:
+    """What is raised where a call of a board answers this error."""
+    if answer == lib.CALLAUCTION_ERROR_CLOSED:
+        return ClosedError("the board was closed")
+    if answer == lib.CALLAUCTION_ERROR_NO_MEMBER:
+        return ClosedError("the object holds no member of a board")
+    if answer in (lib.PYTHON_BUSY, lib.CALLAUCTION_ERROR_BUSY):
+        return BusyError("another call of this member is running")
+    return error_of(answer)
 
 
 # ---- replies
@@ -113,9 +124,9 @@ def _no_price(reply: Any) -> NoPrice:
     return NoPrice(bid, reply.best_ask if reply.has_best_ask else None)
 
 
-def _standing(reply: Any) -> Standing:
+def _open_order(reply: Any) -> OpenOrder:
     limit = reply.tick if reply.has_tick else None
-    return Standing(SIDES[reply.side], reply.quantity, limit, reply.visible)
+    return OpenOrder(SIDES[reply.side], reply.quantity, limit, reply.visible)
 
 
 def _uncrossed(reply: Any) -> Uncrossed:
@@ -132,7 +143,7 @@ _READERS: tuple[Callable[[Any], Reply], ...] = (
     lambda reply: entered(reply.id),
     lambda reply: Changed(reply.kept == 1),
     lambda reply: Deleted(),
-    _standing,
+    _open_order,
     price,
     _no_price,
     lambda reply: Traded(reply.id, reply.ask, reply.quantity, reply.tick),
@@ -201,14 +212,14 @@ def number(name: str, value: object, most: int) -> int:
     return found
 
 
-def numbers(names: tuple[str, ...], values: tuple[Any, ...]) -> tuple[int, ...]:
+def numbers(names: tuple[str, ...], values: tuple[object, ...]) -> tuple[int, ...]:
     """The integers that the values of these arguments of a command are. Raises TypeError or
     ValueError for the first that is none, or that the library's number can't hold.
     """
     return tuple(number(name, it, (1 << BITS[name]) - 1) for name, it in zip(names, values))
 
 
-def fault_of(names: tuple[str, ...], values: tuple[Any, ...]) -> Exception:
+def fault_of(names: tuple[str, ...], values: tuple[object, ...]) -> Exception:
     """The first fault of the values of these arguments of a command, of which one doesn't fit."""
     try:
         numbers(names, values)

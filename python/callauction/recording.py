@@ -18,7 +18,7 @@ from callauction.program import Day
 from callauction.reading import number, reply_of
 from callauction.tables import audit_of, book_at, books_of, journal_of, trades_of
 from callauction.words import (
-    Ask,
+    Indicate,
     Change,
     Changed,
     Command,
@@ -28,7 +28,7 @@ from callauction.words import (
     Deleted,
     Enter,
     Entered,
-    For,
+    Restriction,
     Interrupted,
     Market,
     NoPrice,
@@ -36,9 +36,9 @@ from callauction.words import (
     Refused,
     Reply,
     Side,
-    Standing,
-    Status,
-    Trade,
+    OpenOrder,
+    OrderStatus,
+    ReadTrade,
     Traded,
     Uncross,
     Uncrossed,
@@ -75,6 +75,9 @@ class RecordedAuction:
         self._record: list[tuple[int, Command, Reply]] = []
         self._lock = threading.RLock()
 
+    def __repr__(self) -> str:
+        return f"<{type(self).__name__} of {self._auction!r}>"
+
     def __enter__(self) -> Self:
         return self
 
@@ -95,13 +98,13 @@ class RecordedAuction:
         quantity: int,
         limit: int | None = None,
         peak: int | None = None,
-        only: For = For.ALL,
+        restriction: Restriction = Restriction.NONE,
         *,
         check: bool = False,
     ) -> Entered | Refused:
         """As Auction.enter."""
         reply: Entered | Refused
-        reply = self._applied(member, Enter(side, quantity, limit, peak, only), check)
+        reply = self._applied(member, Enter(side, quantity, limit, peak, restriction), check)
         return reply
 
     def change(
@@ -116,19 +119,19 @@ class RecordedAuction:
         reply: Deleted | Refused = self._applied(member, Delete(id), check)
         return reply
 
-    def status(self, member: int, id: int, *, check: bool = False) -> Standing | Refused:
+    def order_status(self, member: int, id: int, *, check: bool = False) -> OpenOrder | Refused:
         """As Auction.status."""
-        reply: Standing | Refused = self._applied(member, Status(id), check)
+        reply: OpenOrder | Refused = self._applied(member, OrderStatus(id), check)
         return reply
 
-    def ask(self, member: int, *, check: bool = False) -> Price | NoPrice | Refused:
+    def indicate(self, member: int, *, check: bool = False) -> Price | NoPrice | Refused:
         """As Auction.ask."""
-        reply: Price | NoPrice | Refused = self._applied(member, Ask(), check)
+        reply: Price | NoPrice | Refused = self._applied(member, Indicate(), check)
         return reply
 
-    def trade(self, member: int, number: int, *, check: bool = False) -> Traded | Refused:
+    def read_trade(self, member: int, number: int, *, check: bool = False) -> Traded | Refused:
         """As Auction.trade."""
-        reply: Traded | Refused = self._applied(member, Trade(number), check)
+        reply: Traded | Refused = self._applied(member, ReadTrade(number), check)
         return reply
 
     def uncross(
@@ -224,7 +227,7 @@ class RecordedAuction:
     def __copy__(self) -> Self:
         return self.copy()
 
-    def __deepcopy__(self, _: dict[int, Any]) -> Self:
+    def __deepcopy__(self, _: dict[int, object]) -> Self:
         return self.copy()
 
     def reset(self) -> None:

@@ -65,7 +65,7 @@ def html_of(day: Day, title: str = "A day of call auctions", watch: Watch = iter
         book = book_at(books, command)
         parts.append(_auction(book, references[command], course, trades))
     parts.append(_refused(journal))
-    return _page(title, parts)
+    return html_page(title, parts)
 
 
 # ---- the sections
@@ -84,7 +84,7 @@ def _audit(day: Day) -> list[tuple[str, str]]:
         f" and {counts['unlawful']:,} of these differ from the lawful one.</p>"
     )
     if len(found):
-        text += _table(found, "Replies that aren't lawful", "audit")
+        text += html_table(found, "Replies that aren't lawful", "audit")
     return [("Audit", text)]
 
 
@@ -101,18 +101,18 @@ def _config(journal: pandas.DataFrame) -> tuple[str, str]:
     }
     values = [journal.attrs[name] for name in DAY]
     frame = pandas.DataFrame(
-        {"what": said.values(), "value": [_told(value, "none") for value in values]}
+        {"what": said.values(), "value": [shown_cell(value, "none") for value in values]}
     )
-    return "Config", _table(frame, "What the day was opened with", "config")
+    return "Config", html_table(frame, "What the day was opened with", "config")
 
 
 def _course(course: Course) -> tuple[str, str]:
     """The indicative price and volume over the calls, and the uncrosses."""
-    figure = _figure()
+    figure = new_figure()
     plot.indicative(course, ax=figure.subplots())
     count = len(course.uncrosses)
     text = f"Indicative price and volume over the day, with {count} uncrosses"
-    return "Course of the day", _image(figure, text, "course") + _table(
+    return "Course of the day", html_image(figure, text, "course") + html_table(
         course.uncrosses, "Uncrosses: price in ticks, volume and surplus in shares", "uncrosses"
     )
 
@@ -127,17 +127,17 @@ def _auction(
     ending = "uncrossed" if is_executed else "interrupted" if len(done) else "at the end"
     sentences = explain(book, command, reference)
     steps = "".join(f"<li>{html.escape(sentence)}</li>" for sentence in sentences)
-    figure = _figure()
+    figure = new_figure()
     plot.book(book, command, reference=reference, ax=figure.subplots())
     text = f"Demand and supply before command {command}. {' '.join(sentences[-2:])}"
     made = trades[trades["auction"] == auction] if is_executed else trades[:0]
     parts = [
         f"<h3>Why this price</h3><ol>{steps}</ol>",
-        _image(figure, text, f"book {command}"),
-        _table(_near_price(book), _caption(book, "Book"), f"book-{command}"),
+        html_image(figure, text, f"book {command}"),
+        html_table(near_price(book), caption_of(book, "Book"), f"book-{command}"),
     ]
     if len(made):
-        parts.append(_table(made, "Trades: quantity in shares, tick", f"trades-{command}"))
+        parts.append(html_table(made, "Trades: quantity in shares, tick", f"trades-{command}"))
     return f"{auction.title()}, command {command}, {ending}", "".join(parts)
 
 
@@ -147,26 +147,27 @@ def _refused(journal: pandas.DataFrame) -> tuple[str, str]:
     if not len(found):
         return "Refused commands", "<p>No command was refused.</p>"
     kept = ["entry", "member", "command", "side", "id", "quantity", "limit", "peak", "lawful"]
-    return "Refused commands", _table(found[kept], "Refused commands", "refused")
+    return "Refused commands", html_table(found[kept], "Refused commands", "refused")
 
 
 # ---- tables and pictures
 
 
-def _told(value: Any, missing: str = "") -> str:
+def shown_cell(value: object, missing: str = "") -> str:
     """A cell, as the program prints it."""
     return missing if value is None or value is pandas.NA else str(value)
 
 
-def _caption(rows: pandas.DataFrame, name: str) -> str:
+def caption_of(
+    rows: pandas.DataFrame, name: str, unit: str = "limits in ticks, quantities in shares"
+) -> str:
     """A caption that says where a table has more rows than are shown."""
-    unit = "limits in ticks, quantities in shares"
     if len(rows) <= MOST_ROWS:
         return f"{name}: {unit}"
     return f"{name}: {unit}; {MOST_ROWS} of {len(rows):,} rows, those nearest to the price"
 
 
-def _near_price(book: pandas.DataFrame) -> pandas.DataFrame:
+def near_price(book: pandas.DataFrame) -> pandas.DataFrame:
     """The market orders and the rows nearest to the price, or to where demand and supply part; with
     words for what is missing.
     """
@@ -181,7 +182,7 @@ def _near_price(book: pandas.DataFrame) -> pandas.DataFrame:
     return shown
 
 
-def _table(frame: pandas.DataFrame, caption: str, name: str) -> str:
+def html_table(frame: pandas.DataFrame, caption: str, name: str) -> str:
     """A table with a caption, whose first column heads its rows; wide ones scroll."""
     more = f" (the first {MOST_ROWS} of {len(frame):,})" if len(frame) > MOST_ROWS else ""
     columns = [str(column) for column in frame.columns]
@@ -198,24 +199,24 @@ def _table(frame: pandas.DataFrame, caption: str, name: str) -> str:
 
 def _kind(column: "pandas.Series") -> str:
     """Words stand to the left, numbers to the right."""
-    words = {value for value in column if isinstance(value, str) and not value.isdigit()}
-    return ' class="text"' if words - {"", "market", "none"} else ""
+    texts = {value for value in column if isinstance(value, str)} - {"", "market", "none"}
+    return "" if all(text.replace(".", "", 1).isdigit() for text in texts) else ' class="text"'
 
 
-def _row(columns: Sequence[str], kinds: Sequence[str], row: Iterable[Any]) -> str:
+def _row(columns: Sequence[str], kinds: Sequence[str], row: Iterable[object]) -> str:
     """A row, which is marked where it is the auction price's."""
-    first, *others = (html.escape(_told(value)) for value in row)
+    first, *others = (html.escape(shown_cell(value)) for value in row)
     is_price = "best" in columns and others[-1] != ""
     cells = "".join(f"<td{kind}>{value}</td>" for kind, value in zip(kinds[1:], others))
     opening = '<tr class="price">' if is_price else "<tr>"
     return f'{opening}<th scope="row"{kinds[0]}>{first}</th>{cells}</tr>'
 
 
-def _figure() -> Figure:
+def new_figure() -> Figure:
     return Figure(figsize=SIZE, layout="constrained")
 
 
-def _image(figure: Figure, text: str, name: str) -> str:
+def html_image(figure: Figure, text: str, name: str) -> str:
     """A picture as SVG within the page, with a text for those who don't see it."""
     file = io.StringIO()
     with matplotlib.rc_context({"svg.hashsalt": name}):
@@ -225,7 +226,7 @@ def _image(figure: Figure, text: str, name: str) -> str:
     return f'<figure><img alt="{html.escape(text)}" src="{source}"></figure>'
 
 
-def _page(title: str, parts: list[tuple[str, str]]) -> str:
+def html_page(title: str, parts: list[tuple[str, str]]) -> str:
     """The page of sections, each with its heading."""
     links = "".join(
         f'<li><a href="#part-{place}">{html.escape(head)}</a></li>'

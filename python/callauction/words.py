@@ -15,15 +15,15 @@ class Side(enum.IntEnum):
     ASK = 2
 
 
-class For(enum.IntEnum):
-    """The auctions that an order is for."""
+class Restriction(enum.IntEnum):
+    """The trading restriction of an order: the auctions that it is for."""
 
-    ALL = 0
-    OPENING = 1
-    CLOSING = 2
+    NONE = 0
+    OPENING_ONLY = 1
+    CLOSING_ONLY = 2
 
 
-class Kind(enum.IntEnum):
+class AuctionKind(enum.IntEnum):
     """The auctions of a day."""
 
     OPENING = 1
@@ -51,9 +51,9 @@ class CommandTag(enum.IntEnum):
     ENTER = 1
     CHANGE = 2
     DELETE = 3
-    STATUS = 4
-    ASK = 5
-    TRADE = 6
+    ORDER_STATUS = 4
+    INDICATE = 5
+    READ_TRADE = 6
     UNCROSS = 7
 
 
@@ -63,7 +63,7 @@ class ReplyTag(enum.IntEnum):
     ENTERED = 1
     CHANGED = 2
     DELETED = 3
-    STANDING = 4
+    OPEN_ORDER = 4
     PRICED = 5
     UNPRICED = 6
     TRADED = 7
@@ -95,7 +95,7 @@ class Enter:
     quantity: int
     limit: int | None = None
     peak: int | None = None
-    only: For = For.ALL
+    restriction: Restriction = Restriction.NONE
 
 
 @dataclasses.dataclass(frozen=True, slots=True)
@@ -115,19 +115,19 @@ class Delete:
 
 
 @dataclasses.dataclass(frozen=True, slots=True)
-class Status:
+class OrderStatus:
     """Asks what is open of the member's order with this id."""
 
     id: int
 
 
 @dataclasses.dataclass(frozen=True, slots=True)
-class Ask:
+class Indicate:
     """Asks for the indicative price, or the best limits."""
 
 
 @dataclasses.dataclass(frozen=True, slots=True)
-class Trade:
+class ReadTrade:
     """Asks for a trade of the day by its number, from 1 on."""
 
     number: int
@@ -138,7 +138,7 @@ class Uncross:
     """Determines the price and executes; for member 0 alone."""
 
 
-Command = Enter | Change | Delete | Status | Ask | Trade | Uncross
+Command = Enter | Change | Delete | OrderStatus | Indicate | ReadTrade | Uncross
 
 
 # ---- replies
@@ -164,7 +164,7 @@ class Deleted:
 
 
 @dataclasses.dataclass(frozen=True, slots=True)
-class Standing:
+class OpenOrder:
     """An open order: what is open of it, and how much of that is shown."""
 
     side: Side
@@ -205,7 +205,7 @@ class Traded:
 class Uncrossed:
     """The auction that was uncrossed, its price if there was one, and how many trades it made."""
 
-    auction: Kind
+    auction: AuctionKind
     price: Price | None
     trades: int
 
@@ -228,7 +228,7 @@ Reply = (
     Entered
     | Changed
     | Deleted
-    | Standing
+    | OpenOrder
     | Price
     | NoPrice
     | Traded

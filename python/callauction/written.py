@@ -7,7 +7,7 @@ import numpy
 
 from callauction.arrays import COMMAND
 from callauction.words import (
-    Ask,
+    Indicate,
     Change,
     Changed,
     Command,
@@ -16,23 +16,27 @@ from callauction.words import (
     Deleted,
     Enter,
     Entered,
-    For,
+    Restriction,
     Interrupted,
     NoPrice,
     Price,
     Refused,
     Reply,
     Side,
-    Standing,
-    Status,
-    Trade,
+    OpenOrder,
+    OrderStatus,
+    ReadTrade,
     Traded,
     Uncross,
     Uncrossed,
 )
 
 MARKET = "market"
-_ONLY = {For.ALL: "", For.OPENING: "opening", For.CLOSING: "closing"}
+_RESTRICTIONS = {
+    Restriction.NONE: "",
+    Restriction.OPENING_ONLY: "opening",
+    Restriction.CLOSING_ONLY: "closing",
+}
 
 
 def _limit(limit: int | None) -> str:
@@ -44,19 +48,21 @@ def fields_of(command: Command) -> str:
     none of Command.
     """
     match command:
-        case Enter(side, quantity, limit, peak, only):
+        case Enter(side, quantity, limit, peak, restriction):
             fields = f"enter,{side.name.lower()},{index(quantity)},{_limit(limit)}"
             shown = "" if peak is None else f",{index(peak)}"
-            return f"{fields}{shown or ','},{_ONLY[only]}" if only else fields + shown
+            if not restriction:
+                return fields + shown
+            return f"{fields}{shown or ','},{_RESTRICTIONS[restriction]}"
         case Change(id, quantity, limit):
             return f"change,{index(id)},{index(quantity)},{_limit(limit)}"
         case Delete(id):
             return f"delete,{index(id)}"
-        case Status(id):
+        case OrderStatus(id):
             return f"status,{index(id)}"
-        case Trade(number):
+        case ReadTrade(number):
             return f"trade,{index(number)}"
-        case Ask():
+        case Indicate():
             return "ask"
         case Uncross():
             return "uncross"
@@ -75,17 +81,17 @@ def command_of(record: numpy.void) -> Command:
     match tag:
         case CommandTag.ENTER:
             peak = int(record["peak"]) if record["has_peak"] else None
-            return Enter(Side(record["side"]), quantity, limit, peak, For(record["only"]))
+            return Enter(Side(record["side"]), quantity, limit, peak, Restriction(record["restriction"]))
         case CommandTag.CHANGE:
             return Change(id, quantity, limit)
         case CommandTag.DELETE:
             return Delete(id)
-        case CommandTag.STATUS:
-            return Status(id)
-        case CommandTag.TRADE:
-            return Trade(id)
-        case CommandTag.ASK:
-            return Ask()
+        case CommandTag.ORDER_STATUS:
+            return OrderStatus(id)
+        case CommandTag.READ_TRADE:
+            return ReadTrade(id)
+        case CommandTag.INDICATE:
+            return Indicate()
     return Uncross()
 
 
@@ -114,7 +120,7 @@ def text_of(reply: Reply) -> str:
             return "changed kept" if kept else "changed moved"
         case Deleted():
             return "deleted"
-        case Standing(side, quantity, limit, visible):
+        case OpenOrder(side, quantity, limit, visible):
             at = MARKET if limit is None else f"at {limit}"
             return f"order {side.name.lower()} {quantity} {at} visible {visible}"
         case Price():

@@ -7,7 +7,7 @@ from callauction.recording import RecordedAuction
 from hypothesis import strategies
 from printed import TOP
 
-import plain_auction
+from checks.model import answers
 
 EXAMPLES = sorted((TOP / "examples").glob("*.csv"))
 AUDITS = sorted((TOP / "examples/audits").glob("*.csv"))
@@ -32,9 +32,9 @@ def form_of(file: Path, form: str) -> str:
 
 
 def by_the_rules(day: Day, form: str) -> tuple[int, str, str]:
-    """What checks/plain_auction.py answers to a journal: a status, a text, and a fault."""
+    """What the model of checks/model answers to a journal: a status, a text, and a fault."""
     content = day.content.decode("ascii")
-    answer: tuple[int, str, str] = plain_auction.answer(content, plain_auction.DEFAULTS, form)
+    answer: tuple[int, str, str] = answers.answer(content, answers.DEFAULTS, form)
     return answer
 
 
@@ -46,7 +46,7 @@ def orders() -> strategies.SearchStrategy[words.Enter]:
         strategies.sampled_from([0, 1, 10, 10, 20, 50, 1_000_000_000, 1_000_000_001]),
         strategies.none() | TICKS | TICKS,
         strategies.none() | strategies.none() | strategies.sampled_from([0, 1, 10, 60]),
-        strategies.sampled_from([words.For.ALL] * 4 + [words.For.OPENING, words.For.CLOSING]),
+        strategies.sampled_from([words.Restriction.NONE] * 4 + [words.Restriction.OPENING_ONLY, words.Restriction.CLOSING_ONLY]),
     )
 
 
@@ -56,9 +56,9 @@ def commands() -> strategies.SearchStrategy[tuple[int, words.Command]]:
     other = strategies.one_of(
         strategies.builds(words.Change, ids, FEW.map(lambda k: 10 * k), strategies.none() | TICKS),
         strategies.builds(words.Delete, ids),
-        strategies.builds(words.Status, ids),
-        strategies.builds(words.Trade, ids),
-        strategies.just(words.Ask()),
+        strategies.builds(words.OrderStatus, ids),
+        strategies.builds(words.ReadTrade, ids),
+        strategies.just(words.Indicate()),
     )
     members = strategies.integers(0, 3)
     return strategies.one_of(

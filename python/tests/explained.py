@@ -65,6 +65,14 @@ DECIDED: dict[str, dict[int, list[str]]] = {
         7: alone(200, 100),
     },
     "day": {3: AT_206, 6: [ALONE.format(30, 20, 206)], 9: [ONE_SIDE.format(10)]},
+    "far_limit": {
+        5: [
+            "Market orders stand on both sides, 900 bid and 800 offered, and limit orders beside "
+            "them, so the limits decide.",
+            *alone(1, 800),
+        ],
+        9: ["Market orders, for 100 bid, count at every limit.", *unpriced(BID.format(1))],
+    },
     "iceberg": {3: alone(200, 300), 5: unpriced(BID.format(200))},
     "interruption": {
         3: AT_206,

@@ -7,11 +7,11 @@ import callauction as words
 from callauction import Auction
 
 TOP = Path(__file__).resolve().parent.parent.parent
-sys.path.insert(0, str(TOP / "checks"))
+sys.path.insert(0, str(TOP))
 
 NAMES = {refusal: refusal.name.title().replace("_", "") for refusal in words.Refusal}
 SIDES = {"bid": words.Side.BID, "ask": words.Side.ASK}
-FOR = {"": words.For.ALL, "opening": words.For.OPENING, "closing": words.For.CLOSING}
+FOR = {"": words.Restriction.NONE, "opening": words.Restriction.OPENING_ONLY, "closing": words.Restriction.CLOSING_ONLY}
 
 
 def command_of(fields: list[str]) -> words.Command:
@@ -22,18 +22,18 @@ def command_of(fields: list[str]) -> words.Command:
         case "enter":
             tick = None if rest[2] == "market" else int(rest[2])
             peak = int(rest[3]) if len(rest) > 3 and rest[3] else None
-            only = FOR[rest[4] if len(rest) > 4 else ""]
-            return words.Enter(SIDES[rest[0]], int(rest[1]), tick, peak, only)
+            restriction = FOR[rest[4] if len(rest) > 4 else ""]
+            return words.Enter(SIDES[rest[0]], int(rest[1]), tick, peak, restriction)
         case "change":
             return words.Change(int(rest[0]), int(rest[1]), limit)
         case "delete":
             return words.Delete(int(rest[0]))
         case "status":
-            return words.Status(int(rest[0]))
+            return words.OrderStatus(int(rest[0]))
         case "trade":
-            return words.Trade(int(rest[0]))
+            return words.ReadTrade(int(rest[0]))
         case "ask":
-            return words.Ask()
+            return words.Indicate()
         case "uncross":
             return words.Uncross()
     raise ValueError(word)
@@ -70,7 +70,7 @@ def text_of(reply: words.Reply) -> str:
             return "changed kept" if kept else "changed moved"
         case words.Deleted():
             return "deleted"
-        case words.Standing(side, quantity, limit, visible):
+        case words.OpenOrder(side, quantity, limit, visible):
             at = "market" if limit is None else f"at {limit}"
             return f"order {side.name.lower()} {quantity} {at} visible {visible}"
         case words.Price():

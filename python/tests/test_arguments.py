@@ -6,7 +6,7 @@ from typing import Any
 
 import numpy
 import pytest
-from callauction import Auction, ClosedError, Entered, For, NoPrice, Side
+from callauction import Auction, ClosedError, Entered, Restriction, NoPrice, Side
 
 BID = Side.BID
 NO_INTEGERS = [
@@ -36,11 +36,11 @@ CALLS: list[tuple[str, int, Call]] = [
     ("limit", 2**32, lambda a, value: a.change(1, 1, 1, value)),
     ("member", 2**8, lambda a, value: a.delete(value, 1)),
     ("id", 2**32, lambda a, value: a.delete(1, value)),
-    ("member", 2**8, lambda a, value: a.status(value, 1)),
-    ("id", 2**32, lambda a, value: a.status(1, value)),
-    ("member", 2**8, lambda a, value: a.ask(value)),
-    ("member", 2**8, lambda a, value: a.trade(value, 1)),
-    ("number", 2**32, lambda a, value: a.trade(1, value)),
+    ("member", 2**8, lambda a, value: a.order_status(value, 1)),
+    ("id", 2**32, lambda a, value: a.order_status(1, value)),
+    ("member", 2**8, lambda a, value: a.indicate(value)),
+    ("member", 2**8, lambda a, value: a.read_trade(value, 1)),
+    ("number", 2**32, lambda a, value: a.read_trade(1, value)),
     ("member", 2**8, lambda a, value: a.uncross(value)),
     ("seen", 2**63, lambda a, value: a.trades(value)),
     ("low", 2**32, lambda a, value: Auction(low=value)),
@@ -91,7 +91,7 @@ def test_integers_of_numpy_are_integers() -> None:
         assert auction.display() == NoPrice(9, None)
 
 
-@pytest.mark.parametrize("side", [1, "bid", None, For.OPENING])
+@pytest.mark.parametrize("side", [1, "bid", None, Restriction.OPENING_ONLY])
 def test_no_side(side: object) -> None:
     fails(TypeError, "side", lambda auction, value: auction.enter(1, value, 1), side)
 
@@ -100,9 +100,9 @@ def test_a_side_that_no_order_has() -> None:
     fails(ValueError, "side", lambda auction, value: auction.enter(1, value, 1), Side.NONE)
 
 
-@pytest.mark.parametrize("only", [1, "opening", None, BID])
-def test_no_auctions(only: object) -> None:
-    fails(TypeError, "only", lambda auction, value: auction.enter(1, BID, 1, only=value), only)
+@pytest.mark.parametrize("restriction", [1, "opening", None, BID])
+def test_no_auctions(restriction: object) -> None:
+    fails(TypeError, "restriction", lambda auction, value: auction.enter(1, BID, 1, restriction=value), restriction)
 
 
 @pytest.mark.parametrize("command", [None, "ask", 5, {}, Auction, object()])
@@ -196,6 +196,6 @@ def test_strange_integers() -> None:
 def test_an_object_that_was_never_opened() -> None:
     auction = Auction.__new__(Auction)
     with pytest.raises(ClosedError):
-        auction.ask(1)
+        auction.indicate(1)
     assert auction.is_closed
     auction.close()

@@ -6,7 +6,7 @@ from collections.abc import Callable
 import numpy
 import pytest
 from callauction import (
-    Ask,
+    Indicate,
     Auction,
     Change,
     Changed,
@@ -16,10 +16,10 @@ from callauction import (
     Deleted,
     Enter,
     Entered,
-    For,
+    Restriction,
     FullError,
     Interrupted,
-    Kind,
+    AuctionKind,
     Market,
     NoPrice,
     Price,
@@ -27,9 +27,9 @@ from callauction import (
     Refused,
     RefusedError,
     Side,
-    Standing,
-    Status,
-    Trade,
+    OpenOrder,
+    OrderStatus,
+    ReadTrade,
     Traded,
     Uncross,
     Uncrossed,
@@ -41,38 +41,38 @@ BID, ASK = Side.BID, Side.ASK
 def test_a_day() -> None:
     with Auction() as auction:
         assert auction.enter(1, BID, 500, limit=200) == Entered(1)
-        assert auction.ask(3) == NoPrice(200, None)
+        assert auction.indicate(3) == NoPrice(200, None)
         assert auction.enter(2, ASK, 300, 200) == Entered(2)
-        assert auction.ask(3) == Price(200, 300, 200, BID)
-        assert auction.status(1, 1) == Standing(BID, 500, 200, 500)
+        assert auction.indicate(3) == Price(200, 300, 200, BID)
+        assert auction.order_status(1, 1) == OpenOrder(BID, 500, 200, 500)
         assert auction.change(1, 1, 400, limit=200) == Changed(True)
         assert auction.change(1, 1, 400, limit=201) == Changed(False)
-        assert auction.uncross() == Uncrossed(Kind.OPENING, Price(201, 300, 100, BID), 1)
-        assert auction.trade(3, 1) == Traded(bid=1, ask=2, quantity=300, tick=201)
+        assert auction.uncross() == Uncrossed(AuctionKind.OPENING, Price(201, 300, 100, BID), 1)
+        assert auction.read_trade(3, 1) == Traded(bid=1, ask=2, quantity=300, tick=201)
         assert auction.delete(1, 1) == Deleted()
-        assert auction.uncross(0) == Uncrossed(Kind.INTRADAY, None, 0)
+        assert auction.uncross(0) == Uncrossed(AuctionKind.INTRADAY, None, 0)
         assert auction.calls == 11
         assert not auction.is_full
 
 
 def test_apply_takes_each_command() -> None:
     with Auction() as auction:
-        enter = Enter(side=BID, quantity=10, limit=7, peak=3, only=For.CLOSING)
+        enter = Enter(side=BID, quantity=10, limit=7, peak=3, restriction=Restriction.CLOSING_ONLY)
         assert auction.apply(1, enter) == Entered(1)
-        assert auction.apply(1, Status(1)) == Standing(BID, 10, 7, 3)
+        assert auction.apply(1, OrderStatus(1)) == OpenOrder(BID, 10, 7, 3)
         assert auction.apply(1, Change(1, 9, 7)) == Changed(True)
-        assert auction.apply(1, Ask()) == NoPrice(None, None)
+        assert auction.apply(1, Indicate()) == NoPrice(None, None)
         assert auction.apply(1, Delete(1)) == Deleted()
-        assert auction.apply(1, Trade(1)) == Refused(Refusal.NO_SUCH_TRADE)
-        assert auction.apply(0, Uncross()) == Uncrossed(Kind.OPENING, None, 0)
+        assert auction.apply(1, ReadTrade(1)) == Refused(Refusal.NO_SUCH_TRADE)
+        assert auction.apply(0, Uncross()) == Uncrossed(AuctionKind.OPENING, None, 0)
 
 
 def test_a_market_order_and_an_iceberg_order() -> None:
     with Auction() as auction:
         auction.enter(1, ASK, 70)
         auction.enter(1, BID, 90, 5, peak=40)
-        assert auction.status(1, 1) == Standing(ASK, 70, None, 70)
-        assert auction.status(1, 2) == Standing(BID, 90, 5, 40)
+        assert auction.order_status(1, 1) == OpenOrder(ASK, 70, None, 70)
+        assert auction.order_status(1, 2) == OpenOrder(BID, 90, 5, 40)
         assert auction.market() == Market(bids=0, asks=70)
 
 
@@ -82,7 +82,7 @@ def test_an_interruption() -> None:
         auction.enter(1, ASK, 10, 206)
         price = Price(206, 10, 0, Side.NONE)
         assert auction.uncross() == Interrupted(price)
-        assert auction.uncross() == Uncrossed(Kind.OPENING, price, 1)
+        assert auction.uncross() == Uncrossed(AuctionKind.OPENING, price, 1)
 
 
 def ended() -> Auction:
@@ -125,18 +125,18 @@ REFUSED: list[tuple[Opening, int, Command, Refusal]] = [
     (with_orders, 2, Delete(1), Refusal.UNKNOWN_ORDER),
     (with_orders, 1, Delete(0), Refusal.UNKNOWN_ORDER),
     (with_orders, 1, Delete(3), Refusal.UNKNOWN_ORDER),
-    (with_orders, 2, Status(1), Refusal.UNKNOWN_ORDER),
+    (with_orders, 2, OrderStatus(1), Refusal.UNKNOWN_ORDER),
     (with_orders, 2, Change(1, 5, 5), Refusal.UNKNOWN_ORDER),
     (Auction, 1, Uncross(), Refusal.NOT_OPERATOR),
     (Auction, 255, Uncross(), Refusal.NOT_OPERATOR),
     (ended, 1, Enter(BID, 10, 5), Refusal.DAY_OVER),
     (ended, 1, Change(1, 10, 5), Refusal.DAY_OVER),
     (ended, 1, Delete(1), Refusal.DAY_OVER),
-    (ended, 1, Ask(), Refusal.DAY_OVER),
+    (ended, 1, Indicate(), Refusal.DAY_OVER),
     (ended, 0, Uncross(), Refusal.DAY_OVER),
-    (Auction, 1, Trade(0), Refusal.NO_SUCH_TRADE),
-    (Auction, 1, Trade(1), Refusal.NO_SUCH_TRADE),
-    (after_the_opening, 1, Enter(BID, 10, 5, only=For.OPENING), Refusal.PAST_AUCTION),
+    (Auction, 1, ReadTrade(0), Refusal.NO_SUCH_TRADE),
+    (Auction, 1, ReadTrade(1), Refusal.NO_SUCH_TRADE),
+    (after_the_opening, 1, Enter(BID, 10, 5, restriction=Restriction.OPENING_ONLY), Refusal.PAST_AUCTION),
 ]
 
 
@@ -174,9 +174,9 @@ def test_every_method_raises_with_check() -> None:
             lambda: auction.enter(1, BID, 1, check=True),
             lambda: auction.change(1, 1, 1, check=True),
             lambda: auction.delete(1, 1, check=True),
-            lambda: auction.status(1, 1, check=True),
-            lambda: auction.ask(1, check=True),
-            lambda: auction.trade(1, 1, check=True),
+            lambda: auction.order_status(1, 1, check=True),
+            lambda: auction.indicate(1, check=True),
+            lambda: auction.read_trade(1, 1, check=True),
             lambda: auction.uncross(check=True),
         ]
         for call in calls:
@@ -196,7 +196,7 @@ def test_the_ladder() -> None:
         auction.enter(1, BID, 6, 12)
         auction.enter(1, ASK, 7, 13)
         auction.enter(1, ASK, 8)
-        auction.enter(1, ASK, 100, 13, only=For.CLOSING)
+        auction.enter(1, ASK, 100, 13, restriction=Restriction.CLOSING_ONLY)
         bids, asks = auction.ladder()
         assert bids.dtype == asks.dtype == numpy.uint64
         assert bids.tolist() == [5, 0, 6, 0]
@@ -232,7 +232,7 @@ def test_a_full_auction_raises_and_stays() -> None:
         assert not auction.is_full
         auction.delete(2, 1)
         assert auction.is_full and auction.calls == 2
-        for call in (lambda: auction.ask(1), lambda: auction.enter(1, BID, 5, 5)):
+        for call in (lambda: auction.indicate(1), lambda: auction.enter(1, BID, 5, 5)):
             with pytest.raises(FullError) as raised:
                 call()
             assert raised.value.applied == 0 and raised.value.replies is None
@@ -247,7 +247,7 @@ def test_a_copy_stands_by_itself(copied: Callable[[Auction], Auction]) -> None:
         with copied(auction) as other:
             assert other.config == auction.config and other.calls == 1
             assert other.enter(1, ASK, 5, 100) == Entered(2)
-            assert other.uncross() == Uncrossed(Kind.OPENING, Price(100, 5, 0, Side.NONE), 1)
+            assert other.uncross() == Uncrossed(AuctionKind.OPENING, Price(100, 5, 0, Side.NONE), 1)
             assert auction.display() == NoPrice(100, None)
             auction.close()
             assert other.calls == 3
@@ -271,7 +271,7 @@ def test_a_reset() -> None:
         assert auction.display() == NoPrice(None, None)
         assert auction.enter(1, BID, 5) == Entered(1)
         assert auction.enter(1, ASK, 5) == Entered(2)
-        assert auction.ask(1) == Price(50, 5, 0, Side.NONE)
+        assert auction.indicate(1) == Price(50, 5, 0, Side.NONE)
 
 
 def test_results_are_frozen_and_hashed() -> None:

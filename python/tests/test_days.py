@@ -8,9 +8,9 @@ from arrayed import array_of
 from callauction import Auction, Traded, reply_of
 from printed import TOP, Options, commands_of, lines_of, opened, text_of
 
-import plain_auction
-import random_orders
-from plain_files import FileFault
+from checks.generators import orders
+from checks.model import answers
+from checks.model.files import FileFault
 
 EXAMPLES = sorted((TOP / "examples").glob("*.csv"))
 PROGRAM = os.environ.get("CALLBOARD")
@@ -22,7 +22,7 @@ def options_of(file: Path) -> Options:
     beside = file.with_suffix(".args")
     given = beside.read_text(encoding="utf-8").split() if beside.exists() else []
     named = {name.removeprefix("--"): int(value) for name, value in zip(given[::2], given[1::2])}
-    defaults: Options = plain_auction.DEFAULTS
+    defaults: Options = answers.DEFAULTS
     return defaults | named
 
 
@@ -55,7 +55,7 @@ def test_each_example_gives_its_lines(file: Path) -> None:
 
 def program_lines(program: str, options: Options, text: str) -> list[str]:
     """What the program prints for an order file."""
-    words = [program, *random_orders.option_words(options)]
+    words = [program, *orders.option_words(options)]
     ran = subprocess.run(words, input=text, capture_output=True, text=True, check=True, timeout=60)
     return ran.stdout.splitlines()
 
@@ -64,9 +64,9 @@ def program_lines(program: str, options: Options, text: str) -> list[str]:
 def test_random_days_agree_with_the_rules_and_the_program(kind: str, seeds: range) -> None:
     played = 0
     for seed in seeds:
-        options, text = random_orders.order_file(kind, seed)
+        options, text = orders.order_file(kind, seed)
         try:
-            wanted = plain_auction.printed(text, options).splitlines()
+            wanted = answers.printed(text, options).splitlines()
         except FileFault:
             continue  # one command more than `calls`: the program runs none
         assert ways(options, text) == [wanted, wanted], f"{kind} {seed}"
@@ -77,11 +77,11 @@ def test_random_days_agree_with_the_rules_and_the_program(kind: str, seeds: rang
 
 
 def test_the_tape_is_that_of_the_trades_asked_for() -> None:
-    options, text = random_orders.order_file("long", 3)
+    options, text = orders.order_file("long", 3)
     with opened(options) as auction:
         auction.apply_many(array_of(commands_of(text)))
         tape = auction.trades()
-        asked = [] if auction.is_full else [auction.trade(1, k) for k in range(1, len(tape) + 1)]
+        asked = [] if auction.is_full else [auction.read_trade(1, k) for k in range(1, len(tape) + 1)]
     for trade, row in zip(asked, tape):
         assert trade == Traded(*(int(row[name]) for name in ("bid", "ask", "quantity", "tick")))
 

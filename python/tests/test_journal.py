@@ -8,8 +8,8 @@ import callauction as words
 import numpy
 import pandas
 import pytest
-from callauction.grid import BadCellError, Grid, decimal_of, grid_of, whole_of
-from callauction.journal import EVENTS, FrameError, Journal, from_frame
+from callauction.grid import BadCellError, FrameError, Grid, decimal_of, grid_of, whole_of
+from callauction.journal import EVENTS, Journal, from_frame
 from callauction.program import Day
 from callauction.recording import RecordedAuction
 from callauction.tables import books_of, journal_of
@@ -151,9 +151,9 @@ def test_a_replace_that_the_board_refuses_is_told() -> None:
 
 def test_orders_have_all_their_fields() -> None:
     rows = [
-        new(7.0, 3.0, price=20, quantity="100", peak="10", only="closing"),
-        new(8, 3, side="sell", quantity=30.0, peak=None, only="opening"),
-        new(Decimal(9), "x", side="ask", price=Decimal("20.00"), peak=math.nan, only=pandas.NA),
+        new(7.0, 3.0, price=20, quantity="100", peak="10", restriction="closing"),
+        new(8, 3, side="sell", quantity=30.0, peak=None, restriction="opening"),
+        new(Decimal(9), "x", side="ask", price=Decimal("20.00"), peak=math.nan, restriction=pandas.NA),
     ]
     journal = converted(pandas.DataFrame(rows))
     assert entries_of(journal) == [
@@ -268,7 +268,7 @@ def test_a_range_is_a_distance_of_prices() -> None:
     (dict(quantity={0: 2.5}), "row 0: quantity 2.5 is no whole number from 0 to 4,294,967,295"),
     (dict(quantity={0: 0}), "row 0: quantity 0 can't be entered: refused 1 BadQuantity"),
     (dict(peak={0: 500}), "row 0: peak 500 can't be entered: refused 3 BadPeak"),
-    (dict(only={0: "noon"}), "row 0: only 'noon' is none of opening, closing"),
+    (dict(restriction={0: "noon"}), "row 0: restriction 'noon' is none of opening, closing"),
     (dict(auction={5: "noon"}),
      "row 5: auction 'noon' is none of opening, intraday, closing, interrupted"),
     (dict(kept={2: "no"}), "row 2: kept 'no' is neither true nor false"),
@@ -288,8 +288,8 @@ def test_an_error_names_the_label_of_the_row() -> None:
 
 
 def test_an_order_behind_its_auction_is_an_error() -> None:
-    rows = [dict(event="uncross"), new(1, only="opening")]
-    with pytest.raises(FrameError, match="^row 1: only 'opening' can't be entered: refused 9"):
+    rows = [dict(event="uncross"), new(1, restriction="opening")]
+    with pytest.raises(FrameError, match="^row 1: restriction 'opening' can't be entered: refused 9"):
         converted(pandas.DataFrame(rows))
     rows = [*[dict(event="uncross")] * 3, new(1)]
     with pytest.raises(FrameError, match="^row 3: order 1 can't be entered: refused 7 DayOver"):
@@ -369,9 +369,9 @@ def cents(limit: int | None) -> str | None:
 
 
 def entered(member: int, order: words.Enter, id: int) -> dict[str, Any]:
-    only = {0: None, 1: "opening", 2: "closing"}[order.only]
+    restriction = {0: None, 1: "opening", 2: "closing"}[order.restriction]
     return dict(event="new", order=f"#{id}", member=f"M{member}", side=order.side.name.lower(),
-                quantity=order.quantity, price=cents(order.limit), peak=order.peak, only=only)
+                quantity=order.quantity, price=cents(order.limit), peak=order.peak, restriction=restriction)
 
 
 def published(price: words.Price | None) -> dict[str, Any]:
@@ -428,7 +428,7 @@ GOOD = {
     "price": strategies.sampled_from([None, "20.00", "20.01", "19.99", 20]),
     "quantity": strategies.sampled_from([1, 5, 10, "10", 7.0]),
     "peak": strategies.sampled_from([None, None, 1]),
-    "only": strategies.sampled_from([None, None, "opening", "closing"]),
+    "restriction": strategies.sampled_from([None, None, "opening", "closing"]),
     "bid": strategies.sampled_from(["a", "b"]),
     "ask": strategies.sampled_from(["a", "b"]),
     "surplus": strategies.sampled_from([None, 0, 5]),

@@ -5,7 +5,7 @@ from typing import Any
 import callauction
 import numpy
 import pytest
-from callauction import COMMAND, REPLY, TRADE, CommandTag, For, Kind, Refusal, ReplyTag, Side
+from callauction import COMMAND, REPLY, TRADE, CommandTag, Restriction, AuctionKind, Refusal, ReplyTag, Side
 from callauction._native import ffi, lib
 from callauction.reading import BITS
 
@@ -31,12 +31,12 @@ def test_each_number_has_the_bits_of_its_field() -> None:
 
 
 NUMBERS = [
-    (Side, {"NONE": "NO_SIDE", "BID": "BID_SIDE", "ASK": "ASK_SIDE"}),
-    (For, {name: "FOR_" + name for name in For.__members__}),
-    (Kind, {}),
-    (Refusal, {}),
-    (CommandTag, {}),
-    (ReplyTag, {}),
+    (Side, {name: "SIDE_" + name for name in Side.__members__}),
+    (Restriction, {name: "RESTRICTION_" + name for name in Restriction.__members__}),
+    (AuctionKind, {name: "AUCTION_" + name for name in AuctionKind.__members__}),
+    (Refusal, {name: "REFUSAL_" + name for name in Refusal.__members__}),
+    (CommandTag, {name: "COMMAND_" + name for name in CommandTag.__members__}),
+    (ReplyTag, {name: "REPLY_" + name for name in ReplyTag.__members__}),
 ]
 
 
@@ -49,14 +49,14 @@ def test_each_number_is_the_headers(
 
 
 def test_no_number_of_the_header_is_left_out() -> None:
-    errors = 10
+    errors = 17
     numbers = [name for name in dir(lib) if name.startswith("CALLAUCTION_")]
     assert len(numbers) == sum(len(enumeration) for enumeration, _ in NUMBERS) + errors
 
 
 def test_the_packages_own_errors_are_none_of_the_header() -> None:
     numbers = [getattr(lib, name) for name in dir(lib) if name.startswith("CALLAUCTION_")]
-    assert min(lib.PYTHON_BUSY, lib.PYTHON_OVERLAP) == lib.CALLAUCTION_BAD_LENGTH + 1
+    assert min(lib.PYTHON_BUSY, lib.PYTHON_OVERLAP) > max(numbers)
     assert lib.PYTHON_ERROR > max(*numbers, lib.PYTHON_BUSY, lib.PYTHON_OVERLAP)
     assert lib.PYTHON_NO_REPLY not in {int(tag) for tag in ReplyTag}
 

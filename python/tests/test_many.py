@@ -162,27 +162,33 @@ def limit_of(row: numpy.void) -> int | None:
 
 OF_AN_ID: dict[CommandTag, Callable[[int], words.Command]] = {
     CommandTag.DELETE: words.Delete,
-    CommandTag.STATUS: words.Status,
-    CommandTag.TRADE: words.Trade,
+    CommandTag.ORDER_STATUS: words.OrderStatus,
+    CommandTag.READ_TRADE: words.ReadTrade,
 }
+
+
+def has_its_flag(row: numpy.void, name: str) -> bool:
+    """Whether a value's flag is 1, or both are 0."""
+    return bool(row["has_" + name] == 1 or (row["has_" + name] == 0 and row[name] == 0))
 
 
 def command_in(row: numpy.void) -> words.Command | None:
     """The command that a struct stands for, by the header, or None."""
-    tag, has_limit = int(row["tag"]), int(row["has_limit"])
+    tag = int(row["tag"])
     if tag == CommandTag.ENTER:
-        if row["side"] not in (1, 2) or row["only"] > 2 or has_limit > 1 or row["has_peak"] > 1:
+        is_flagged = has_its_flag(row, "limit") and has_its_flag(row, "peak")
+        if row["side"] not in (1, 2) or row["restriction"] > 2 or not is_flagged:
             return None
         peak = int(row["peak"]) if row["has_peak"] else None
-        only = words.For(int(row["only"]))
-        return words.Enter(Side(int(row["side"])), int(row["quantity"]), limit_of(row), peak, only)
+        restriction = words.Restriction(int(row["restriction"]))
+        return words.Enter(Side(int(row["side"])), int(row["quantity"]), limit_of(row), peak, restriction)
     if tag == CommandTag.CHANGE:
-        if has_limit > 1:
+        if not has_its_flag(row, "limit"):
             return None
         return words.Change(int(row["id"]), int(row["quantity"]), limit_of(row))
-    if tag in (CommandTag.DELETE, CommandTag.STATUS, CommandTag.TRADE):
+    if tag in (CommandTag.DELETE, CommandTag.ORDER_STATUS, CommandTag.READ_TRADE):
         return OF_AN_ID[CommandTag(tag)](int(row["id"]))
-    return words.Ask() if tag == CommandTag.ASK else words.Uncross() if tag == 7 else None
+    return words.Indicate() if tag == CommandTag.INDICATE else words.Uncross() if tag == 7 else None
 
 
 def agrees(commands: Structs) -> None:
@@ -257,7 +263,7 @@ ANYTHING = strategies.one_of(
     strategies.integers(0, 1010),
     strategies.floats(),
     strategies.text(max_size=3),
-    strategies.sampled_from([*Side, *words.For, *words.Refusal]),
+    strategies.sampled_from([*Side, *words.Restriction, *words.Refusal]),
 )
 
 
@@ -269,9 +275,9 @@ def test_any_arguments_are_answered_or_raise(given: list[object]) -> None:
             (auction.enter, 6),
             (auction.change, 4),
             (auction.delete, 2),
-            (auction.status, 2),
-            (auction.ask, 1),
-            (auction.trade, 2),
+            (auction.order_status, 2),
+            (auction.indicate, 1),
+            (auction.read_trade, 2),
             (auction.uncross, 1),
             (auction.apply, 2),
         ]

@@ -15,17 +15,17 @@ import numpy
 import pytest
 from arrayed import array_of
 from callauction import (
-    Ask,
+    Indicate,
     Auction,
     BusyError,
     ClosedError,
     Enter,
     Entered,
-    Kind,
+    AuctionKind,
     NoPrice,
     Price,
     Side,
-    Standing,
+    OpenOrder,
     Uncrossed,
 )
 from callauction.arrays import Structs
@@ -36,12 +36,12 @@ CALLS: list[Call] = [
     lambda auction: auction.enter(1, BID, 1),
     lambda auction: auction.change(1, 1, 1),
     lambda auction: auction.delete(1, 1),
-    lambda auction: auction.status(1, 1),
-    lambda auction: auction.ask(1),
-    lambda auction: auction.trade(1, 1),
+    lambda auction: auction.order_status(1, 1),
+    lambda auction: auction.indicate(1),
+    lambda auction: auction.read_trade(1, 1),
     lambda auction: auction.uncross(),
-    lambda auction: auction.apply(1, Ask()),
-    lambda auction: auction.apply_many(array_of([(1, Ask())])),
+    lambda auction: auction.apply(1, Indicate()),
+    lambda auction: auction.apply_many(array_of([(1, Indicate())])),
     lambda auction: auction.apply_many(array_of([])),
     lambda auction: auction.display(),
     lambda auction: auction.ladder(),
@@ -78,7 +78,7 @@ def test_a_bad_config_leaves_no_auction() -> None:
         auction.__init__(low=0)  # type: ignore[misc]
     assert auction.is_closed
     auction.__init__()  # type: ignore[misc]
-    assert auction.ask(1) == NoPrice(None, None)
+    assert auction.indicate(1) == NoPrice(None, None)
     with pytest.raises(callauction.AuctionError, match="holds an auction"):
         auction.__init__()  # type: ignore[misc]
     assert auction.calls == 1
@@ -130,7 +130,7 @@ def test_auctions_leave_nothing(use: Callable[[], None], count: int) -> None:
 
 
 def test_calls_leave_nothing() -> None:
-    commands = array_of([(1, Enter(BID, 5, 5)), (1, Ask())])
+    commands = array_of([(1, Enter(BID, 5, 5)), (1, Indicate())])
     with Auction(max_calls=1_000_000) as auction:
         auction.enter(1, BID, 5, 5)
         before = 0
@@ -139,7 +139,7 @@ def test_calls_leave_nothing() -> None:
                 gc.collect()
                 before = resident()
             auction.apply_many(commands)
-            auction.ladder(), auction.trades(), auction.ask(1), auction.config
+            auction.ladder(), auction.trades(), auction.indicate(1), auction.config
             with pytest.raises(TypeError):
                 auction.delete(1, "1")  # type: ignore[arg-type]
             auction.reset() if turn % 1000 == 0 else None
@@ -175,7 +175,7 @@ def starved(auction: Auction) -> str:
                 return f"another error: {error}"
         else:
             return "memory was not refused"
-    return str(auction.ask(1))
+    return str(auction.indicate(1))
 
 
 def test_want_of_memory_raises() -> None:
@@ -213,7 +213,7 @@ def test_a_fork_has_an_auction_of_its_own() -> None:
             return said
 
         price = Price(100, 5, 0, Side.NONE)  # the reference, 200, lies above 90 and 100
-        assert in_child(say) == f"2 {Uncrossed(Kind.OPENING, price, 1)}"
+        assert in_child(say) == f"2 {Uncrossed(AuctionKind.OPENING, price, 1)}"
         assert auction.calls == 1
         assert auction.display() == NoPrice(100, None)
 
@@ -240,7 +240,7 @@ def test_a_pool_of_threads_with_an_auction_each() -> None:
 def million() -> Structs:
     """A million questions, which take some tens of milliseconds."""
     commands = numpy.zeros(1_000_000, callauction.COMMAND)
-    commands["tag"] = callauction.CommandTag.ASK
+    commands["tag"] = callauction.CommandTag.INDICATE
     return commands
 
 
@@ -297,8 +297,8 @@ def test_threads_that_share_one_never_mix_their_calls() -> None:
                 try:
                     entered = auction.enter(member, BID, member, member)
                     if isinstance(entered, Entered):
-                        standing = auction.status(member, entered.id)
-                        if standing != Standing(BID, member, member, member):
+                        standing = auction.order_status(member, entered.id)
+                        if standing != OpenOrder(BID, member, member, member):
                             faults.append(standing)
                         auction.delete(member, entered.id)
                 except BusyError:

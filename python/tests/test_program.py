@@ -23,6 +23,10 @@ def test_the_variable_comes_before_the_path(
     monkeypatch.setenv(program.VARIABLE, str(named))
     assert Day(b"").printed() == "named\n"
     monkeypatch.delenv(program.VARIABLE)
+    held = script(tmp_path / "held", "echo held")
+    monkeypatch.setattr(finder, "HELD", held)
+    assert program.program() == str(held)
+    monkeypatch.setattr(finder, "HELD", tmp_path / "none")
     assert program.program() == str(on_path)
 
 
@@ -31,6 +35,7 @@ def test_else_it_is_the_one_of_the_repository(
 ) -> None:
     monkeypatch.delenv(program.VARIABLE, raising=False)
     monkeypatch.setenv("PATH", str(tmp_path))
+    monkeypatch.setattr(finder, "HELD", tmp_path / "none")
     monkeypatch.setattr(finder, "BUILT", tmp_path / "callboard")
     with pytest.raises(FailedError, match="^there is no program callboard: build it"):
         program.program()

@@ -48,14 +48,14 @@ def test_calls_are_those_of_an_auction() -> None:
         for each in both:
             each.enter(1, Side.BID, 500, 200, peak=100)
             each.enter(2, Side.ASK, 300)
-            each.enter(2, Side.ASK, 30, 300, only=words.For.CLOSING)
+            each.enter(2, Side.ASK, 30, 300, restriction=words.Restriction.CLOSING_ONLY)
         for call in (
-            lambda each: each.status(1, 1),
+            lambda each: each.order_status(1, 1),
             lambda each: each.change(1, 1, 400, 200),
-            lambda each: each.ask(0),
+            lambda each: each.indicate(0),
             lambda each: each.uncross(1),
             lambda each: each.uncross(),
-            lambda each: each.trade(1, 1),
+            lambda each: each.read_trade(1, 1),
             lambda each: each.delete(1, 1),
             lambda each: each.apply(1, words.Enter(Side.BID, 7)),
             lambda each: each.display(),
@@ -93,12 +93,12 @@ def test_books_before_and_after_an_uncross(tmp_path: Path) -> None:
 def test_a_reference_is_the_last_price() -> None:
     with RecordedAuction(reference=150, max_open=2) as auction:
         assert auction.reference() == 150
-        auction.enter(1, Side.BID, 5, 170, only=words.For.OPENING)
+        auction.enter(1, Side.BID, 5, 170, restriction=words.Restriction.OPENING_ONLY)
         auction.enter(2, Side.ASK, 4, 170)
         auction.uncross()
         assert (auction.reference(3), auction.reference()) == (150, 170)
         auction.enter(1, Side.BID, 5, 190)
-        auction.enter(1, Side.BID, 5, 180, only=words.For.CLOSING)
+        auction.enter(1, Side.BID, 5, 180, restriction=words.Restriction.CLOSING_ONLY)
         assert auction.reference() == 170
     with RecordedAuction(max_open=1) as narrow:
         narrow.uncross()
@@ -108,7 +108,7 @@ def test_a_reference_is_the_last_price() -> None:
 def test_what_a_journal_cannot_say_is_refused_before_it_is_applied() -> None:
     with RecordedAuction() as auction:
         refused: list[tuple[Callable[[], object], str]] = [
-            (lambda: auction.ask(64), "member must be from 0 to 63, not 64"),
+            (lambda: auction.indicate(64), "member must be from 0 to 63, not 64"),
             (lambda: auction.enter(1, Side.BID, MOST_NUMBER + 1), "quantity must be from 0 to"),
             (lambda: auction.change(1, 1, MOST_NUMBER + 1), "quantity must be from 0 to"),
             (lambda: auction.enter(1, Side.BID, 1, 1, MOST_NUMBER + 1), "peak must be from 0 to"),
@@ -117,10 +117,10 @@ def test_what_a_journal_cannot_say_is_refused_before_it_is_applied() -> None:
             with pytest.raises(ValueError, match=f"^{text}"):
                 call()
         with pytest.raises(TypeError, match="^member must be an integer"):
-            auction.ask("1")  # type: ignore[arg-type]
+            auction.indicate("1")  # type: ignore[arg-type]
         with pytest.raises(TypeError):
             auction.apply(1, "ask")  # type: ignore[arg-type]
-        many = array_of([(1, words.Ask()), (64, words.Ask())])
+        many = array_of([(1, words.Indicate()), (64, words.Indicate())])
         with pytest.raises(ValueError, match="^commands: element 1: member must be from 0 to 63"):
             auction.apply_many(many)
         assert auction.calls == 0
@@ -130,7 +130,7 @@ def test_what_a_journal_cannot_say_is_refused_before_it_is_applied() -> None:
 
 def test_many_commands_are_kept_up_to_an_error() -> None:
     with RecordedAuction(max_calls=4) as auction:
-        bad = array_of([(1, words.Enter(Side.BID, 5, 200)), (1, words.Ask()), (1, words.Ask())])
+        bad = array_of([(1, words.Enter(Side.BID, 5, 200)), (1, words.Indicate()), (1, words.Indicate())])
         bad["tag"][2] = 99
         with pytest.raises(NoCommandError) as none:
             auction.apply_many(bad)
@@ -139,7 +139,7 @@ def test_many_commands_are_kept_up_to_an_error() -> None:
             auction.apply_many(numpy.repeat(bad[1:2], 3))
         assert len(auction.journal()) == auction.calls == 4
         with pytest.raises(FullError):
-            auction.ask(1)
+            auction.indicate(1)
         assert len(auction.journal()) == 4
 
 

@@ -84,9 +84,19 @@ def test_a_picture_is_written(tmp_path: Path, words: list[str]) -> None:
         assert main(command) == 0 and (tmp_path / name).stat().st_size > 5_000
 
 
-def test_an_audit_is_the_programs(capsys: pytest.CaptureFixture[str]) -> None:
+AUDITED = [
+    *CHANGED.with_suffix(".txt").read_text(encoding="utf-8").splitlines()[:4],
+    "findings 4",
+    "replies 8 of 8",
+    "auctions 1 of 3",
+    "unlawful",
+]
+"""What is printed of CHANGED: the program's findings, and how much was compared."""
+
+
+def test_an_audit_has_the_findings_of_the_program(capsys: pytest.CaptureFixture[str]) -> None:
     assert main(["audit", str(CHANGED)]) == 4
-    assert capsys.readouterr().out == CHANGED.with_suffix(".txt").read_text(encoding="utf-8")
+    assert capsys.readouterr().out.splitlines() == AUDITED
     assert main(["audit", str(TOP / "examples/forms/day.journal.csv")]) == 0
 
 
@@ -99,13 +109,41 @@ def test_events_are_converted_and_audited(
     assert main(command) == 0
     assert read_journal(day)["reply"].tolist()[-1] == "trade 1 2 150 at 2002"
     assert orders.read_text(encoding="utf-8").splitlines()[1] == "1,A17,Adler,1,2"
-    assert main(["audit", str(events), *CONVERSION]) == 0
-    assert capsys.readouterr().out == "entries 8\ncompared 4\nunlawful 0\naudit legal\n"
-    events.write_text(events.read_text(encoding="utf-8").replace("150.0,150", "150.0,140"))
+    audit = ["audit", str(events), *CONVERSION, "--auctions", "opening"]
+    assert main(audit) == 5
+    out = capsys.readouterr().out.splitlines()
+    assert out == ["findings 0", "prices 1 of 1", "volumes 1 of 1", "surpluses 1 of 1",
+                   "sides 1 of 1", "auctions 0 of 1", "counts 0 of 1", "trades 1 of 1",
+                   "incomplete"]
     events.write_text(re.sub(r"(uncross.*20)\.02", r"\1.01", events.read_text(encoding="utf-8")))
-    assert main(["audit", str(events), *CONVERSION]) == 4
-    out = capsys.readouterr().out
-    assert out.startswith('row 7, 9:00:00, uncross: recorded "price 20.01 ') and "not legal" in out
+    assert main(audit) == 4
+    out = capsys.readouterr().out.splitlines()
+    assert out[0].startswith("row 7, 9:00:00, opening: price: recorded 20.01, lawful 20.02: ")
+    assert out[1] == "findings 1" and out[-1] == "unlawful"
+
+
+def test_an_extract_is_converted_as_it_comes(tmp_path: Path) -> None:
+    """The German extract, and a cancel of a part of an order."""
+    file, day = TOP / "examples/extracts/german.csv", tmp_path / "day.csv"
+    words = file.with_suffix(".args").read_text(encoding="utf-8").split()
+    del words[words.index("--auctions") : words.index("--auctions") + 2]
+    part = tmp_path / "part.csv"
+    lines = file.read_text(encoding="utf-8").splitlines()
+    lines.insert(6, "CANCEL;E2;Ehrl;;;100;08:51:40,000;;;;;")
+    part.write_text("".join(f"{line}\n" for line in lines), encoding="utf-8")
+    assert main(["convert", str(part), *words, "-o", str(day)]) == 0
+    assert day.read_text(encoding="utf-8").splitlines()[1:] == [
+        "1,enter,bid,1200,2002,",
+        "2,enter,bid,1000,2002,",
+        "3,enter,ask,1000,market,",
+        "4,enter,ask,500,2003,",
+        "5,enter,bid,300,2000,",
+        "5,change,5,200,2000,",
+        "1,change,1,1000,2002,",
+        "4,delete,4,deleted",
+        "0,uncross,opening price 2002 volume 1000 surplus 1000 bid trades 1",
+        "0,trade,1,trade 2 3 1000 at 2002",
+    ]
 
 
 @pytest.mark.parametrize("words, status, text", [
@@ -114,8 +152,10 @@ def test_events_are_converted_and_audited(
     (["report", str(CHANGED) + ".x", "-o", "x"], 3, "No such file"),
     (["audit", str(EXAMPLES[0])], 1, "record 1: not a day record"),
     (["plot", str(EXAMPLES[0]), "--command", "1", "-o", "x.svg"], 2, "no book before command 1"),
-    (["convert", str(EXAMPLES[0]), *CONVERSION, "-o", "x"], 1, "row 2: event is missing"),
-    (["convert", str(CHANGED), "--tick-size", "0", "--reference", "1", "-o", "x"], 2, "tick_size"),
+    (["convert", str(EXAMPLES[0]), *CONVERSION, "-o", "x"], 1, "unknown column"),
+    (["convert", str(TOP / "docs/AUDIT.md"), "--tick-size", "0", "--reference", "1", "-o", "x"], 1,
+     "unknown column"),
+    (["report", str(EXAMPLES[0]), "--low", "y", "-o", "x"], 2, "invalid literal"),
 ])
 def test_faults_are_one_line(
     words: list[str], status: int, text: str, capsys: pytest.CaptureFixture[str], tmp_path: Path,
@@ -129,7 +169,7 @@ def test_faults_are_one_line(
 
 
 @pytest.mark.parametrize("words", [
-    [], ["paint"], ["report"], ["report", "x", "--low", "y", "-o", "z"]
+    [], ["paint"], ["report"], ["report", "x", "--open", "y", "-o", "z"]
 ])
 def test_bad_command_lines_are_one_line(
     words: list[str], capsys: pytest.CaptureFixture[str]
@@ -164,7 +204,7 @@ def test_it_runs_as_a_module_and_reads_standard_input(tmp_path: Path) -> None:
         cwd=tmp_path,
     )
     assert ran.returncode == 4 and not ran.stderr
-    assert ran.stdout.decode("ascii") == CHANGED.with_suffix(".txt").read_text(encoding="utf-8")
+    assert ran.stdout.decode("ascii").splitlines() == AUDITED
 
 
 def test_short_work_shows_no_bar(capsys: pytest.CaptureFixture[str]) -> None:

@@ -1,18 +1,17 @@
-"""What the rules say of a journal, by the auction of checks/plain_auction.py, which shares no code
-with the program; and random journals.
+"""What the rules say of a journal, by the model of checks/model, which shares no code with the
+program; and random journals.
 """
 import pathlib
 import sys
 from typing import Any
 
-sys.path.insert(0, str(pathlib.Path(__file__).resolve().parents[2] / "checks"))
+sys.path.insert(0, str(pathlib.Path(__file__).resolve().parents[2]))
 
-import random_journals  # noqa: E402
-import random_orders  # noqa: E402
-import plain_auction  # noqa: E402
+from checks.generators import journals, orders  # noqa: E402
+from checks.model import answers  # noqa: E402
 
 AUCTIONS = ("opening", "intraday", "closing")
-UNLAWFUL = 4
+UNLAWFUL, INCOMPLETE = 4, 5
 
 Texts = dict[str, str]
 """Journals by their instruments; a character is a byte."""
@@ -24,14 +23,14 @@ def random_texts(count: int, kind: str = "short") -> Texts:
     """The random journals of the first seeds; one in four, about, is spoiled."""
     texts = {}
     for seed in range(1, count + 1):
-        given = random_orders.order_file(kind, seed)
-        texts[f"{kind} {seed}"] = random_journals.journal_of(kind, seed, *given)[1]
+        given = orders.order_file(kind, seed)
+        texts[f"{kind} {seed}"] = journals.journal_of(kind, seed, *given)[1]
     return texts
 
 
-def answer(text: str, form: str) -> plain_auction.Answer:
+def answer(text: str, form: str) -> answers.Answer:
     """The status, the output and the standard error that the rules give for a journal."""
-    return plain_auction.answer(text, plain_auction.DEFAULTS, form)
+    return answers.answer(text, answers.DEFAULTS, form)
 
 
 def row_of(instrument: str, text: str) -> Columns:
@@ -45,7 +44,18 @@ def row_of(instrument: str, text: str) -> Columns:
         row["first_unlawful"] = int(audit.split(":")[0])
     for line in answer(text, "lines")[1].splitlines():
         take_uncross(row, line.split(": ", 1)[1].split())
+    row["day"] = (*AUCTIONS, "over")[row["auctions"]]
     return row
+
+
+def status_of(rows: list[Columns]) -> int:
+    """The status of an audit with these rows."""
+    if any("fault" in row for row in rows):
+        return 1
+    if any(row["unlawful"] for row in rows):
+        return UNLAWFUL
+    is_whole = all(row["compared"] == row["entries"] and row["day"] == "over" for row in rows)
+    return 0 if is_whole and any(row["compared"] for row in rows) else INCOMPLETE
 
 
 def take_uncross(row: Columns, words: list[str]) -> None:

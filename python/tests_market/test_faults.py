@@ -1,12 +1,14 @@
 """What goes wrong with one instrument, or with a worker, is no matter to the others."""
 import os
 import pathlib
+import time
 
 import dask
-import psutil
+import pytest
 import rules
 from callauction import market
-from conftest import columns, runs_of, write
+from callauction.market import forms, task
+from conftest import Keys, cluster, columns, runs_of, write
 from distributed import Client
 
 TEXTS = {f"good {seed}": text for seed, text in enumerate(rules.random_texts(8).values())}
@@ -20,7 +22,7 @@ def rows_with(faults: dict[str, str]) -> list[rules.Columns]:
     return sorted(rules.rows_of(TEXTS) + bad, key=lambda row: str(row["instrument"]))
 
 
-def test_bad_files(client: Client, tmp_path: pathlib.Path) -> None:
+def test_bad_files(crew: Client | None, tmp_path: pathlib.Path) -> None:
     texts = {
         "cut": f"{EMPTY_DAY}1,enter,bid,7,5,entered 1\n2,enter,as",
         "empty": "",
@@ -33,7 +35,7 @@ def test_bad_files(client: Client, tmp_path: pathlib.Path) -> None:
     os.symlink(link, link)
     os.mkfifo(pipe)
     os.symlink("/proc/self/mem", unreadable)
-    found = market.audit([*paths, folder, link, pipe, missing, unreadable], client)
+    found = market.audit([*paths, folder, link, pipe, missing, unreadable], crew)
     faults = {
         "a folder": "Is a directory",
         "a link": "Too many levels of symbolic links",
@@ -54,25 +56,61 @@ def test_a_reply_that_was_cut_is_unlawful(client: Client, tmp_path: pathlib.Path
 
 
 def test_programs_that_end_badly(
-    client: Client, harmful: pathlib.Path, tmp_path: pathlib.Path
+    crew: Client | None, harmful: pathlib.Path, tmp_path: pathlib.Path
 ) -> None:
     faults = {
         "ends with 9": "the program ended with status 9",
         "is killed": "the program was ended by SIGKILL",
-        "prints something else": "the program printed no audit",
+        "prints something else": "the program printed no audit with results",
     }
     paths = write(tmp_path / "journals", TEXTS | dict.fromkeys(faults, EMPTY_DAY))
-    found = market.audit(paths, client, program=harmful)
+    found = market.audit(paths, crew, program=harmful)
     assert columns(found) == rows_with(faults)
 
 
-def test_a_program_that_runs_out_of_memory(client: Client, tmp_path: pathlib.Path) -> None:
+@pytest.mark.parametrize("name", ["never ends", "prints for ever", "closes and never ends"])
+def test_a_program_that_takes_too_long(
+    name: str, harmful: pathlib.Path, tmp_path: pathlib.Path
+) -> None:
+    paths = write(tmp_path / "journals", TEXTS | {name: EMPTY_DAY})
+    begin = time.monotonic()
+    found = market.audit(paths, workers=2, program=harmful, seconds=5)
+    assert columns(found) == rows_with({name: "not done in 5 seconds"})
+    assert time.monotonic() - begin < 60
+
+
+def test_limits_go_by_the_size() -> None:
+    least, large = (
+        task.Request(("audit",)).for_size(size, forms.FORMS["audit"]) for size in (0, 10 * MIB)
+    )
+    assert (least.memory, least.seconds) == (64 * MIB, 60)
+    assert (large.memory, large.seconds) == (144 * MIB, 180)
+    table = task.Request(("trades",)).for_size(10 * MIB, forms.FORMS["trades"])
+    assert (table.memory, table.seconds) == (288 * MIB, 180)
+    given = task.Request(("trades",), None, 7, 8).for_size(10 * MIB, forms.FORMS["trades"])
+    assert (given.memory, given.seconds) == (7, 8)
+
+
+def test_a_program_that_runs_out_of_memory(
+    crew: Client | None, tmp_path: pathlib.Path
+) -> None:
     large = "day,1,65536,200,64,65536,1048576,\n"
     paths = write(tmp_path, TEXTS | {"large": large})
-    found = market.audit(paths, client, memory=16 * MIB)
-    assert columns(found) == rows_with({"large": "out of memory"})
-    (row,) = columns(market.audit(paths[-1:], client))
+    found = market.audit(paths, crew, memory=16 * MIB)
+    assert columns(found) == rows_with({"large": "out of memory: it may have 16 MiB"})
+    (row,) = columns(market.audit(paths[-1:], crew))
     assert row["entries"] == 0
+
+
+def test_the_default_memory_is_enough(program: str, tmp_path: pathlib.Path) -> None:
+    day = "day,1,65536,200,64,65536,1048576,\n"
+    texts = {"asks": "1,ask,\n", "bids": "1,enter,bid,1,1,\n", "trades": "1,trade,1,\n"}
+    texts = {name: day + text * 1_048_576 for name, text in texts.items()}
+    book = "1,enter,bid,2,9,\n" * 32_768 + "2,enter,ask,1,9,\n" * 32_768 + "0,uncross,\n"
+    paths = write(tmp_path, texts | {"a full tape": day + book * 3})
+    for form in ("audit", "results", "lines", "book", "journal", "trades"):
+        found = market.run(paths, form)
+        assert found.fault.isna().all(), found.fault.tolist()
 
 
 def test_a_killed_workers_task_runs_again_elsewhere(
@@ -82,14 +120,16 @@ def test_a_killed_workers_task_runs_again_elsewhere(
     found = market.audit(write(tmp_path / "journals", texts), client, program=harmful)
     assert columns(found) == rules.rows_of(texts)
     workers = [worker for name, worker in runs_of(harmful) if name == "kills its worker once"]
-    assert workers[0] not in workers[1:] and len(workers) == 3  # killed; its audit, its lines
+    assert len(workers) == 2 and workers[0] != workers[1]  # killed, and run again elsewhere
     assert len({worker for _, worker in runs_of(harmful)}) >= 2
 
 
-def test_who_kills_each_worker_is_told(harmful: pathlib.Path, tmp_path: pathlib.Path) -> None:
+def test_who_kills_each_worker_is_told(
+    keys: Keys, harmful: pathlib.Path, tmp_path: pathlib.Path
+) -> None:
     paths = write(tmp_path / "journals", TEXTS | {"kills its worker": EMPTY_DAY})
     with dask.config.set({"distributed.scheduler.allowed-failures": 1}):
-        with market.local_client(2) as client:
+        with cluster(2, keys) as client:
             found = market.audit(paths, client, program=harmful)
     assert columns(found) == rows_with({"kills its worker": "its worker ended each time"})
 
@@ -101,16 +141,3 @@ def test_workers_without_the_program(client: Client, tmp_path: pathlib.Path) -> 
         assert "has no program" in str(fault)
     else:
         raise AssertionError("ran without a program")
-
-
-def test_only_loopback_is_listened_to(client: Client) -> None:
-    this = psutil.Process()
-    those = [this, *this.children(recursive=True)]
-    listening = [
-        connection.laddr.ip
-        for process in those
-        for connection in process.connections(kind="inet")
-        if connection.status == psutil.CONN_LISTEN
-    ]
-    assert len(listening) >= 3  # the scheduler's, and each worker's
-    assert {address for address in listening} == {"127.0.0.1"}

@@ -5,7 +5,7 @@ from typing import Any
 import pytest
 import rules
 from callauction import market
-from callauction.market import runs
+from callauction.market import workers
 from conftest import columns, write
 from distributed import Client
 
@@ -18,15 +18,16 @@ def paths(tmp_path_factory: pytest.TempPathFactory) -> list[str]:
 
 
 @pytest.fixture(scope="module")
-def found(paths: list[str], client: Client) -> Any:
-    return market.audit(paths, client)
+def found(paths: list[str], crew: Client | None) -> Any:
+    return market.audit(paths, crew)
 
 
 def test_each_row_is_that_of_the_rules(found: Any) -> None:
     expected = rules.rows_of(TEXTS)
     assert columns(found) == expected
-    kinds = {"fault": 0, "first_unlawful": 0, "opening_price": 0, "closing_price": 0}
+    kinds = ("fault", "first_unlawful", "opening_price", "closing_price")
     counts = {kind: sum(kind in row for row in expected) for kind in kinds}
+    counts |= {day: sum(row.get("day") == day for row in expected) for day in ("opening", "over")}
     assert min(counts.values()) >= 3, f"journals of too few kinds: {counts}"
 
 
@@ -40,8 +41,14 @@ def test_columns_have_the_types_that_are_said(found: Any) -> None:
     assert (good.seconds > 0).all() and found[found.fault.notna()].seconds.isna().all()
 
 
+ENDED = {
+    f"{auction}_{name}"
+    for auction in rules.AUCTIONS
+    for name in ("price", "volume", "surplus", "side")
+}
 ASKED: dict[str, set[str]] = {
     "audit": {"entries", "compared", "unlawful", "first_unlawful"},
+    "lines": {"entries", "day", "auctions", "trades", *ENDED},
     "trades": {"trades"},
     "book": set(),
     "journal": set(),
@@ -50,22 +57,22 @@ ASKED: dict[str, set[str]] = {
 
 @pytest.mark.parametrize("what", ASKED)
 def test_each_form_tells_its_columns(
-    what: str, client: Client, tmp_path: pathlib.Path
+    what: str, crew: Client | None, tmp_path: pathlib.Path
 ) -> None:
     expected = [row for row in rules.rows_of(TEXTS) if "fault" not in row][:12]
     paths = write(tmp_path, {row["instrument"]: TEXTS[row["instrument"]] for row in expected})
     names = ASKED[what] | {"instrument"}
     told = [{name: row[name] for name in row if name in names} for row in expected]
-    assert columns(market.run(paths, what, client)) == told
+    assert columns(market.run(paths, what, crew)) == told
 
 
-def test_what_is_printed_is_kept(client: Client, tmp_path: pathlib.Path) -> None:
+def test_what_is_printed_is_kept(crew: Client | None, tmp_path: pathlib.Path) -> None:
     day = "day,1,9,5,4,9,9,\n1,enter,bid,7,5,\n2,enter,ask,4,5,\n0,uncross,\n"
     texts = {"A": day, "B": "day\n"}
     paths = write(tmp_path / "journals", texts)
     into = tmp_path / "kept"
     into.mkdir()
-    market.run(paths, ["trades", "book", "audit", "journal", "lines"], client, into=into)
+    market.run(paths, ["trades", "book", "audit", "journal", "lines"], crew, into=into)
     forms = {"trades": "csv", "book": "csv", "audit": "txt", "journal": "csv", "lines": "txt"}
     names = {f"A.{form}.{end}" for form, end in forms.items()}
     assert {path.name for path in into.iterdir()} == names
@@ -83,8 +90,8 @@ def test_two_files_of_an_instrument(client: Client) -> None:
         market.run(["/a/X.csv"], [], client)
 
 
-def test_no_files(client: Client) -> None:
-    assert market.audit([], client).empty
+def test_no_files(crew: Client | None) -> None:
+    assert market.audit([], crew).empty
 
 
 def test_tasks_take_all_files_once_and_the_largest_first(tmp_path: pathlib.Path) -> None:
@@ -93,8 +100,20 @@ def test_tasks_take_all_files_once_and_the_largest_first(tmp_path: pathlib.Path)
         with open(file, "wb") as out:
             out.truncate(place**3)
     for threads in (1, 4, 400):
-        batches = runs.batches_of(files, threads)
+        batches = workers.batches_of(files, threads)
         assert sum(batches, []) == files[::-1]
-        assert len(batches) <= 2 * runs.SHARES * threads
-    assert len(runs.batches_of(files, 400)) == len(files)
-    assert len(runs.batches_of([*files, "/none.csv"], 1)) < len(files)
+        assert len(batches) <= 2 * workers.SHARES * threads
+    assert len(workers.batches_of(files, 400)) == len(files)
+    assert len(workers.batches_of([*files, "/none.csv"], 1)) < len(files)
+
+
+def test_what_is_expected(program: str, tmp_path: pathlib.Path) -> None:
+    paths = write(tmp_path, {"A": TEXTS["short 1"], "B": TEXTS["short 2"], "C": "day\n"})
+    found = market.audit(paths, expect=["B", "D", "Ä"], workers=1)
+    assert columns(found) == [
+        {"instrument": "A", "fault": "not expected"},
+        rules.row_of("B", TEXTS["short 2"]),
+        {"instrument": "C", "fault": "not expected"},
+        {"instrument": "D", "fault": "expected, and there is no file"},
+        {"instrument": "Ä", "fault": "expected, and there is no file"},
+    ]

@@ -1,4 +1,5 @@
 """A table of a market becomes a journal for each instrument."""
+import os
 import pathlib
 import subprocess
 import sys
@@ -10,10 +11,11 @@ import pandas
 import pytest
 import rules
 from callauction import market
-from callauction.market import rows, splitting
-from conftest import TOP, columns, environment
+from callauction.market import files, names, splitting
+from conftest import TOP, columns, command, environment
 from distributed import Client
-from plain_files import journal
+
+from checks.model.files import journal
 
 DAYS = pandas.DataFrame(
     {
@@ -53,7 +55,7 @@ JOURNALS = {
 
 def read(paths: list[str]) -> rules.Texts:
     """The journals with these paths."""
-    return {rows.instrument_of(path): pathlib.Path(path).read_text() for path in paths}
+    return {names.instrument_of(path): pathlib.Path(path).read_text() for path in paths}
 
 
 def tables(folder: pathlib.Path) -> dict[str, Any]:
@@ -94,7 +96,7 @@ def test_defaults_are_the_programs(program: str, tmp_path: pathlib.Path) -> None
     assert ran.stdout == f"{day}\n"
 
 
-def test_journals_split_as_they_were(client: Client, tmp_path: pathlib.Path) -> None:
+def test_journals_split_as_they_were(crew: Client | None, tmp_path: pathlib.Path) -> None:
     texts = {
         instrument: text
         for instrument, text in rules.random_texts(40).items()
@@ -111,11 +113,11 @@ def test_journals_split_as_they_were(client: Client, tmp_path: pathlib.Path) -> 
         days=pandas.DataFrame(days),
         folder=tmp_path,
     )
-    assert columns(market.audit(paths, client)) == rules.rows_of(texts)
+    assert columns(market.audit(paths, crew)) == rules.rows_of(texts)
 
 
 def cells_of(call: Any) -> dict[str, Any]:
-    """The cells of a member's command, as plain_day has it."""
+    """The cells of a member's command, as the model has it."""
     member, (word, *rest) = call
     names = {
         "enter": ("side", "limit", "quantity", "peak", "only"),
@@ -126,11 +128,16 @@ def cells_of(call: Any) -> dict[str, Any]:
 
 
 BAD = [
-    (TABLE.drop(columns="member"), DAYS, "there is no column 'member'"),
+    (TABLE.drop(columns="member"), DAYS, "the table: there is no column 'member'"),
     (TABLE.rename(columns={"instrument": "name"}), DAYS, "there is no column 'instrument'"),
+    (TABLE.rename(columns={"limit": "price"}), DAYS, r"the table: unknown column 'price' \(is it limit\?"),
+    (TABLE, DAYS.assign(tick=1), "the days: unknown column 'tick'"),
+    (pandas.concat([TABLE, TABLE[["limit"]]], axis=1), DAYS, "'limit' is there twice"),
+    (TABLE.rename(columns={"limit": ""}), DAYS, "the table: column 6 has no name"),
+    (TABLE.assign(member="member"), DAYS, "the table: row 1 has 'member' as member, as a header"),
     (TABLE, DAYS[:1], "the days have no row for 'Y/Z'"),
     (TABLE, pandas.concat([DAYS, DAYS[:1]]), "the days have 'X' twice"),
-    (TABLE, DAYS.drop(columns="instrument"), "the days have no column 'instrument'"),
+    (TABLE, DAYS.drop(columns="instrument"), "the days: there is no column 'instrument'"),
     (TABLE.assign(instrument=["X"] * 11 + [None]), None, "no file can be named"),
 ]
 
@@ -158,6 +165,70 @@ def test_another_column_names_the_instruments(tmp_path: pathlib.Path) -> None:
     days = DAYS.rename(columns={"instrument": "isin"})
     paths = market.split(other, "isin", days=days, folder=tmp_path)
     assert read(paths) == JOURNALS
+
+
+HEADER = "instrument,member,command,side,quantity,limit,reply\n"
+ROW = "A,1,enter,bid,5,7,entered 1\n"
+OTHER = "B,0,uncross,,,,\n"
+
+
+def test_a_byte_order_mark_and_commas_at_the_end(tmp_path: pathlib.Path) -> None:
+    texts = [HEADER + ROW + OTHER, f"\ufeff{HEADER}{ROW}{OTHER}"]
+    texts += [HEADER + ROW.replace("\n", ",,\n") + OTHER.replace("\n", ",\n")]
+    texts += [f"{HEADER}\n{ROW}\n{OTHER}\n".replace("\n", "\r\n"), f"{HEADER}{ROW}B,0,uncross\n"]
+    found = []
+    for text in texts:
+        (tmp_path / "table.csv").write_text(text, encoding="utf-8", newline="")
+        found.append(read(market.split(tmp_path / "table.csv", folder=tmp_path / "journals")))
+    day = "day,1,1000,200,4,4096,65536,\n"
+    journals = {"A": f"{day}1,enter,bid,5,7,entered 1\n", "B": f"{day}0,uncross,\n"}
+    assert found == [journals] * len(texts)
+
+
+TABLES = [
+    (HEADER.replace("\n", ",\n") + ROW, "{}: column 8 has no name"),
+    (HEADER.replace("side", "limit") + ROW, "{}: the column 'limit' is there twice"),
+    (HEADER + ROW + HEADER + OTHER, "the table: row 2 has 'member' as member, as a header"),
+    (HEADER.replace("limit", "price") + ROW, "the table: unknown column 'price' (is it limit?): "),
+    (HEADER + ROW.replace("\n", ",x\n") + OTHER, "{}: row 1 is longer than the header"),
+    (HEADER + OTHER + ROW.replace("\n", ",x\n"), "{}: row 2 is longer than the header"),
+    (f"\n{ROW}{OTHER}", "the table: there is no column 'instrument'"),
+    ("", "{}: "),
+    ("\xff\n", "{}: "),
+]
+
+
+@pytest.mark.parametrize("text, fault", TABLES)
+def test_a_bad_table_is_one_line(
+    text: str, fault: str, program: str, tmp_path: pathlib.Path
+) -> None:
+    table = tmp_path / "table.csv"
+    table.write_text(text, encoding="latin-1")
+    ran = command("split", table, "--into", tmp_path / "journals", program=program)
+    assert (ran.returncode, ran.stdout) == (1, "")
+    assert ran.stderr.startswith(f"market: {fault.format(table)}")
+    assert ran.stderr.count("\n") == 1 and "Warning" not in ran.stderr
+    assert not {"'A'", "'B'"} & set(ran.stderr.split())
+    assert list((tmp_path / "journals").iterdir()) == []
+
+
+def test_columns_are_passed_over(program: str, tmp_path: pathlib.Path) -> None:
+    table = tmp_path / "table.csv"
+    table.write_text(HEADER.replace("reply", "time") + ROW)
+    words = ["split", table, "--ignore", "time", "--into", tmp_path / "journals"]
+    assert command(*words, program=program).returncode == 0
+    assert (tmp_path / "journals/A.csv").read_text().endswith("\n1,enter,bid,5,7,\n")
+
+
+def test_a_folder_in_use(program: str, tmp_path: pathlib.Path) -> None:
+    table = tmp_path / "table.csv"
+    table.write_text(HEADER + ROW)
+    (tmp_path / "journals").mkdir()
+    with files.locked(tmp_path / "journals"):
+        ran = command("split", table, "--into", tmp_path / "journals", program=program)
+        assert (ran.returncode, ran.stdout) == (2, "")
+        assert f"market: {tmp_path}/journals is in use by process {os.getpid()} of" in ran.stderr
+    assert list((tmp_path / "journals").iterdir()) == []
 
 
 def test_bad_files_of_tables(tmp_path: pathlib.Path) -> None:

@@ -1,30 +1,82 @@
 """Names of files, cells of records, and what is read of the program's output."""
+import csv
 import io
+import os
 import pathlib
 
 import pytest
-from callauction.market import Row, forms, rows
+from callauction.market import Row, forms, names, rows
+from hypothesis import given, strategies
 
 NAMES = ["SAP", "a b", "Ärzte", "x/y", "..", ".", "-", "A%41", "SAP.DE"]
-NAMES += ["~", "c:\\d", "\n", "I" * 251]
+NAMES += ["~", "c:\\d", "\n", "I" * 251, "\udcff", "\x1b[31m", "=1+2", "\u202e", "'"]
 
 
 @pytest.mark.parametrize("name", NAMES)
 def test_an_instrument_has_a_file_of_its_own(name: str, tmp_path: pathlib.Path) -> None:
-    path = tmp_path / rows.file_of(name)
+    path = tmp_path / names.file_of(name)
     path.write_text("")
     assert list(tmp_path.iterdir()) == [path]
-    assert rows.instrument_of(str(path)) == name
+    instrument = names.instrument_of(str(path))
+    assert instrument.isprintable()
+    assert names.name_of(instrument) == os.fsencode(name)
 
 
 @pytest.mark.parametrize("name", ["", "I" * 252, "Ä" * 42])
 def test_no_file_can_be_named(name: str) -> None:
     with pytest.raises(ValueError, match="no file can be named"):
-        rows.file_of(name)
+        names.file_of(name)
 
 
 def test_names_of_files_are_told_apart() -> None:
-    assert len({rows.file_of(name).lower() for name in NAMES}) == len(NAMES)
+    assert len({names.file_of(name).lower() for name in NAMES}) == len(NAMES)
+
+
+SHOWN = {
+    b"SAP": "SAP",
+    b"a\nb": "a\\x0ab",
+    b"\x1b[31m": "\\x1b[31m",
+    b"\xff": "\\xff",
+    b"\\xff": "\\\\xff",
+    "Ä\u202e\x85\U000e0001".encode(): "Ä\\u202e\\u0085\\U000e0001",
+    b"\xed\xb2\x80": "\\xed\\xb2\\x80",
+}
+
+
+@pytest.mark.parametrize("name", SHOWN)
+def test_a_name_of_any_bytes_is_one_line(name: bytes) -> None:
+    assert names.printable(name) == SHOWN[name]
+    assert names.name_of(SHOWN[name]) == name
+
+
+@given(strategies.binary(), strategies.binary())
+def test_two_names_are_two_lines(one: bytes, other: bytes) -> None:
+    shown = names.printable(one), names.printable(other)
+    assert (shown[0] == shown[1]) == (one == other)
+    assert names.name_of(shown[0]) == one
+    assert shown[0].isprintable()
+
+
+RUN = ["=1+2", "+1", "-1", "@SUM(A1)", "'", "'=1", "\uff1d1"]
+
+
+@pytest.mark.parametrize("text", [*RUN, "a=1", "1", ""])
+def test_no_spreadsheet_runs_a_cell(text: str, tmp_path: pathlib.Path) -> None:
+    row = Row(text or "I", opening_side=text or None, fault=text or None)
+    rows.write_rows([row], tmp_path / "result.csv")
+    with open(tmp_path / "result.csv", encoding="utf-8", newline="") as found:
+        (record,) = csv.DictReader(found)
+    assert not record["instrument"].startswith(("=", "+", "-", "@", "\uff1d"))
+    assert record["fault"] == (f"'{text}" if text in RUN else text)
+    assert rows.read_rows(tmp_path / "result.csv") == [row]
+
+
+def test_what_is_no_result(tmp_path: pathlib.Path) -> None:
+    header = ",".join(rows.WRITTEN)
+    for text in ("", "instrument\n", f"{header}\nA,1\n", f"{header}\nA,x{',' * 18}\n"):
+        (tmp_path / "result.csv").write_text(text)
+        with pytest.raises(ValueError):
+            rows.read_rows(tmp_path / "result.csv")
 
 
 def test_cells_are_read_as_they_were_written() -> None:
@@ -59,6 +111,7 @@ AUDIT = (
 def test_output_is_read_whatever_comes_together(size: int) -> None:
     assert forms.read_lines(blocks(LINES, size)) == {
         "entries": 7,
+        "day": "over",
         "auctions": 3,
         "trades": 3,
         "intraday_price": 206,
@@ -79,8 +132,59 @@ def test_output_is_read_whatever_comes_together(size: int) -> None:
     assert forms.read_trades(blocks(b"trade,..\n1,..\n2,..\n", size)) == {"trades": 2}
 
 
+UNCROSSES = (
+    b"2: opening no price\n4: interrupted price 9 volume 1 surplus 0 none\n"
+    b"5: intraday price 206 volume 20 surplus 10 bid trades 2\n"
+)
+RESULTS = AUDIT + UNCROSSES + b"in closing\n"
+
+
+@pytest.mark.parametrize("size", [1, 7, 64, 1_000])
+def test_results_are_read_whatever_comes_together(size: int) -> None:
+    expected = {
+        "entries": 8,
+        "compared": 7,
+        "unlawful": 2,
+        "first_unlawful": 2,
+        "day": "closing",
+        "auctions": 2,
+        "trades": 2,
+        "intraday_price": 206,
+        "intraday_volume": 20,
+        "intraday_surplus": 10,
+        "intraday_side": "bid",
+    }
+    assert forms.read_results(blocks(RESULTS, size)) == expected
+    differences = AUDIT[: AUDIT.index(b"entries 8")] * 50
+    assert forms.read_results(blocks(differences + RESULTS, size)) == expected
+
+
+@pytest.mark.parametrize(
+    "text",
+    [
+        b"",
+        AUDIT,
+        AUDIT + UNCROSSES,
+        AUDIT + UNCROSSES + b"day over\n",
+        AUDIT + UNCROSSES + b"in intraday\n",
+        AUDIT + b"2: opening price 5\nin intraday\n",
+        RESULTS[:-1],
+        RESULTS + b"more\n",
+        UNCROSSES + b"in closing\n",
+    ],
+)
+def test_other_results_are_none(text: bytes) -> None:
+    with pytest.raises(forms.OutputFault):
+        forms.read_results(blocks(text, 64))
+
+
 def test_a_day_without_entries() -> None:
-    assert forms.read_lines(blocks(b"", 9)) == {"entries": 0, "auctions": 0, "trades": 0}
+    assert forms.read_lines(blocks(b"", 9)) == {
+        "entries": 0,
+        "day": "opening",
+        "auctions": 0,
+        "trades": 0,
+    }
     none = b"entries 0\ncompared 0\nunlawful 0\naudit legal\n"
     assert forms.read_audit(blocks(none, 9))["first_unlawful"] is None
 

@@ -1,9 +1,9 @@
 //! Days and files whose answers are known, by the public calls of each crate.
 
 use auction::Auction;
-use auction_terms::{Command, Config, Display, Entry, Limit, Only, Price, Reply, Side};
-use call_board::{Board, CloseFault, Closing, Day, Member, Update, Version, close};
+use auction_terms::{Command, Config, Display, Entry, Limit, Price, Reply, Restriction, Side};
 use left_right::Absorb;
+use member_board::{Board, BoardIdentity, CloseFault, Closing, Member, Update, Version, close};
 use std::sync::Wait;
 
 mod board;
@@ -40,22 +40,22 @@ fn order(side: Side, quantity: u64, tick: u32) -> Command {
         limit: Limit::At(tick),
         quantity,
         peak: None,
-        only: Only::Any,
+        restriction: Restriction::Unrestricted,
     }
 }
 
 const BID: Command = Command::Enter {
-    side: Side::Buy,
+    side: Side::Bid,
     limit: Limit::At(200),
     quantity: 100,
     peak: None,
-    only: Only::Any,
+    restriction: Restriction::Unrestricted,
 };
 
 /// What is shown of bids at 200 and no ask.
 const BEST_BID: Display = Display::Unpriced {
-    best_buy: Some(200),
-    best_sell: None,
+    best_bid: Some(200),
+    best_ask: None,
 };
 
 /// A price without a surplus.
@@ -87,7 +87,11 @@ fn reply_to(auction: &mut Auction, member: u8, command: Command) -> Option<Reply
 }
 
 /// Closes the board with these members, or gives it up: a board that is dropped keeps its copies.
-fn closed<K: Day, R: Wait>(rt: &R, board: Board<K>, members: Vec<Member<K>>) -> Option<Closing>
+fn closed<K: BoardIdentity, R: Wait>(
+    rt: &R,
+    board: Board<K>,
+    members: Vec<Member<K>>,
+) -> Option<Closing>
 where
     Version<K>: Absorb<Update<K>, State = ()>,
 {

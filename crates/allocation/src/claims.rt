@@ -2,9 +2,9 @@
 ghost use Rattle.std.specs.Prelude.{◌≡◌, ◌+◌, ◌<◌, ◌≤◌, ◌^◌, ◌++◌, length, true, vec_len, vec_capacity, IsPermutation};
 ghost use Rattle.std.specs.Option.{option_to_list};
 ghost use Rattle.allocation.specs.Claim.{priority, rank, is_narrow, is_narrow_limit, is_claimant};
-ghost use Rattle.allocation.specs.Claim.{claims_of, claimed_by, counting, AreInOrder, AreNarrow, IsRanked};
+ghost use Rattle.allocation.specs.Claim.{claims_of, claimed_by, orders_in_auction, AreInOrder, AreNarrow, IsRanked};
 
-use auction_terms::{Kind, Limit, Side, Stamped};
+use auction_terms::{AuctionKind, Limit, Side, Stamped};
 use order_book::Orders;
 
 /// What an eligible order asks for, in shares, behind what ranks it.
@@ -20,7 +20,7 @@ pub(crate) struct Claim {
 #[derive(Clone, Copy)]
 pub(crate) struct Claimants {
     pub side: Side,
-    pub kind: Kind,
+    pub kind: AuctionKind,
     pub price: u32,
 }
 
@@ -30,7 +30,7 @@ impl Claimants {
         ensures { result ≡ is_claimant self stamped.now }
     {
         let order = stamped.order;
-        order.counts(self.kind) && order.side == self.side && order.is_eligible(self.price)
+        order.participates_in(self.kind) && order.side == self.side && order.is_eligible(self.price)
     }
 }
 
@@ -42,8 +42,8 @@ fn priority_of(side: Side, limit: Limit) -> u64
 {
     match (side, limit) {
         (_, Limit::Market) => 0,
-        (Side::Buy, Limit::At(tick)) => (1 << 32) - tick as u64,
-        (Side::Sell, Limit::At(tick)) => tick as u64 + 1,
+        (Side::Bid, Limit::At(tick)) => (1 << 32) - tick as u64,
+        (Side::Ask, Limit::At(tick)) => tick as u64 + 1,
     }
 }
 
@@ -91,7 +91,8 @@ fn put_in_order(claims: &mut Vec<Claim>)
 /// Makes the claims of one side of the open orders, in rank order.
 pub(crate) fn rank_side(claims: &mut Vec<Claim>, claimants: Claimants, orders: &Orders)
     requires { length orders.now.line ≤ vec_capacity claims.old }
-    ensures ranked { IsRanked claimants.side claimants.price (counting claimants.kind orders.now) claims.new.items }
+    ensures ranked { IsRanked claimants.side claimants.price
+        (orders_in_auction claimants.kind orders.now) claims.new.items }
     ensures capacity { vec_capacity claims.new ≡ vec_capacity claims.old }
 {
     claims.clear();

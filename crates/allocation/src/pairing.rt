@@ -1,6 +1,6 @@
 //! Who trades with whom.
 ghost use Rattle.std.specs.Prelude.{◌≡◌, ◌+◌, ◌-◌, ◌<◌, ◌≤◌, All, length, vec_len, vec_capacity};
-ghost use Rattle.auction_terms.specs.Devices.Ranked.{paired};
+ghost use Rattle.auction_terms.specs.Auxiliary.RankedFills.{paired_trades};
 
 use crate::cursor::Cursor;
 use auction_terms::{Fill, Trade};
@@ -10,7 +10,7 @@ pub(crate) fn pair_off(bids: &[Fill], asks: &[Fill], tick: u32, trades: &mut Vec
     requires bids { All (λ f. 0 < f.quantity) bids.now }
     requires asks { All (λ f. 0 < f.quantity) asks.now }
     requires room { length bids.now + length asks.now ≤ vec_capacity trades.old }
-    ensures items { trades.new.items ≡ paired tick 0 bids.now asks.now }
+    ensures items { trades.new.items ≡ paired_trades tick 0 bids.now asks.now }
     ensures few { vec_len trades.new ≤ length bids.now + length asks.now - 1 }
     ensures capacity { vec_capacity trades.new ≡ vec_capacity trades.old }
 {
@@ -20,8 +20,8 @@ pub(crate) fn pair_off(bids: &[Fill], asks: &[Fill], tick: u32, trades: &mut Vec
     while let (Some(bid), Some(ask)) = (bids.front(), asks.front()) {
         let quantity = bid.quantity.min(ask.quantity);
         trades.push_reserved(Trade {
-            buy: bid.id,
-            sell: ask.id,
+            bid: bid.id,
+            ask: ask.id,
             tick,
             quantity,
         });

@@ -4,10 +4,11 @@ use Rattle.std.proofs.lemmas.Bool.Decides.{nat_tests}
 use Rattle.std.proofs.lemmas.Grind.{common_steps}
 use Rattle.auction_terms.specs.declared.limits.TheConstants.{MAX_TICK, MAX_TICKS, MAX_OPEN_ORDERS, MAX_CALLS}
 use Rattle.auction_terms.specs.declared.Config.{Config}
-use Rattle.auction.specs.declared.OpenFault.TheVariants.{BadBounds, BadReference, BadLimits}
-use Rattle.auction.specs.ConfigFault.{open_fault, has_bad_bounds, has_bad_reference, has_bad_limits}
+use Rattle.auction.specs.declared.OpenFault.TheVariants.{BadBounds, BadReference, BadCapacity}
+use Rattle.auction.specs.ConfigFault.{open_fault, has_bad_bounds, has_bad_reference, has_bad_capacity}
 
-none_holds : (a b d : Bool) → cond a (Some BadBounds) (cond b (Some BadReference) (cond d (Some BadLimits) None)) ≡ None → (a ≡ false) × ((b ≡ false) × (d ≡ false))
+none_holds : (a b d : Bool) → cond a (Some BadBounds) (cond b (Some BadReference) (cond d (Some BadCapacity) None))
+    ≡ None → (a ≡ false) × ((b ≡ false) × (d ≡ false))
 none_holds a b d e = grind (arith, common_steps)
 
 pub record IsWithin (config : Config) : Type 0 where
@@ -20,7 +21,8 @@ pub record IsWithin (config : Config) : Type 0 where
   pub some_calls : 1 ≤ config.max_calls
   pub calls : config.max_calls ≤ MAX_CALLS
 
-module _ (config : Config) (bounds : has_bad_bounds config ≡ false) (reference : has_bad_reference config ≡ false) (limits : has_bad_limits config ≡ false) where
+module _ (config : Config) (bounds : has_bad_bounds config ≡ false) (reference : has_bad_reference config ≡ false)
+    (limits : has_bad_capacity config ≡ false) where
   from_low : config.low ≤ config.reference
   from_low = grind (arith, nat_tests)
 
@@ -46,7 +48,17 @@ module _ (config : Config) (bounds : has_bad_bounds config ≡ false) (reference
   few_calls = grind (arith, nat_tests)
 
   all_within : IsWithin config
-  all_within = record { low = from_low; high = to_high; last = last; ticks = ticks; some_open = some_open; few_open = few_open; some_calls = some_calls; calls = few_calls }
+  all_within = record {
+    low = from_low;
+    high = to_high;
+    last = last;
+    ticks = ticks;
+    some_open = some_open;
+    few_open =
+        few_open;
+    some_calls = some_calls;
+    calls = few_calls;
+  }
 
 pub terms_within : (config : Config) → open_fault config ≡ None → IsWithin config
 unfolding open_fault

@@ -5,7 +5,8 @@ use Rattle.std.proofs.lemmas.Grind.{common_steps}
 use Rattle.auction_terms.specs.declared.Order.{Order}
 use Rattle.auction_terms.specs.declared.Price.{Price}
 use Rattle.auction_terms.specs.Book.{limits}
-use Rattle.auction_terms.specs.AuctionPrice.{highest, lowest, is_best, best_limits, lower_kept, upper_kept, price_tick, priced, price}
+use Rattle.auction_terms.specs.AuctionPrice.{highest, lowest, is_best, best_limits, lower_end, upper_end, price_tick}
+use Rattle.auction_terms.specs.AuctionPrice.{priced, price}
 use Rattle.auction.specs.declared.book.known.KnownPrice.{KnownPrice}
 use Rattle.auction.specs.KnownPrice.{IsPriceAt}
 
@@ -25,12 +26,12 @@ module _ (P : ℕ → Type 0) where
   unfolding best_limits
   best_in book all = All-filter (is_best book) P (limits book) all
 
-  lower_in : (book : List Order) → All P (limits book) → IfSome (lower_kept book) P
-  unfolding lower_kept
+  lower_in : (book : List Order) → All P (limits book) → IfSome (lower_end book) P
+  unfolding lower_end
   lower_in book all = search (arith, best_in, either_in, lowest_in, highest_in, All-filter)
 
-  upper_in : (book : List Order) → All P (limits book) → IfSome (upper_kept book) P
-  unfolding upper_kept
+  upper_in : (book : List Order) → All P (limits book) → IfSome (upper_end book) P
+  unfolding upper_end
   upper_in book all = search (arith, best_in, either_in, highest_in, lowest_in, All-filter)
 
   tick_in : (book : List Order) (r : ℕ) → All P (limits book) → P r → IfSome (price_tick book r) P
@@ -42,9 +43,12 @@ module _ (P : ℕ → Type 0) where
   price_in book r p e all hr = grind (arith, common_steps, (tick_in book r all hr))
 
 -- a price lies among the ticks that have the limits and the reference
-pub price_among : (low n reference : ℕ) (book : List Order) (known : KnownPrice) → All (λ tick. (low ≤ tick) × (tick < low + n)) (limits book) → (low ≤ reference) × (reference < low + n) → IsPriceAt reference book known → IfSome known.price (λ (p : Price). (low ≤ p.tick) × (p.tick < low + n))
+pub price_among : (low n reference : ℕ) (book : List Order) (known : KnownPrice)
+    → All (λ tick. (low ≤ tick) × (tick < low + n)) (limits book) → (low ≤ reference) × (reference < low + n)
+    → IsPriceAt reference book known → IfSome known.price (λ (p : Price). (low ≤ p.tick) × (p.tick < low + n))
 price_among low n reference book known all within is = at known.price is.found
   where
-    at : (found : Option Price) → price book reference ≡ found → IfSome found (λ (p : Price). (low ≤ p.tick) × (p.tick < low + n))
+    at : (found : Option Price) → price book reference ≡ found
+        → IfSome found (λ (p : Price). (low ≤ p.tick) × (p.tick < low + n))
     at None e = tt
     at (Some p) e = price_in (λ tick. (low ≤ tick) × (tick < low + n)) book reference p e all within

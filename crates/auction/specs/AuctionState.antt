@@ -3,16 +3,16 @@ use Rattle.std.specs.Prelude.{◌≡◌, ℕ, ◌+◌, ◌-◌, ◌*◌, ◌≤�
 use Rattle.std.specs.Prelude.{Result, Ok, Err}
 use Rattle.std.specs.Global.{Vec}
 use Rattle.auction_terms.specs.declared.limits.TheConstants.{MAX_CALLS}
-use Rattle.auction_terms.specs.declared.Kind.{Kind}
-use Rattle.auction_terms.specs.declared.Kind.TheVariants.{Opening, Intraday, Closing}
+use Rattle.auction_terms.specs.declared.AuctionKind.{AuctionKind}
+use Rattle.auction_terms.specs.declared.AuctionKind.TheVariants.{Opening, Intraday, Closing}
 use Rattle.auction_terms.specs.declared.Config.{Config}
 use Rattle.auction_terms.specs.declared.Order.{Order}
 use Rattle.auction_terms.specs.declared.Call.{Call}
 use Rattle.auction_terms.specs.declared.Command.{Command}
-use Rattle.auction_terms.specs.declared.Refused.{Refused}
+use Rattle.auction_terms.specs.declared.Refusal.{Refusal}
 use Rattle.auction_terms.specs.declared.Reply.{Reply}
 use Rattle.auction_terms.specs.declared.Trade.{Trade}
-use Rattle.auction_terms.specs.Book.{counted, kind_now}
+use Rattle.auction_terms.specs.Book.{auction_orders, current_kind}
 use Rattle.auction_terms.specs.Day.{State, opening_state, Outcome}
 use Rattle.auction_terms.specs.Ladder.{LadderView, ladder_of}
 use Rattle.auction.specs.OpenOrders.{OpenOrders}
@@ -30,8 +30,8 @@ abbrev pub with_state : AuctionState → State → AuctionState
 with_state auction state = record auction { state = state }
 
 -- the orders that count in the current auction
-abbrev pub counting : State → List Order
-counting state = counted state.book (kind_now state.auction)
+abbrev pub current_orders : State → List Order
+current_orders state = auction_orders state.book (current_kind state.auction)
 
 -- the ladder of a book over the bounds
 abbrev pub ladder_over : Config → List Order → LadderView
@@ -44,23 +44,23 @@ IsBoundedBy config tick = (config.low ≤ tick) × (tick ≤ config.high)
 -- ---- what is kept
 
 -- how many auctions have ended
-abbrev pub auctions_ended : Option Kind → ℕ
+abbrev pub auctions_ended : Option AuctionKind → ℕ
 auctions_ended None = 3
 auctions_ended (Some Opening) = 0
 auctions_ended (Some Intraday) = 1
 auctions_ended (Some Closing) = 2
 
 -- the book has the bounds and the limits of the config, and is of the current auction
-pub record IsBookOf (config : Config) (auction : Option Kind) (book : OpenOrders) : Type 0 where
+pub record IsBookOf (config : Config) (auction : Option AuctionKind) (book : OpenOrders) : Type 0 where
   pub low : book.low ≡ config.low
   pub ticks : book.ticks ≡ config.high + 1 - config.low
   pub max_open : book.max_open ≡ config.max_open
   pub max_calls : book.max_calls ≡ config.max_calls
-  pub kind : book.kind ≡ kind_now auction
+  pub kind : book.kind ≡ current_kind auction
   pub few : length book.orders ≤ config.max_open
 
 -- the reference lies within the bounds, and the tape has room for the trades of the day
-pub record IsSound (config : Config) (auction : Option Kind) (book : OpenOrders) (at : ℕ) (tape : Vec Trade)
+pub record IsSound (config : Config) (auction : Option AuctionKind) (book : OpenOrders) (at : ℕ) (tape : Vec Trade)
     : Type 0 where
   pub same : IsBookOf config auction book
   pub reference : IsBoundedBy config at
@@ -69,7 +69,7 @@ pub record IsSound (config : Config) (auction : Option Kind) (book : OpenOrders)
   pub room : 3 * config.max_open ≤ vec_capacity tape
 
 -- no place in time was given out but by a call, and no more calls were had than may be
-pub record CountsCalls (auction : AuctionState) (calls : ℕ) : Type 0 where
+pub record HasCallCount (auction : AuctionState) (calls : ℕ) : Type 0 where
   pub stamps : auction.stamps ≤ calls
   pub within : calls ≤ auction.config.max_calls
   pub few : auction.config.max_calls ≤ MAX_CALLS
@@ -80,7 +80,7 @@ abbrev pub call_by : ℕ → Command → Call
 call_by member command = record { member = member; command = command }
 
 -- the reply with the state that it left, or why there is none
-abbrev pub outcome : AuctionState → Result Reply Refused → Outcome
+abbrev pub outcome : AuctionState → Result Reply Refusal → Outcome
 outcome auction (Ok reply) = Ok (auction.state, reply)
 outcome auction (Err reason) = Err reason
 

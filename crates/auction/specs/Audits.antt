@@ -13,6 +13,6 @@ pub record IsFirstBad (config : Config) (entries : List Entry) (place : ℕ) : T
   pub broken : IsLegal config (take (place + 1) entries) → ⊥
 
 -- Legal for a legal history, else the first place that breaks it
-abbrev pub Finds : Config → List Entry → Verdict → Type 0
-Finds config entries Legal = IsLegal config entries
-Finds config entries (BadAt place) = IsFirstBad config entries place
+abbrev pub IsVerdictOf : Config → List Entry → Verdict → Type 0
+IsVerdictOf config entries Legal = IsLegal config entries
+IsVerdictOf config entries (BadAt place) = IsFirstBad config entries place

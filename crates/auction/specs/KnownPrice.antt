@@ -4,44 +4,44 @@ use Rattle.std.specs.Prelude.{Option, Some, None, IfSome}
 use Rattle.auction_terms.specs.declared.Display.{Display}
 use Rattle.auction_terms.specs.declared.Display.TheVariants.{Priced, Unpriced}
 use Rattle.auction_terms.specs.declared.Order.{Order}
-use Rattle.auction_terms.specs.declared.Kind.{Kind}
+use Rattle.auction_terms.specs.declared.AuctionKind.{AuctionKind}
 use Rattle.auction_terms.specs.declared.Price.{Price}
 use Rattle.auction_terms.specs.declared.Side.{Side}
-use Rattle.auction_terms.specs.declared.Side.TheVariants.{Buy, Sell}
+use Rattle.auction_terms.specs.declared.Side.TheVariants.{Bid, Ask}
 use Rattle.auction_terms.specs.declared.Limit.{Limit}
 use Rattle.auction_terms.specs.declared.Limit.TheVariants.{Market, At}
-use Rattle.auction_terms.specs.Book.{counts}
+use Rattle.auction_terms.specs.Book.{participates_in}
 use Rattle.auction_terms.specs.Day.{display_of}
 use Rattle.auction_terms.specs.Ladder.{LadderView}
 use Rattle.auction_terms.specs.AuctionPrice.{price}
 use Rattle.tick_ladder.specs.TickLadder.{IsLadderOf}
 use Rattle.price_rules.specs.Decision.{IsBookOver, IsSameWithin}
-use Rattle.auction.specs.OpenOrders.{OpenOrders, counting}
+use Rattle.auction.specs.OpenOrders.{OpenOrders, current_orders}
 use Rattle.auction.specs.declared.book.known.KnownPrice.{KnownPrice}
 
 -- a bid below the lowest tick that decides, an ask above the highest
 abbrev pub is_beyond : KnownPrice → Side → Limit → Bool
-is_beyond known Buy Market = false
-is_beyond known Buy (At tick) = nat_lt tick known.lowest
-is_beyond known Sell Market = false
-is_beyond known Sell (At tick) = nat_lt known.highest tick
+is_beyond known Bid Market = false
+is_beyond known Bid (At tick) = nat_lt tick known.lowest
+is_beyond known Ask Market = false
+is_beyond known Ask (At tick) = nat_lt known.highest tick
 
 -- what is still known where this order came or went
-abbrev pub still_known : Option KnownPrice → Kind → Order → Option KnownPrice
+abbrev pub still_known : Option KnownPrice → AuctionKind → Order → Option KnownPrice
 still_known None kind order = None
 still_known (Some known) kind order =
-    if counts kind order && not (is_beyond known order.side order.limit) then None else Some known
+    if participates_in kind order && not (is_beyond known order.side order.limit) then None else Some known
 
 -- what is shown: the price, or the best limits where there is none
 abbrev pub shown : Option Price → Option ℕ → Option ℕ → Display
-shown (Some price) best_buy best_sell = Priced price
-shown None best_buy best_sell = Unpriced best_buy best_sell
+shown (Some price) best_bid best_ask = Priced price
+shown None best_bid best_ask = Unpriced best_bid best_ask
 
 -- it is the price of the book at the reference, and the book is displayed so
 pub record IsPriceAt (reference : ℕ) (book : List Order) (known : KnownPrice) : Type 0 where
   pub of : known.reference ≡ reference
   pub found : price book reference ≡ known.price
-  pub displayed : display_of book known.price ≡ shown known.price known.best_buy known.best_sell
+  pub displayed : display_of book known.price ≡ shown known.price known.best_bid known.best_ask
 
 -- so is each book over the n ticks from low on that is the same where it decides
 abbrev pub IsKnown : ℕ → ℕ → List Order → KnownPrice → Type 0
@@ -56,18 +56,18 @@ IsKnownIn ladder known =
     → IsKnown ladder.low (length ladder.bids) book known
 
 abbrev pub IsKnownOf : OpenOrders → KnownPrice → Type 0
-IsKnownOf book known = IsKnown book.low book.ticks (counting book) known
+IsKnownOf book known = IsKnown book.low book.ticks (current_orders book) known
 
 -- ---- what is forgotten
 
 -- the price, if an order decides it that came or went
-abbrev pub forgets : Order → Kind → Option KnownPrice → Option KnownPrice
-forgets order kind known = still_known known kind order
+abbrev pub known_after : Order → AuctionKind → Option KnownPrice → Option KnownPrice
+known_after order kind known = still_known known kind order
 
-abbrev pub forgets_both : Order → Order → Kind → Option KnownPrice → Option KnownPrice
-forgets_both order other kind known = still_known (still_known known kind order) kind other
+abbrev pub known_after_both : Order → Order → AuctionKind → Option KnownPrice → Option KnownPrice
+known_after_both order other kind known = still_known (still_known known kind order) kind other
 
 -- what isn't forgotten of a price that was known is known after the edit too
-abbrev pub KeepsKnown : (Kind → Option KnownPrice → Option KnownPrice) → OpenOrders → OpenOrders → Type 0
+abbrev pub KeepsKnown : (AuctionKind → Option KnownPrice → Option KnownPrice) → OpenOrders → OpenOrders → Type 0
 KeepsKnown left old new =
     (known : Option KnownPrice) → IfSome known (IsKnownOf old) → IfSome (left old.kind known) (IsKnownOf new)

@@ -1,6 +1,6 @@
 pub mod Audits
 pub mod AuctionState
 pub mod ConfigFault
-pub mod CountedBook
+pub mod LadderBook
 pub mod KnownPrice
 pub mod OpenOrders

@@ -1,21 +1,21 @@
 -- The open orders, and the auction whose orders count.
 use Rattle.std.specs.Prelude.{◌≡◌, ℕ, ◌+◌, ◌-◌, if◌then◌else◌, List, [], ◌∷◌, ◌++◌, Some}
 use Rattle.auction_terms.specs.declared.Config.{Config}
-use Rattle.auction_terms.specs.declared.Kind.{Kind}
-use Rattle.auction_terms.specs.declared.Kind.TheVariants.{Opening}
+use Rattle.auction_terms.specs.declared.AuctionKind.{AuctionKind}
+use Rattle.auction_terms.specs.declared.AuctionKind.TheVariants.{Opening}
 use Rattle.auction_terms.specs.declared.Limit.{Limit}
 use Rattle.auction_terms.specs.declared.Limit.TheVariants.{At}
 use Rattle.auction_terms.specs.declared.Order.{Order}
 use Rattle.auction_terms.specs.Allotment.{rest_in}
-use Rattle.auction_terms.specs.Book.{counted, kind_now}
+use Rattle.auction_terms.specs.Book.{auction_orders, current_kind}
 use Rattle.auction_terms.specs.Day.{book_with_change, next_auction}
-use Rattle.auction_terms.specs.Edits.{order_with, without, staying, keeps_place}
+use Rattle.auction_terms.specs.Edits.{order_with, without_id, without_restricted, keeps_place}
 use Rattle.auction_terms.specs.Ladder.{IsTickOf}
 
 pub record OpenOrders : Type 0 where
   pub orders : List Order
   -- the auction that the ladder is of
-  pub kind : Kind
+  pub kind : AuctionKind
   pub low : ℕ
   pub ticks : ℕ
   -- how many orders were entered, and how many places in time were given out
@@ -37,12 +37,12 @@ no_orders config = record {
 }
 
 -- the same room with no orders and none entered, in the opening auction
-abbrev pub emptied : OpenOrders → OpenOrders
-emptied book = record book { orders = []; kind = Opening; entered = 0; stamps = 0 }
+abbrev pub without_orders : OpenOrders → OpenOrders
+without_orders book = record book { orders = []; kind = Opening; entered = 0; stamps = 0 }
 
 -- the orders that count
-abbrev pub counting : OpenOrders → List Order
-counting book = counted book.orders book.kind
+abbrev pub current_orders : OpenOrders → List Order
+current_orders book = auction_orders book.orders book.kind
 
 -- the limit is none, or one of the ticks
 abbrev pub IsLimitIn : OpenOrders → Limit → Type 0
@@ -73,16 +73,16 @@ with_change order limit quantity book = record book {
 }
 
 abbrev pub without_order : Order → OpenOrders → OpenOrders
-without_order order book = record book { orders = without order.id book.orders }
+without_order order book = record book { orders = without_id order.id book.orders }
 
 -- the orders that count executed at a price
-abbrev pub executed_at : ℕ → OpenOrders → OpenOrders
-executed_at price book = record book { orders = rest_in book.kind book.orders price }
+abbrev pub with_execution_at : ℕ → OpenOrders → OpenOrders
+with_execution_at price book = record book { orders = rest_in book.kind book.orders price }
 
 -- without the orders for this auction alone
-abbrev pub with_staying : OpenOrders → OpenOrders
-with_staying book = record book { orders = staying book.kind book.orders }
+abbrev pub without_restricted_orders : OpenOrders → OpenOrders
+without_restricted_orders book = record book { orders = without_restricted book.kind book.orders }
 
 -- the auction ended, and the next begun
 abbrev pub in_next_auction : OpenOrders → OpenOrders
-in_next_auction book = record (with_staying book) { kind = kind_now (next_auction book.kind) }
+in_next_auction book = record (without_restricted_orders book) { kind = current_kind (next_auction book.kind) }

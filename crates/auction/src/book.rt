@@ -1,7 +1,7 @@
 //! The open orders, what is known of their price, and the desk where they are executed.
 ghost use Rattle.std.specs.Prelude.{◌≡◌, ◌+◌, ◌<◌, ◌≤◌, ◌++◌, length, false, None, IfSome, IfOk, nat_le};
 ghost use Rattle.std.specs.Prelude.{vec_len, vec_capacity};
-ghost use Rattle.auction_terms.specs.Book.{entered_as};
+ghost use Rattle.auction_terms.specs.Book.{order_of_new};
 ghost use Rattle.auction_terms.specs.Edits.{order_with, keeps_place};
 ghost use Rattle.auction_terms.specs.AuctionPrice.{price as auction_price};
 ghost use Rattle.auction_terms.specs.Allotment.{trades};
@@ -9,8 +9,8 @@ ghost use Rattle.auction_terms.specs.Ladder.{ladder_of};
 ghost use Rattle.auction_terms.specs.Day.{display_at, is_bad_quantity};
 ghost use Rattle.tick_ladder.specs.TickLadder.{IsLadderOf};
 ghost use Rattle.auction.specs.ConfigFault.{open_fault};
-ghost use Rattle.auction.specs.OpenOrders.{no_orders, counting, IsTickIn, IsLimitIn, IsOpenIn};
-ghost use Rattle.auction.specs.OpenOrders.{with_order, with_change, without_order, executed_at, in_next_auction};
+ghost use Rattle.auction.specs.OpenOrders.{no_orders, current_orders, IsTickIn, IsLimitIn, IsOpenIn};
+ghost use Rattle.auction.specs.OpenOrders.{with_order, with_change, without_order, with_execution_at, in_next_auction};
 ghost use Rattle.auction.specs.KnownPrice.{IsPriceAt};
 
 mod copying;
@@ -19,7 +19,7 @@ mod known;
 
 use allocation::Desk;
 use auction_terms::{Config, Display, Limit, NewOrder, Order, Price, Trade};
-use counted::CountedBook;
+use counted::LadderBook;
 use known::{KnownPrice, forget};
 use std::alloc::{AllocError, Global};
 use std::marker::Model;
@@ -31,7 +31,7 @@ use tick_ladder::Ladder;
 /// memory.
 #[derive(Drop)]
 pub(crate) struct Book {
-    counted: CountedBook,
+    counted: LadderBook,
     desk: Desk,
     // The price, once it was asked for.
     known: Option<KnownPrice>,
@@ -67,7 +67,7 @@ impl Book {
         ensures { IfOk result (λ b. b ≡ no_orders config) }
     {
         Ok(Book {
-            counted: CountedBook::open(alloc, config)?,
+            counted: LadderBook::open(alloc, config)?,
             desk: Desk::open(alloc, config.max_open)?,
             known: None,
         })
@@ -89,8 +89,8 @@ impl Book {
 
     /// The ladder of the orders that count.
     pub(crate) fn ladder(&self) -> &Ladder
-        ensures value { result.now ≡ ladder_of self.now.low self.now.ticks (counting self.now) }
-        ensures book { IsLadderOf result.now (counting self.now) }
+        ensures value { result.now ≡ ladder_of self.now.low self.now.ticks (current_orders self.now) }
+        ensures book { IsLadderOf result.now (current_orders self.now) }
     {
         self.counted.ladder()
     }
@@ -99,7 +99,7 @@ impl Book {
     fn keep_price_at(&mut self, reference: u32) -> KnownPrice
         requires { IsTickIn self.old reference }
         ensures book { self.new ≡ self.old }
-        ensures price { IsPriceAt reference (counting self.old) result }
+        ensures price { IsPriceAt reference (current_orders self.old) result }
         ensures within { IfSome result.price (λ price. IsTickIn self.old price.tick) }
     {
         let known = self.counted.price_at(reference, &self.known);
@@ -111,7 +111,7 @@ impl Book {
     pub(crate) fn price(&mut self, reference: u32) -> Option<Price>
         requires { IsTickIn self.old reference }
         ensures book { self.new ≡ self.old }
-        ensures price { result ≡ auction_price (counting self.old) reference }
+        ensures price { result ≡ auction_price (current_orders self.old) reference }
         ensures within { IfSome result (λ price. IsTickIn self.old price.tick) }
     {
         self.keep_price_at(reference).price
@@ -121,7 +121,7 @@ impl Book {
     /// there is none.
     pub(crate) fn display(&self, reference: u32) -> Display
         requires { IsTickIn self.now reference }
-        ensures { result ≡ display_at (counting self.now) reference }
+        ensures { result ≡ display_at (current_orders self.now) reference }
     {
         self.counted.price_at(reference, &self.known).display()
     }
@@ -130,7 +130,7 @@ impl Book {
     pub(crate) fn show(&mut self, reference: u32) -> Display
         requires { IsTickIn self.old reference }
         ensures book { self.new ≡ self.old }
-        ensures display { result ≡ display_at (counting self.old) reference }
+        ensures display { result ≡ display_at (current_orders self.old) reference }
     {
         self.keep_price_at(reference).display()
     }
@@ -142,7 +142,7 @@ impl Book {
         requires quantity { is_bad_quantity new.quantity ≡ false }
         requires limit { IsLimitIn self.old new.limit }
         ensures id { result ≡ self.old.entered + 1 }
-        ensures book { self.new ≡ with_order (entered_as result new) self.old }
+        ensures book { self.new ≡ with_order (order_of_new result new) self.old }
     {
         let order = self.counted.enter(new);
         forget(&mut self.known, self.counted.kind(), order);
@@ -184,9 +184,9 @@ impl Book {
     /// they are. What is left of each order stays open, in its place.
     pub(crate) fn uncross(&mut self, price: u32, tape: &mut Vec<Trade>) -> u32
         requires room { vec_len tape.old + length self.old.orders ≤ vec_capacity tape.old }
-        ensures book { self.new ≡ executed_at price self.old }
-        ensures tape { tape.new.items ≡ tape.old.items ++ trades (counting self.old) price }
-        ensures count { result ≡ length (trades (counting self.old) price) }
+        ensures book { self.new ≡ with_execution_at price self.old }
+        ensures tape { tape.new.items ≡ tape.old.items ++ trades (current_orders self.old) price }
+        ensures count { result ≡ length (trades (current_orders self.old) price) }
         ensures few { result ≤ length self.old.orders }
         ensures capacity { vec_capacity tape.new ≡ vec_capacity tape.old }
     {

@@ -4,21 +4,21 @@ ghost use Rattle.auction_terms.specs.Day as day;
 ghost use Rattle.tick_ladder.specs.TickLadder.{IsLadderOf};
 ghost use Rattle.auction.specs.ConfigFault.{open_fault};
 ghost use Rattle.auction.specs.OpenOrders.{IsOpenIn};
-ghost use Rattle.auction.specs.AuctionState.{opening, counting, ladder_over, outcome, IsOneCommand};
+ghost use Rattle.auction.specs.AuctionState.{opening, current_orders, ladder_over, outcome, IsOneCommand};
 
-mod ask;
 mod change;
 mod copying;
 mod delete;
 mod enter;
-mod status;
-mod trade;
+mod indicate;
+mod order_status;
+mod read_trade;
 mod uncross;
 
 use crate::book::Book;
 use auction_terms::{
-    Call, Command, Config, Display, Kind, Limit, MAX_QUANTITY, NewOrder, Order, Refused, Reply,
-    Trade,
+    AuctionKind, Call, Command, Config, Display, Limit, MAX_QUANTITY, NewOrder, Order, Refusal,
+    Reply, Trade,
 };
 use std::alloc::{AllocError, Global};
 use std::marker::Model;
@@ -26,19 +26,19 @@ use tick_ladder::Ladder;
 
 /// The auctions of one day: the open orders in time order, the trades so far and the reference price.
 #[derive(Drop)]
-pub(crate) struct Day {
+pub(crate) struct DayState {
     config: Config,
     book: Book,
     tape: Vec<Trade>,
     // The last auction price, or the one that was handed in.
     reference: u32,
     // None once the day is over.
-    auction: Option<Kind>,
+    auction: Option<AuctionKind>,
     // Whether this call phase was extended by an interruption.
     extended: bool,
 }
 
-impl Model for Day {
+impl Model for DayState {
     ghost use Rattle.std.specs.Prelude.{◌+◌};
     ghost use Rattle.auction.specs.AuctionState.{AuctionState, IsSound};
 
@@ -61,7 +61,7 @@ impl Model for Day {
 }
 
 // Refuses a command for this reason where the check holds.
-fn refuse_if(check: bool, reason: Refused) -> Result<(), Refused>
+fn refuse_if(check: bool, reason: Refusal) -> Result<(), Refusal>
     ensures { result ≡ day.refuse_if check reason }
 {
     if check { Err(reason) } else { Ok(()) }
@@ -84,19 +84,19 @@ fn is_bad_limit(config: Config, limit: Limit) -> bool
     }
 }
 
-impl Day {
+impl DayState {
     /// The day at its opening: no orders, no trades, the reference of the config, with room for all that the day can
     /// bring. Only want of memory makes it fail.
-    pub(crate) fn open(alloc: Global, config: Config) -> Result<Day, AllocError>
+    pub(crate) fn open(alloc: Global, config: Config) -> Result<DayState, AllocError>
         requires { open_fault config ≡ None }
         ensures { IfOk result (λ d. d ≡ opening config) }
     {
-        Ok(Day {
+        Ok(DayState {
             config,
             book: Book::open(alloc, config)?,
             tape: Vec::with_capacity(alloc, 3 * config.max_open as usize)?,
             reference: config.reference,
-            auction: Some(Kind::Opening),
+            auction: Some(AuctionKind::Opening),
             extended: false,
         })
     }
@@ -116,7 +116,7 @@ impl Day {
     }
 
     /// The auction whose call phase it is; none after the day.
-    pub(crate) fn auction(&self) -> Option<Kind>
+    pub(crate) fn auction(&self) -> Option<AuctionKind>
         ensures { result ≡ self.now.state.auction }
     {
         self.auction
@@ -124,8 +124,8 @@ impl Day {
 
     /// The quantities of the orders that count, tick by tick over the bounds.
     pub(crate) fn ladder(&self) -> &Ladder
-        ensures value { result.now ≡ ladder_over self.now.config (counting self.now.state) }
-        ensures book { IsLadderOf result.now (counting self.now.state) }
+        ensures value { result.now ≡ ladder_over self.now.config (current_orders self.now.state) }
+        ensures book { IsLadderOf result.now (current_orders self.now.state) }
     {
         self.book.ladder()
     }
@@ -148,26 +148,26 @@ impl Day {
     }
 
     // The current auction. After the day it is refused.
-    fn current(&self) -> Result<Kind, Refused>
-        ensures { result ≡ day.current self.now.state }
+    fn current(&self) -> Result<AuctionKind, Refusal>
+        ensures { result ≡ day.current_auction self.now.state }
     {
-        self.auction.ok_or(Refused::DayOver)
+        self.auction.ok_or(Refusal::DayOver)
     }
 
     // The member's own open order with this id.
-    fn own_order(&self, member: u8, id: u32) -> Result<Order, Refused>
+    fn own_order(&self, member: u8, id: u32) -> Result<Order, Refusal>
         ensures order { result ≡ day.own_order self.now.state member id }
         ensures open { IfOk result (λ order. IsOpenIn self.now.state.book order) }
     {
         self.book
             .get(id)
             .filter(|order| order.member == member)
-            .ok_or(Refused::UnknownOrder)
+            .ok_or(Refusal::UnknownOrder)
     }
 
     /// What a member's command comes to: the reply, or why it is refused. A refused command changes nothing.
     #[tactic(auto, unfolding(auction_terms::specs::Day::decide))]
-    pub(crate) fn decide(&mut self, call: &Call) -> Result<Reply, Refused>
+    pub(crate) fn decide(&mut self, call: &Call) -> Result<Reply, Refusal>
         requires { self.old.stamps < self.old.config.max_calls }
         ensures outcome { outcome self.new result
             ≡ day.decide self.old.config self.old.state call.now.member call.now.command }
@@ -178,14 +178,14 @@ impl Day {
         match call.command {
             Command::Enter {
                 side,
-                only,
+                restriction,
                 limit,
                 quantity,
                 peak,
             } => self.enter(NewOrder {
                 member,
                 side,
-                only,
+                restriction,
                 limit,
                 quantity,
                 peak,
@@ -196,9 +196,9 @@ impl Day {
                 quantity,
             } => self.change(member, id, limit, quantity),
             Command::Delete { id } => self.delete(member, id),
-            Command::Status { id } => self.status(member, id),
-            Command::Ask => self.ask(),
-            Command::Trade { number } => self.trade(number),
+            Command::OrderStatus { id } => self.order_status(member, id),
+            Command::Indicate => self.indicate(),
+            Command::ReadTrade { number } => self.read_trade(number),
             Command::Uncross => self.uncross(member),
         }
     }

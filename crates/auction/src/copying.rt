@@ -1,6 +1,6 @@
 //! The auction begun again, and the auction copied.
 ghost use Rattle.std.specs.Prelude.{◌≡◌, IfOk};
-ghost use Rattle.auction_terms.specs.Devices.Running.{opened};
+ghost use Rattle.auction_terms.specs.Auxiliary.RunningAuction.{opened_auction};
 
 use crate::Auction;
 use std::alloc::{AllocError, Global};
@@ -9,7 +9,7 @@ impl Auction {
     /// Goes back to the opening of the day, as if no command had been applied: no orders, no trades, the reference of
     /// the config, no calls. It takes no memory.
     pub fn reset(&mut self)
-        ensures { self.new ≡ opened self.old.config }
+        ensures { self.new ≡ opened_auction self.old.config }
     {
         self.day.reset();
         self.calls = 0;

@@ -1,7 +1,7 @@
 //! The audit of a recorded history.
 ghost use Rattle.std.specs.Prelude.{◌≡◌, ◌↔◌, IsTrue, IfOk, IfErr, IfSome, Err, None};
 ghost use Rattle.auction.specs.ConfigFault.{open_fault};
-ghost use Rattle.auction.specs.Audits.{Finds};
+ghost use Rattle.auction.specs.Audits.{IsVerdictOf};
 
 use crate::{Auction, OpenFault, Verdict};
 use auction_terms::{Config, Entry, Reply};
@@ -19,7 +19,7 @@ fn is_same(reply: Reply, other: Reply) -> bool
 ///
 /// It is refused as `Auction::open` is.
 pub fn audit(alloc: Global, config: Config, entries: &[Entry]) -> Result<Verdict, OpenFault>
-    ensures finding { IfOk result (Finds config entries.now) }
+    ensures finding { IfOk result (IsVerdictOf config entries.now) }
     ensures refused { IfSome (open_fault config) (λ fault. result ≡ Err fault) }
     ensures memory { open_fault config ≡ None → IfErr result (λ fault. fault ≡ OpenFault.NoMemory) }
 {

@@ -9,10 +9,10 @@
 
 ghost use Rattle.std.specs.Prelude.{◌≡◌, ◌<◌, ◌≤◌, IfOk, IfErr, IfSome, Err, None, nat_eq};
 ghost use Rattle.auction_terms.specs.Day.{display, step};
-ghost use Rattle.auction_terms.specs.Devices.Running.{opened, called};
+ghost use Rattle.auction_terms.specs.Auxiliary.RunningAuction.{opened_auction, auction_after_call};
 ghost use Rattle.tick_ladder.specs.TickLadder.{IsLadderOf};
 ghost use Rattle.auction.specs.ConfigFault.{open_fault};
-ghost use Rattle.auction.specs.AuctionState.{counting, ladder_over, call_by};
+ghost use Rattle.auction.specs.AuctionState.{current_orders, ladder_over, call_by};
 
 mod book;
 mod commands;
@@ -21,9 +21,10 @@ mod history;
 
 pub use auction_terms::Config;
 use auction_terms::{
-    Call, Command, Display, Kind, MAX_CALLS, MAX_OPEN_ORDERS, MAX_TICK, MAX_TICKS, Reply, Trade,
+    AuctionKind, Call, Command, Display, MAX_CALLS, MAX_OPEN_ORDERS, MAX_TICK, MAX_TICKS, Reply,
+    Trade,
 };
-use commands::Day;
+use commands::DayState;
 pub use history::audit;
 use std::alloc::Global;
 use std::marker::Model;
@@ -37,7 +38,7 @@ pub enum OpenFault {
     /// The first reference price isn't a tick from `low` to `high`.
     BadReference,
     /// `max_open` isn't from 1 to `MAX_OPEN_ORDERS`, or `max_calls` isn't from 1 to `MAX_CALLS`.
-    BadLimits,
+    BadCapacity,
     /// There is no memory for the orders, the trades and the ladder.
     NoMemory,
 }
@@ -54,20 +55,20 @@ pub enum Verdict {
 /// The auctions of one day, and how many commands they had.
 #[derive(Drop)]
 pub struct Auction {
-    day: Day,
+    day: DayState,
     calls: u32,
 }
 
 impl Model for Auction {
     ghost use Rattle.std.specs.Prelude.{◌≤◌};
-    ghost use Rattle.auction_terms.specs.Devices.Running.{Running};
-    ghost use Rattle.auction.specs.AuctionState.{CountsCalls, IsBoundedBy};
+    ghost use Rattle.auction_terms.specs.Auxiliary.RunningAuction.{RunningAuction};
+    ghost use Rattle.auction.specs.AuctionState.{HasCallCount, IsBoundedBy};
 
-    ghost Value = { Running };
+    ghost Value = { RunningAuction };
 
     ghost view = { λ a. record { config = a.day.config; state = a.day.state; calls = a.calls } };
 
-    ghost invariant = { λ a. CountsCalls a.day a.calls × IsBoundedBy a.day.config a.day.config.reference };
+    ghost invariant = { λ a. HasCallCount a.day a.calls × IsBoundedBy a.day.config a.day.config.reference };
 }
 
 #[tactic(auto, unfolding(crate::specs::ConfigFault::open_fault))]
@@ -87,7 +88,7 @@ fn fault_of(config: Config) -> Option<OpenFault>
         || config.max_calls == 0
         || config.max_calls > MAX_CALLS
     {
-        Some(OpenFault::BadLimits)
+        Some(OpenFault::BadCapacity)
     } else {
         None
     }
@@ -100,14 +101,14 @@ impl Auction {
     ///
     /// It is refused with the first fault of the config, and with `NoMemory` only where it has none.
     pub fn open(alloc: Global, config: Config) -> Result<Auction, OpenFault>
-        ensures opening { IfOk result (λ a. a ≡ opened config) }
+        ensures opening { IfOk result (λ a. a ≡ opened_auction config) }
         ensures refused { IfSome (open_fault config) (λ fault. result ≡ Err fault) }
         ensures memory { open_fault config ≡ None → IfErr result (λ fault. fault ≡ OpenFault.NoMemory) }
     {
         if let Some(fault) = fault_of(config) {
             return Err(fault);
         }
-        match Day::open(alloc, config) {
+        match DayState::open(alloc, config) {
             Ok(day) => Ok(Auction { day, calls: 0 }),
             Err(_) => Err(OpenFault::NoMemory),
         }
@@ -162,7 +163,7 @@ impl Auction {
     }
 
     /// The auction whose call phase it is; none after the day.
-    pub fn current(&self) -> Option<Kind>
+    pub fn current(&self) -> Option<AuctionKind>
         ensures { result ≡ self.now.state.auction }
     {
         self.day.auction()
@@ -171,8 +172,8 @@ impl Auction {
     /// The quantities of the orders that count in the current auction, tick by tick over the bounds, among which are
     /// all limits of these orders.
     pub fn ladder(&self) -> &Ladder
-        ensures value { result.now ≡ ladder_over self.now.config (counting self.now.state) }
-        ensures book { IsLadderOf result.now (counting self.now.state) }
+        ensures value { result.now ≡ ladder_over self.now.config (current_orders self.now.state) }
+        ensures book { IsLadderOf result.now (current_orders self.now.state) }
     {
         self.day.ladder()
     }
@@ -189,14 +190,14 @@ impl Auction {
     /// - `Change`: the order gets this limit and open quantity. With another limit or more quantity it goes last in
     ///   time.
     /// - `Delete`: the order leaves the book.
-    /// - `Status`, `Ask`, `Trade`: the order as it stands, what is shown, a trade of the day by its number.
+    /// - `OrderStatus`, `Indicate`, `ReadTrade`: what is open of the order, what is shown, a trade by its number.
     /// - `Uncross`: the orders that count are executed at the auction price, by price and then time, and that price is
     ///   the new reference. Orders for this auction alone leave, and the next auction's call phase begins. The first
     ///   price of a call phase that lies more than the range away from the reference executes nothing: the call phase
     ///   goes on.
     pub fn apply(&mut self, member: u8, command: Command) -> Reply
         requires { self.old.calls < self.old.config.max_calls }
-        ensures state { self.new ≡ called self.old (call_by member command) }
+        ensures state { self.new ≡ auction_after_call self.old (call_by member command) }
         ensures reply { result ≡ (step self.old.config self.old.state (call_by member command)).1 }
     {
         self.apply_call(&Call { member, command })
@@ -206,7 +207,7 @@ impl Auction {
     #[tactic(auto, unfolding(auction_terms::specs::Day::step))]
     pub fn apply_call(&mut self, call: &Call) -> Reply
         requires { self.old.calls < self.old.config.max_calls }
-        ensures state { self.new ≡ called self.old call.now }
+        ensures state { self.new ≡ auction_after_call self.old call.now }
         ensures reply { result ≡ (step self.old.config self.old.state call.now).1 }
     {
         let outcome = self.day.decide(call);

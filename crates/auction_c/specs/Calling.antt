@@ -5,73 +5,84 @@ use Rattle.auction_terms.specs.declared.Command.{Command}
 use Rattle.auction_terms.specs.declared.Config.{Config}
 use Rattle.auction_terms.specs.declared.Trade.{Trade}
 use Rattle.auction_terms.specs.Day.{step}
-use Rattle.auction_terms.specs.Devices.Running.{Running, called}
+use Rattle.auction_terms.specs.Auxiliary.RunningAuction.{RunningAuction, auction_after_call}
 use Rattle.auction_terms.specs.Ladder.{LadderView}
-use Rattle.auction.specs.AuctionState.{counting, ladder_over, call_by}
+use Rattle.auction.specs.AuctionState.{current_orders, ladder_over, call_by}
 use Rattle.auction.specs.declared.OpenFault.{OpenFault}
-use Rattle.auction.specs.declared.OpenFault.TheVariants.{BadBounds, BadReference, BadLimits, NoMemory}
-use Rattle.auction_c.specs.declared.errors.TheConstants.{BAD_BOUNDS, BAD_REFERENCE, BAD_LIMITS, NO_MEMORY}
+use Rattle.auction.specs.declared.OpenFault.TheVariants.{BadBounds, BadReference, BadCapacity, NoMemory}
+use Rattle.auction_c.specs.declared.errors.TheConstants.{BAD_BOUNDS, BAD_REFERENCE, BAD_CAPACITY, NO_MEMORY}
 use Rattle.auction_c.specs.declared.errors.TheConstants.{DONE, NO_COMMAND, FULL, BAD_LENGTH}
+use Rattle.auction_c.specs.declared.errors.TheConstants.{BUSY, BEHIND, CLOSED, OVERTAKEN}
+use Rattle.board_terms.specs.declared.calls.CallFault.TheVariants.{HistoryFull, Behind, Overtaken}
+use Rattle.shared_board.specs.declared.member.BoardFault.{BoardFault}
+use Rattle.shared_board.specs.declared.member.BoardFault.TheVariants.{Busy, Closed, Call as CallRefused}
 use Rattle.auction_c.specs.declared.structs.AuctionCommand.{AuctionCommand}
 use Rattle.auction_c.specs.declared.structs.AuctionReply.{AuctionReply}
-use Rattle.auction_c.specs.Incoming.{command_in}
-use Rattle.auction_c.specs.Outgoing.{reply_out}
+use Rattle.auction_c.specs.Decoding.{command_in}
+use Rattle.auction_c.specs.Encoding.{reply_out}
 
 abbrev pub fault_number : OpenFault → ℕ
 fault_number BadBounds = BAD_BOUNDS
 fault_number BadReference = BAD_REFERENCE
-fault_number BadLimits = BAD_LIMITS
+fault_number BadCapacity = BAD_CAPACITY
 fault_number NoMemory = NO_MEMORY
+
+abbrev pub board_fault_number : BoardFault → ℕ
+board_fault_number Busy = BUSY
+board_fault_number Closed = CLOSED
+board_fault_number (CallRefused HistoryFull) = FULL
+board_fault_number (CallRefused (Behind history counted)) = BEHIND
+board_fault_number (CallRefused Overtaken) = OVERTAKEN
 
 -- ---- one command
 
 -- the error number, and what the auction and the reply struct are after the call
-pub record Applied : Type 0 where
+pub record ApplyResult : Type 0 where
   pub error : ℕ
-  pub auction : Running
+  pub auction : RunningAuction
   pub reply : AuctionReply
 
 -- an error, with nothing changed
-abbrev pub not_applied : ℕ → Running → AuctionReply → Applied
+abbrev pub not_applied : ℕ → RunningAuction → AuctionReply → ApplyResult
 not_applied error a reply = record { error = error; auction = a; reply = reply }
 
 -- a command of a member: one step of the day, unless as many were applied as may be
-abbrev pub apply_command : Running → ℕ → Command → AuctionReply → Applied
+abbrev pub apply_command : RunningAuction → ℕ → Command → AuctionReply → ApplyResult
 apply_command a member command before =
     if nat_eq a.calls a.config.max_calls
     then not_applied FULL a before
     else record {
       error = DONE;
-      auction = called a (call_by member command);
+      auction = auction_after_call a (call_by member command);
       reply = reply_out (step a.config a.state (call_by member command)).1;
     }
 
-abbrev pub apply_decoded : Running → ℕ → Option Command → AuctionReply → Applied
+abbrev pub apply_decoded : RunningAuction → ℕ → Option Command → AuctionReply → ApplyResult
 apply_decoded a member None before = not_applied NO_COMMAND a before
 apply_decoded a member (Some command) before = apply_command a member command before
 
 -- the command that the struct stands for
-abbrev pub apply_struct : Running → AuctionCommand → AuctionReply → Applied
+abbrev pub apply_struct : RunningAuction → AuctionCommand → AuctionReply → ApplyResult
 apply_struct a c before = apply_decoded a c.member (command_in c) before
 
 -- ---- many commands
 
 -- the first error, how many were applied before it, and what the auction and the reply structs are then
-pub record AppliedAll : Type 0 where
+pub record ApplyAllResult : Type 0 where
   pub error : ℕ
   pub applied : ℕ
-  pub auction : Running
+  pub auction : RunningAuction
   pub replies : List AuctionReply
 
 -- an error at the first, or none to apply
-abbrev pub nothing_applied : ℕ → Running → List AuctionReply → AppliedAll
+abbrev pub nothing_applied : ℕ → RunningAuction → List AuctionReply → ApplyAllResult
 nothing_applied error a replies = record { error = error; applied = 0; auction = a; replies = replies }
 
-abbrev pub one_more : AuctionReply → AppliedAll → AppliedAll
+abbrev pub one_more : AuctionReply → ApplyAllResult → ApplyAllResult
 one_more reply rest = record rest { applied = rest.applied + 1; replies = reply ∷ rest.replies }
 
 -- one after another, up to the first error
-abbrev pub apply_structs : Running → List AuctionCommand → List AuctionReply → AppliedAll
+abbrev pub apply_structs : RunningAuction → List AuctionCommand → List AuctionReply → ApplyAllResult
 apply_structs a [] replies = nothing_applied DONE a replies
 apply_structs a (c ∷ cs) [] = nothing_applied DONE a []
 apply_structs a (c ∷ cs) (r ∷ rs) =
@@ -80,7 +91,7 @@ apply_structs a (c ∷ cs) (r ∷ rs) =
     else nothing_applied (apply_struct a c r).error a (r ∷ rs)
 
 -- where there is a reply struct for each command
-abbrev pub apply_all : Running → List AuctionCommand → List AuctionReply → AppliedAll
+abbrev pub apply_all : RunningAuction → List AuctionCommand → List AuctionReply → ApplyAllResult
 apply_all a commands replies =
     if nat_eq (length replies) (length commands)
     then apply_structs a commands replies
@@ -93,14 +104,14 @@ abbrev pub ticks_of : Config → ℕ
 ticks_of config = config.high + 1 - config.low
 
 -- the ladder of the orders that count
-abbrev pub ladder_now : Running → LadderView
-ladder_now a = ladder_over a.config (counting a.state)
+abbrev pub ladder_now : RunningAuction → LadderView
+ladder_now a = ladder_over a.config (current_orders a.state)
 
 -- arrays of these lengths for so many ticks
 abbrev pub ladder_error : ℕ → ℕ → ℕ → ℕ
 ladder_error ticks bids asks = if nat_eq bids ticks && nat_eq asks ticks then DONE else BAD_LENGTH
 
 -- the trades of the day after the first ones, none where no auction is held
-abbrev pub unseen : ℕ → Option Running → List Trade
-unseen seen None = []
-unseen seen (Some a) = drop seen a.state.tape
+abbrev pub unseen_trades : ℕ → Option RunningAuction → List Trade
+unseen_trades seen None = []
+unseen_trades seen (Some a) = drop seen a.state.tape

@@ -1,6 +1,10 @@
 pub mod Calling
 pub mod Held
-pub mod Incoming
+pub mod HeldMember
+pub mod Decoding
 pub mod Lending
-pub mod Outgoing
+pub mod MemberLending
+pub mod Encoding
 pub mod ReadBack
+pub mod Entries
+pub mod BoardCalls

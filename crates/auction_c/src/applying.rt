@@ -2,9 +2,9 @@
 ghost use Rattle.std.specs.Prelude.{◌≡◌, length};
 ghost use Rattle.auction_c.specs.Calling.{apply_struct, apply_structs};
 
+use crate::decoding::command_in;
+use crate::encoding::reply_out;
 use crate::errors::{DONE, FULL, NO_COMMAND};
-use crate::incoming::command_in;
-use crate::outgoing::reply_out;
 use crate::structs::{AuctionCommand, AuctionReply};
 use auction::Auction;
 

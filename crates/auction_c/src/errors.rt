@@ -1,8 +1,10 @@
 //! The numbers that calls answer. Each has one meaning at every call.
-ghost use Rattle.std.specs.Prelude.{◌≡◌};
-ghost use Rattle.auction_c.specs.Calling.{fault_number};
+ghost use Rattle.std.specs.Prelude.{◌≡◌, ◌<◌};
+ghost use Rattle.auction_c.specs.Calling.{board_fault_number, fault_number};
 
 use auction::OpenFault;
+use board_terms::CallFault;
+use shared_board::BoardFault;
 
 /// The call was done.
 pub const DONE: u32 = 0;
@@ -13,13 +15,14 @@ pub const BAD_BOUNDS: u32 = 1;
 /// The reference isn't a tick of the bounds.
 pub const BAD_REFERENCE: u32 = 2;
 
-/// `max_open` isn't from 1 to `MAX_OPEN_ORDERS`, or `max_calls` isn't from 1 to `MAX_CALLS`.
-pub const BAD_LIMITS: u32 = 3;
+/// `max_open` isn't from 1 to `MAX_OPEN_ORDERS`, `max_calls` isn't from 1 to `MAX_CALLS`, or a board hasn't 1 to
+/// `MAX_MEMBERS` members.
+pub const BAD_CAPACITY: u32 = 3;
 
 /// Memory was refused.
 pub const NO_MEMORY: u32 = 4;
 
-/// The handle that was to get an auction holds one.
+/// A handle that was to get an auction or a member holds one.
 pub const IN_USE: u32 = 5;
 
 /// The handle holds no auction.
@@ -28,11 +31,32 @@ pub const NO_AUCTION: u32 = 6;
 /// The struct stands for no command.
 pub const NO_COMMAND: u32 = 7;
 
-/// As many commands were applied as may be.
+/// As many commands were applied or recorded as may be.
 pub const FULL: u32 = 8;
 
 /// An array has another length than the call wants.
 pub const BAD_LENGTH: u32 = 9;
+
+/// The struct stands for no config.
+pub const NO_CONFIG: u32 = 10;
+
+/// Another call has the board: try again.
+pub const BUSY: u32 = 11;
+
+/// The member has seen or counted other calls than the board's history has.
+pub const BEHIND: u32 = 12;
+
+/// The board was closed.
+pub const CLOSED: u32 = 13;
+
+/// The handle holds no member.
+pub const NO_MEMBER: u32 = 14;
+
+/// The handles don't hold all members of a board, in the order of their numbers.
+pub const MISSING_MEMBER: u32 = 15;
+
+/// The board's story has a call that its history hasn't. No run is known to meet it.
+pub const OVERTAKEN: u32 = 16;
 
 /// The number of a fault of an opening.
 pub(crate) fn fault_out(fault: OpenFault) -> u32
@@ -41,7 +65,21 @@ pub(crate) fn fault_out(fault: OpenFault) -> u32
     match fault {
         OpenFault::BadBounds => BAD_BOUNDS,
         OpenFault::BadReference => BAD_REFERENCE,
-        OpenFault::BadLimits => BAD_LIMITS,
+        OpenFault::BadCapacity => BAD_CAPACITY,
         OpenFault::NoMemory => NO_MEMORY,
+    }
+}
+
+/// The number of a fault of a call on a board.
+pub(crate) fn board_fault_out(fault: BoardFault) -> u32
+    ensures number { result ≡ board_fault_number fault }
+    ensures error { 0 < result }
+{
+    match fault {
+        BoardFault::Busy => BUSY,
+        BoardFault::Closed => CLOSED,
+        BoardFault::Call(CallFault::HistoryFull) => FULL,
+        BoardFault::Call(CallFault::Behind { .. }) => BEHIND,
+        BoardFault::Call(CallFault::Overtaken) => OVERTAKEN,
     }
 }

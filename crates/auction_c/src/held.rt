@@ -1,9 +1,9 @@
 //! An auction on the heap, or none.
 ghost use Rattle.std.specs.Prelude.{◌≡◌, Option, Some, None, IsSome};
-ghost use Rattle.auction_terms.specs.Devices.Running.{Running};
+ghost use Rattle.auction_terms.specs.Auxiliary.RunningAuction.{RunningAuction};
 ghost use Rattle.auction_c.specs.Held.{auction_coded, held_owns};
 
-mod parts;
+pub(crate) mod parts;
 
 use auction::Auction;
 use parts::Parts;
@@ -17,12 +17,15 @@ use std::{mem, ptr};
 pub struct Held {
     at: *mut u8,
     alloc: Global,
-    pub ghost value: { Option Running } by { auction_coded },
+    pub ghost value: { Option RunningAuction } by { auction_coded },
 }
 
 impl Model for Held {
     ghost also_owns = { λ h. held_owns h.alloc h.at h.value };
 }
+
+// A handle goes from thread to thread as the auction that it holds.
+unsafe impl Send for Held {}
 
 impl Held {
     ghost use Rattle.auction_c.specs.Lending.{HeldLends};

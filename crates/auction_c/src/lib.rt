@@ -9,58 +9,73 @@ ghost use Rattle.std.specs.Prelude.{◌≡◌, ◌<◌, ◌+◌, ◌-◌, ◌++�
 ghost use Rattle.std.specs.Prelude.{length, map, min, take, drop, option_map};
 ghost use Rattle.std.specs.Option.{option_map_or};
 ghost use Rattle.auction_terms.specs.Day.{display};
-ghost use Rattle.auction_terms.specs.Devices.Running.{opened};
+ghost use Rattle.auction_terms.specs.Auxiliary.RunningAuction.{opened_auction};
 ghost use Rattle.auction.specs.ConfigFault.{open_fault};
 ghost use Rattle.auction_c.specs.Calling.{fault_number, apply_struct, apply_all};
-ghost use Rattle.auction_c.specs.Calling.{ladder_now, ladder_error, ticks_of, unseen};
-ghost use Rattle.auction_c.specs.Incoming as stands;
-ghost use Rattle.auction_c.specs.Outgoing as written;
+ghost use Rattle.auction_c.specs.Calling.{ladder_now, ladder_error, ticks_of, unseen_trades};
+ghost use Rattle.auction_c.specs.Decoding as decoded_as;
+ghost use Rattle.auction_c.specs.Encoding as encoded_as;
 
 mod applying;
+mod board;
+mod board_calls;
 mod copying;
+mod decoding;
+mod encoding;
+mod entries;
 mod errors;
 mod handle;
 mod held;
-mod incoming;
-mod outgoing;
+mod member_handle;
+mod member_held;
 mod structs;
 
 use applying::{apply_each, apply_one};
 use auction::Auction;
 use copying::{copy_ladder, copy_trades};
+use decoding::config_in;
+use encoding::{config_out, display_out};
 use errors::fault_out;
 pub use errors::{
-    BAD_BOUNDS, BAD_LENGTH, BAD_LIMITS, BAD_REFERENCE, DONE, FULL, IN_USE, NO_AUCTION, NO_COMMAND,
-    NO_MEMORY,
+    BAD_BOUNDS, BAD_CAPACITY, BAD_LENGTH, BAD_REFERENCE, BEHIND, BUSY, CLOSED, DONE, FULL, IN_USE,
+    MISSING_MEMBER, NO_AUCTION, NO_COMMAND, NO_CONFIG, NO_MEMBER, NO_MEMORY, OVERTAKEN,
 };
 pub use handle::AuctionHandle;
-use incoming::config_in;
-use outgoing::{config_out, display_out};
+pub use member_handle::AuctionMember;
 use std::alloc::Global;
-pub use structs::{AuctionCommand, AuctionConfig, AuctionMarket, AuctionReply, AuctionTrade};
+pub use structs::{
+    AuctionCommand, AuctionConfig, AuctionEntry, AuctionMarket, AuctionReceipt, AuctionReply,
+    AuctionShown, AuctionTrade,
+};
 
 /// Opens an auction, which the handle then holds: no orders, no trades, no calls, the reference of the config.
 ///
-/// Where the handle holds one already it answers `IN_USE`. Else it answers the first fault of the config, `BAD_BOUNDS`,
-/// `BAD_REFERENCE` or `BAD_LIMITS`, and `NO_MEMORY` only where it has none.
+/// Where the handle holds one already it answers `IN_USE`. Else it answers `NO_CONFIG` for a struct that stands for no
+/// config, then the first fault of the config, `BAD_BOUNDS`, `BAD_REFERENCE` or `BAD_CAPACITY`, and `NO_MEMORY` only
+/// where it has none.
 #[unsafe(no_mangle)]
 pub extern "C" fn callauction_open(
     alloc: Global,
     handle: &mut AuctionHandle,
     config: &AuctionConfig,
 ) -> u32
-    ensures opened { result ≡ 0 → handle.new.held.value ≡ Some (opened (stands.config_in config.now)) }
+    ensures opened_auction { result ≡ 0 → handle.new.held.value ≡
+        option_map opened_auction (decoded_as.config_in config.now) }
     ensures refused { 0 < result → handle.new.held.value ≡ handle.old.held.value }
     ensures busy { IsSome handle.old.held.value → result ≡ IN_USE }
-    ensures fault { IsNone handle.old.held.value →
-        IfSome (open_fault (stands.config_in config.now)) (λ fault. result ≡ fault_number fault) }
-    ensures memory { IsNone handle.old.held.value → open_fault (stands.config_in config.now) ≡ None →
-        0 < result → result ≡ NO_MEMORY }
+    ensures none { IsNone handle.old.held.value → IsNone (decoded_as.config_in config.now) → result ≡ NO_CONFIG }
+    ensures fault { IsNone handle.old.held.value → IfSome (decoded_as.config_in config.now) (λ c.
+        IfSome (open_fault c) (λ fault. result ≡ fault_number fault)) }
+    ensures memory { IsNone handle.old.held.value → IfSome (decoded_as.config_in config.now) (λ c.
+        open_fault c ≡ None → 0 < result → result ≡ NO_MEMORY) }
 {
     if handle.is_open {
         return IN_USE;
     }
-    match Auction::open(alloc, config_in(config)) {
+    let Some(decoded) = config_in(config) else {
+        return NO_CONFIG;
+    };
+    match Auction::open(alloc, decoded) {
         Ok(auction) => handle.hold(alloc, auction),
         Err(fault) => fault_out(fault),
     }
@@ -125,7 +140,7 @@ pub extern "C" fn callauction_display(handle: &mut AuctionHandle, shown: &mut Au
     ensures error { result ≡ option_map_or (λ a. DONE) handle.old.held.value NO_AUCTION }
     ensures held { handle.new.held.value ≡ handle.old.held.value }
     ensures shown { shown.new ≡
-        option_map_or (λ a. written.display_out (display a.state)) handle.old.held.value shown.old }
+        option_map_or (λ a. encoded_as.display_out (display a.state)) handle.old.held.value shown.old }
 {
     if !handle.is_open {
         return NO_AUCTION;
@@ -151,7 +166,8 @@ pub extern "C" fn callauction_ladder(
     ensures held { handle.new.held.value ≡ handle.old.held.value }
     ensures bids { result ≡ 0 → IfSome handle.old.held.value (λ a. bids.new ≡ (ladder_now a).bids) }
     ensures asks { result ≡ 0 → IfSome handle.old.held.value (λ a. asks.new ≡ (ladder_now a).asks) }
-    ensures market { result ≡ 0 → IfSome handle.old.held.value (λ a. market.new ≡ written.market_out (ladder_now a)) }
+    ensures market { result ≡ 0 → IfSome handle.old.held.value (λ a. market.new ≡
+        encoded_as.market_out (ladder_now a)) }
     ensures unchanged { 0 < result → (bids.new ≡ bids.old) × (asks.new ≡ asks.old) × (market.new ≡ market.old) }
 {
     if !handle.is_open {
@@ -171,9 +187,10 @@ pub extern "C" fn callauction_trades(
 ) -> u32
     ensures error { result ≡ option_map_or (λ a. DONE) handle.old.held.value NO_AUCTION }
     ensures held { handle.new.held.value ≡ handle.old.held.value }
-    ensures copied { copied.new ≡ min (length (unseen seen handle.old.held.value)) (length trades.old) }
+    ensures copied { copied.new ≡ min (length (unseen_trades seen handle.old.held.value)) (length trades.old) }
     ensures trades { trades.new ≡
-        map written.trade_out (take copied.new (unseen seen handle.old.held.value)) ++ drop copied.new trades.old }
+        map encoded_as.trade_out (take copied.new (unseen_trades seen handle.old.held.value))
+        ++ drop copied.new trades.old }
 {
     *copied = 0;
     if !handle.is_open {
@@ -210,7 +227,7 @@ pub extern "C" fn callauction_config_of(
     ensures error { result ≡ option_map_or (λ a. DONE) handle.old.held.value NO_AUCTION }
     ensures held { handle.new.held.value ≡ handle.old.held.value }
     ensures config { config.new ≡
-        option_map_or (λ a. written.config_out a.config) handle.old.held.value config.old }
+        option_map_or (λ a. encoded_as.config_out a.config) handle.old.held.value config.old }
 {
     if !handle.is_open {
         return NO_AUCTION;
@@ -223,7 +240,7 @@ pub extern "C" fn callauction_config_of(
 #[unsafe(no_mangle)]
 pub extern "C" fn callauction_reset(handle: &mut AuctionHandle) -> u32
     ensures error { result ≡ option_map_or (λ a. DONE) handle.old.held.value NO_AUCTION }
-    ensures held { handle.new.held.value ≡ option_map (λ a. opened a.config) handle.old.held.value }
+    ensures held { handle.new.held.value ≡ option_map (λ a. opened_auction a.config) handle.old.held.value }
 {
     if !handle.is_open {
         return NO_AUCTION;

@@ -15,8 +15,8 @@ pub struct AuctionConfig {
     pub max_open: u32,
     /// How many commands may be applied.
     pub max_calls: u32,
-    /// 0: no price interrupts an uncross, and `range` isn't read. Any other number: one does that lies more than
-    /// `range` ticks from the reference.
+    /// 0: no price interrupts an uncross, and `range` is 0. 1: one does that lies more than `range` ticks from the
+    /// reference.
     pub has_range: u32,
     pub range: u32,
 }
@@ -27,11 +27,11 @@ pub struct AuctionConfig {
 pub struct AuctionCommand {
     /// Shares, of an entry or a change.
     pub quantity: u64,
-    /// The most shares that an entered order shows, where `has_peak` is 1.
+    /// The most shares that an entered order shows, where `has_peak` is 1; else 0.
     pub peak: u64,
     /// The id of an order, or the number of a trade.
     pub id: u32,
-    /// A tick, where `has_limit` is 1; else the order is a market order.
+    /// A tick, where `has_limit` is 1; else 0, of a market order.
     pub limit: u32,
     pub member: u8,
     /// 1 enter, 2 change, 3 delete, 4 status, 5 ask, 6 trade, 7 uncross.
@@ -39,7 +39,7 @@ pub struct AuctionCommand {
     /// 1 bid, 2 ask.
     pub side: u8,
     /// The auctions that the order is for: 0 every one, 1 the opening, 2 the closing alone.
-    pub only: u8,
+    pub restriction: u8,
     pub has_limit: u8,
     pub has_peak: u8,
 }
@@ -75,7 +75,7 @@ pub struct AuctionReply {
     pub auction: u8,
     /// Whether an order kept its place in time.
     pub kept: u8,
-    /// Why a command was refused: 1 to 9, in the order of `Refused`.
+    /// Why a command was refused: 1 to 9, in the order of `Refusal`.
     pub refusal: u8,
     pub has_tick: u8,
     pub has_best_bid: u8,
@@ -101,4 +101,28 @@ pub struct AuctionTrade {
 pub struct AuctionMarket {
     pub bids: u64,
     pub asks: u64,
+}
+
+/// A member's recorded call: its number in the history, from 1, and the auction's reply.
+#[repr(C)]
+#[derive(Clone, Copy, Debug, PartialEq, Eq)]
+pub struct AuctionReceipt {
+    pub reply: AuctionReply,
+    pub number: u32,
+}
+
+/// What a look shows: how many calls a board has had, and the display after them, as a reply with tag 5 or 6.
+#[repr(C)]
+#[derive(Clone, Copy, Debug, PartialEq, Eq)]
+pub struct AuctionShown {
+    pub display: AuctionReply,
+    pub calls: u32,
+}
+
+/// A call of a board's history, with its reply.
+#[repr(C)]
+#[derive(Clone, Copy, Debug, PartialEq, Eq)]
+pub struct AuctionEntry {
+    pub command: AuctionCommand,
+    pub reply: AuctionReply,
 }

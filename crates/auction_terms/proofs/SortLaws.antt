@@ -1,5 +1,6 @@
 -- Lists in the order of a comparison: `in_order` gives one, and it is the only one with those elements.
-use Rattle.std.proofs.Common.{◌≡◌, ◌≢◌, ℕ, ◌+◌, ◌<◌, Bool, true, false, List, [], ◌∷◌, length, get_or, map, refl, sym, ap, ◌∙◌, arith, sum_by, suc}
+use Rattle.std.proofs.Common.{◌≡◌, ◌≢◌, ℕ, ◌+◌, ◌<◌, Bool, true, false, List, [], ◌∷◌, length, get_or, map, refl, sym}
+use Rattle.std.proofs.Common.{ap, ◌∙◌, arith, sum_by, suc}
 use Rattle.std.proofs.lemmas.List.Sums.{sum_by-cons}
 use Rattle.std.proofs.lemmas.List.Sorted.{sorted_far, ranks_by}
 use Rattle.std.proofs.lemmas.Cmp.{upto, tied_itself, tied_back}
@@ -9,7 +10,7 @@ use Rattle.std.specs.Ordering.{is_lt, is_gt, ordering_reverse}
 use Rattle.std.specs.declared.cmp.Ordering.{Ordering}
 use Rattle.std.specs.declared.cmp.Ordering.TheVariants.{Less, Equal, Greater}
 use Rattle.std.proofs.lemmas.Grind.{common_steps}
-use Rattle.auction_terms.specs.Devices.Sort.{place_in, in_order, SameItems}
+use Rattle.auction_terms.specs.Auxiliary.Sort.{place_in, in_order, SameItems}
 
 -- it comes before each of them
 abbrev pub Before : {X : Type 0} → (X → X → Ordering) → X → List X → Type 0
@@ -39,15 +40,18 @@ abbrev pub Up : {X : Type 0} → (X → X → Ordering) → List X → Type 0
 Up R [] = Unit {0}
 Up R (x ∷ xs) = Upto R x xs × Up R xs
 
-pub sum_by-place_in : {X : Type 0} (R : X → X → Ordering) (f : X → ℕ) (x : X) (ys : List X) → sum_by f (place_in R x ys) ≡ f x + sum_by f ys
+pub sum_by-place_in : {X : Type 0} (R : X → X → Ordering) (f : X → ℕ) (x : X) (ys : List X)
+    → sum_by f (place_in R x ys) ≡ f x + sum_by f ys
 sum_by-place_in R f x [] = sum_by-cons f x []
 sum_by-place_in R f x (y ∷ ys) = grind (arith, common_steps, sum_by-cons, (sum_by-place_in R f x ys))
 
-pub sum_by-in_order : {X : Type 0} (R : X → X → Ordering) (f : X → ℕ) (xs : List X) → sum_by f (in_order R xs) ≡ sum_by f xs
+pub sum_by-in_order : {X : Type 0} (R : X → X → Ordering) (f : X → ℕ) (xs : List X)
+    → sum_by f (in_order R xs) ≡ sum_by f xs
 sum_by-in_order R f [] = refl
 sum_by-in_order R f (x ∷ xs) = search (arith, sum_by-place_in, sum_by-cons, (sum_by-in_order R f xs))
 
-apart_place : {X : Type 0} (R : X → X → Ordering) (z x : X) (ys : List X) → (R z x ≢ Equal) → Apart R z ys → Apart R z (place_in R x ys)
+apart_place : {X : Type 0} (R : X → X → Ordering) (z x : X) (ys : List X) → (R z x ≢ Equal) → Apart R z ys
+    → Apart R z (place_in R x ys)
 apart_place R z x [] h b = (h, tt)
 apart_place R z x (y ∷ ys) h b = grind (arith, common_steps, (apart_place R z x ys h b.1))
 
@@ -55,7 +59,8 @@ apart_in_order : {X : Type 0} (R : X → X → Ordering) (z : X) (xs : List X) �
 apart_in_order R z [] a = tt
 apart_in_order R z (x ∷ xs) a = apart_place R z x (in_order R xs) a.0 (apart_in_order R z xs a.1)
 
-before_place : {X : Type 0} (R : X → X → Ordering) (z x : X) (ys : List X) → R z x ≡ Less → Before R z ys → Before R z (place_in R x ys)
+before_place : {X : Type 0} (R : X → X → Ordering) (z x : X) (ys : List X) → R z x ≡ Less → Before R z ys
+    → Before R z (place_in R x ys)
 before_place R z x [] h b = (h, tt)
 before_place R z x (y ∷ ys) h b = grind (arith, common_steps, (before_place R z x ys h b.1))
 
@@ -91,8 +96,10 @@ module _ {X : Type 0} (R : X → X → Ordering) (o : IsTotalOrder R) where
   pub up_from_sorted : (xs : List X) → IsSorted R xs → Up R xs
   up_from_sorted [] s = tt
   up_from_sorted (x ∷ xs) s = (
-    upto_by_index x xs (λ k l. sorted_far (λ a b. is_lt (R a b)) (ranks_by o (λ a. a)) (x ∷ xs) s 0 (suc k) x (omega arith) (omega arith)),
-    up_from_sorted xs (λ k d l h. let e : suc k + 1 ≡ suc (k + 1) = omega arith in rw e at (s (suc k) d (omega arith) (omega arith))),
+    upto_by_index x xs (λ k l. sorted_far (λ a b. is_lt (R a b)) (ranks_by o (λ a. a)) (x ∷ xs) s 0 (suc k) x
+        (omega arith) (omega arith)),
+    up_from_sorted xs (λ k d l h. let e : suc k + 1 ≡ suc (k + 1) =
+        omega arith in rw e at (s (suc k) d (omega arith) (omega arith))),
   )
 
   -- how many are not after y
@@ -107,18 +114,27 @@ module _ {X : Type 0} (R : X → X → Ordering) (o : IsTotalOrder R) where
   head_upto : (x y : X) (xs ys : List X) → Upto R x xs → SameItems (x ∷ xs) (y ∷ ys) → is_gt (R x y) ≡ false
   unfolding not_above
   head_upto x y xs ys u same =
-      grind (arith, common_steps, none_upto, (tied_itself o y), (sum_by-cons (not_above y) x xs), (sum_by-cons (not_above y) y ys))
+      grind (
+        arith,
+        common_steps,
+        none_upto,
+        (tied_itself o y),
+        (sum_by-cons (not_above y) x xs),
+        (sum_by-cons (not_above y) y ys),
+      )
 
   tied : (x y : X) → is_gt (R x y) ≡ false → is_gt (R y x) ≡ false → R x y ≡ Equal
   tied x y f g = grind (arith, common_steps)
 
   -- two lists in order with the same elements are one, where what ties is one
-  pub same_in_order : ((x y : X) → R x y ≡ Equal → x ≡ y) → (xs ys : List X) → Up R xs → Up R ys → SameItems xs ys → xs ≡ ys
+  pub same_in_order : ((x y : X) → R x y ≡ Equal → x ≡ y) → (xs ys : List X) → Up R xs → Up R ys → SameItems xs ys
+      → xs ≡ ys
   same_in_order exact [] [] u v same = refl
   same_in_order exact [] (y ∷ ys) u v same = absurd (omega (arith, same (λ _. 1), sum_by-cons (λ _. 1) y ys))
   same_in_order exact (x ∷ xs) [] u v same = absurd (omega (arith, same (λ _. 1), sum_by-cons (λ _. 1) x xs))
   same_in_order exact (x ∷ xs) (y ∷ ys) u v same =
-      let heads : x ≡ y = exact x y (tied x y (head_upto x y xs ys u.0 same) (head_upto y x ys xs v.0 (λ f. sym (same f)))) in
+      let heads : x ≡ y =
+      exact x y (tied x y (head_upto x y xs ys u.0 same) (head_upto y x ys xs v.0 (λ f. sym (same f)))) in
       let rest : SameItems xs ys = λ f. omega (arith, same f, sum_by-cons f x xs, sum_by-cons f y ys, ap f heads) in
       grind (arith, common_steps, (same_in_order exact xs ys u.1 v.1 rest))
 
@@ -132,7 +148,8 @@ AllAgree R Q h [] = Unit {0}
 AllAgree R Q h (x ∷ xs) = Agree R Q h x xs × AllAgree R Q h xs
 
 module _ {X Y : Type 0} (R : X → X → Ordering) (Q : Y → Y → Ordering) (h : X → Y) where
-  agree_place : (z x : X) (ys : List X) → (is_lt (R x z) ≡ is_lt (Q (h x) (h z))) → Agree R Q h z ys → Agree R Q h z (place_in R x ys)
+  agree_place : (z x : X) (ys : List X) → (is_lt (R x z) ≡ is_lt (Q (h x) (h z))) → Agree R Q h z ys
+      → Agree R Q h z (place_in R x ys)
   agree_place z x [] e b = (e, tt)
   agree_place z x (y ∷ ys) e b = grind (arith, common_steps, (agree_place z x ys e b.1))
 

@@ -35,24 +35,24 @@ unfoldable pub best_limits : List Order → List ℕ
 best_limits book = filter (is_best book) (limits book)
 
 -- the highest best limit with a bid surplus; where no best limit has a surplus, the lowest of them
-unfoldable pub lower_kept : List Order → Option ℕ
-lower_kept book =
+unfoldable pub lower_end : List Order → Option ℕ
+lower_end book =
     if list_all (λ p. surplus book p == 0) (best_limits book)
     then lowest (best_limits book)
     else highest (filter (has_bid_surplus book) (best_limits book))
 
 -- the lowest best limit with an ask surplus; where no best limit has a surplus, the highest of them
-unfoldable pub upper_kept : List Order → Option ℕ
-upper_kept book =
+unfoldable pub upper_end : List Order → Option ℕ
+upper_end book =
     if list_all (λ p. surplus book p == 0) (best_limits book)
     then highest (best_limits book)
     else lowest (filter (has_ask_surplus book) (best_limits book))
 
 -- the reference, held between two ticks; where there is but one, that one
-abbrev pub held_between : Option ℕ → Option ℕ → ℕ → Option ℕ
-held_between None high r = high
-held_between (Some low) None r = Some low
-held_between (Some low) (Some high) r = Some (if nat_le high r then high else (if nat_le r low then low else r))
+abbrev pub clamp_between : Option ℕ → Option ℕ → ℕ → Option ℕ
+clamp_between None high r = high
+clamp_between (Some low) None r = Some low
+clamp_between (Some low) (Some high) r = Some (if nat_le high r then high else (if nat_le r low then low else r))
 
 -- whether market orders stand on both sides
 abbrev pub has_market_orders : List Order → Bool
@@ -67,7 +67,7 @@ price_tick book r =
     else (if is_empty (best_limits book) then None
     else (if list_all (has_bid_surplus book) (best_limits book) then highest (best_limits book)
     else (if list_all (has_ask_surplus book) (best_limits book) then lowest (best_limits book)
-    else held_between (lower_kept book) (upper_kept book) r)))
+    else clamp_between (lower_end book) (upper_end book) r)))
 
 -- a tick with its volume, its surplus and the side of that
 unfoldable pub priced : List Order → ℕ → Price

@@ -29,5 +29,5 @@ abbrev pub Writes : {E : Type 0} → Option (List ℕ) → Option (List ℕ) →
 Writes old new r text = MatchResult r (λ _. Appends old new text) (λ _. AppendsBeginning old new text)
 
 -- it failed where the count of failures rose, and else the count stayed
-abbrev pub TellsFailure : {X E : Type 0} → ℕ → ℕ → Result X E → Type 0
-TellsFailure old new r = MatchResult r (λ _. new ≡ old) (λ _. old < new)
+abbrev pub ReportsFailure : {X E : Type 0} → ℕ → ℕ → Result X E → Type 0
+ReportsFailure old new r = MatchResult r (λ _. new ≡ old) (λ _. old < new)

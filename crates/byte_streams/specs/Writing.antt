@@ -1,6 +1,6 @@
 -- A text that goes to a sink.
 use Rattle.std.specs.Prelude.{ℕ, List, Result}
-use Rattle.byte_streams.specs.Streams.{TellsFailure, Writes}
+use Rattle.byte_streams.specs.Streams.{ReportsFailure, Writes}
 use Rattle.byte_streams.specs.declared.sink.Sink.{Ghosts}
 use Rattle.byte_streams.specs.declared.writing.WriteFailed.{WriteFailed}
 
@@ -8,4 +8,4 @@ use Rattle.byte_streams.specs.declared.writing.WriteFailed.{WriteFailed}
 pub record WritesAll {S : Type 0} (sink : Ghosts S) (old new : S) (r : Result (Unit {0}) WriteFailed)
     (bytes : List ℕ) : Type 0 where
   pub text : Writes (sink.written old) (sink.written new) r bytes
-  pub failed : TellsFailure (sink.failures old) (sink.failures new) r
+  pub failed : ReportsFailure (sink.failures old) (sink.failures new) r

@@ -6,25 +6,32 @@ use Rattle.auction_terms.specs.Day.{IsLegal, State, calls_of, opening_state, rep
 use Rattle.callboard.specs.Printed.{entries_from, history_of, reply_of}
 
 -- its replies are those of the replay
-pub history-replies : (config : Config) (state : State) (calls : List Call) → map reply_of (entries_from config state calls) ≡ replies_from config state calls
+pub history-replies : (config : Config) (state : State) (calls : List Call)
+    → map reply_of (entries_from config state calls) ≡ replies_from config state calls
 history-replies config state [] = refl
-history-replies config state (call ∷ calls) = λ i. (step config state call).1 ∷ history-replies config (step config state call).0 calls i
+history-replies config state (call ∷ calls) =
+    λ i. (step config state call).1 ∷ history-replies config (step config state call).0 calls i
 
 -- its calls are these, and it has an entry for each
-entries-calls : (config : Config) (state : State) (calls : List Call) → calls_of (entries_from config state calls) ≡ calls
+entries-calls : (config : Config) (state : State) (calls : List Call) → calls_of (entries_from config state calls)
+    ≡ calls
 entries-calls config state [] = refl
 entries-calls config state (call ∷ calls) = λ i. call ∷ entries-calls config (step config state call).0 calls i
 
 pub history-calls : (config : Config) (calls : List Call) → calls_of (history_of config calls) ≡ calls
 history-calls config calls = entries-calls config (opening_state config) calls
 
-entries-length : (config : Config) (state : State) (calls : List Call) → length (entries_from config state calls) ≡ length calls
+entries-length : (config : Config) (state : State) (calls : List Call) → length (entries_from config state calls)
+    ≡ length calls
 entries-length config state [] = refl
 entries-length config state (call ∷ calls) = ap suc (entries-length config (step config state call).0 calls)
 
 -- and where there aren't too many, it is legal
-pub history_legal : (config : Config) (calls : List Call) → length calls ≤ config.max_calls → IsLegal config (history_of config calls)
+pub history_legal : (config : Config) (calls : List Call) → length calls ≤ config.max_calls
+    → IsLegal config (history_of config calls)
 history_legal config calls few = record {
   few = rw (entries-length config (opening_state config) calls) few;
-  replies = history-replies config (opening_state config) calls ∙ ap (λ cs. (replay config cs).1) (sym (history-calls config calls));
+  replies =
+      history-replies config (opening_state config) calls
+      ∙ ap (λ cs. (replay config cs).1) (sym (history-calls config calls));
 }

@@ -1,19 +1,20 @@
 -- What an input says of which the start was read apart.
-use Rattle.std.proofs.Common.{◌≡◌, ◌≤◌, ◌<◌, ◌⊎◌, inl, inr, ◌++◌, ◌∷◌, ◌∙◌, [], ℕ, List, length, Option, None, Some, Result, Ok, Err, Bool, true, false, nat_lt, refl, ap, sym, subst, arith, rules}
+use Rattle.std.proofs.Common.{◌≡◌, ◌≤◌, ◌<◌, ◌⊎◌, inl, inr, ◌++◌, ◌∷◌, ◌∙◌, [], ℕ, List, length, Option, None, Some}
+use Rattle.std.proofs.Common.{Result, Ok, Err, Bool, true, false, nat_lt, refl, ap, sym, subst, arith, rules}
 use Rattle.std.specs.Prelude.{IfSome}
 use Rattle.csv.specs.Records.{field_at}
 use Rattle.std.specs.Io.KnownBytes.{Consumes, prepend_known}
 use Rattle.auction.specs.ConfigFault.{open_fault}
 use Rattle.auction_terms.specs.declared.Call.{Call}
 use Rattle.auction_terms.specs.declared.Entry.{Entry}
-use Rattle.auction_terms.specs.Devices.Running.{Running, opened}
+use Rattle.auction_terms.specs.Auxiliary.RunningAuction.{RunningAuction, opened_auction}
 use Rattle.auction_terms.specs.Results.{◌>>=◌}
-use Rattle.journal.specs.GivenDay.{GivenDay, given, given_of, orders_for}
+use Rattle.journal.specs.DayWithCalls.{DayWithCalls, run_input, run_input_of, orders_for}
 use Rattle.journal.specs.DayRecord.{is_day_row}
 use Rattle.journal.specs.JournalFile.{journal_of, journal_of_rows}
-use Rattle.journal.specs.declared.day.Day.{Day}
+use Rattle.journal.specs.declared.day.DayHeader.{DayHeader}
 use Rattle.journal.specs.declared.reading.TheConstants.{MAX_JOURNAL_BYTES}
-use Rattle.order_file.specs.File.{Fails, calls_of, file, within_limit}
+use Rattle.order_file.specs.File.{FailsAsWanted, calls_of, file, within_limit}
 use Rattle.order_file.specs.declared.fault.FileFault.{FileFault}
 use Rattle.order_file.specs.declared.fault.FileFault.TheVariants as faults
 use Rattle.order_file.specs.declared.reading.TheConstants.{MAX_BYTES}
@@ -23,71 +24,89 @@ use Rattle.settings.specs.declared.types.Form.{Form}
 use Rattle.callboard.specs.declared.fault.Fault.{Fault}
 use Rattle.callboard.specs.declared.fault.Fault.TheVariants as fault
 use Rattle.callboard.specs.declared.kept.Kept.{Kept}
-use Rattle.callboard.specs.declared.keeping.KeptDay.{KeptDay}
-use Rattle.callboard.specs.KeptEntries.{Follows, IsClosed, KeepsFile, KeepsSaid, SaidOf, after_calls, calls_for, form_of}
+use Rattle.callboard.specs.declared.kept_day.KeptDay.{KeptDay}
+use Rattle.callboard.specs.KeptEntries.{KeepsEntries, IsClosedDay, KeepsFile, KeepsDay, KeepsDayOfText, after_calls}
+use Rattle.callboard.specs.KeptEntries.{calls_for, form_of}
 use Rattle.callboard.specs.Printed.{history_of}
 use Rattle.callboard.proofs.BlockRunLaws.{fails-then}
 use Rattle.callboard.proofs.KeptLaws.{orders-long, refused-records, said_closed}
 
 -- ---- a file of a day
 
-orders-known : (day : Day) (wanted : Result (List Call) FileFault) (text : Option (List ℕ))
-    → IfSome text (λ bytes. file bytes day.members day.config.max_calls ≡ wanted) → IfSome text (λ bytes. calls_for day wanted ≡ orders_for day bytes)
+orders-known : (day : DayHeader) (wanted : Result (List Call) FileFault) (text : Option (List ℕ))
+    → IfSome text (λ bytes. file bytes day.members day.config.max_calls ≡ wanted)
+    → IfSome text (λ bytes. calls_for day wanted ≡ orders_for day bytes)
 unfolding orders_for
 orders-known day wanted None h = tt
 orders-known day wanted (Some bytes) h = ap (calls_for day) (sym h)
 
-pub file-said : (form : Form) (day : Day) (kept : Kept) (old new : Running) (text : Option (List ℕ)) (r : Result KeptDay Fault) → old ≡ opened day.config
+pub file-said : (form : Form) (day : DayHeader) (kept : Kept) (old new : RunningAuction) (text : Option (List ℕ))
+    (r : Result KeptDay Fault) → old ≡ opened_auction day.config
     → form_of kept ≡ form → open_fault day.config ≡ None → new.calls ≤ old.config.max_calls
-    → KeepsFile (Follows kept new) [] old new (Ok tt) (λ bytes. file bytes day.members old.config.max_calls) text
-    → ((entries : List Entry) → Follows kept new entries → IsClosed day kept new.config entries r)
-    → SaidOf form r text (orders_for day)
+    → KeepsFile (KeepsEntries kept new) [] old new (Ok tt) (λ bytes. file bytes day.members old.config.max_calls) text
+    → ((entries : List Entry) → KeepsEntries kept new entries → IsClosedDay day kept new.config entries r)
+    → KeepsDayOfText form r text (orders_for day)
 file-said form day kept old new text r fresh for opens room keeps closes =
     let (wanted, (calls, says, is, follows), known) = rw fresh at keeps in
     let few : length calls ≤ day.config.max_calls = omega (arith, rw (is, fresh) at room) in
-    let closed : IsClosed day kept day.config (history_of day.config calls) r = rw is at (closes (history_of day.config calls) follows) in
-    (calls_for day wanted, rw says (said_closed form day calls kept r for opens few closed), orders-known day wanted text known)
+    let closed : IsClosedDay day kept day.config (history_of day.config calls) r =
+    rw is at (closes (history_of day.config calls) follows) in (
+      calls_for day wanted,
+      rw says (said_closed form day calls kept r for opens few closed),
+      orders-known day wanted text known,
+    )
 
-pub file-said-fault : (form : Form) (day : Day) (kept : Kept) (old new : Running) (text : Option (List ℕ)) (f : FileFault) → old ≡ opened day.config
-    → KeepsFile (Follows kept new) [] old new (Err f) (λ bytes. file bytes day.members old.config.max_calls) text
-    → SaidOf form (Err (fault.File f)) text (orders_for day)
+pub file-said-fault : (form : Form) (day : DayHeader) (kept : Kept) (old new : RunningAuction) (text : Option (List ℕ))
+    (f : FileFault) → old ≡ opened_auction day.config
+    → KeepsFile (KeepsEntries kept new) [] old new (Err f) (λ bytes. file bytes day.members old.config.max_calls) text
+    → KeepsDayOfText form (Err (fault.File f)) text (orders_for day)
 file-said-fault form day kept old new text f fresh keeps =
     let (wanted, fails, known) = rw fresh at keeps in
     (calls_for day wanted, refused-records form day f wanted fails, orders-known day wanted text known)
 
 -- the file was read whole
-pub file-read : (form : Form) (day : Day) (text : Option (List ℕ)) (bytes : List ℕ) (r : Result KeptDay Fault) → IfSome text (λ t. within_limit MAX_BYTES t ≡ Ok bytes)
-    → KeepsSaid form (calls_for day (calls_of day.members day.config.max_calls bytes)) r → SaidOf form r text (orders_for day)
+pub file-read : (form : Form) (day : DayHeader) (text : Option (List ℕ)) (bytes : List ℕ) (r : Result KeptDay Fault)
+    → IfSome text (λ t. within_limit MAX_BYTES t ≡ Ok bytes)
+    → KeepsDay form (calls_for day (calls_of day.members day.config.max_calls bytes)) r
+    → KeepsDayOfText form r text (orders_for day)
 unfolding orders_for file
 file-read form day None bytes r read keeps = (_, keeps, tt)
 file-read form day (Some t) bytes r read keeps = (_, keeps, rw read refl)
 
 -- it couldn't be read
-pub file-unread : (form : Form) (day : Day) (text : Option (List ℕ)) (f : FileFault) → IfSome text (λ t. Fails f (within_limit MAX_BYTES t))
-    → SaidOf form (Err (fault.File f)) text (orders_for day)
+pub file-unread : (form : Form) (day : DayHeader) (text : Option (List ℕ)) (f : FileFault)
+    → IfSome text (λ t. FailsAsWanted f (within_limit MAX_BYTES t))
+    → KeepsDayOfText form (Err (fault.File f)) text (orders_for day)
 unfolding orders_for file
 file-unread form day None f h = (Err f, fails-at f (Err f) refl, tt)
-file-unread form day (Some t) f h =
-    (orders_for day t, fails-then f _ (λ calls. Ok (record { day = day; calls = calls })) (fails-then f (within_limit MAX_BYTES t) (calls_of day.members day.config.max_calls) h), refl)
+file-unread form day (Some t) f h = (
+  orders_for day t,
+  fails-then f _ (λ calls. Ok (record { day = day; calls = calls }))
+      (fails-then f (within_limit MAX_BYTES t) (calls_of day.members day.config.max_calls) h),
+  refl,
+)
 
 -- memory was refused
-pub said-memory : (form : Form) (text : Option (List ℕ)) (says : List ℕ → Result GivenDay FileFault) → SaidOf form (Err (fault.File faults.NoMemory)) text says
+pub said-memory : (form : Form) (text : Option (List ℕ)) (says : List ℕ → Result DayWithCalls FileFault)
+    → KeepsDayOfText form (Err (fault.File faults.NoMemory)) text says
 said-memory form None says = (Err faults.NoMemory, tt, tt)
 said-memory form (Some bytes) says = (says bytes, tt, refl)
 
 -- ---- the start of an input
 
-pub start-said : (form : Form) (start : List ℕ) (a b : Option (List ℕ)) (r : Result KeptDay Fault) (says : List ℕ → Result GivenDay FileFault) → Consumes a b start
-    → SaidOf form r (prepend_known start b) says → SaidOf form r a says
+pub start-said : (form : Form) (start : List ℕ) (a b : Option (List ℕ)) (r : Result KeptDay Fault) (says : List ℕ
+    → Result DayWithCalls FileFault) → Consumes a b start
+    → KeepsDayOfText form r (prepend_known start b) says → KeepsDayOfText form r a says
 start-said form start None b r says read (said, keeps, known) = (said, keeps, tt)
 start-said form start (Some xs) None r says read h = absurd read
 start-said form start (Some xs) (Some ys) r says read (said, keeps, known) = (said, keeps, known ∙ ap says (sym read))
 
-pub start-unread : (form : Form) (text : Option (List ℕ)) (f : FileFault) (says : List ℕ → Result GivenDay FileFault)
-    → (f ≡ faults.ReadFailed) ⊎ (f ≡ faults.NoMemory) → SaidOf form (Err (fault.File f)) text says
+pub start-unread : (form : Form) (text : Option (List ℕ)) (f : FileFault) (says : List ℕ
+    → Result DayWithCalls FileFault)
+    → (f ≡ faults.ReadFailed) ⊎ (f ≡ faults.NoMemory) → KeepsDayOfText form (Err (fault.File f)) text says
 start-unread form text f says (inl is) = rw is (by text)
   where
-    by : (text : Option (List ℕ)) → SaidOf form (Err (fault.File faults.ReadFailed)) text says
+    by : (text : Option (List ℕ)) → KeepsDayOfText form (Err (fault.File faults.ReadFailed)) text says
     by None = (Err faults.ReadFailed, tt, tt)
     by (Some bytes) = (says bytes, tt, refl)
 start-unread form text f says (inr is) = rw is (said-memory form text says)
@@ -104,23 +123,26 @@ digit-journal d rest low high =
     let (row, rows, is, begins) = digit-first d rest low high in
     rw (is, digit-no-day d row high begins) refl
 
-digit-given : (day : Day) (d : ℕ) (rest : List ℕ) → 48 ≤ d → d ≤ 57 → orders_for day (d ∷ rest) ≡ given day (d ∷ rest)
-unfolding given given_of within_limit
-digit-given day d rest low high = by (nat_lt MAX_JOURNAL_BYTES (length (d ∷ rest))) refl
+digit-run_input : (day : DayHeader) (d : ℕ) (rest : List ℕ) → 48 ≤ d → d ≤ 57
+    → orders_for day (d ∷ rest) ≡ run_input day (d ∷ rest)
+unfolding run_input run_input_of within_limit
+digit-run_input day d rest low high = by (nat_lt MAX_JOURNAL_BYTES (length (d ∷ rest))) refl
   where
-    by : (b : Bool) → nat_lt MAX_JOURNAL_BYTES (length (d ∷ rest)) ≡ b → orders_for day (d ∷ rest) ≡ (within_limit MAX_JOURNAL_BYTES (d ∷ rest) >>= given_of day)
+    by : (b : Bool) → nat_lt MAX_JOURNAL_BYTES (length (d ∷ rest)) ≡ b
+        → orders_for day (d ∷ rest) ≡ (within_limit MAX_JOURNAL_BYTES (d ∷ rest) >>= run_input_of day)
     by true e =
         let long : MAX_JOURNAL_BYTES < length (d ∷ rest) = search rules in
         rw e (orders-long day (d ∷ rest) (omega (arith, long)))
     by false e = rw (e, digit-journal d rest low high) refl
 
-pub digit-said : (form : Form) (day : Day) (start : List ℕ) (b : Option (List ℕ)) (r : Result KeptDay Fault)
+pub digit-said : (form : Form) (day : DayHeader) (start : List ℕ) (b : Option (List ℕ)) (r : Result KeptDay Fault)
     → ((digit : ℕ) × (rest : List ℕ) × (start ≡ digit ∷ rest) × (48 ≤ digit) × (digit ≤ 57))
-    → SaidOf form r (prepend_known start b) (orders_for day) → SaidOf form r (prepend_known start b) (given day)
+    → KeepsDayOfText form r (prepend_known start b) (orders_for day)
+    → KeepsDayOfText form r (prepend_known start b) (run_input day)
 digit-said form day start None r digit (said, keeps, known) = (said, keeps, tt)
 digit-said form day start (Some left) r (d, rest, is, low, high) (said, keeps, known) = (
   said,
   keeps,
-  known ∙ ap (λ (front : List ℕ). orders_for day (front ++ left)) is ∙ digit-given day d (rest ++ left) low high
-      ∙ ap (λ (front : List ℕ). given day (front ++ left)) (sym is),
+  known ∙ ap (λ (front : List ℕ). orders_for day (front ++ left)) is ∙ digit-run_input day d (rest ++ left) low high
+      ∙ ap (λ (front : List ℕ). run_input day (front ++ left)) (sym is),
 )

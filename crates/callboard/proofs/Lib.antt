@@ -4,7 +4,7 @@ pub mod SplitLaws
 pub mod PlayedDayLaws
 pub mod EntriesLaws
 pub mod OwedLaws
-pub mod PassedOnLaws
+pub mod PrintedJournalLaws
 pub mod KeptLaws
 pub mod LiveLaws
 pub mod BlockRunLaws

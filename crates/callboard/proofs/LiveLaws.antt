@@ -1,18 +1,20 @@
 -- A live session on the program's ends.
-use Rattle.std.proofs.Common.{◌≡◌, ◌<◌, ℕ, List, [], ◌++◌, Option, Some, None, Ok, Err, IfSome, refl, ap, ap₂, sym, subst, arith, ◌∙◌}
+use Rattle.std.proofs.Common.{◌≡◌, ◌<◌, ℕ, List, [], ◌++◌, Option, Some, None, Ok, Err, IfSome, refl, ap, ap₂, sym}
+use Rattle.std.proofs.Common.{subst, arith, ◌∙◌}
 use Rattle.std.specs.Io.KnownBytes.{Consumes}
 use Rattle.auction_terms.specs.declared.Config.{Config}
-use Rattle.journal.specs.declared.day.Day.{Day}
+use Rattle.journal.specs.declared.day.DayHeader.{DayHeader}
 use Rattle.live_session.specs.Talk as talk
 use Rattle.live_session.specs.declared.conversation.Conversation.{Ghosts}
 use Rattle.live_session.specs.declared.fault.LiveFault.TheVariants as fault
 use Rattle.byte_streams.specs.declared.sink.Sink as sink
 use Rattle.byte_streams.specs.declared.source.Source as source
 use Rattle.callboard.specs.FileRun.{Ends, ends_of}
-use Rattle.callboard.specs.LiveRun.{Ended, RunsLive}
+use Rattle.callboard.specs.LiveRun.{SessionResult, RunsLive}
 
 -- the device stays the one that it was
-pub became : {C : Type 0} (c : Ghosts C) (config : Config) (members : ℕ) (old new : C) (ended : Ended) → c.Becomes old old
+pub became : {C : Type 0} (c : Ghosts C) (config : Config) (members : ℕ) (old new : C) (ended : SessionResult)
+    → c.Becomes old old
     → talk.Ends c config members old new ended → c.Becomes old new
 became c config members old new (Ok ending) self h = h.0.device.same
 became c config members old new (Err (fault.Open f)) self h = subst (λ x. c.Becomes old x) (sym h.0) self
@@ -31,7 +33,8 @@ ends_between c old new = record {
   WriteFailed = c.write_failures old < c.write_failures new;
 }
 
-begins : (a b : Option (List ℕ)) (heard : List ℕ) → Consumes a b heard → IfSome a (λ input. (rest : List ℕ) × (input ≡ heard ++ rest))
+begins : (a b : Option (List ℕ)) (heard : List ℕ) → Consumes a b heard
+    → IfSome a (λ input. (rest : List ℕ) × (input ≡ heard ++ rest))
 begins None b heard h = tt
 begins (Some xs) None heard h = absurd h
 begins (Some xs) (Some ys) heard h = (ys, h)
@@ -43,7 +46,8 @@ begins-none (Some xs) = (xs, refl)
 same-count : {n m : ℕ} → m ≡ n → n < m → ⊥
 same-count e h = omega (arith, e, h)
 
-pub ran-live : {C : Type 0} (c : Ghosts C) (day : Day) (old new : C) (ended : Ended) → talk.Ends c day.config day.members old new ended
+pub ran-live : {C : Type 0} (c : Ghosts C) (day : DayHeader) (old new : C) (ended : SessionResult)
+    → talk.Ends c day.config day.members old new ended
     → RunsLive day (ends_between c old new) ended
 ran-live c day old new (Ok ending) h =
     let d = h.0 in
@@ -95,10 +99,13 @@ ran-live c day old new (Err fault.NoMemory) h =
     }
 
 -- by the reader and the writer that a session was given, and what they are at last
-pub ran-by : {C R O : Type 0} (c : Ghosts C) (day : Day) (old new : C) (ended : Ended) (ran : talk.Ends c day.config day.members old new ended)
+pub ran-by : {C R O : Type 0} (c : Ghosts C) (day : DayHeader) (old new : C) (ended : SessionResult)
+    (ran : talk.Ends c day.config day.members old new ended)
     (reads : source.Ghosts R) (writes : sink.Ghosts O) (reader last_reader read : R) (out last_out written : O)
     → ends_between c old new ≡ ends_of reads writes reader read out written → last_reader ≡ read → last_out ≡ written
     → RunsLive day (ends_of reads writes reader last_reader out last_out) ended
-ran-by {R = R} {O = O} c day old new ended ran reads writes reader last_reader read out last_out written same is_read is_written =
+ran-by {R = R} {O =
+    O} c day old new ended ran reads writes reader last_reader read out last_out written same is_read is_written =
     subst (λ (ends : Ends). RunsLive day ends ended)
-    (same ∙ sym (ap₂ (λ (r : R) (w : O). ends_of reads writes reader r out w) is_read is_written)) (ran-live c day old new ended ran)
+    (same ∙ sym (ap₂ (λ (r : R) (w : O). ends_of reads writes reader r out w) is_read is_written))
+    (ran-live c day old new ended ran)

@@ -1,5 +1,6 @@
 -- The lines of replies, one by one.
-use Rattle.std.proofs.Common.{◌≡◌, ◌<◌, ◌≤◌, ◌+◌, ℕ, List, ◌∷◌, ◌++◌, length, drop, add-one, drop-cons, get_or, append_assoc, ◌∙◌, sym}
+use Rattle.std.proofs.Common.{◌≡◌, ◌<◌, ◌≤◌, ◌+◌, ℕ, List, ◌∷◌, ◌++◌, length, drop, add-one, drop-cons, get_or}
+use Rattle.std.proofs.Common.{append_assoc, ◌∙◌, sym}
 use Rattle.std.proofs.lemmas.List.{append-nil, drop_all}
 use Rattle.auction_terms.specs.declared.Reply.{Reply}
 use Rattle.printed_lines.specs.ReplyLines.{line, lines_after}
@@ -10,7 +11,8 @@ pub reply-next : (replies : List Reply) (front all : List ℕ) (place : ℕ) (d 
     → front ++ (line (place + 1) (get_or replies place d) ++ lines_after (place + 1) (drop (place + 1) replies)) ≡ all
 unfolding lines_after
 reply-next replies front all place d e h =
-    let next : drop place replies ≡ get_or replies place d ∷ drop (place + 1) replies = rw (add-one place) (drop-cons replies place d h) in
+    let next : drop place replies ≡ get_or replies place d ∷ drop (place + 1) replies =
+    rw (add-one place) (drop-cons replies place d h) in
     rw next at e
 
 -- its line was printed

@@ -1,5 +1,5 @@
 -- What a run of commands on a board writes.
-use Rattle.std.specs.Prelude.{◌≡◌, ℕ, ◌++◌, ◌==◌, List, [], All, filter, length, map, Bool, if◌then◌else◌}
+use Rattle.std.specs.Prelude.{◌≡◌, ℕ, ◌++◌, ◌==◌, List, [], All, filter, length, map, Bool, true, false, if◌then◌else◌}
 use Rattle.std.specs.Prelude.{Option, None, MatchOption}
 use Rattle.std.specs.List.{range_with_len}
 use Rattle.auction_terms.specs.declared.Call.{Call}
@@ -8,18 +8,18 @@ use Rattle.auction_terms.specs.declared.Config.{Config}
 use Rattle.auction_terms.specs.declared.Entry.{Entry}
 use Rattle.auction_terms.specs.Day.{IsLegal, calls_of}
 use Rattle.auction.specs.Audits.{IsFirstBad}
-use Rattle.call_board.specs.FreshBoard.{board_fault}
-use Rattle.call_board.specs.declared.closing.Closing.{Closing}
+use Rattle.board_terms.specs.BoardOpening.{board_fault}
+use Rattle.board_terms.specs.declared.closing.Closing.{Closing}
 use Rattle.member_floor.specs.declared.script.Script.{Script}
-use Rattle.journal.specs.GivenDay.{GivenDay, given}
-use Rattle.journal.specs.declared.day.Day.{Day}
-use Rattle.printed_lines.specs.Tally.{story, tally}
-use Rattle.settings.specs.declared.types.Form.{Form}
-use Rattle.settings.specs.declared.types.Form.TheVariants as forms
+use Rattle.journal.specs.DayWithCalls.{DayWithCalls, run_input}
+use Rattle.journal.specs.declared.day.DayHeader.{DayHeader}
+use Rattle.printed_lines.specs.Tally.{history_lines, tally}
+use Rattle.settings.specs.declared.types.FloorForm.{FloorForm}
+use Rattle.settings.specs.declared.types.FloorForm.TheVariants as floor
 use Rattle.callboard.specs.declared.fault.Finish.TheVariants.{Lawful}
-use Rattle.callboard.specs.FileRun.{Ends, Job, Runs}
-use Rattle.callboard.specs.Printed.{IsWideForm, listed}
-use Rattle.callboard.specs.Status.{Ran}
+use Rattle.callboard.specs.FileRun.{Ends, Job, IsRunOf}
+use Rattle.callboard.specs.Printed.{IsWideListing, listing_text}
+use Rattle.callboard.specs.Status.{RunResult}
 
 -- the commands of one member among these calls, in their order
 abbrev pub commands_of : ℕ → List Call → List Command
@@ -46,46 +46,56 @@ pub record IsDayOf (config : Config) (members : ℕ) (calls : List Call) (closin
   pub counts : closing.calls.items ≡ counts_of members calls
 
 -- the history, where it is wanted
-abbrev pub story_if : Bool → List Entry → List ℕ
-story_if wanted entries = if wanted then story entries else []
+abbrev pub history_lines_if : Bool → List Entry → List ℕ
+history_lines_if wanted entries = if wanted then history_lines entries else []
 
 -- what the audit found in a history: the place of the first entry that breaks the rules, if there is one
-abbrev pub Finds : Config → List Entry → Option ℕ → Type 0
-Finds config entries place = MatchOption place (IsLegal config entries) (IsFirstBad config entries)
+abbrev pub IsAuditFinding : Config → List Entry → Option ℕ → Type 0
+IsAuditFinding config entries place = MatchOption place (IsLegal config entries) (IsFirstBad config entries)
 
 -- how many entries there are, how many calls of each member, and what the audit found; and the history, where it is
 -- wanted
 abbrev pub closing_text : Closing → Option ℕ → Bool → List ℕ
 closing_text closing first_bad history =
-    tally (length closing.history.items) closing.calls.items first_bad ++ story_if history closing.history.items
+    tally (length closing.history.items) closing.calls.items first_bad ++ history_lines_if history closing.history.items
 
 -- of a closed day of a legal history, or a listing of it in place of that
-abbrev pub closed_text : Form → Day → Bool → Closing → List ℕ
-closed_text forms.Lines day history closing = closing_text closing None history
-closed_text (forms.Listing listing) day history closing = listed listing day closing.history.items
+abbrev pub closed_text : FloorForm → DayHeader → Closing → List ℕ
+closed_text floor.Tally day closing = closing_text closing None false
+closed_text floor.History day closing = closing_text closing None true
+closed_text (floor.Listing listing) day closing = listing_text listing day closing.history.items
 
--- How many calls there are, how many of each member, and that the history is legal, and the history, where it is
--- wanted; or in place of all that a listing of the day.
-abbrev pub floor_text : Form → Bool → GivenDay → List Entry → List ℕ
-floor_text forms.Lines history given entries =
-    tally (length given.calls) (counts_of given.day.members given.calls) None ++ story_if history entries
-floor_text (forms.Listing listing) history given entries = listed listing given.day entries
+-- how many calls there are, how many of each member, and that the history is legal
+abbrev pub day_tally : DayWithCalls → List ℕ
+day_tally run_input = tally (length run_input.calls) (counts_of run_input.day.members run_input.calls) None
+
+-- the tally of a day of a legal history, which the history may follow; or in place of all that a listing of the day
+abbrev pub floor_text : FloorForm → DayWithCalls → List Entry → List ℕ
+floor_text floor.Tally run_input entries = day_tally run_input
+floor_text floor.History run_input entries = day_tally run_input ++ history_lines entries
+floor_text (floor.Listing listing) run_input entries = listing_text listing run_input.day entries
+
+-- in a journal each number of a reply is below 2 ^ 64
+abbrev pub IsWideFloor : FloorForm → List Entry → Type 0
+IsWideFloor floor.Tally entries = Unit {0}
+IsWideFloor floor.History entries = Unit {0}
+IsWideFloor (floor.Listing listing) entries = IsWideListing listing entries
 
 -- the text of these calls and of a legal history of them
-abbrev pub IsFloorText : Form → Bool → GivenDay → List ℕ → Type 0
-IsFloorText form history given text =
-    (entries : List Entry) × IsHistoryOf given.day.config given.calls entries
-    × (text ≡ floor_text form history given entries) × IsWideForm form entries
+abbrev pub IsFloorText : FloorForm → DayWithCalls → List ℕ → Type 0
+IsFloorText form run_input text =
+    (entries : List Entry) × IsHistoryOf run_input.day.config run_input.calls entries
+    × (text ≡ floor_text form run_input entries) × IsWideFloor form entries
 
 -- the commands of an input, called on a board by its members at once; it is of this day where it says no other
-abbrev pub board_job : Day → Bool → Form → Job
-board_job day history form = record {
-  Given = GivenDay;
-  says = given day;
-  opening = λ given. board_fault given.day.config given.day.members;
-  Text = λ given finish text. (finish ≡ Lawful) × IsFloorText form history given text;
+abbrev pub board_job : DayHeader → FloorForm → Job
+board_job day form = record {
+  Given = DayWithCalls;
+  says = run_input day;
+  opening = λ run_input. board_fault run_input.day.config run_input.day.members;
+  Text = λ run_input finish text. (finish ≡ Lawful) × IsFloorText form run_input text;
   Faults = λ f. Unit {0};
 }
 
-abbrev pub RunsOnBoard : Day → Bool → Form → Ends → Ran → Type 0
-RunsOnBoard day history form = Runs (board_job day history form)
+abbrev pub RunsOnBoard : DayHeader → FloorForm → Ends → RunResult → Type 0
+RunsOnBoard day form = IsRunOf (board_job day form)

@@ -2,7 +2,7 @@
 use Rattle.std.specs.Prelude.{◌≡◌, ◌<◌, ◌↔◌, ℕ, List, Option, None, unwrap_or, Result, Ok, Err, IfErr, IfSome, IsErrOf}
 use Rattle.std.specs.Io.KnownBytes.{Appends}
 use Rattle.byte_streams.specs.Streams.{AppendsBeginning}
-use Rattle.order_file.specs.File.{Fails}
+use Rattle.order_file.specs.File.{FailsAsWanted}
 use Rattle.order_file.specs.declared.fault.FileFault.{FileFault}
 use Rattle.order_file.specs.declared.fault.FileFault.TheVariants.{ReadFailed}
 use Rattle.byte_streams.specs.declared.source.Source as source
@@ -12,7 +12,7 @@ use Rattle.auction.specs.declared.OpenFault.TheVariants.{NoMemory}
 use Rattle.callboard.specs.declared.fault.Fault.{Fault}
 use Rattle.callboard.specs.declared.fault.Fault.TheVariants as fault
 use Rattle.callboard.specs.declared.fault.Finish.{Finish}
-use Rattle.callboard.specs.Status.{Ran}
+use Rattle.callboard.specs.Status.{RunResult}
 
 -- What a run had and gave: what there was to read, what had been written before and after it, and whether a read or a
 -- write failed.
@@ -43,35 +43,36 @@ pub record Job : Type 1 where
   pub Faults : Fault → Type 0
 
 -- It was opened where there is no reason against it, and was refused for the first, or for want of memory.
-abbrev pub Opens : {X : Type 0} → Option OpenFault → Result X Fault → Type 0
-Opens reason (Err (fault.File f)) = Unit {0}
-Opens reason (Err (fault.Open f)) = f ≡ unwrap_or reason NoMemory
-Opens reason r = reason ≡ None
+abbrev pub OpensUnless : {X : Type 0} → Option OpenFault → Result X Fault → Type 0
+OpensUnless reason (Err (fault.File f)) = Unit {0}
+OpensUnless reason (Err (fault.Open f)) = f ≡ unwrap_or reason NoMemory
+OpensUnless reason r = reason ≡ None
 
 -- What was written of what was given: a text of it, at a failing write a beginning of one.
-abbrev pub WroteOf : (job : Job) → Ends → job.Given → Ran → Type 0
-WroteOf job ends given (Ok finish) = (text : List ℕ) × job.Text given finish text × Appends ends.old ends.new text
-WroteOf job ends given (Err fault.WriteFailed) =
-    (finish : Finish) × (text : List ℕ) × job.Text given finish text × AppendsBeginning ends.old ends.new text
-WroteOf job ends given (Err f) = Unit {0}
+abbrev pub WritesOfInput : (job : Job) → Ends → job.Given → RunResult → Type 0
+WritesOfInput job ends run_input (Ok finish) =
+    (text : List ℕ) × job.Text run_input finish text × Appends ends.old ends.new text
+WritesOfInput job ends run_input (Err fault.WriteFailed) =
+    (finish : Finish) × (text : List ℕ) × job.Text run_input finish text × AppendsBeginning ends.old ends.new text
+WritesOfInput job ends run_input (Err f) = Unit {0}
 
 -- By what the input says: a fault of it comes first, and want of memory aside it is the first that the input has; else
 -- what was given was opened, and written of.
-abbrev pub Wrote : (job : Job) → Ends → Result job.Given FileFault → Ran → Type 0
-Wrote job ends said (Err (fault.File f)) = Fails f said
-Wrote job ends (Ok given) r = Opens (job.opening given) r × WroteOf job ends given r
-Wrote job ends (Err f) r = ⊥
+abbrev pub WritesByInput : (job : Job) → Ends → Result job.Given FileFault → RunResult → Type 0
+WritesByInput job ends said (Err (fault.File f)) = FailsAsWanted f said
+WritesByInput job ends (Ok run_input) r = OpensUnless (job.opening run_input) r × WritesOfInput job ends run_input r
+WritesByInput job ends (Err f) r = ⊥
 
 -- nothing was written but by a run that failed to write
-abbrev pub KeepsOut : Ends → Fault → Type 0
-KeepsOut ends fault.WriteFailed = Unit {0}
-KeepsOut ends f = ends.new ≡ ends.old
+abbrev pub KeepsOutput : Ends → Fault → Type 0
+KeepsOutput ends fault.WriteFailed = Unit {0}
+KeepsOutput ends f = ends.new ≡ ends.old
 
-pub record Runs (job : Job) (ends : Ends) (run : Ran) : Type 0 where
+pub record IsRunOf (job : Job) (ends : Ends) (run : RunResult) : Type 0 where
   pub read_failed : IsErrOf run (fault.File ReadFailed) ↔ ends.ReadFailed
   pub write_failed : IsErrOf run fault.WriteFailed ↔ ends.WriteFailed
-  pub wrote : IfSome ends.left (λ bytes. Wrote job ends (job.says bytes) run)
-  pub kept : IfErr run (KeepsOut ends)
+  pub wrote : IfSome ends.left (λ bytes. WritesByInput job ends (job.says bytes) run)
+  pub kept : IfErr run (KeepsOutput ends)
   pub fault : IfErr run job.Faults
 
 -- What was written once a job was opened: this text, at a failing write a beginning of it, and nothing at another

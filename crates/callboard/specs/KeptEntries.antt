@@ -5,16 +5,16 @@ use Rattle.auction_terms.specs.declared.Call.{Call}
 use Rattle.auction_terms.specs.declared.Config.{Config}
 use Rattle.auction_terms.specs.declared.Entry.{Entry}
 use Rattle.auction_terms.specs.Day.{state_after}
-use Rattle.auction_terms.specs.Devices.Running.{Running}
+use Rattle.auction_terms.specs.Auxiliary.RunningAuction.{RunningAuction}
 use Rattle.auction.specs.ConfigFault.{open_fault}
 use Rattle.auction.specs.declared.OpenFault.TheVariants.{NoMemory}
 use Rattle.auction_terms.specs.Results.{◌>>=◌}
-use Rattle.day_tables.specs.KeptBook.{FollowsBook, HoldsBook}
+use Rattle.day_tables.specs.KeptBook.{HasTablesSoFar, HasAllTables}
 use Rattle.printed_lines.specs.KeptText.{text_of}
-use Rattle.journal.specs.GivenDay.{GivenDay}
-use Rattle.journal.specs.KeptLines.{HoldsLines}
-use Rattle.journal.specs.declared.day.Day.{Day}
-use Rattle.order_file.specs.File.{Fails}
+use Rattle.journal.specs.DayWithCalls.{DayWithCalls}
+use Rattle.journal.specs.KeptLines.{HasEntryLines}
+use Rattle.journal.specs.declared.day.DayHeader.{DayHeader}
+use Rattle.order_file.specs.File.{FailsAsWanted}
 use Rattle.order_file.specs.declared.fault.FileFault.{FileFault}
 use Rattle.order_file.specs.declared.fault.FileFault.TheVariants as file_fault
 use Rattle.settings.specs.declared.types.Form.{Form}
@@ -24,7 +24,7 @@ use Rattle.callboard.specs.declared.fault.Fault.{Fault}
 use Rattle.callboard.specs.declared.fault.Fault.TheVariants as fault
 use Rattle.callboard.specs.declared.kept.Kept.{Kept}
 use Rattle.callboard.specs.declared.kept.Kept.TheVariants.{Lines, Journal, Trades, Book}
-use Rattle.callboard.specs.declared.keeping.KeptDay.{KeptDay}
+use Rattle.callboard.specs.declared.kept_day.KeptDay.{KeptDay}
 use Rattle.callboard.specs.Printed.{entries_from, history_of, reply_of}
 
 -- the form that it is kept for
@@ -36,21 +36,21 @@ form_of (Book book) = forms.Listing listing.Book
 
 -- What is kept is of these entries, after which the auction stands: their replies, their lines in the journal, all of
 -- them, or the tables before the uncrosses among them.
-abbrev pub Follows : Kept → Running → List Entry → Type 0
-Follows (Lines replies) auction entries = replies ≡ map reply_of entries
-Follows (Journal lines) auction entries = HoldsLines (text_of lines) entries
-Follows (Trades kept) auction entries = kept.items ≡ entries
-Follows (Book book) auction entries = FollowsBook book auction entries
+abbrev pub KeepsEntries : Kept → RunningAuction → List Entry → Type 0
+KeepsEntries (Lines replies) auction entries = replies ≡ map reply_of entries
+KeepsEntries (Journal lines) auction entries = HasEntryLines (text_of lines) entries
+KeepsEntries (Trades kept) auction entries = kept.items ≡ entries
+KeepsEntries (Book book) auction entries = HasTablesSoFar book auction entries
 
 -- the same of all entries of a day, and the tables are all
-abbrev pub Holds : Kept → Config → List Entry → Type 0
-Holds (Lines replies) config entries = replies ≡ map reply_of entries
-Holds (Journal lines) config entries = HoldsLines (text_of lines) entries
-Holds (Trades kept) config entries = kept.items ≡ entries
-Holds (Book book) config entries = HoldsBook book config entries
+abbrev pub KeepsWholeDay : Kept → Config → List Entry → Type 0
+KeepsWholeDay (Lines replies) config entries = replies ≡ map reply_of entries
+KeepsWholeDay (Journal lines) config entries = HasEntryLines (text_of lines) entries
+KeepsWholeDay (Trades kept) config entries = kept.items ≡ entries
+KeepsWholeDay (Book book) config entries = HasAllTables book config entries
 
 -- an auction after these calls
-abbrev pub after_calls : Running → List Call → Running
+abbrev pub after_calls : RunningAuction → List Call → RunningAuction
 after_calls auction calls = record {
   config = auction.config;
   state = state_after auction.config auction.state calls;
@@ -59,46 +59,47 @@ after_calls auction calls = record {
 
 -- The calls that were wanted came to the auction, and their entries are kept behind those before them; or there was
 -- the fault that was wanted.
-abbrev pub KeepsCalls : (List Entry → Type 0) → List Entry → Running → Running
+abbrev pub KeepsCalls : (List Entry → Type 0) → List Entry → RunningAuction → RunningAuction
     → Result (Unit {0}) FileFault → Result (List Call) FileFault → Type 0
 KeepsCalls AreKept before old new (Ok u) wanted =
     (calls : List Call) × (wanted ≡ Ok calls) × (new ≡ after_calls old calls)
     × AreKept (before ++ entries_from old.config old.state calls)
-KeepsCalls AreKept before old new (Err f) wanted = Fails f wanted
+KeepsCalls AreKept before old new (Err f) wanted = FailsAsWanted f wanted
 
 -- The same of a file, where its text is known.
-abbrev pub KeepsFile : (List Entry → Type 0) → List Entry → Running → Running
+abbrev pub KeepsFile : (List Entry → Type 0) → List Entry → RunningAuction → RunningAuction
     → Result (Unit {0}) FileFault → (List ℕ → Result (List Call) FileFault) → Option (List ℕ) → Type 0
 KeepsFile AreKept before old new result says text =
     (wanted : Result (List Call) FileFault) × KeepsCalls AreKept before old new result wanted
     × IfSome text (λ bytes. says bytes ≡ wanted)
 
 -- a day's calls, as what was given to it
-abbrev pub calls_for : Day → Result (List Call) FileFault → Result GivenDay FileFault
+abbrev pub calls_for : DayHeader → Result (List Call) FileFault → Result DayWithCalls FileFault
 calls_for day r = r >>= λ calls. Ok (record { day = day; calls = calls })
 
 -- The day of these calls could be opened, takes as many, and is kept for this form.
 abbrev pub IsKeptDay : Form → KeptDay → List Call → Type 0
 IsKeptDay form kept calls =
     (form_of kept.kept ≡ form) × (open_fault kept.day.config ≡ None) × (length calls ≤ kept.day.config.max_calls)
-    × Holds kept.kept kept.day.config (history_of kept.day.config calls)
+    × KeepsWholeDay kept.kept kept.day.config (history_of kept.day.config calls)
 
 -- What was said is kept, or is at fault, or couldn't be opened.
-abbrev pub KeepsSaid : Form → Result GivenDay FileFault → Result KeptDay Fault → Type 0
-KeepsSaid form said (Ok kept) =
+abbrev pub KeepsDay : Form → Result DayWithCalls FileFault → Result KeptDay Fault → Type 0
+KeepsDay form said (Ok kept) =
     (calls : List Call) × (said ≡ Ok (record { day = kept.day; calls = calls })) × IsKeptDay form kept calls
-KeepsSaid form said (Err (fault.File f)) = Fails f said
-KeepsSaid form said (Err (fault.Open f)) =
-    (given : GivenDay) × (said ≡ Ok given) × (f ≡ unwrap_or (open_fault given.day.config) NoMemory)
-KeepsSaid form said (Err f) = ⊥
+KeepsDay form said (Err (fault.File f)) = FailsAsWanted f said
+KeepsDay form said (Err (fault.Open f)) =
+    (run_input : DayWithCalls) × (said ≡ Ok run_input) × (f ≡ unwrap_or (open_fault run_input.day.config) NoMemory)
+KeepsDay form said (Err f) = ⊥
 
 -- What was said is kept, or is at fault, or couldn't be opened; where the text is known, it is what that says.
-abbrev pub SaidOf : Form → Result KeptDay Fault → Option (List ℕ) → (List ℕ → Result GivenDay FileFault) → Type 0
-SaidOf form result text says =
-    (said : Result GivenDay FileFault) × KeepsSaid form said result × IfSome text (λ bytes. said ≡ says bytes)
+abbrev pub KeepsDayOfText : Form → Result KeptDay Fault → Option (List ℕ) → (List ℕ → Result DayWithCalls FileFault)
+    → Type 0
+KeepsDayOfText form result text says =
+    (said : Result DayWithCalls FileFault) × KeepsDay form said result × IfSome text (λ bytes. said ≡ says bytes)
 
 -- Of a day whose calls have all come what is kept is of these entries, or memory was refused.
-abbrev pub IsClosed : Day → Kept → Config → List Entry → Result KeptDay Fault → Type 0
-IsClosed day old config entries (Ok closed) =
-    (closed.day ≡ day) × (form_of closed.kept ≡ form_of old) × Holds closed.kept config entries
-IsClosed day old config entries (Err f) = f ≡ fault.File file_fault.NoMemory
+abbrev pub IsClosedDay : DayHeader → Kept → Config → List Entry → Result KeptDay Fault → Type 0
+IsClosedDay day old config entries (Ok closed) =
+    (closed.day ≡ day) × (form_of closed.kept ≡ form_of old) × KeepsWholeDay closed.kept config entries
+IsClosedDay day old config entries (Err f) = f ≡ fault.File file_fault.NoMemory

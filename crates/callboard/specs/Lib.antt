@@ -1,4 +1,5 @@
 pub mod Status
+pub mod FaultLine
 pub mod FileRun
 pub mod KeptEntries
 pub mod Printed
@@ -8,4 +9,4 @@ pub mod BoardRun
 pub mod PlayedDay
 pub mod LiveRun
 pub mod Served
-pub mod PassedOn
+pub mod PrintedJournals

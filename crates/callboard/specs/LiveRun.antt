@@ -5,7 +5,7 @@ use Rattle.std.specs.Io.KnownBytes.{Appends}
 use Rattle.auction.specs.ConfigFault.{open_fault}
 use Rattle.auction.specs.declared.OpenFault.TheVariants.{NoMemory}
 use Rattle.byte_streams.specs.Streams.{AppendsBeginning}
-use Rattle.journal.specs.declared.day.Day.{Day}
+use Rattle.journal.specs.declared.day.DayHeader.{DayHeader}
 use Rattle.live_session.specs.Answered.{Answered, answered, ending_of}
 use Rattle.live_session.specs.Arrival.{all_records, complete, is_too_long, taken}
 use Rattle.live_session.specs.declared.fault.Ending.{Ending}
@@ -16,8 +16,8 @@ use Rattle.callboard.specs.FileRun.{Ends}
 use Rattle.callboard.specs.Status.{open_status}
 
 -- how a session ended
-abbrev pub Ended : Type 0
-Ended = Result Ending LiveFault
+abbrev pub SessionResult : Type 0
+SessionResult = Result Ending LiveFault
 
 -- 1 where a record was bad
 abbrev pub ending_status : Ending → ℕ
@@ -30,21 +30,21 @@ live_status (fault.Open f) = open_status f
 live_status (fault.RecordTooLong number) = 1
 live_status f = 3
 
-abbrev pub session_status : Ended → ℕ
+abbrev pub session_status : SessionResult → ℕ
 session_status (Ok ending) = ending_status ending
 session_status (Err f) = live_status f
 
 -- the answers to the records that are complete once these bytes have come, and to all of them at the end of the input
-abbrev pub so_far : Day → List ℕ → Answered
+abbrev pub so_far : DayHeader → List ℕ → Answered
 so_far day heard = answered day.config day.members (complete heard)
 
-abbrev pub in_all : Day → List ℕ → Answered
+abbrev pub in_all : DayHeader → List ℕ → Answered
 in_all day heard = answered day.config day.members (all_records heard)
 
 -- What was written once these bytes had come. The session ended with its input, or before anything came, as the day
 -- can't be opened, or at a read that failed or a record that is too long, with all before it answered; or it broke off
 -- while it answered.
-abbrev pub WroteAnswers : Day → Ends → List ℕ → Ended → Type 0
+abbrev pub WroteAnswers : DayHeader → Ends → List ℕ → SessionResult → Type 0
 WroteAnswers day ends heard (Ok ending) =
     (open_fault day.config ≡ None) × IfSome ends.left (λ input. input ≡ heard)
     × (is_too_long (taken heard).place ≡ false) × Appends ends.old ends.new (in_all day heard).text
@@ -59,7 +59,7 @@ WroteAnswers day ends heard (Err fault.WriteFailed) = AppendsBeginning ends.old 
 WroteAnswers day ends heard (Err fault.NoMemory) = AppendsBeginning ends.old ends.new (in_all day heard).text
 
 -- What came of a session of this day: which bytes of its input had come, and what was written of them.
-pub record RunsLive (day : Day) (ends : Ends) (ended : Ended) : Type 0 where
+pub record RunsLive (day : DayHeader) (ends : Ends) (ended : SessionResult) : Type 0 where
   pub heard : List ℕ
   pub beginning : IfSome ends.left (λ input. (rest : List ℕ) × (input ≡ heard ++ rest))
   pub wrote : WroteAnswers day ends heard ended

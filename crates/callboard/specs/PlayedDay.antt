@@ -1,34 +1,18 @@
 -- What a day on a board comes to, on which members play scripts.
 use Rattle.std.specs.Prelude.{◌≡◌, ℕ, List, All, length, slice_index, sum, Bool, true, false, ◌||◌, if◌then◌else◌}
-use Rattle.std.specs.Prelude.{Option, Some, None, unwrap_or}
+use Rattle.std.specs.Prelude.{Option, Some, None, is_some, unwrap_or}
 use Rattle.std.specs.List.{list_any}
 use Rattle.auction_terms.specs.declared.Config.{Config}
 use Rattle.auction_terms.specs.Day.{IsLegal, calls_of}
 use Rattle.auction.specs.declared.OpenFault.TheVariants.{NoMemory}
-use Rattle.call_board.specs.declared.closing.Closing.{Closing}
-use Rattle.call_board.specs.declared.floor.CallFault.{CallFault}
-use Rattle.call_board.specs.declared.floor.CallFault.TheVariants as call
+use Rattle.board_terms.specs.declared.closing.Closing.{Closing}
 use Rattle.member_floor.specs.declared.script.Script.{Script}
 use Rattle.member_floor.specs.declared.threads.RunFault.{RunFault}
 use Rattle.member_floor.specs.declared.threads.RunFault.TheVariants as run
-use Rattle.member_floor.specs.Plays.{PlayedScript}
+use Rattle.member_floor.specs.PlaysScript.{PlayedScript}
 use Rattle.callboard.specs.declared.fault.Fault.{Fault}
 use Rattle.callboard.specs.declared.fault.Fault.TheVariants as fault
 use Rattle.callboard.specs.BoardRun.{commands_of}
-
--- a call found the history full, or its member behind
-abbrev pub keeps_open : Option CallFault → Bool
-keeps_open None = false
-keeps_open (Some call.HistoryFull) = true
-keeps_open (Some call.NoMemory) = false
-keeps_open (Some (call.Behind history counted)) = true
-
--- a call was refused memory
-abbrev pub wants_memory : Option CallFault → Bool
-wants_memory None = false
-wants_memory (Some call.HistoryFull) = false
-wants_memory (Some call.NoMemory) = true
-wants_memory (Some (call.Behind history counted)) = false
 
 -- a thread couldn't be started
 abbrev pub lacks_thread : Option RunFault → Bool
@@ -37,24 +21,20 @@ lacks_thread (Some run.NoMemory) = false
 lacks_thread (Some run.NoThread) = true
 
 -- the run was refused memory
-abbrev pub lacks_room : Option RunFault → Bool
-lacks_room None = false
-lacks_room (Some run.NoMemory) = true
-lacks_room (Some run.NoThread) = false
+abbrev pub is_refused_memory : Option RunFault → Bool
+is_refused_memory None = false
+is_refused_memory (Some run.NoMemory) = true
+is_refused_memory (Some run.NoThread) = false
 
--- a thread couldn't be started, or a call found the history full or its member behind
+-- a thread couldn't be started, or a call wasn't recorded
 abbrev pub is_kept_open : Option RunFault → List PlayedScript → Bool
-is_kept_open refused played = lacks_thread refused || list_any (λ (p : PlayedScript). keeps_open p.fault) played
-
--- the run or one of its calls was refused memory
-abbrev pub is_in_want : Option RunFault → List PlayedScript → Bool
-is_in_want refused played = lacks_room refused || list_any (λ (p : PlayedScript). wants_memory p.fault) played
+is_kept_open refused played = lacks_thread refused || list_any (λ (p : PlayedScript). is_some p.fault) played
 
 -- why the day isn't to be closed after a run, if there is a reason: what keeps it open comes before want of memory
 abbrev pub fault_after : Option RunFault → List PlayedScript → Option Fault
 fault_after refused played =
     if is_kept_open refused played then Some fault.NotClosed
-    else if is_in_want refused played then Some fault.NoMemory
+    else if is_refused_memory refused then Some fault.NoMemory
     else None
 
 -- Why the day wasn't closed after a run. A member that is missing or behind keeps it open too.
@@ -84,7 +64,7 @@ IsOfDay fault.NotClosed = Unit {0}
 IsOfDay f = ⊥
 
 -- a fault neither of the file nor of a write
-abbrev pub IsBetween : Fault → Type 0
-IsBetween (fault.File f) = ⊥
-IsBetween fault.WriteFailed = ⊥
-IsBetween f = Unit {0}
+abbrev pub IsOfOpeningOrDay : Fault → Type 0
+IsOfOpeningOrDay (fault.File f) = ⊥
+IsOfOpeningOrDay fault.WriteFailed = ⊥
+IsOfOpeningOrDay f = Unit {0}

@@ -13,7 +13,7 @@ use Rattle.day_tables.specs.declared.fault.TableFault.{TableFault}
 use Rattle.day_tables.specs.declared.fault.TableFault.TheVariants.{Open, Write}
 use Rattle.journal.specs.JournalText.{journal_text}
 use Rattle.journal.specs.WideReplies.{AreWide}
-use Rattle.journal.specs.declared.day.Day.{Day}
+use Rattle.journal.specs.declared.day.DayHeader.{DayHeader}
 use Rattle.printed_lines.specs.ReplyLines.{lines}
 use Rattle.settings.specs.declared.types.Form.{Form}
 use Rattle.settings.specs.declared.types.Form.TheVariants as forms
@@ -24,14 +24,14 @@ use Rattle.callboard.specs.declared.fault.Fault.TheVariants as fault
 
 -- ---- a day's entries
 
-abbrev pub entry_by : Call → Reply → Entry
-entry_by call reply = record { member = call.member; command = call.command; reply = reply }
+abbrev pub entry_of_call : Call → Reply → Entry
+entry_of_call call reply = record { member = call.member; command = call.command; reply = reply }
 
 -- calls from a state on, each with its reply
 abbrev pub entries_from : Config → State → List Call → List Entry
 entries_from config state [] = []
 entries_from config state (call ∷ calls) =
-    entry_by call (step config state call).1 ∷ entries_from config (step config state call).0 calls
+    entry_of_call call (step config state call).1 ∷ entries_from config (step config state call).0 calls
 
 -- the history of a day on which these calls come, in this order
 abbrev pub history_of : Config → List Call → List Entry
@@ -42,15 +42,15 @@ reply_of entry = entry.reply
 
 -- ---- their text
 
-abbrev pub listed : Listing → Day → List Entry → List ℕ
-listed Journal day entries = journal_text day entries
-listed Trades day entries = trades_text day.config entries
-listed Book day entries = book_text day.config entries
+abbrev pub listing_text : Listing → DayHeader → List Entry → List ℕ
+listing_text Journal day entries = journal_text day entries
+listing_text Trades day entries = trades_text day.config entries
+listing_text Book day entries = book_text day.config entries
 
 -- the lines of the replies, or a listing of the day
-abbrev pub printed : Form → Day → List Entry → List ℕ
+abbrev pub printed : Form → DayHeader → List Entry → List ℕ
 printed forms.Lines day entries = lines (map reply_of entries)
-printed (forms.Listing listing) day entries = listed listing day entries
+printed (forms.Listing listing) day entries = listing_text listing day entries
 
 -- ---- the replies of a journal
 
@@ -73,15 +73,15 @@ IsWideIfBegun (Err f) form entries = Unit {0}
 -- ---- the faults of printing
 
 -- a fault of printing a day that is over
-abbrev pub IsAfterwards : Fault → Type 0
-IsAfterwards fault.NoMemory = Unit {0}
-IsAfterwards fault.WriteFailed = Unit {0}
-IsAfterwards f = ⊥
+abbrev pub IsOfListing : Fault → Type 0
+IsOfListing fault.NoMemory = Unit {0}
+IsOfListing fault.WriteFailed = Unit {0}
+IsOfListing f = ⊥
 
 -- a listing takes memory, lines take none
 abbrev pub IsOfPrinting : Form → Fault → Type 0
 IsOfPrinting forms.Lines f = f ≡ fault.WriteFailed
-IsOfPrinting (forms.Listing listing) f = IsAfterwards f
+IsOfPrinting (forms.Listing listing) f = IsOfListing f
 
 -- A listing was written, or at a failing write a beginning of it, and nothing where it wasn't begun.
 abbrev pub WritesTable : {S : Type 0} → Ghosts S → S → S → Result (Unit {0}) TableFault → List ℕ → Type 0

@@ -1,53 +1,48 @@
 -- What the program answers to its words.
-use Rattle.std.specs.Prelude.{◌≡◌, ◌≢◌, ◌⊎◌, ℕ, List, Some, Bool, true, false}
+use Rattle.std.specs.Prelude.{◌≡◌, Option, ◌<◌, ◌≢◌, ◌⊎◌, ℕ, List, Some}
 use Rattle.clap.specs.Kinds.{IsAmong}
 use Rattle.clap.specs.Simple.{matches_of}
 use Rattle.clap.specs.Walk.{Text}
 use Rattle.clap.specs.declared.error.kind.ErrorKind.{ErrorKind}
 use Rattle.clap.specs.declared.error.kind.ErrorKind.TheVariants.{DisplayHelp, DisplayVersion, OutOfMemory}
-use Rattle.journal.specs.declared.day.Day.{Day}
-use Rattle.settings.specs.CommandLine.{Accepts, Refuses, words_kinds}
+use Rattle.journal.specs.declared.day.DayHeader.{DayHeader}
+use Rattle.settings.specs.CommandLine.{AcceptsWords, RefusesWords, words_kinds}
 use Rattle.settings.specs.Options.{callboard}
-use Rattle.settings.specs.Ranges.{InRange}
+use Rattle.settings.specs.Ranges.{IsInRange}
 use Rattle.settings.specs.Tasks.{task_at}
-use Rattle.settings.specs.declared.fault.WordsFault.TheVariants.{AuditNotAlone, LiveNotAlone}
-use Rattle.settings.specs.declared.types.Form.{Form}
+use Rattle.settings.specs.declared.fault.WordsFault.TheVariants.{AuditNotAlone, LiveNotAlone, ResultsWithoutAudit}
 use Rattle.settings.specs.declared.types.Settings.{Settings}
 use Rattle.settings.specs.declared.types.Task.{Task}
-use Rattle.settings.specs.declared.types.Task.TheVariants.{Audit, Live, Run}
+use Rattle.settings.specs.declared.types.Task.TheVariants.{Audit, Floor, Live, Run}
 use Rattle.callboard.specs.AuctionRun.{auction_job}
 use Rattle.callboard.specs.AuditRun.{audit_job}
 use Rattle.callboard.specs.BoardRun.{board_job}
-use Rattle.callboard.specs.FileRun.{Ends, Job, Runs}
-use Rattle.callboard.specs.LiveRun.{Ended, RunsLive, session_status}
-use Rattle.callboard.specs.Status.{Ran, run_status}
+use Rattle.callboard.specs.FileRun.{Ends, Job, IsRunOf}
+use Rattle.callboard.specs.LiveRun.{SessionResult, RunsLive, session_status}
+use Rattle.callboard.specs.Status.{RunResult, run_status}
 
 -- the job was run, and the status is that of the run
-abbrev pub RunsJob : Job → Ends → ℕ → Type 0
-RunsJob job ends status = (run : Ran) × Runs job ends run × (status ≡ run_status run)
+abbrev pub RunsJobForStatus : Job → Ends → ℕ → Type 0
+RunsJobForStatus job ends status = (run : RunResult) × IsRunOf job ends run × (status ≡ run_status run)
 
 -- the records of the input were answered as they came, and the status is that of the session
-abbrev pub RunsSession : Day → Ends → ℕ → Type 0
-RunsSession day ends status = (ended : Ended) × RunsLive day ends ended × (status ≡ session_status ended)
-
--- commands are called on a board by their members, or applied to an auction
-abbrev pub job_for : Day → Bool → Bool → Form → Job
-job_for day true history form = board_job day history form
-job_for day false history form = auction_job day form
+abbrev pub RunsSession : DayHeader → Ends → ℕ → Type 0
+RunsSession day ends status = (ended : SessionResult) × RunsLive day ends ended × (status ≡ session_status ended)
 
 -- what is done with an input, which is of this day where it says no other
-abbrev pub Does : Day → Task → Ends → ℕ → Type 0
-Does day (Run floor history form) = RunsJob (job_for day floor history form)
-Does day Audit = RunsJob audit_job
-Does day Live = RunsSession day
+abbrev pub DoesTask : DayHeader → Task → Ends → ℕ → Type 0
+DoesTask day (Run form) = RunsJobForStatus (auction_job day form)
+DoesTask day (Floor form) = RunsJobForStatus (board_job day form)
+DoesTask day (Audit results) = RunsJobForStatus (audit_job results)
+DoesTask day Live = RunsSession day
 
 -- the day that the settings say
-abbrev pub day_of : Settings → Day
+abbrev pub day_of : Settings → DayHeader
 day_of s = record { config = s.config; members = s.members }
 
 -- with the input was done what the settings say
-abbrev pub Serves : Settings → Ends → ℕ → Type 0
-Serves s = Does (day_of s) s.task
+abbrev pub ServesSettings : Settings → Ends → ℕ → Type 0
+ServesSettings s = DoesTask (day_of s) s.task
 
 -- 0 where the words ask for help, 3 for want of memory, and 2 where the words are wrong
 abbrev pub words_status : ErrorKind → ℕ
@@ -66,20 +61,41 @@ pub record AnswersWords (words : List Text) (ends : Ends) (status : ℕ) : Type 
   pub none_read : ends.ReadFailed → ⊥
   pub write_failed : ends.WriteFailed → status ≡ 3
 
--- The words ask for an audit that doesn't stand alone, or for answers as records come that don't. The status is 2;
--- nothing is printed, and nothing is read.
+-- The words ask for an audit that doesn't stand alone, for answers as records come that don't, or for results without
+-- an audit. The status is 2; nothing is printed, and nothing is read.
 pub record RefusesMix (words : List Text) (ends : Ends) (status : ℕ) : Type 0 where
-  pub refused : Refuses words AuditNotAlone ⊎ Refuses words LiveNotAlone
+  pub refused : RefusesWords words AuditNotAlone
+      ⊎ (RefusesWords words LiveNotAlone ⊎ RefusesWords words ResultsWithoutAudit)
   pub status_is : status ≡ 2
   pub kept : ends.new ≡ ends.old
   pub none_read : ends.ReadFailed → ⊥
   pub none_written : ends.WriteFailed → ⊥
 
 -- the words say settings, each in its range, which were served, or they were answered
-abbrev pub Answers : List Text → Ends → ℕ → Type 0
-Answers words ends status = ((s : Settings) × Accepts words s × InRange s × Serves s ends status)
+abbrev pub AnswersCommandLine : List Text → Ends → ℕ → Type 0
+AnswersCommandLine words ends status =
+    ((s : Settings) × AcceptsWords words s × IsInRange s × ServesSettings s ends status)
     ⊎ (AnswersWords words ends status ⊎ RefusesMix words ends status)
 
 -- a bad command line or bounds, or a bad input but for one whose records are answered as they come
 abbrev pub IsQuiet : List Text → ℕ → Type 0
 IsQuiet words status = (status ≡ 2) ⊎ ((status ≡ 1) × (task_at (matches_of callboard words) ≢ Some Live))
+
+-- what a run had and gave, with the failures counted before and after it
+abbrev pub ends_by : Option (List ℕ) → Option (List ℕ) → Option (List ℕ) → ℕ → ℕ → ℕ → ℕ → Ends
+ends_by left old new reads reads_after writes writes_after = record {
+  left = left;
+  old = old;
+  new = new;
+  ReadFailed = reads < reads_after;
+  WriteFailed = writes < writes_after;
+}
+
+-- a status that the program answers to some words with some ends
+abbrev pub IsAnswer : ℕ → Type 0
+IsAnswer status = (words : List Text) × (left old new : Option (List ℕ)) × (reads reads_after writes writes_after : ℕ)
+    × AnswersCommandLine words (ends_by left old new reads reads_after writes writes_after) status
+
+-- a status that the process ends with: that is one, or its words couldn't be had
+abbrev pub IsOfProcess : ℕ → Type 0
+IsOfProcess status = IsAnswer status ⊎ ((status ≡ 2) ⊎ (status ≡ 3))

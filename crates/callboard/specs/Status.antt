@@ -10,8 +10,8 @@ use Rattle.callboard.specs.declared.fault.Finish.{Finish}
 use Rattle.callboard.specs.declared.fault.Finish.TheVariants.{Lawful, Unlawful}
 
 -- what came of a run: what it says of its day, or why it ended early
-abbrev pub Ran : Type 0
-Ran = Result Finish Fault
+abbrev pub RunResult : Type 0
+RunResult = Result Finish Fault
 
 -- 1 for a bad file, 3 for a read that failed and want of memory
 abbrev pub file_status : FileFault → ℕ
@@ -35,6 +35,10 @@ finish_status Lawful = 0
 finish_status Unlawful = 4
 
 -- of a run that was done, and else that of its fault
-abbrev pub run_status : Ran → ℕ
+abbrev pub run_status : RunResult → ℕ
 run_status (Ok finish) = finish_status finish
 run_status (Err f) = status_of f
+
+-- a fault of the input as one of a run
+abbrev pub file_fault : FileFault → Fault
+file_fault f = fault.File f

@@ -19,7 +19,7 @@ fn finish_of(first_unlawful: Option<u64>) -> Finish
 }
 
 /// Reads and checks a whole journal, compares each recorded reply with the lawful one, and writes those
-/// that differ, and how many.
+/// that differ, and how many, and with `results` then the lawful results of the day.
 ///
 /// A fault of the journal comes before one of its day. Nothing is written where it has a fault, and a
 /// write that fails leaves a beginning of the text.
@@ -27,10 +27,11 @@ pub fn run_audit<R: Source, S: Sink>(
     alloc: Global,
     reader: &mut R,
     writer: &mut S,
+    results: bool,
 ) -> Result<Finish, Fault>
-    ensures { RunsAudit (ends_of R.Source S.Sink reader.old reader.new writer.old writer.new) result }
+    ensures { RunsAudit results (ends_of R.Source S.Sink reader.old reader.new writer.old writer.new) result }
 {
-    match audit_journal(alloc, reader, writer) {
+    match audit_journal(alloc, reader, writer, results) {
         Ok(counts) => Ok(finish_of(counts.first_unlawful)),
         Err(fault) => Err(Fault::from(fault)),
     }

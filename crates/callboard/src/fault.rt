@@ -1,8 +1,9 @@
 //! What comes of a run.
 
-ghost use Rattle.std.specs.Prelude.{◌≡◌};
-ghost use Rattle.callboard.specs.AuditRun.{fault_by};
-ghost use Rattle.callboard.specs.Status.{file_status, finish_status, open_status, status_of};
+ghost use Rattle.std.specs.Prelude.{◌≡◌, Some};
+ghost use Rattle.callboard.specs.FaultLine.{fault_line};
+ghost use Rattle.callboard.specs.AuditRun.{fault_of_audit};
+ghost use Rattle.callboard.specs.Status.{file_fault, file_status, finish_status, open_status, status_of};
 
 use auction::OpenFault;
 use day_audit::AuditFault;
@@ -49,8 +50,16 @@ impl Finish {
     }
 }
 
+impl From<FileFault> for Fault {
+    ghost from_gives = { λ fault r. r ≡ file_fault fault };
+
+    fn from(fault: FileFault) -> Fault {
+        Fault::File(fault)
+    }
+}
+
 impl From<AuditFault> for Fault {
-    ghost from_gives = { λ fault r. r ≡ fault_by fault };
+    ghost from_gives = { λ fault r. r ≡ fault_of_audit fault };
 
     fn from(fault: AuditFault) -> Fault {
         match fault {
@@ -62,12 +71,14 @@ impl From<AuditFault> for Fault {
 }
 
 impl Display for Fault {
+    ghost output = { λ fault. Some (fault_line fault) };
+
     fn fmt<W: fmt::Write>(&self, f: &mut Formatter<W>) -> fmt::Result {
         match self {
             Fault::File(fault) => fault.fmt(f),
             Fault::Open(OpenFault::BadBounds) => f.write_str("bad bounds"),
             Fault::Open(OpenFault::BadReference) => f.write_str("bad reference"),
-            Fault::Open(OpenFault::BadLimits) => f.write_str("bad limits"),
+            Fault::Open(OpenFault::BadCapacity) => f.write_str("bad limits"),
             Fault::Open(OpenFault::NoMemory) | Fault::NoMemory => { f.write_str("out of memory") }
             Fault::NotClosed => f.write_str("floor not closed"),
             Fault::WriteFailed => f.write_str("write failed"),

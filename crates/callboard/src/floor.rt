@@ -2,12 +2,13 @@
 
 ghost use Rattle.std.specs.Prelude.{◌≡◌, ◌<◌, ◌≤◌, ◌↔◌, All, None, length, IfErr, IfOk, IsErrOf};
 ghost use Rattle.auction_terms.specs.Day.{IsLegal};
-ghost use Rattle.call_board.specs.FreshBoard.{board_fault};
+ghost use Rattle.board_terms.specs.BoardOpening.{board_fault};
 ghost use Rattle.order_file.specs.File.{IsBelow};
-ghost use Rattle.callboard.specs.BoardRun.{Finds, IsDayOf, RunsOnBoard, closed_text, closing_text};
-ghost use Rattle.callboard.specs.FileRun.{Opens, WritesText, ends_of};
-ghost use Rattle.callboard.specs.PlayedDay.{IsBetween};
-ghost use Rattle.callboard.specs.Printed.{IsAfterwards, IsWideForm};
+ghost use Rattle.callboard.specs.BoardRun.{IsAuditFinding, IsDayOf, IsWideFloor, RunsOnBoard, closed_text};
+ghost use Rattle.callboard.specs.BoardRun.{closing_text};
+ghost use Rattle.callboard.specs.FileRun.{OpensUnless, WritesText, ends_of};
+ghost use Rattle.callboard.specs.PlayedDay.{IsOfOpeningOrDay};
+ghost use Rattle.callboard.specs.Printed.{IsOfListing};
 
 use crate::day::closing_of_day;
 use crate::fault::{Fault, Finish};
@@ -16,10 +17,10 @@ use crate::scripts::split;
 use auction::{Verdict, audit};
 use auction_terms::{Call, Config, Entry};
 use byte_streams::{Sink, Source};
-use call_board::{Closing, Fresh};
-use journal::{Day, read_given};
+use journal::{DayHeader, read_run_input};
+use member_board::{Closing, Fresh};
 use member_floor::Gate;
-use settings::Form;
+use settings::FloorForm;
 use std::alloc::Global;
 use std::marker::Brand;
 use std::sync::Wait;
@@ -28,18 +29,18 @@ use std::thread::Threads;
 /// The closing of a day on which the members of these calls call them, all at once.
 fn closing_of<G: Gate + Sync, T: Wait + Threads + Sync>(
     alloc: Global,
-    day: Day,
+    day: DayHeader,
     calls: &[Call],
     gate: &G,
     rt: &T,
 ) -> Result<Closing, Fault>
     requires below { All (IsBelow day.members) calls.now }
     requires few { length calls.now ≤ day.config.max_calls }
-    ensures opening { Opens (board_fault day.config day.members) result }
+    ensures opening { OpensUnless (board_fault day.config day.members) result }
     ensures closing { IfOk result (IsDayOf day.config day.members calls.now) }
-    ensures fault { IfErr result IsBetween }
+    ensures fault { IfErr result IsOfOpeningOrDay }
 {
-    let Day { config, members } = day;
+    let DayHeader { config, members } = day;
     let fresh = match Fresh::open(alloc, config, members) {
         Ok(fresh) => fresh,
         Err(fault) => return Err(Fault::Open(fault)),
@@ -52,7 +53,7 @@ fn closing_of<G: Gate + Sync, T: Wait + Threads + Sync>(
 
 /// The place from 0 of the first entry that isn't the auction's own, if there is one.
 fn first_bad(alloc: Global, config: Config, history: &[Entry]) -> Result<Option<u64>, Fault>
-    ensures finding { IfOk result (Finds config history.now) }
+    ensures finding { IfOk result (IsAuditFinding config history.now) }
     ensures fault { IfErr result (λ f. f ≡ Fault.NoMemory) }
 {
     match audit(alloc, config, history) {
@@ -75,7 +76,7 @@ fn write_tally<S: Sink>(
     ensures text { WritesText (S.written writer.old) (S.written writer.new)
         (closing_text closing.now None history) result }
     ensures failed { IsErrOf result Fault.WriteFailed ↔ (S.failures writer.old < S.failures writer.new) }
-    ensures fault { IfErr result IsAfterwards }
+    ensures fault { IfErr result IsOfListing }
 {
     let place = match first_bad(alloc, config, closing.history.as_slice()) {
         Ok(place) => place,
@@ -91,29 +92,29 @@ fn write_tally<S: Sink>(
 fn write_floor<S: Sink>(
     alloc: Global,
     writer: &mut S,
-    day: Day,
+    day: DayHeader,
     closing: &Closing,
-    history: bool,
-    form: Form,
+    form: FloorForm,
 ) -> Result<(), Fault>
     requires { IsLegal day.config closing.now.history.items }
     ensures text { WritesText (S.written writer.old) (S.written writer.new)
-        (closed_text form day history closing.now) result }
+        (closed_text form day closing.now) result }
     ensures failed { IsErrOf result Fault.WriteFailed ↔ (S.failures writer.old < S.failures writer.new) }
-    ensures fault { IfErr result IsAfterwards }
-    ensures wide { IsWideForm form closing.now.history.items }
+    ensures fault { IfErr result IsOfListing }
+    ensures wide { IsWideFloor form closing.now.history.items }
 {
     let entries = closing.history.as_slice();
     match form {
-        Form::Lines => write_tally(alloc, writer, day.config, closing, history),
-        Form::Listing(listing) => write_listing(alloc, writer, listing, day, entries),
+        FloorForm::Tally => write_tally(alloc, writer, day.config, closing, false),
+        FloorForm::History => write_tally(alloc, writer, day.config, closing, true),
+        FloorForm::Listing(listing) => write_listing(alloc, writer, listing, day, entries),
     }
 }
 
 /// Reads and checks a whole input, an order file or a journal, has each member call its commands on a
 /// board at once with the others, each under the gate, closes the board, audits its history, and writes
-/// how many entries it has, how many calls each member made, and what the audit says; then, where
-/// `history` asks for it, a line for each entry, in the order of the board. Where the form is a listing,
+/// how many entries it has, how many calls each member made, and what the audit says; then, where the
+/// form is the history, a line for each entry, in the order of the board. Where the form is a listing,
 /// that of the board's history is written in place of all that. An order file is one of this day.
 ///
 /// The counts are those of the file, and the history is a legal one of the file's calls, in which each
@@ -124,21 +125,17 @@ pub fn run_floor<R: Source, S: Sink, G: Gate + Sync, T: Wait + Threads + Sync>(
     alloc: Global,
     reader: &mut R,
     writer: &mut S,
-    day: Day,
-    history: bool,
-    form: Form,
+    day: DayHeader,
+    form: FloorForm,
     gate: &G,
     rt: &T,
 ) -> Result<Finish, Fault>
-    ensures { RunsOnBoard day history form
+    ensures { RunsOnBoard day form
         (ends_of R.Source S.Sink reader.old reader.new writer.old writer.new) result }
 {
-    let given = match read_given(alloc, reader, day) {
-        Ok(given) => given,
-        Err(fault) => return Err(Fault::File(fault)),
-    };
-    let calls = given.calls.as_slice();
-    let closing = closing_of(alloc, given.day, calls, gate, rt)?;
-    write_floor(alloc, writer, given.day, &closing, history, form)?;
+    let run_input = read_run_input(alloc, reader, day)?;
+    let calls = run_input.calls.as_slice();
+    let closing = closing_of(alloc, run_input.day, calls, gate, rt)?;
+    write_floor(alloc, writer, run_input.day, &closing, form)?;
     Ok(Finish::Lawful)
 }

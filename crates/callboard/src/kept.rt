@@ -3,9 +3,9 @@
 ghost use Rattle.std.specs.Prelude.{◌≡◌, ◌<◌, ◌++◌, ◌∷◌, [], List, IfOk, OnOk};
 ghost use Rattle.auction_terms.specs.declared.Entry.{Entry};
 ghost use Rattle.auction_terms.specs.Day.{step};
-ghost use Rattle.auction_terms.specs.Devices.Running.{called, opened};
-ghost use Rattle.callboard.specs.KeptEntries.{Follows, Holds, form_of};
-ghost use Rattle.callboard.specs.Printed.{entry_by};
+ghost use Rattle.auction_terms.specs.Auxiliary.RunningAuction.{auction_after_call, opened_auction};
+ghost use Rattle.callboard.specs.KeptEntries.{KeepsEntries, KeepsWholeDay, form_of};
+ghost use Rattle.callboard.specs.Printed.{entry_of_call};
 
 use auction::Auction;
 use auction_terms::{Call, Entry};
@@ -30,8 +30,8 @@ pub enum Kept {
 #[inline]
 fn apply(auction: &mut Auction, call: &Call) -> Entry
     requires { auction.old.calls < auction.old.config.max_calls }
-    ensures auction { auction.new ≡ called auction.old call.now }
-    ensures entry { result ≡ entry_by call.now (step auction.old.config auction.old.state call.now).1 }
+    ensures auction { auction.new ≡ auction_after_call auction.old call.now }
+    ensures entry { result ≡ entry_of_call call.now (step auction.old.config auction.old.state call.now).1 }
 {
     let reply = auction.apply_call(call);
     let Call { member, command } = *call;
@@ -54,7 +54,8 @@ impl Kept {
     /// No entries of a day that was just opened, kept for this form. The error is that memory is refused.
     pub fn open(alloc: Global, form: Form, auction: &Auction) -> Result<Kept, AllocError>
         ensures form { IfOk result (λ kept. form_of kept ≡ form) }
-        ensures none { auction.now ≡ opened auction.now.config → IfOk result (λ kept. Follows kept auction.now []) }
+        ensures none { auction.now ≡ opened_auction auction.now.config
+            → IfOk result (λ kept. KeepsEntries kept auction.now []) }
     {
         match form {
             Form::Lines => Ok(Kept::Lines(ReplyList::new(alloc))),
@@ -73,14 +74,14 @@ impl Kept {
         call: &Call,
     ) -> Result<(), AllocError>
         requires { auction.old.calls < auction.old.config.max_calls }
-        ensures state { auction.new ≡ called auction.old call.now }
+        ensures state { auction.new ≡ auction_after_call auction.old call.now }
         ensures form { form_of self.new ≡ form_of self.old }
-        ensures kept { (entries : List Entry) → Follows self.old auction.old entries → OnOk result
-            (Follows self.new auction.new
-            (entries ++ entry_by call.now (step auction.old.config auction.old.state call.now).1 ∷ [])) }
+        ensures kept { (entries : List Entry) → KeepsEntries self.old auction.old entries → OnOk result
+            (KeepsEntries self.new auction.new
+            (entries ++ entry_of_call call.now (step auction.old.config auction.old.state call.now).1 ∷ [])) }
     {
         match self {
-            Kept::Lines(replies) => replies.push(auction.apply_call(call)),
+            Kept::Lines(replies) => replies.push(&auction.apply_call(call)),
             Kept::Journal(lines) => keep_entry(lines, apply(auction, call)),
             Kept::Trades(entries) => keep_whole(entries, apply(auction, call)),
             Kept::Book(book) => book.keep_call(alloc, auction, *call),
@@ -90,8 +91,8 @@ impl Kept {
     /// Keeps what stands at the end of the input, as all its calls have come. The error is that memory is refused.
     pub fn close(&mut self, alloc: Global, auction: &mut Auction) -> Result<(), AllocError>
         ensures form { form_of self.new ≡ form_of self.old }
-        ensures kept { (entries : List Entry) → Follows self.old auction.old entries
-            → OnOk result (Holds self.new auction.old.config entries) }
+        ensures kept { (entries : List Entry) → KeepsEntries self.old auction.old entries
+            → OnOk result (KeepsWholeDay self.new auction.old.config entries) }
     {
         match self {
             Kept::Book(book) => book.close(alloc, auction),

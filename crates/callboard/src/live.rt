@@ -5,7 +5,7 @@ ghost use Rattle.callboard.specs.FileRun.{ends_of};
 ghost use Rattle.callboard.specs.LiveRun.{RunsLive};
 
 use byte_streams::{Sink, Source};
-use journal::Day;
+use journal::DayHeader;
 use live_session::{Channels, Ending, LiveFault, run_live};
 use std::alloc::Global;
 
@@ -16,7 +16,7 @@ pub fn run_session<'a, R: Source, O: Sink, E: Sink>(
     reader: &'a mut R,
     out: &'a mut O,
     err: &'a mut E,
-    day: Day,
+    day: DayHeader,
 ) -> Result<Ending, LiveFault>
     ensures { RunsLive day (ends_of R.Source O.Sink reader.old reader.new out.old out.new) result }
 {

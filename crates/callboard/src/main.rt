@@ -4,17 +4,21 @@
 //! audits a journal.
 #![tactic(auto)]
 
-ghost use Rattle.std.specs.Prelude.{◌≡◌, ◌<◌, map, string_bytes, IfOk};
+ghost use Rattle.std.specs.Prelude.{◌≡◌, ◌<◌, ◌⊎◌, map, string_bytes, IfOk};
 ghost use Rattle.clap.specs.Walk.{texts};
+ghost use Rattle.callboard.specs.Served.{IsAnswer, IsOfProcess};
+ghost use Rattle.std.specs.Process.{exit_status};
 
 mod audit;
 mod day;
 mod fault;
 mod floor;
-mod keeping;
+mod journals;
 mod kept;
+mod kept_day;
 mod laws;
 mod live;
+mod orders;
 mod printing;
 mod run;
 mod scripts;
@@ -23,7 +27,7 @@ mod serve;
 use byte_streams::{Failures, FromRead, ToWrite};
 pub use fault::{Fault, Finish};
 pub use floor::run_floor;
-use input_hints::Noted;
+use input_hints::StartKeeper;
 pub use laws::printed_journals_are_lawful;
 pub use run::run_file;
 pub use serve::serve;
@@ -47,7 +51,8 @@ fn lend<'a>(alloc: Global, words: &'a [String]) -> Result<Vec<&'a str>, AllocErr
 }
 
 /// Runs the program on the process's words and its ends, each of which counts its failures in a
-/// ledger of its own. `rt` stands for the same runtime where the program waits and starts threads.
+/// ledger of its own. `rt` stands for the same runtime where the program waits and starts threads. The status is one
+/// that `serve` answers; no clause says of which words and ends, since none says what a process is given.
 fn run_program<I: Ledger, O: Ledger, E: Ledger, T: Wait + Threads + Sync>(
     host: &HostRuntime,
     rt: &T,
@@ -64,9 +69,10 @@ fn run_program<I: Ledger, O: Ledger, E: Ledger, T: Wait + Threads + Sync>(
     requires errors_name { errors.name ≡ E.name }
     requires errors_parts { errors.parts ≡ E.parts }
     requires errors_backed { 0 < E.parts }
+    ensures { IfOk result IsAnswer }
 {
     let alloc = host.alloc();
-    let mut reader = Noted::new(FromRead {
+    let mut reader = StartKeeper::new(FromRead {
         reader: host.stdin(),
         failures: Failures::<I>::new(input),
     });
@@ -84,7 +90,9 @@ fn run_program<I: Ledger, O: Ledger, E: Ledger, T: Wait + Threads + Sync>(
 }
 
 /// Says why the process's words could not be had: memory was refused, or one is not UTF-8.
-fn refuse_words(rt: &HostRuntime, error: &io::Error) -> u8 {
+fn refuse_words(rt: &HostRuntime, error: &io::Error) -> u8
+    ensures { (result ≡ 2) ⊎ (result ≡ 3) }
+{
     if error.kind() == io::ErrorKind::OutOfMemory {
         let _ = eprintln!(rt; "out of memory");
         return 3;
@@ -93,12 +101,23 @@ fn refuse_words(rt: &HostRuntime, error: &io::Error) -> u8 {
     2
 }
 
+/// What the process ends with: the status that the program answered, or that of words that couldn't be had.
+fn exit_code(rt: &HostRuntime, answered: &io::Result<u8>) -> ExitCode
+    requires { IfOk answered.now IsAnswer }
+    ensures { IsOfProcess (exit_status result) }
+{
+    match answered {
+        Ok(status) => ExitCode::from(*status),
+        Err(error) => ExitCode::from(refuse_words(rt, error)),
+    }
+}
+
 fn main(rt: HostRuntime) -> ExitCode {
     let blanks = (Blank::new(1), Blank::new(1), Blank::new(1));
-    match run_program::<Brand, Brand, Brand, HostRuntime>(&rt, &rt, blanks.0, blanks.1, blanks.2) {
-        Ok(status) => ExitCode::from(status),
-        Err(error) => ExitCode::from(refuse_words(&rt, &error)),
-    }
+    let answered = run_program::<Brand, Brand, Brand, HostRuntime>(
+        &rt, &rt, blanks.0, blanks.1, blanks.2,
+    );
+    exit_code(&rt, &answered)
 }
 
 #[cfg(test)]

@@ -6,23 +6,23 @@ ghost use Rattle.auction_terms.specs.declared.Entry.{Entry};
 ghost use Rattle.auction_terms.specs.Day.{IsLegal};
 ghost use Rattle.byte_streams.specs.Writing.{WritesAll};
 ghost use Rattle.day_tables.specs.BookTable.{book_text};
-ghost use Rattle.day_tables.specs.KeptBook.{HoldsBook};
+ghost use Rattle.day_tables.specs.KeptBook.{HasAllTables};
 ghost use Rattle.day_tables.specs.TableRecords.{PrintsTable};
 ghost use Rattle.journal.specs.JournalText.{journal_text};
-ghost use Rattle.journal.specs.KeptLines.{HoldsLines};
+ghost use Rattle.journal.specs.KeptLines.{HasEntryLines};
 ghost use Rattle.printed_lines.specs.KeptText.{text_of};
 ghost use Rattle.printed_lines.specs.Printing.{Prints};
 ghost use Rattle.callboard.specs.BoardRun.{closing_text};
 ghost use Rattle.callboard.specs.FileRun.{WritesText};
-ghost use Rattle.callboard.specs.Printed.{IsAfterwards, IsWideListing, WritesTable, listed};
+ghost use Rattle.callboard.specs.Printed.{IsOfListing, IsWideListing, WritesTable, listing_text};
 
 use crate::fault::Fault;
 use auction_terms::Entry;
 use byte_streams::{Sink, WriteFailed};
-use call_board::Closing;
 use day_tables::{KeptBook, TableFault, print_book, print_trades};
-use journal::{Day, print_journal, print_kept_journal};
-use printed_lines::{KeptText, Printer, print_story, print_tally};
+use journal::{DayHeader, print_journal, print_kept_journal};
+use member_board::Closing;
+use printed_lines::{KeptText, Printer, print_history, print_tally};
 use settings::Listing;
 use std::alloc::Global;
 
@@ -41,7 +41,7 @@ fn print_closing<S: Sink>(
     if !history {
         return Ok(());
     }
-    print_story(printer, entries)
+    print_history(printer, entries)
 }
 
 /// Writes what a closed day comes to. It takes no memory.
@@ -62,11 +62,11 @@ fn print_listing<S: Sink>(
     alloc: Global,
     printer: &mut Printer<'_, S>,
     listing: Listing,
-    day: Day,
+    day: DayHeader,
     entries: &[Entry],
 ) -> Result<(), TableFault>
     requires { IsLegal day.config entries.now }
-    ensures text { PrintsTable S.Sink printer.old printer.new result (listed listing day entries.now) }
+    ensures text { PrintsTable S.Sink printer.old printer.new result (listing_text listing day entries.now) }
     ensures wide { IsWideListing listing entries.now }
 {
     match listing {
@@ -84,11 +84,11 @@ fn write_whole<S: Sink>(
     alloc: Global,
     writer: &mut S,
     listing: Listing,
-    day: Day,
+    day: DayHeader,
     entries: &[Entry],
 ) -> Result<(), TableFault>
     requires { IsLegal day.config entries.now }
-    ensures text { WritesTable S.Sink writer.old writer.new result (listed listing day entries.now) }
+    ensures text { WritesTable S.Sink writer.old writer.new result (listing_text listing day entries.now) }
     ensures wide { IsWideListing listing entries.now }
 {
     let mut printer = Printer::new(writer);
@@ -105,13 +105,14 @@ pub fn write_listing<S: Sink>(
     alloc: Global,
     writer: &mut S,
     listing: Listing,
-    day: Day,
+    day: DayHeader,
     entries: &[Entry],
 ) -> Result<(), Fault>
     requires { IsLegal day.config entries.now }
-    ensures text { WritesText (S.written writer.old) (S.written writer.new) (listed listing day entries.now) result }
+    ensures text { WritesText (S.written writer.old) (S.written writer.new) (listing_text listing day entries.now)
+        result }
     ensures failed { IsErrOf result Fault.WriteFailed ↔ (S.failures writer.old < S.failures writer.new) }
-    ensures fault { IfErr result IsAfterwards }
+    ensures fault { IfErr result IsOfListing }
     ensures wide { IsWideListing listing entries.now }
 {
     match write_whole(alloc, writer, listing, day, entries) {
@@ -121,8 +122,12 @@ pub fn write_listing<S: Sink>(
     }
 }
 
-fn print_lines_kept<S: Sink>(writer: &mut S, day: Day, lines: &KeptText) -> Result<(), WriteFailed>
-    ensures { (entries : List Entry) → HoldsLines (text_of lines.now) entries
+fn print_lines_kept<S: Sink>(
+    writer: &mut S,
+    day: DayHeader,
+    lines: &KeptText,
+) -> Result<(), WriteFailed>
+    ensures { (entries : List Entry) → HasEntryLines (text_of lines.now) entries
         → WritesAll S.Sink writer.old writer.new result (journal_text day entries) }
 {
     let mut printer = Printer::new(writer);
@@ -131,9 +136,9 @@ fn print_lines_kept<S: Sink>(writer: &mut S, day: Day, lines: &KeptText) -> Resu
 }
 
 /// Writes the journal of a day whose lines were kept. It takes no memory.
-pub fn write_journal<S: Sink>(writer: &mut S, day: Day, lines: &KeptText) -> Result<(), Fault>
-    requires { (entries : List Entry) × HoldsLines (text_of lines.now) entries }
-    ensures text { (entries : List Entry) → HoldsLines (text_of lines.now) entries
+pub fn write_journal<S: Sink>(writer: &mut S, day: DayHeader, lines: &KeptText) -> Result<(), Fault>
+    requires { (entries : List Entry) × HasEntryLines (text_of lines.now) entries }
+    ensures text { (entries : List Entry) → HasEntryLines (text_of lines.now) entries
         → WritesText (S.written writer.old) (S.written writer.new) (journal_text day entries) result }
     ensures failed { IsErrOf result Fault.WriteFailed ↔ (S.failures writer.old < S.failures writer.new) }
     ensures fault { IfErr result (λ f. f ≡ Fault.WriteFailed) }
@@ -145,8 +150,8 @@ pub fn write_journal<S: Sink>(writer: &mut S, day: Day, lines: &KeptText) -> Res
 }
 
 fn print_book_kept<S: Sink>(writer: &mut S, book: &mut KeptBook) -> Result<(), WriteFailed>
-    requires { (config : Config) × (entries : List Entry) × HoldsBook book.old config entries }
-    ensures { (config : Config) (entries : List Entry) → HoldsBook book.old config entries
+    requires { (config : Config) × (entries : List Entry) × HasAllTables book.old config entries }
+    ensures { (config : Config) (entries : List Entry) → HasAllTables book.old config entries
         → WritesAll S.Sink writer.old writer.new result (book_text config entries) }
 {
     let mut printer = Printer::new(writer);
@@ -156,8 +161,8 @@ fn print_book_kept<S: Sink>(writer: &mut S, book: &mut KeptBook) -> Result<(), W
 
 /// Writes the book behind each price of a day whose tables were kept. It takes no memory.
 pub fn write_book<S: Sink>(writer: &mut S, book: &mut KeptBook) -> Result<(), Fault>
-    requires { (config : Config) × (entries : List Entry) × HoldsBook book.old config entries }
-    ensures text { (config : Config) (entries : List Entry) → HoldsBook book.old config entries
+    requires { (config : Config) × (entries : List Entry) × HasAllTables book.old config entries }
+    ensures text { (config : Config) (entries : List Entry) → HasAllTables book.old config entries
         → WritesText (S.written writer.old) (S.written writer.new) (book_text config entries) result }
     ensures failed { IsErrOf result Fault.WriteFailed ↔ (S.failures writer.old < S.failures writer.new) }
     ensures fault { IfErr result (λ f. f ≡ Fault.WriteFailed) }

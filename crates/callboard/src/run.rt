@@ -8,15 +8,15 @@ ghost use Rattle.printed_lines.specs.Printing.{Prints};
 ghost use Rattle.printed_lines.specs.ReplyLines.{lines};
 ghost use Rattle.callboard.specs.AuctionRun.{RunsOnAuction};
 ghost use Rattle.callboard.specs.FileRun.{WritesText, ends_of};
-ghost use Rattle.callboard.specs.KeptEntries.{Holds, form_of};
+ghost use Rattle.callboard.specs.KeptEntries.{KeepsWholeDay, form_of};
 ghost use Rattle.callboard.specs.Printed.{IsOfPrinting, IsWideIfBegun, printed};
 
 use crate::fault::{Fault, Finish};
-use crate::keeping::read_and_keep;
 use crate::kept::Kept;
+use crate::kept_day::read_and_keep;
 use crate::printing::{write_book, write_journal, write_listing};
 use byte_streams::{Sink, Source, WriteFailed};
-use journal::Day;
+use journal::DayHeader;
 use printed_lines::{Printer, print_line};
 use reply_list::ReplyList;
 use settings::{Form, Listing};
@@ -60,15 +60,15 @@ fn write_lines<S: Sink>(writer: &mut S, replies: &ReplyList) -> Result<(), Fault
 fn write_kept<S: Sink>(
     alloc: Global,
     writer: &mut S,
-    day: Day,
+    day: DayHeader,
     kept: &mut Kept,
 ) -> Result<(), Fault>
-    requires { (entries : List Entry) × Holds kept.old day.config entries × IsLegal day.config entries }
-    ensures text { (entries : List Entry) → Holds kept.old day.config entries
+    requires { (entries : List Entry) × KeepsWholeDay kept.old day.config entries × IsLegal day.config entries }
+    ensures text { (entries : List Entry) → KeepsWholeDay kept.old day.config entries
         → WritesText (S.written writer.old) (S.written writer.new) (printed (form_of kept.old) day entries) result }
     ensures failed { IsErrOf result Fault.WriteFailed ↔ (S.failures writer.old < S.failures writer.new) }
     ensures fault { IfErr result (IsOfPrinting (form_of kept.old)) }
-    ensures wide { (entries : List Entry) → Holds kept.old day.config entries
+    ensures wide { (entries : List Entry) → KeepsWholeDay kept.old day.config entries
         → IsWideIfBegun result (form_of kept.old) entries }
 {
     match kept {
@@ -90,7 +90,7 @@ pub fn run_file<R: Source, S: Sink>(
     alloc: Global,
     reader: &mut R,
     writer: &mut S,
-    day: Day,
+    day: DayHeader,
     form: Form,
 ) -> Result<Finish, Fault>
     ensures { RunsOnAuction day form

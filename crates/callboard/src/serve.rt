@@ -4,9 +4,9 @@ ghost use Rattle.std.specs.Prelude.{◌≡◌, ◌≢◌, ◌<◌, ◌≤◌, �
 ghost use Rattle.clap.specs.Values.{kind_of};
 ghost use Rattle.clap.specs.Walk.{texts};
 ghost use Rattle.clap.specs.declared.error.kind.ErrorKind.TheVariants.{OutOfMemory};
-ghost use Rattle.callboard.specs.FileRun.{Runs, ends_of};
+ghost use Rattle.callboard.specs.FileRun.{ends_of};
 ghost use Rattle.callboard.specs.LiveRun.{live_status};
-ghost use Rattle.callboard.specs.Served.{Answers, IsQuiet, RunsSession, Serves, job_for, words_status};
+ghost use Rattle.callboard.specs.Served.{AnswersCommandLine, IsQuiet, RunsSession, ServesSettings, words_status};
 ghost use Rattle.callboard.specs.Status.{run_status, status_of};
 
 use crate::audit::run_audit;
@@ -18,11 +18,11 @@ use byte_streams::{Sink, Source, write_all};
 use clap::Error;
 use clap::error::ErrorKind;
 use input_hints::{KeepsStart, hint_of, is_like_file};
-use journal::Day;
+use journal::DayHeader;
 use live_session::{Ending, LiveFault};
 use member_floor::OpenGate;
 use order_file::FileFault;
-use settings::{Form, Settings, Task, WordsFault, settings};
+use settings::{Settings, Task, WordsFault, settings};
 use std::alloc::Global;
 use std::fmt::InlineText;
 use std::sync::Wait;
@@ -132,7 +132,7 @@ fn serve_live<R: Source, O: Sink, E: Sink>(
     reader: &mut R,
     out: &mut O,
     err: &mut E,
-    day: Day,
+    day: DayHeader,
 ) -> u8
     ensures { RunsSession day (ends_of R.Source O.Sink reader.old reader.new out.old out.new) result }
 {
@@ -141,26 +141,6 @@ fn serve_live<R: Source, O: Sink, E: Sink>(
         Ok(Ending::SomeBad) => 1,
         Err(fault) => tell_end(err, fault),
     }
-}
-
-/// Runs the input's commands with the members at once on a board, or one after the other on an auction.
-fn run_commands<R: Source, O: Sink, T: Wait + Threads + Sync>(
-    alloc: Global,
-    reader: &mut R,
-    out: &mut O,
-    day: Day,
-    floor: bool,
-    history: bool,
-    form: Form,
-    rt: &T,
-) -> Result<Finish, Fault>
-    ensures { Runs (job_for day floor history form)
-        (ends_of R.Source O.Sink reader.old reader.new out.old out.new) result }
-{
-    if floor {
-        return run_floor(alloc, reader, out, day, history, form, &OpenGate, rt);
-    }
-    run_file(alloc, reader, out, day, form)
 }
 
 /// Tells the fault of a run of an input that begins so, if there is one, and answers the run's status.
@@ -183,26 +163,26 @@ fn serve_settings<R: KeepsStart, O: Sink, E: Sink, T: Wait + Threads + Sync>(
     err: &mut E,
     rt: &T,
 ) -> u8
-    ensures { Serves settings (ends_of R.Source O.Sink reader.old reader.new out.old out.new) result }
+    ensures { ServesSettings settings (ends_of R.Source O.Sink reader.old reader.new out.old out.new) result }
 {
     let Settings {
         config,
         members,
         task,
     } = settings;
-    let day = Day { config, members };
+    let day = DayHeader { config, members };
     match task {
         Task::Live => serve_live(alloc, reader, out, err, day),
-        Task::Audit => {
-            let run = run_audit(alloc, reader, out);
+        Task::Audit { results } => {
+            let run = run_audit(alloc, reader, out, results);
             tell_run(err, run, reader.start())
         }
-        Task::Run {
-            floor,
-            history,
-            form,
-        } => {
-            let run = run_commands(alloc, reader, out, day, floor, history, form, rt);
+        Task::Run(form) => {
+            let run = run_file(alloc, reader, out, day, form);
+            tell_run(err, run, reader.start())
+        }
+        Task::Floor(form) => {
+            let run = run_floor(alloc, reader, out, day, form, &OpenGate, rt);
             tell_run(err, run, reader.start())
         }
     }
@@ -224,7 +204,8 @@ pub fn serve<'a, R: KeepsStart, O: Sink, E: Sink, T: Wait + Threads + Sync>(
     err: &mut E,
     rt: &T,
 ) -> u8
-    ensures answer { Answers (texts words.now) (ends_of R.Source O.Sink reader.old reader.new out.old out.new) result }
+    ensures answer { AnswersCommandLine (texts words.now)
+        (ends_of R.Source O.Sink reader.old reader.new out.old out.new) result }
     ensures quiet { IsQuiet (texts words.now) result → O.written out.new ≡ O.written out.old }
     ensures read_failed { R.failures reader.old < R.failures reader.new → result ≡ 3 }
     ensures write_failed { O.failures out.old < O.failures out.new → result ≡ 3 }
@@ -234,6 +215,9 @@ pub fn serve<'a, R: KeepsStart, O: Sink, E: Sink, T: Wait + Threads + Sync>(
         Ok(settings) => settings,
         Err(WordsFault::AuditNotAlone) => return refuse_mix(err, &WordsFault::AuditNotAlone),
         Err(WordsFault::LiveNotAlone) => return refuse_mix(err, &WordsFault::LiveNotAlone),
+        Err(WordsFault::ResultsWithoutAudit) => {
+            return refuse_mix(err, &WordsFault::ResultsWithoutAudit);
+        }
         Err(WordsFault::Parse(error)) => {
             let Some(text) = text_of(alloc, &error) else {
                 return tell(err, Fault::NoMemory);

@@ -5,10 +5,10 @@ ghost use Rattle.std.specs.Prelude.{◌≡◌, ◌<◌};
 use crate::{Fault, Finish, run_file, run_floor, serve};
 use auction_terms::Config;
 use byte_streams::{Failures, FromMemory, Sink, Source, ToMemory, ToWrite};
-use input_hints::Noted;
-use journal::Day;
+use input_hints::StartKeeper;
+use journal::DayHeader;
 use member_floor::Gate;
-use settings::Form;
+use settings::{FloorForm, Form};
 use std::alloc::Global;
 use std::fmt;
 use std::io::Cursor;
@@ -62,7 +62,7 @@ fn served<R: Source + Drop, S: Sink, E: Ledger, T: AllocGlobal + Wait + Threads 
         bytes: Vec::new(rt.alloc()),
         failures: Failures::<E>::new(errors),
     };
-    let mut reader = Noted::new(reader);
+    let mut reader = StartKeeper::new(reader);
     let status = serve(rt.alloc(), words, &mut reader, out, &mut err, rt);
     let ToMemory { bytes, failures: _ } = err;
     (status, bytes)
@@ -204,13 +204,13 @@ fn each_gives_its_lines<T: Abort + AllocGlobal + Wait + Threads + Sync>(
 
 /// What a run came to, and what it wrote, to a writer that takes no memory.
 #[derive(Drop)]
-struct Ran {
+struct RunResult {
     answer: Result<Finish, Fault>,
     bytes: [u8; 512],
     count: u64,
 }
 
-impl Ran {
+impl RunResult {
     /// The text that was written.
     fn text(&self) -> &str {
         let written = self.bytes.get(..self.count as usize).unwrap_or(&[]);
@@ -225,7 +225,7 @@ fn filed<O: Ledger, G: Gate + Sync, T: AllocGlobal + Wait + Threads + Sync>(
     config: Config,
     members: u8,
     gate: Option<&G>,
-) -> Ran
+) -> RunResult
     requires name { output.name ≡ O.name }
     requires parts { output.parts ≡ O.parts }
     requires backed { 0 < O.parts }
@@ -236,15 +236,14 @@ fn filed<O: Ledger, G: Gate + Sync, T: AllocGlobal + Wait + Threads + Sync>(
         writer: Cursor::new([0u8; 512]),
         failures: Failures::<O>::new(output),
     };
-    let day = Day { config, members };
+    let day = DayHeader { config, members };
     let answer = match gate {
         Some(gate) => run_floor(
             alloc,
             &mut reader,
             &mut out,
             day,
-            true,
-            Form::Lines,
+            FloorForm::History,
             gate,
             rt,
         ),
@@ -254,7 +253,7 @@ fn filed<O: Ledger, G: Gate + Sync, T: AllocGlobal + Wait + Threads + Sync>(
         writer,
         failures: _,
     } = out;
-    Ran {
+    RunResult {
         answer,
         count: writer.position(),
         bytes: writer.into_inner(),
@@ -268,6 +267,6 @@ fn run_under<G: Gate + Sync, T: AllocGlobal + Wait + Threads + Sync>(
     config: Config,
     members: u8,
     gate: Option<&G>,
-) -> Ran {
+) -> RunResult {
     filed::<Brand, G, T>(rt, Blank::new(1), input, config, members, gate)
 }

@@ -1,10 +1,10 @@
 -- Ladders that are filled with orders.
 use Rattle.std.specs.Prelude.{◌≡◌, ℕ, ◌≤◌, length}
 use Rattle.auction_terms.specs.Ladder.{LadderView}
-use Rattle.tick_ladder.specs.TickLadder.{all_standing}
+use Rattle.tick_ladder.specs.TickLadder.{total_quantity}
 
 -- the same ticks, with at most so many shares on them
 pub record IsFilled (old new : LadderView) (most : ℕ) : Type 0 where
-  pub total : all_standing new ≤ most
+  pub total : total_quantity new ≤ most
   pub low : new.low ≡ old.low
   pub len : length new.bids ≡ length old.bids

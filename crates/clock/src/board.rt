@@ -6,8 +6,8 @@ use crate::commands;
 use crate::tasks::{self, Task, perform};
 use auction::Auction;
 use auction_terms::{Config, MAX_CALLS};
-use call_board::{Board, Day, Fresh, Member, Update, Version, close};
 use left_right::Absorb;
+use member_board::{Board, BoardIdentity, Fresh, Member, Update, Version, close};
 use std::alloc::{AllocError, AllocGlobal, Global};
 use std::io::Print;
 use std::marker::Brand;
@@ -39,7 +39,7 @@ const PAUSES: u32 = 100;
 const LOCKED_LOOKS: u32 = 1_000_000;
 
 /// Each member does its task on a thread of its own.
-fn all_at_once<K: Day + Send + Sync, R: Wait + Threads + Sync>(
+fn all_at_once<K: BoardIdentity + Send + Sync, R: Wait + Threads + Sync>(
     rt: &R,
     alloc: Global,
     board: &Board<K>,
@@ -68,7 +68,7 @@ where
 }
 
 /// How many calls these members made.
-fn calls_of<K: Day>(members: &[Member<K>]) -> u64 {
+fn calls_of<K: BoardIdentity>(members: &[Member<K>]) -> u64 {
     let mut calls: u64 = 0;
     for member in members {
         calls = calls.saturating_add(u64::from(member.calls()));
@@ -85,7 +85,7 @@ struct Taken {
 }
 
 /// What the tasks take together, on a board with open orders.
-fn board_time<K: Day + Send + Sync, R: Wait + Threads + Sync + Clock>(
+fn board_time<K: BoardIdentity + Send + Sync, R: Wait + Threads + Sync + Clock>(
     rt: &R,
     alloc: Global,
     board: Board<K>,
@@ -108,7 +108,7 @@ where
 }
 
 // The day that K names. It has no bound but K's, so that its caller can name the day.
-fn day<K: Day + Send + Sync, R: Wait + Threads + Sync + Clock>(
+fn day<K: BoardIdentity + Send + Sync, R: Wait + Threads + Sync + Clock>(
     rt: &R,
     alloc: Global,
     fresh: Fresh,

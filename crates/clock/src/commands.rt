@@ -1,10 +1,10 @@
 //! The commands that are measured, and the auction of one thread that they are measured on.
 
 use auction::Auction;
-use auction_terms::{Command, Limit, Only, Reply, Side};
+use auction_terms::{Command, Limit, Reply, Restriction, Side};
 
 /// How many orders are open before the measuring.
-pub const STANDING: u32 = 1000;
+pub const OPEN_ORDERS: u32 = 1000;
 
 /// An order of 100 shares for every auction.
 pub fn order(side: Side, tick: u32) -> Command {
@@ -13,24 +13,24 @@ pub fn order(side: Side, tick: u32) -> Command {
         limit: Limit::At(tick),
         quantity: 100,
         peak: None,
-        only: Only::Any,
+        restriction: Restriction::Unrestricted,
     }
 }
 
 /// One of the orders that are open before the measuring: bids at the lower ticks, asks at the higher ones.
-pub fn standing(k: u32) -> Command {
+pub fn open_order(k: u32) -> Command {
     let tick = 1 + k % 1000;
-    let side = if tick < 500 { Side::Buy } else { Side::Sell };
+    let side = if tick < 500 { Side::Bid } else { Side::Ask };
     order(side, tick)
 }
 
 /// In turn an order somewhere on the ladder, a question, a change of that order, and its deletion.
 pub fn command(k: u32, id: u32) -> Command {
     let tick = 1 + k.wrapping_mul(7919) % 1000;
-    let side = if k % 8 < 4 { Side::Buy } else { Side::Sell };
+    let side = if k % 8 < 4 { Side::Bid } else { Side::Ask };
     match k % 4 {
         0 => order(side, tick),
-        1 => Command::Ask,
+        1 => Command::Indicate,
         2 => Command::Change {
             id,
             limit: Limit::At(tick),
@@ -59,8 +59,8 @@ pub fn apply(auction: &mut Auction, member: u8, command: Command, id: u32) -> u3
 
 /// Enters the orders that are open before the measuring.
 pub fn fill(auction: &mut Auction) {
-    for k in 0..STANDING {
-        let _ = apply(auction, 1, standing(k), 0);
+    for k in 0..OPEN_ORDERS {
+        let _ = apply(auction, 1, open_order(k), 0);
     }
 }
 

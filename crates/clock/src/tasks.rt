@@ -1,9 +1,9 @@
 //! What a member does while it is measured.
 
-use crate::commands::{STANDING, command, last_id, standing};
-use call_board::{Board, Day, Member, Update, Version};
+use crate::commands::{OPEN_ORDERS, command, last_id, open_order};
 use core::hint::spin_loop;
 use left_right::Absorb;
+use member_board::{Board, BoardIdentity, Member, Update, Version};
 use std::sync::Wait;
 use std::sync::atomic::AtomicBool;
 use std::sync::atomic::Ordering::SeqCst;
@@ -22,12 +22,12 @@ pub enum Task {
 }
 
 /// Enters the orders that are open before the measuring.
-pub fn fill<K: Day, R: Wait>(rt: &R, board: &Board<K>, member: &mut Member<K>)
+pub fn fill<K: BoardIdentity, R: Wait>(rt: &R, board: &Board<K>, member: &mut Member<K>)
 where
     Version<K>: Absorb<Update<K>, State = ()>,
 {
-    for k in 0..STANDING {
-        let _ = member.call(board, rt, standing(k));
+    for k in 0..OPEN_ORDERS {
+        let _ = member.call(board, rt, open_order(k));
     }
 }
 
@@ -37,7 +37,7 @@ fn pause(pauses: u32) {
     }
 }
 
-fn call_many<K: Day, R: Wait>(
+fn call_many<K: BoardIdentity, R: Wait>(
     rt: &R,
     board: &Board<K>,
     member: &mut Member<K>,
@@ -61,7 +61,7 @@ where
     }
 }
 
-fn look_many<K: Day>(member: &mut Member<K>, count: u32) -> u32 {
+fn look_many<K: BoardIdentity>(member: &mut Member<K>, count: u32) -> u32 {
     let mut seen: u32 = 0;
     for _ in 0..count {
         seen = seen.wrapping_add(member.look().calls);
@@ -69,7 +69,7 @@ fn look_many<K: Day>(member: &mut Member<K>, count: u32) -> u32 {
     seen
 }
 
-fn look_under_lock<K: Day, R: Wait>(rt: &R, board: &Board<K>, count: u32) -> u32
+fn look_under_lock<K: BoardIdentity, R: Wait>(rt: &R, board: &Board<K>, count: u32) -> u32
 where
     Version<K>: Absorb<Update<K>, State = ()>,
 {
@@ -81,7 +81,7 @@ where
 }
 
 /// Does a task, and gives back the member with a number that changes with what was seen.
-pub fn perform<K: Day, R: Wait>(
+pub fn perform<K: BoardIdentity, R: Wait>(
     rt: &R,
     board: &Board<K>,
     member: Member<K>,

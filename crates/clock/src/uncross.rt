@@ -42,8 +42,8 @@ struct Book {
 fn fill(auction: &mut Auction, ticks: u32) {
     for k in 0..PAIRS {
         let away = k.wrapping_mul(7919) % ticks.clamp(1, 100);
-        let _ = apply(auction, OPERATOR, order(Side::Buy, MIDDLE + away), 0);
-        let _ = apply(auction, OPERATOR, order(Side::Sell, MIDDLE - away), 0);
+        let _ = apply(auction, OPERATOR, order(Side::Bid, MIDDLE + away), 0);
+        let _ = apply(auction, OPERATOR, order(Side::Ask, MIDDLE - away), 0);
     }
 }
 

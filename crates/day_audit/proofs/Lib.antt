@@ -1,3 +1,4 @@
 pub mod AnswerLaws
 pub mod JournalAuditLaws
 pub mod LegalAuditLaws
+pub mod ResultLaws

@@ -4,7 +4,7 @@ use Rattle.std.specs.Str.{bytes_eq}
 use Rattle.auction_terms.specs.declared.Call.{Call}
 use Rattle.auction_terms.specs.declared.Reply.{Reply}
 use Rattle.auction_terms.specs.Day.{replay, replies_from}
-use Rattle.auction_terms.specs.Devices.Running.{Running}
+use Rattle.auction_terms.specs.Auxiliary.RunningAuction.{RunningAuction}
 use Rattle.printed_lines.specs.ReplyWords.{reply_text}
 use Rattle.journal.specs.JournalFile.{RecordedDay}
 use Rattle.day_audit.specs.declared.counts.Finding.{Finding}
@@ -28,7 +28,7 @@ abbrev pub answers_in : RecordedDay → List Answer
 answers_in j = answers j.texts (replay j.day.config j.calls).1
 
 -- the same from where an auction stands
-abbrev pub answers_from : Running → List Call → List (List ℕ) → List Answer
+abbrev pub answers_from : RunningAuction → List Call → List (List ℕ) → List Answer
 answers_from auction calls texts = answers texts (replies_from auction.config auction.state calls)
 
 abbrev pub finding : List ℕ → List ℕ → Finding

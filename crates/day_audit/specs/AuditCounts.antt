@@ -13,10 +13,10 @@ first_or (Some first) place = Some first
 first_or None place = Some place
 
 -- with one more entry
-abbrev pub counted : Counts → Finding → Counts
-counted c Silent = record c { entries = c.entries + 1 }
-counted c Lawful = record c { entries = c.entries + 1; compared = c.compared + 1 }
-counted c Unlawful = record {
+abbrev pub counts_with : Counts → Finding → Counts
+counts_with c Silent = record c { entries = c.entries + 1 }
+counts_with c Lawful = record c { entries = c.entries + 1; compared = c.compared + 1 }
+counts_with c Unlawful = record {
   entries = c.entries + 1;
   compared = c.compared + 1;
   unlawful = c.unlawful + 1;
@@ -24,9 +24,9 @@ counted c Unlawful = record {
 }
 
 -- with these entries too
-abbrev pub counted_all : Counts → List Answer → Counts
-counted_all c [] = c
-counted_all c (a ∷ rest) = counted_all (counted c (finding_of a)) rest
+abbrev pub counts_with_all : Counts → List Answer → Counts
+counts_with_all c [] = c
+counts_with_all c (a ∷ rest) = counts_with_all (counts_with c (finding_of a)) rest
 
 abbrev pub counts_of : List Answer → Counts
-counts_of answers = counted_all no_counts answers
+counts_of answers = counts_with_all no_counts answers

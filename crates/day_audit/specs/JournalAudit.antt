@@ -1,10 +1,10 @@
 -- What an audit of a journal owes.
-use Rattle.std.specs.Prelude.{◌≡◌, ℕ, List, Option, None, unwrap_or, Result, Ok, Err}
+use Rattle.std.specs.Prelude.{◌≡◌, ℕ, Bool, List, Option, None, unwrap_or, Result, Ok, Err}
 use Rattle.std.specs.Io.KnownBytes.{Appends}
 use Rattle.byte_streams.specs.Streams.{AppendsBeginning}
 use Rattle.auction.specs.ConfigFault.{open_fault}
 use Rattle.auction.specs.declared.OpenFault.TheVariants.{NoMemory}
-use Rattle.order_file.specs.File.{Fails}
+use Rattle.order_file.specs.File.{FailsAsWanted}
 use Rattle.order_file.specs.declared.fault.FileFault.{FileFault}
 use Rattle.journal.specs.JournalFile.{RecordedDay}
 use Rattle.day_audit.specs.declared.counts.Counts.{Counts}
@@ -12,17 +12,19 @@ use Rattle.day_audit.specs.declared.fault.AuditFault.{AuditFault}
 use Rattle.day_audit.specs.declared.fault.AuditFault.TheVariants.{File, Open, WriteFailed}
 use Rattle.day_audit.specs.Answers.{answers_in}
 use Rattle.day_audit.specs.AuditCounts.{counts_of}
-use Rattle.day_audit.specs.AuditText.{audit_text}
+use Rattle.day_audit.specs.ResultsText.{printed_text}
 
--- What was counted and written, by what the journal says; a fault of the journal comes before one of its day.
-abbrev pub Audits : Option (List ℕ) → Option (List ℕ) → Result RecordedDay FileFault → Result Counts AuditFault → Type 0
-Audits old new said (Err (File f)) = Fails f said
-Audits old new (Ok j) (Err (Open f)) = f ≡ unwrap_or (open_fault j.day.config) NoMemory
-Audits old new (Ok j) (Err WriteFailed) =
-    (open_fault j.day.config ≡ None) × AppendsBeginning old new (audit_text (answers_in j))
-Audits old new (Ok j) (Ok counts) =
-    (open_fault j.day.config ≡ None) × (counts ≡ counts_of (answers_in j)) × Appends old new (audit_text (answers_in j))
-Audits old new (Err f) r = ⊥
+-- What was counted and written, with or without the results, by what the journal says; a fault of the journal comes
+-- before one of its day.
+abbrev pub IsAuditOf : Bool → Option (List ℕ) → Option (List ℕ) → Result RecordedDay FileFault
+    → Result Counts AuditFault → Type 0
+IsAuditOf results old new said (Err (File f)) = FailsAsWanted f said
+IsAuditOf results old new (Ok j) (Err (Open f)) = f ≡ unwrap_or (open_fault j.day.config) NoMemory
+IsAuditOf results old new (Ok j) (Err WriteFailed) =
+    (open_fault j.day.config ≡ None) × AppendsBeginning old new (printed_text results j)
+IsAuditOf results old new (Ok j) (Ok counts) =
+    (open_fault j.day.config ≡ None) × (counts ≡ counts_of (answers_in j)) × Appends old new (printed_text results j)
+IsAuditOf results old new (Err f) r = ⊥
 
 -- nothing was written but by an audit that failed to write
 abbrev pub KeepsText : Option (List ℕ) → Option (List ℕ) → AuditFault → Type 0

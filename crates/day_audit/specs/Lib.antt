@@ -2,5 +2,7 @@ pub mod Answers
 pub mod AuditCounts
 pub mod AuditText
 pub mod AuditStatus
+pub mod BegunAudit
+pub mod ResultsText
 pub mod JournalAudit
 pub mod AuditPromises

@@ -1,7 +1,7 @@
 //! What an audit counts.
 
 ghost use Rattle.std.specs.Prelude.{◌≡◌, ◌<◌, ◌≤◌, ◌-◌, ◌^◌};
-ghost use Rattle.day_audit.specs.AuditCounts.{counted, first_or, no_counts};
+ghost use Rattle.day_audit.specs.AuditCounts.{counts_with, first_or, no_counts};
 ghost use Rattle.day_audit.specs.AuditStatus.{counts_status};
 
 /// What is found of an entry.
@@ -55,7 +55,7 @@ impl Counts {
         requires entries { self.entries < 2 ^ 64 - 1 }
         requires compared { self.compared ≤ self.entries }
         requires unlawful { self.unlawful ≤ self.entries }
-        ensures { result ≡ counted self finding }
+        ensures { result ≡ counts_with self finding }
     {
         let entries = self.entries + 1;
         match finding {

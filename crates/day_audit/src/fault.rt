@@ -25,7 +25,7 @@ impl Display for AuditFault {
             AuditFault::File(fault) => fault.fmt(f),
             AuditFault::Open(OpenFault::BadBounds) => f.write_str("bad bounds"),
             AuditFault::Open(OpenFault::BadReference) => f.write_str("bad reference"),
-            AuditFault::Open(OpenFault::BadLimits) => f.write_str("bad limits"),
+            AuditFault::Open(OpenFault::BadCapacity) => f.write_str("bad limits"),
             AuditFault::Open(OpenFault::NoMemory) => f.write_str("out of memory"),
             AuditFault::WriteFailed => f.write_str("write failed"),
         }

@@ -9,6 +9,7 @@ mod counts;
 mod fault;
 mod laws;
 mod printing;
+mod results;
 mod running;
 
 pub use counts::Counts;

@@ -10,19 +10,22 @@ ghost use Rattle.journal.specs.JournalFile.{journal};
 ghost use Rattle.journal.specs.declared.reading.TheConstants.{MAX_JOURNAL_BYTES};
 ghost use Rattle.printed_lines.specs.Printing.{Prints};
 ghost use Rattle.printed_lines.specs.ReplyWords.{reply_text};
-ghost use Rattle.day_audit.specs.Answers.{answers_from, finding_of};
+ghost use Rattle.day_audit.specs.Answers.{answers_in, finding_of};
+ghost use Rattle.day_audit.specs.BegunAudit.{IsBegun, IsSameDay, day_of};
 ghost use Rattle.day_audit.specs.AuditCounts.{counts_of, no_counts};
 ghost use Rattle.day_audit.specs.AuditText.{audit_text, differences};
-ghost use Rattle.day_audit.specs.JournalAudit.{Audits, KeepsText};
+ghost use Rattle.day_audit.specs.ResultsText.{printed_text, results_text};
+ghost use Rattle.day_audit.specs.JournalAudit.{IsAuditOf, KeepsText};
 
 use crate::counts::{Counts, Finding};
 use crate::fault::AuditFault;
 use crate::printing::{print_counts, print_finding};
+use crate::results::print_results;
 use auction::Auction;
-use auction_terms::{Call, Reply};
+use auction_terms::Reply;
 use byte_streams::{Sink, Source, WriteFailed};
 use csv::ByteRecord;
-use journal::read_journal;
+use journal::{Journal, read_journal};
 use order_file::FileFault;
 use printed_lines::{Page, Printer, is_text_of};
 use std::alloc::Global;
@@ -49,87 +52,101 @@ fn text_at<'a>(texts: &'a ByteRecord, place: usize) -> &'a [u8]
     texts.get(place).unwrap_or(b"".as_slice())
 }
 
-/// Applies each call, compares its recorded text with the reply's, prints where they differ, and counts.
-fn print_differences<S: Sink>(
-    printer: &mut Printer<'_, S>,
-    counts: &mut Counts,
-    auction: &mut Auction,
-    calls: &[Call],
-    texts: &ByteRecord,
-) -> Result<(), WriteFailed>
-    requires counts { counts.old ≡ no_counts }
-    requires auction { auction.old.calls ≡ 0 }
-    requires few { length calls.now ≤ auction.old.config.max_calls }
-    requires even { length (fields_of texts.now) ≡ length calls.now }
-    requires replies { All IsReplyText (fields_of texts.now) }
-    ensures printed { Prints S.Sink printer.old printer.new result
-        (differences 0 (answers_from auction.old calls.now (fields_of texts.now))) }
-    ensures counts { OnOk result (counts.new ≡ counts_of (answers_from auction.old calls.now (fields_of texts.now))) }
-{
-    let mut page = Page::new();
-    for (before, call) in calls.iter().enumerate() {
-        let reply = auction.apply(call.member, call.command);
-        let text = text_at(texts, before);
-        let finding = finding_of(&mut page, text, reply);
-        *counts = counts.with(finding);
-        print_finding(printer, before as u64 + 1, text, reply, finding)?;
+/// An audit under way: a journal, an auction that was opened for its day, and what was counted so far.
+#[derive(Drop)]
+pub(crate) struct Audit<'a> {
+    journal: &'a Journal,
+    auction: Auction,
+    counts: Counts,
+}
+
+impl<'a> Audit<'a> {
+    /// Applies each call, compares its recorded text with the reply's, prints where they differ, and counts.
+    fn print_differences<S: Sink>(
+        &mut self,
+        printer: &mut Printer<'_, S>,
+    ) -> Result<(), WriteFailed>
+        requires { IsBegun self.old }
+        ensures printed { Prints S.Sink printer.old printer.new result (differences 0 (answers_in (day_of self.old))) }
+        ensures counts { OnOk result (self.new.counts ≡ counts_of (answers_in (day_of self.old))) }
+        ensures day { IsSameDay self.old self.new }
+    {
+        let journal = self.journal;
+        let mut page = Page::new();
+        for (before, call) in journal.calls.iter().enumerate() {
+            let reply = self.auction.apply(call.member, call.command);
+            let text = text_at(&journal.texts, before);
+            let finding = finding_of(&mut page, text, reply);
+            self.counts = self.counts.with(finding);
+            print_finding(printer, before as u64 + 1, text, reply, finding)?;
+        }
+        Ok(())
     }
-    Ok(())
-}
 
-/// Prints the whole text of an audit.
-fn print_audit_text<S: Sink>(
-    printer: &mut Printer<'_, S>,
-    counts: &mut Counts,
-    auction: &mut Auction,
-    calls: &[Call],
-    texts: &ByteRecord,
-) -> Result<(), WriteFailed>
-    requires counts { counts.old ≡ no_counts }
-    requires auction { auction.old.calls ≡ 0 }
-    requires few { length calls.now ≤ auction.old.config.max_calls }
-    requires even { length (fields_of texts.now) ≡ length calls.now }
-    requires replies { All IsReplyText (fields_of texts.now) }
-    ensures printed { Prints S.Sink printer.old printer.new result
-        (audit_text (answers_from auction.old calls.now (fields_of texts.now))) }
-    ensures counts { OnOk result (counts.new ≡ counts_of (answers_from auction.old calls.now (fields_of texts.now))) }
-{
-    print_differences(printer, counts, auction, calls, texts)?;
-    print_counts(printer, *counts)
-}
+    /// Prints what is found of the day: the differences, and then what was counted.
+    fn print_findings<S: Sink>(&mut self, printer: &mut Printer<'_, S>) -> Result<(), WriteFailed>
+        requires { IsBegun self.old }
+        ensures printed { Prints S.Sink printer.old printer.new result (audit_text (answers_in (day_of self.old))) }
+        ensures counts { OnOk result (self.new.counts ≡ counts_of (answers_in (day_of self.old))) }
+        ensures day { IsSameDay self.old self.new }
+    {
+        self.print_differences(printer)?;
+        print_counts(printer, self.counts)
+    }
 
-/// Writes the whole text of an audit, or at a failure a beginning of it.
-fn write_audit<S: Sink>(
-    writer: &mut S,
-    counts: &mut Counts,
-    auction: &mut Auction,
-    calls: &[Call],
-    texts: &ByteRecord,
-) -> Result<(), WriteFailed>
-    requires counts { counts.old ≡ no_counts }
-    requires auction { auction.old.calls ≡ 0 }
-    requires few { length calls.now ≤ auction.old.config.max_calls }
-    requires even { length (fields_of texts.now) ≡ length calls.now }
-    requires replies { All IsReplyText (fields_of texts.now) }
-    ensures written { WritesAll S.Sink writer.old writer.new result
-        (audit_text (answers_from auction.old calls.now (fields_of texts.now))) }
-    ensures counts { OnOk result (counts.new ≡ counts_of (answers_from auction.old calls.now (fields_of texts.now))) }
-{
-    let mut printer = Printer::new(writer);
-    print_audit_text(&mut printer, counts, auction, calls, texts)?;
-    printer.flush()
+    /// Prints the results of the day, whose calls are applied from its beginning again.
+    fn print_results<S: Sink>(&mut self, printer: &mut Printer<'_, S>) -> Result<(), WriteFailed>
+        requires { length (day_of self.old).calls ≤ self.old.auction.config.max_calls }
+        ensures printed { Prints S.Sink printer.old printer.new result
+            (results_text self.old.auction.config (day_of self.old).calls) }
+        ensures counts { self.new.counts ≡ self.old.counts }
+    {
+        self.auction.reset();
+        print_results(printer, &mut self.auction, self.journal.calls.as_slice())
+    }
+
+    /// Prints the whole text of an audit, with the results of the day where they are wanted.
+    fn print<S: Sink>(
+        &mut self,
+        printer: &mut Printer<'_, S>,
+        results: bool,
+    ) -> Result<(), WriteFailed>
+        requires { IsBegun self.old }
+        ensures printed { Prints S.Sink printer.old printer.new result (printed_text results (day_of self.old)) }
+        ensures counts { OnOk result (self.new.counts ≡ counts_of (answers_in (day_of self.old))) }
+    {
+        self.print_findings(printer)?;
+        if !results {
+            return Ok(());
+        }
+        self.print_results(printer)
+    }
+
+    /// Writes the whole text of an audit, or at a failure a beginning of it.
+    fn write<S: Sink>(&mut self, writer: &mut S, results: bool) -> Result<(), WriteFailed>
+        requires { IsBegun self.old }
+        ensures written { WritesAll S.Sink writer.old writer.new result (printed_text results (day_of self.old)) }
+        ensures counts { OnOk result (self.new.counts ≡ counts_of (answers_in (day_of self.old))) }
+    {
+        let mut printer = Printer::new(writer);
+        self.print(&mut printer, results)?;
+        printer.flush()
+    }
 }
 
 /// Audits a journal: reads it to its end, opens an auction of its day, applies its calls one by one, and compares each
 /// recorded reply, byte for byte, with the auction's own.
 ///
 /// A line is written for each that differs, then how many entries there are, how many were compared and how many are
-/// unlawful, and whether the journal is legal or the place from 0 of its first unlawful entry. A fault of the journal
-/// comes before one of its day, and nothing is written where either has a fault; a write that fails leaves a beginning.
+/// unlawful, and whether the journal is legal or the place from 0 of its first unlawful entry. With `results` the
+/// lawful results of the day follow: the line of each uncross that was accepted, as a run prints it, and the auction
+/// that the day is in, or that it is over. A fault of the journal comes before one of its day, and nothing is written
+/// where either has a fault; a write that fails leaves a beginning.
 pub fn audit_journal<R: Source, S: Sink>(
     alloc: Global,
     reader: &mut R,
     writer: &mut S,
+    results: bool,
 ) -> Result<Counts, AuditFault>
     // A read failed.
     ensures read_failed { IsErrOf result (AuditFault.File FileFault.ReadFailed)
@@ -138,7 +155,7 @@ pub fn audit_journal<R: Source, S: Sink>(
     ensures write_failed { IsErrOf result AuditFault.WriteFailed ↔ (S.failures writer.old < S.failures writer.new) }
     // Else, want of memory aside, it is the audit of what the journal says.
     ensures audit { IfSome (R.left reader.old) (λ bytes.
-        Audits (S.written writer.old) (S.written writer.new) (journal bytes) result) }
+        IsAuditOf results (S.written writer.old) (S.written writer.new) (journal bytes) result) }
     ensures kept { IfErr result (KeepsText (S.written writer.old) (S.written writer.new)) }
     // However long the journal is, at most so many bytes are taken.
     ensures taken { TakesAtMost (MAX_JOURNAL_BYTES + 1) (R.left reader.old) (R.left reader.new) }
@@ -147,14 +164,17 @@ pub fn audit_journal<R: Source, S: Sink>(
         Ok(journal) => journal,
         Err(fault) => return Err(AuditFault::File(fault)),
     };
-    let mut auction = match Auction::open(alloc, journal.day.config) {
+    let auction = match Auction::open(alloc, journal.day.config) {
         Ok(auction) => auction,
         Err(fault) => return Err(AuditFault::Open(fault)),
     };
-    let mut counts = Counts::none();
-    let calls = journal.calls.as_slice();
-    let Ok(()) = write_audit(writer, &mut counts, &mut auction, calls, &journal.texts) else {
+    let mut audit = Audit {
+        journal: &journal,
+        auction,
+        counts: Counts::none(),
+    };
+    let Ok(()) = audit.write(writer, results) else {
         return Err(AuditFault::WriteFailed);
     };
-    Ok(counts)
+    Ok(audit.counts)
 }

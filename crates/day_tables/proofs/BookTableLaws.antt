@@ -1,30 +1,36 @@
 -- The rows of a table are the records of its book.
 use Rattle.std.specs.Option.{option_map_or}
-use Rattle.std.proofs.Common.{◌≡◌, ℕ, zero, suc, ◌+◌, ◌-◌, ◌<◌, ◌≤◌, Bool, true, false, cond, eqb, ◌||◌, List, [], ◌∷◌, ◌++◌, length, get_or, drop, Option, Some, None, IfSome, option_map, inl, inr, refl, sym, ap, subst, ◌∙◌, append_assoc, add-one, drop-cons, arith}
+use Rattle.std.proofs.Common.{◌≡◌, ℕ, zero, suc, ◌+◌, ◌-◌, ◌<◌, ◌≤◌, Bool, true, false, cond, eqb, ◌||◌, List, [], ◌∷◌}
+use Rattle.std.proofs.Common.{◌++◌, length, get_or, drop, Option, Some, None, IfSome, option_map, inl, inr, refl, sym}
+use Rattle.std.proofs.Common.{ap, subst, ◌∙◌, append_assoc, add-one, drop-cons, arith}
 use Rattle.std.proofs.lemmas.Bool.{cases_Bool, eq-eqb, eqb-true}
 use Rattle.std.proofs.lemmas.List.{append-nil, drop_all}
 use Rattle.auction_terms.specs.declared.Config.{Config}
 use Rattle.auction_terms.specs.declared.Entry.{Entry}
-use Rattle.auction_terms.specs.declared.Kind.{Kind}
+use Rattle.auction_terms.specs.declared.AuctionKind.{AuctionKind}
 use Rattle.auction_terms.specs.declared.Order.{Order}
-use Rattle.auction_terms.specs.declared.Side.TheVariants.{Buy, Sell}
-use Rattle.auction_terms.specs.Book.{demand, supply, volume, surplus, surplus_side, has_bid_surplus, has_ask_surplus, limits, counted, kind_now}
+use Rattle.auction_terms.specs.declared.Side.TheVariants.{Bid, Ask}
+use Rattle.auction_terms.specs.Book.{demand, supply, volume, surplus, surplus_side, has_bid_surplus, has_ask_surplus}
+use Rattle.auction_terms.specs.Book.{limits, auction_orders, current_kind}
 use Rattle.auction_terms.specs.AuctionPrice.{best_limits, price_tick, price, priced}
 use Rattle.auction_terms.specs.Day.{State, display, display_of, step, call_of}
-use Rattle.auction_terms.specs.Ladder.{LadderView, ladder_of, spread, standing, market, presence}
-use Rattle.auction_terms.specs.Devices.Leading.{has}
+use Rattle.auction_terms.specs.Ladder.{LadderView, ladder_of, tick_values, quantity_at, market_quantity, limit_flag}
+use Rattle.auction_terms.specs.Auxiliary.BestTicks.{has}
 use Rattle.auction_terms.specs.declared.Call.{Call}
-use Rattle.auction_terms.specs.Devices.Running.{Running, called}
-use Rattle.auction_terms.proofs.LadderLaws.{length-spread, at_spread}
+use Rattle.auction_terms.specs.Auxiliary.RunningAuction.{RunningAuction, auction_after_call}
+use Rattle.auction_terms.proofs.LadderLaws.{length-tick_values, at_spread}
 use Rattle.tick_ladder.specs.TickLadder.{IsLadder, IsLadderOf}
-use Rattle.auction.specs.AuctionState.{counting, ladder_over}
+use Rattle.auction.specs.AuctionState.{current_orders, ladder_over}
 use Rattle.day_tables.specs.declared.book.Table.{Table}
 use Rattle.day_tables.specs.declared.curves.Curves.{Curves}
 use Rattle.day_tables.specs.declared.rule.Rule.{Rule}
 use Rattle.day_tables.specs.DecidingRule.{rule_of}
-use Rattle.day_tables.specs.BookTable.{Shown, shown_in, is_among, is_price, has_record, price_word, rule_word, tick_record, tick_records, market_record, book_table, table_before, text_before, tables_after}
-use Rattle.day_tables.specs.TableCurves.{HasRoom, AreCurves, TellsRule}
-use Rattle.day_tables.specs.TableRows.{HasPlaces, IsTableOf, is_at_price, is_row, side_between, rule_at, row, row_if, rows_below, market_row, tick_shown}
+use Rattle.day_tables.specs.BookTable.{ShownBook, shown_book, is_among, is_price, has_record, rule_field, rule_word}
+use Rattle.day_tables.specs.BookTable.{tick_record, tick_records, market_record, book_table, table_before, text_before}
+use Rattle.day_tables.specs.BookTable.{tables_after}
+use Rattle.day_tables.specs.TableCurves.{HasRoom, AreCurves, IsDecidingRule}
+use Rattle.day_tables.specs.TableRows.{HasPlaces, IsTableOf, is_at_price, is_row, side_between, rule_at, row, row_if}
+use Rattle.day_tables.specs.TableRows.{rows_below, market_row, tick_shown}
 use Rattle.day_tables.proofs.TickTableLaws.{limit_present, long_present}
 
 -- ---- what is among some ticks
@@ -39,7 +45,8 @@ flag_tests false = refl
 
 -- the same word where the price is at the tick
 rule_words : (book : List Order) (rule : Rule) (t : ℕ) (o : Option ℕ) → IfSome o (λ tick. rule_of book ≡ Some rule)
-    → cond (option_map_or (λ p. eqb p t) o false) (rule_word rule) [] ≡ cond (option_map_or (λ p. eqb p t) o false) (option_map_or rule_word (rule_of book) []) []
+    → cond (option_map_or (λ p. eqb p t) o false) (rule_word rule) [] ≡ cond (option_map_or (λ p. eqb p t) o false)
+    (option_map_or rule_word (rule_of book) []) []
 rule_words book rule t None told = refl
 rule_words book rule t (Some p) told = rw told refl
 
@@ -47,30 +54,37 @@ side_is : (book : List Order) (t : ℕ) → side_between (demand book t) (supply
 unfolding surplus_side has_bid_surplus has_ask_surplus
 side_is book t = refl
 
-module _ (shown : Shown) (table : Table) (is : IsTableOf shown table) where
+module _ (shown : ShownBook) (table : Table) (is : IsTableOf shown table) where
   module _ (place : ℕ) (within : place < length table.bids.now) where
-    at_place : (f : ℕ → ℕ) (xs : List ℕ) → xs ≡ spread f table.low (length table.bids.now) → get_or xs place 0 ≡ f (table.low + place)
+    at_place : (f : ℕ → ℕ) (xs : List ℕ) → xs ≡ tick_values f table.low (length table.bids.now)
+        → get_or xs place 0 ≡ f (table.low + place)
     at_place f xs e = ap (λ l. get_or l place 0) e ∙ at_spread f table.low (length table.bids.now) place within
 
     is_limit : eqb (get_or table.present.now place 0) 1 ≡ is_among (table.low + place) (limits shown.book)
     is_limit =
-        rw (at_place (presence shown.book) table.present.now is.present)
-        (flag_tests _ ∙ limit_present shown.book (table.low + place) ∙ sym (among_has (table.low + place) (limits shown.book)))
+        rw (at_place (limit_flag shown.book) table.present.now is.present)
+        (flag_tests _ ∙ limit_present shown.book (table.low + place)
+        ∙ sym (among_has (table.low + place) (limits shown.book)))
 
-    is_best_there : eqb (get_or table.curves.now.best.items place 0) 1 ≡ is_among (table.low + place) (best_limits shown.book)
+    is_best_there : eqb (get_or table.curves.now.best.items place 0) 1
+        ≡ is_among (table.low + place) (best_limits shown.book)
     is_best_there = elim (cases_Bool (eqb (get_or table.curves.now.best.items place 0) 1)) [
       | inl flagged ↦
           let flag = eqb-true (get_or table.curves.now.best.items place 0) 1 flagged in
           let there : has (table.low + place) (best_limits shown.book) ≡ true =
-          subst (λ t. has t (best_limits shown.book) ≡ true) (at_spread (λ t. t) table.low (length table.bids.now) place within) (is.curves.best.there place flag) in
+          subst (λ t. has t (best_limits shown.book) ≡ true)
+          (at_spread (λ t. t) table.low (length table.bids.now) place within) (is.curves.best.there place flag) in
           flagged ∙ sym there ∙ sym (among_has (table.low + place) (best_limits shown.book))
       | inr unflagged ↦ elim (cases_Bool (has (table.low + place) (best_limits shown.book))) [
         | inl there ↦
             let p = is.curves.best.place (table.low + place) there in
             let in_it : p.0 < length table.bids.now = omega (arith, p.1, is.curves.flags) in
-            let same : p.0 ≡ place = omega (arith, p.3, at_spread (λ t. t) table.low (length table.bids.now) p.0 in_it) in
-            let flag : get_or table.curves.now.best.items place 0 ≡ 1 = subst (λ k. get_or table.curves.now.best.items k 0 ≡ 1) same p.2 in
-            absurd (let wrong : true ≡ false = sym (eq-eqb (get_or table.curves.now.best.items place 0) 1 flag) ∙ unflagged in cc)
+            let same : p.0 ≡ place =
+            omega (arith, p.3, at_spread (λ t. t) table.low (length table.bids.now) p.0 in_it) in
+            let flag : get_or table.curves.now.best.items place 0 ≡ 1 =
+            subst (λ k. get_or table.curves.now.best.items k 0 ≡ 1) same p.2 in
+            absurd (let wrong : true ≡ false =
+            sym (eq-eqb (get_or table.curves.now.best.items place 0) 1 flag) ∙ unflagged in cc)
         | inr not_there ↦ unflagged ∙ sym not_there ∙ sym (among_has (table.low + place) (best_limits shown.book))
       ]
     ]
@@ -78,8 +92,10 @@ module _ (shown : Shown) (table : Table) (is : IsTableOf shown table) where
     price_there : is_at_price table (table.low + place) ≡ is_price shown (table.low + place)
     price_there = ap (λ o. option_map_or (λ p. eqb p (table.low + place)) o false) is.price
 
-    rule_there : rule_at table (table.low + place) ≡ price_word shown (table.low + place)
-    rule_there = rw is.price (rule_words shown.book table.rule (table.low + place) (price_tick shown.book shown.reference) (is.rule shown.reference))
+    rule_there : rule_at table (table.low + place) ≡ rule_field shown (table.low + place)
+    rule_there =
+        rw is.price (rule_words shown.book table.rule (table.low + place) (price_tick shown.book shown.reference)
+        (is.rule shown.reference))
 
     row_is : row table place ≡ tick_record shown (table.low + place)
     unfolding row tick_record
@@ -90,8 +106,8 @@ module _ (shown : Shown) (table : Table) (is : IsTableOf shown table) where
           is_best_there,
           is.command,
           is.kind,
-          at_place (standing Buy book) table.bids.now is.bids,
-          at_place (standing Sell book) table.asks.now is.asks,
+          at_place (quantity_at Bid book) table.bids.now is.bids,
+          at_place (quantity_at Ask book) table.asks.now is.asks,
           at_place (demand book) table.curves.now.demands.items is.curves.demands,
           at_place (supply book) table.curves.now.supplies.items is.curves.supplies,
           at_place (volume book) table.curves.now.volumes.items is.curves.volumes,
@@ -102,10 +118,13 @@ module _ (shown : Shown) (table : Table) (is : IsTableOf shown table) where
     row_there : is_row table place ≡ has_record shown (table.low + place)
     row_there = rw (is_limit, price_there) refl
 
-    row_if_is : row_if table place ≡ cond (has_record shown (table.low + place)) (tick_record shown (table.low + place)) []
+    row_if_is : row_if table place ≡ cond (has_record shown (table.low + place)) (tick_record shown (table.low + place))
+        []
     row_if_is = rw (row_there, row_is) refl
 
-  records_more : (m : ℕ) (b : Bool) → has_record shown (table.low + m) ≡ b → tick_records shown table.low (suc m) ≡ cond b (tick_record shown (table.low + m)) [] ++ tick_records shown table.low m
+  records_more : (m : ℕ) (b : Bool) → has_record shown (table.low + m) ≡ b
+      → tick_records shown table.low (suc m) ≡ cond b (tick_record shown (table.low + m)) []
+      ++ tick_records shown table.low m
   unfolding tick_records
   records_more m true e = rw e refl
   records_more m false e = rw e refl
@@ -136,13 +155,15 @@ unfolding priced
 shown_price book r None = refl
 shown_price book r (Some p) = refl
 
-pub price_of_display : (state : State) → tick_shown (display state) ≡ price_tick (counting state) state.reference
+pub price_of_display : (state : State) → tick_shown (display state) ≡ price_tick (current_orders state) state.reference
 unfolding display price
-price_of_display state = shown_price (counting state) state.reference (price_tick (counting state) state.reference)
+price_of_display state =
+    shown_price (current_orders state) state.reference (price_tick (current_orders state) state.reference)
 
 pub ladder_ticks : (low n : ℕ) (book : List Order) (v : LadderView) → v ≡ ladder_of low n book → length v.bids ≡ n
 unfolding ladder_of
-ladder_ticks low n book v is = ap (λ (w : LadderView). length w.bids) is ∙ length-spread (standing Buy book) low n
+ladder_ticks low n book v is =
+    ap (λ (w : LadderView). length w.bids) is ∙ length-tick_values (quantity_at Bid book) low n
 
 pub ladder_low : (low n : ℕ) (book : List Order) (v : LadderView) → v ≡ ladder_of low n book → v.low ≡ low
 unfolding ladder_of
@@ -150,11 +171,11 @@ ladder_low low n book v is = ap (λ (w : LadderView). w.low) is
 
 -- the fields of a ladder of a book
 record LadderParts (v : LadderView) (book : List Order) : Type 0 where
-  bids : v.bids ≡ spread (standing Buy book) v.low (length v.bids)
-  asks : v.asks ≡ spread (standing Sell book) v.low (length v.bids)
-  present : v.present ≡ spread (presence book) v.low (length v.bids)
-  market_bids : v.market_bids ≡ market Buy book
-  market_asks : v.market_asks ≡ market Sell book
+  bids : v.bids ≡ tick_values (quantity_at Bid book) v.low (length v.bids)
+  asks : v.asks ≡ tick_values (quantity_at Ask book) v.low (length v.bids)
+  present : v.present ≡ tick_values (limit_flag book) v.low (length v.bids)
+  market_bids : v.market_bids ≡ market_quantity Bid book
+  market_asks : v.market_asks ≡ market_quantity Ask book
 
 ladder_parts : (v : LadderView) (book : List Order) → IsLadderOf v book → LadderParts v book
 unfolding ladder_of
@@ -175,7 +196,8 @@ pub record IsDrawn (v : LadderView) (table : Table) : Type 0 where
   pub asks : table.asks.now ≡ v.asks
   pub present : table.present.now ≡ v.present
 
-pub places_drawn : (v : LadderView) (table : Table) → IsLadder v → IsDrawn v table → HasRoom (length v.bids) table.curves.now → HasPlaces table
+pub places_drawn : (v : LadderView) (table : Table) → IsLadder v → IsDrawn v table
+    → HasRoom (length v.bids) table.curves.now → HasPlaces table
 places_drawn v table sound drawn room = record {
   present = rw (drawn.present, drawn.bids) (long_present v sound);
   asks = rw (drawn.asks, drawn.bids) sound.same;
@@ -184,8 +206,10 @@ places_drawn v table sound drawn room = record {
   last = rw (drawn.bids, drawn.low) sound.last;
 }
 
-pub table_drawn : (v : LadderView) (shown : Shown) (table : Table) → IsLadderOf v shown.book → IsDrawn v table → table.command ≡ shown.command → table.kind ≡ shown.auction
-    → AreCurves v.low (length v.bids) table.curves.now shown.book → table.price ≡ price_tick shown.book shown.reference → TellsRule shown.book table.rule → IsTableOf shown table
+pub table_drawn : (v : LadderView) (shown : ShownBook) (table : Table) → IsLadderOf v shown.book → IsDrawn v table
+    → table.command ≡ shown.command → table.kind ≡ shown.auction
+    → AreCurves v.low (length v.bids) table.curves.now shown.book → table.price ≡ price_tick shown.book shown.reference
+    → IsDecidingRule shown.book table.rule → IsTableOf shown table
 table_drawn v shown table is drawn command kind curves price rule =
     let parts = ladder_parts v shown.book is in
     record {
@@ -202,88 +226,110 @@ table_drawn v shown table is drawn command kind curves price rule =
     }
 
 -- the text of the table before a command, in the call phase of an auction
-pub table_told : (auction : Running) (command : ℕ) (kind : Kind) (v : LadderView) (table : Table) → auction.state.auction ≡ Some kind
-    → v ≡ ladder_over auction.config (counting auction.state) → IsLadderOf v (counting auction.state) → IsDrawn v table
-    → table.command ≡ command → table.kind ≡ kind → AreCurves v.low (length v.bids) table.curves.now (counting auction.state)
-    → table.price ≡ tick_shown (display auction.state) → TellsRule (counting auction.state) table.rule
+pub table-printed : (auction : RunningAuction) (command : ℕ) (kind : AuctionKind) (v : LadderView) (table : Table)
+    → auction.state.auction ≡ Some kind
+    → v ≡ ladder_over auction.config (current_orders auction.state) → IsLadderOf v (current_orders auction.state)
+    → IsDrawn v table
+    → table.command ≡ command → table.kind ≡ kind
+    → AreCurves v.low (length v.bids) table.curves.now (current_orders auction.state)
+    → table.price ≡ tick_shown (display auction.state) → IsDecidingRule (current_orders auction.state) table.rule
     → market_row table ++ rows_below table (length table.bids.now) ≡ table_before auction.config command auction.state
 unfolding table_before
-table_told auction command kind v table now over is drawn to_command to_kind curves price rule =
+table-printed auction command kind v table now over is drawn to_command to_kind curves price rule =
     let state = auction.state in
-    let shown : Shown = shown_in command state kind in
-    let same : counting state ≡ shown.book = ap (λ k. counted state.book (kind_now k)) now in
+    let shown : ShownBook = shown_book command state kind in
+    let same : current_orders state ≡ shown.book = ap (λ k. auction_orders state.book (current_kind k)) now in
     let of_book : IsTableOf shown table =
     table_drawn v shown table (subst (IsLadderOf v) same is) drawn to_command to_kind
     (subst (AreCurves v.low (length v.bids) table.curves.now) same curves)
     (price ∙ price_of_display state ∙ ap (λ book. price_tick book state.reference) same)
-    (subst (λ book. TellsRule book table.rule) same rule) in
+    (subst (λ book. IsDecidingRule book table.rule) same rule) in
     rw now
     (whole_table shown table of_book auction.config
-    (drawn.low ∙ ladder_low auction.config.low _ (counting state) v over)
-    (ap length drawn.bids ∙ ladder_ticks auction.config.low _ (counting state) v over))
+    (drawn.low ∙ ladder_low auction.config.low _ (current_orders state) v over)
+    (ap length drawn.bids ∙ ladder_ticks auction.config.low _ (current_orders state) v over))
 
 -- ---- rows and tables, one by one
 
 -- a field was put on the page, and then all that is left
-pub field-rest : (old middle new field rest : List ℕ) → middle ≡ old ++ field → new ≡ middle ++ rest → new ≡ old ++ (field ++ rest)
+pub field-rest : (old middle new field rest : List ℕ) → middle ≡ old ++ field → new ≡ middle ++ rest
+    → new ≡ old ++ (field ++ rest)
 field-rest old middle new field rest e f = f ∙ ap (λ t. t ++ rest) e ∙ append_assoc old field rest
 
-pub rows-next : (table : Table) (front all : List ℕ) (place next : ℕ) → place ≡ next + 1 → front ++ rows_below table place ≡ all
+pub rows-next : (table : Table) (front all : List ℕ) (place next : ℕ) → place ≡ next + 1
+    → front ++ rows_below table place ≡ all
     → front ++ (row_if table next ++ rows_below table next) ≡ all
 unfolding rows_below
 rows-next table front all place next is e =
     let to : place ≡ suc next = omega arith in
     rw to at e
 
-pub rows-done : (table : Table) (front all : List ℕ) (place next : ℕ) → place ≡ next + 1 → front ++ rows_below table place ≡ all
+pub rows-done : (table : Table) (front all : List ℕ) (place next : ℕ) → place ≡ next + 1
+    → front ++ rows_below table place ≡ all
     → (front ++ row_if table next) ++ rows_below table next ≡ all
 rows-done table front all place next is e = append_assoc front _ _ ∙ rows-next table front all place next is e
 
-pub rows-end : (table : Table) (front all : List ℕ) (place : ℕ) → place ≡ 0 → front ++ rows_below table place ≡ all → front ≡ all
+pub rows-end : (table : Table) (front all : List ℕ) (place : ℕ) → place ≡ 0 → front ++ rows_below table place ≡ all
+    → front ≡ all
 unfolding rows_below
 rows-end table front all place none e = sym (append-nil front) ∙ rw none at e
 
 pub tables-next : (config : Config) (state : State) (entries : List Entry) (front all : List ℕ) (i : ℕ) (d : Entry)
     → front ++ tables_after config i state (drop i entries) ≡ all → i < length entries
-    → front ++ (text_before config (i + 1) state (get_or entries i d).reply ++ tables_after config (i + 1) (step config state (call_of (get_or entries i d))).0 (drop (i + 1) entries)) ≡ all
+    → front
+    ++ (text_before config (i + 1) state (get_or entries i d).reply
+    ++ tables_after config (i + 1) (step config state (call_of (get_or entries i d))).0 (drop (i + 1) entries))
+    ≡ all
 unfolding tables_after
 tables-next config state entries front all i d e within =
-    let next : drop i entries ≡ get_or entries i d ∷ drop (i + 1) entries = rw (add-one i) (drop-cons entries i d within) in
+    let next : drop i entries ≡ get_or entries i d ∷ drop (i + 1) entries =
+    rw (add-one i) (drop-cons entries i d within) in
     rw next at e
 
 pub tables-done : (config : Config) (state next : State) (entries : List Entry) (front all : List ℕ) (i : ℕ) (d : Entry)
     → next ≡ (step config state (call_of (get_or entries i d))).0
     → front ++ tables_after config i state (drop i entries) ≡ all → i < length entries
-    → (front ++ text_before config (i + 1) state (get_or entries i d).reply) ++ tables_after config (i + 1) next (drop (i + 1) entries) ≡ all
-tables-done config state next entries front all i d is e within = rw is (append_assoc front _ _ ∙ tables-next config state entries front all i d e within)
+    → (front ++ text_before config (i + 1) state (get_or entries i d).reply)
+    ++ tables_after config (i + 1) next (drop (i + 1) entries) ≡ all
+tables-done config state next entries front all i d is e within =
+    rw is (append_assoc front _ _ ∙ tables-next config state entries front all i d e within)
 
 pub tables-end : (config : Config) (state : State) (entries : List Entry) (front all : List ℕ) (i : ℕ)
-    → front ++ tables_after config i state (drop i entries) ≡ all → i ≡ length entries → front ++ table_before config (length entries + 1) state ≡ all
+    → front ++ tables_after config i state (drop i entries) ≡ all → i ≡ length entries
+    → front ++ table_before config (length entries + 1) state ≡ all
 unfolding tables_after
 tables-end config state entries front all i e is =
     let none : drop i entries ≡ [] = drop_all i entries (omega arith) in
     rw (← is) (rw none at e)
 
-pub stepped_from : (old middle new : Running) (call : Call) (config : Config) → new ≡ called middle call → middle ≡ old → old.config ≡ config
+pub stepped_from : (old middle new : RunningAuction) (call : Call) (config : Config)
+    → new ≡ auction_after_call middle call → middle ≡ old → old.config ≡ config
     → new.state ≡ (step config old.state call).0
 stepped_from old middle new call config is same of = rw (is, same, of) refl
 
 -- ---- the room of the curves
 
-pub room_of : (old new : Running) (v : LadderView) (curves : Curves) → new ≡ old → v ≡ ladder_over new.config (counting new.state)
+pub room_of : (old new : RunningAuction) (v : LadderView) (curves : Curves) → new ≡ old
+    → v ≡ ladder_over new.config (current_orders new.state)
     → HasRoom (old.config.high + 1 - old.config.low) curves → HasRoom (length v.bids) curves
 room_of old new v curves same over room =
-    let long = ladder_ticks old.config.low (old.config.high + 1 - old.config.low) (counting old.state) v (rw same at over) in
+    let long =
+    ladder_ticks old.config.low (old.config.high + 1 - old.config.low) (current_orders old.state) v
+    (rw same at over) in
     subst (λ n. HasRoom n curves) (sym long) room
 
-pub room_back : (old new : Running) (v : LadderView) (curves : Curves) → new ≡ old → v ≡ ladder_over new.config (counting new.state)
+pub room_back : (old new : RunningAuction) (v : LadderView) (curves : Curves) → new ≡ old
+    → v ≡ ladder_over new.config (current_orders new.state)
     → HasRoom (length v.bids) curves → HasRoom (old.config.high + 1 - old.config.low) curves
 room_back old new v curves same over room =
-    let long = ladder_ticks old.config.low (old.config.high + 1 - old.config.low) (counting old.state) v (rw same at over) in
+    let long =
+    ladder_ticks old.config.low (old.config.high + 1 - old.config.low) (current_orders old.state) v
+    (rw same at over) in
     subst (λ n. HasRoom n curves) long room
 
 pub own_room : (n : ℕ) (curves : Curves) → HasRoom n curves → HasRoom (length curves.best.items) curves
 own_room n curves room = subst (λ m. HasRoom m curves) (sym room.best) room
 
-pub own_curves : (low n : ℕ) (curves : Curves) (book : List Order) → AreCurves low n curves book → AreCurves low (length curves.best.items) curves book
+pub own_curves : (low n : ℕ) (curves : Curves) (book : List Order) → AreCurves low n curves book
+    → AreCurves low (length curves.best.items) curves book
 own_curves low n curves book are = subst (λ m. AreCurves low m curves book) (sym are.flags) are

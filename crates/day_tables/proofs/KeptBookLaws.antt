@@ -1,26 +1,31 @@
 -- The tables of a book that are kept while a day's calls are applied.
-use Rattle.std.proofs.Common.{◌≡◌, ◌∙◌, ◌+◌, ◌-◌, ◌<◌, ◌++◌, ◌∷◌, [], ℕ, List, Bool, true, false, if◌then◌else◌, length, drop, get_or, add-one, drop-cons, refl, sym, ap, subst, append_assoc, length-append, arith, Result, Ok, Err, OnOk}
+use Rattle.std.proofs.Common.{◌≡◌, ◌∙◌, ◌+◌, ◌-◌, ◌<◌, ◌++◌, ◌∷◌, [], ℕ, List, Bool, true, false, if◌then◌else◌, length}
+use Rattle.std.proofs.Common.{drop, get_or, add-one, drop-cons, refl, sym, ap, subst, append_assoc, length-append}
+use Rattle.std.proofs.Common.{arith, Result, Ok, Err, OnOk}
 use Rattle.std.proofs.lemmas.List.{append-nil, drop_all}
 use Rattle.std.specs.List.{AllByRecursion}
 use Rattle.auction_terms.specs.declared.Call.{Call}
 use Rattle.auction_terms.specs.declared.Config.{Config}
 use Rattle.auction_terms.specs.declared.Entry.{Entry}
 use Rattle.auction_terms.specs.Day.{State, opening_state, step}
-use Rattle.auction_terms.specs.Devices.Running.{Running, called, opened}
-use Rattle.auction.specs.AuctionState.{counting}
+use Rattle.auction_terms.specs.Auxiliary.RunningAuction.{RunningAuction, auction_after_call, opened_auction}
+use Rattle.auction.specs.AuctionState.{current_orders}
 use Rattle.day_tables.specs.declared.keeping.KeptTable.{KeptTable}
 use Rattle.day_tables.specs.declared.keeping.KeptBook.{KeptBook}
-use Rattle.day_tables.specs.AnsweredCalls.{answered}
+use Rattle.day_tables.specs.AnsweredCalls.{entry_of}
 use Rattle.day_tables.specs.BookTable.{table_before, tables_after, text_before}
-use Rattle.day_tables.specs.KeptBook.{AreTables, FollowsBook, HasRoomFor, HoldsBook, tables_of}
+use Rattle.day_tables.specs.KeptBook.{AreTables, HasTablesSoFar, HasRoomFor, HasAllTables, tables_of}
 use Rattle.day_tables.specs.ShownTable.{IsShownIn}
 use Rattle.day_tables.specs.TableCurves.{HasRoom}
 use Rattle.day_tables.proofs.BookTableLaws.{ladder_ticks}
 
 -- one table more
-pub tables-more : (config : Config) (tables : List KeptTable) (table : KeptTable) (state : State) (front : List ℕ) → AreTables config tables front
-    → IsShownIn config state table.heading table.ladder → AreTables config (tables ++ table ∷ []) (front ++ table_before config table.heading.command state)
-tables-more config [] table state front is shown = (state, shown, [], rw is (sym (append-nil (table_before config table.heading.command state))), refl)
+pub tables-more : (config : Config) (tables : List KeptTable) (table : KeptTable) (state : State) (front : List ℕ)
+    → AreTables config tables front
+    → IsShownIn config state table.heading table.ladder
+    → AreTables config (tables ++ table ∷ []) (front ++ table_before config table.heading.command state)
+tables-more config [] table state front is shown =
+    (state, shown, [], rw is (sym (append-nil (table_before config table.heading.command state))), refl)
 tables-more config (t ∷ ts) table state front (s, told, rest, is, more) shown = (
   s,
   told,
@@ -30,30 +35,39 @@ tables-more config (t ∷ ts) table state front (s, told, rest, is, more) shown 
 )
 
 -- no table more
-pub tables-same : (config : Config) (tables : List KeptTable) (front : List ℕ) → AreTables config tables front → AreTables config tables (front ++ [])
+pub tables-same : (config : Config) (tables : List KeptTable) (front : List ℕ) → AreTables config tables front
+    → AreTables config tables (front ++ [])
 tables-same config tables front are = subst (AreTables config tables) (sym (append-nil front)) are
 
 -- no call yet
-pub follows-none : (book : KeptBook) (auction : Running) → auction ≡ opened auction.config → HasRoomFor auction.config book → AreTables auction.config book.tables.items []
-    → FollowsBook book auction []
+pub follows-none : (book : KeptBook) (auction : RunningAuction) → auction ≡ opened_auction auction.config
+    → HasRoomFor auction.config book → AreTables auction.config book.tables.items []
+    → HasTablesSoFar book auction []
 follows-none book auction fresh room are = record {
   room = room;
-  calls = ap (λ (a : Running). a.calls) fresh;
+  calls = ap (λ (a : RunningAuction). a.calls) fresh;
   front = [];
   tables = are;
-  goes_on = λ more. ap (λ (state : State). tables_after auction.config 0 state more) (ap (λ (a : Running). a.state) fresh);
+  goes_on =
+      λ more. ap (λ (state : State). tables_after auction.config 0 state more)
+      (ap (λ (a : RunningAuction). a.state) fresh);
 }
 
 -- one call more
-pub follows-more : (old new : KeptBook) (auction : Running) (call : Call) (entries : List Entry) → new.curves ≡ old.curves
+pub follows-more : (old new : KeptBook) (auction : RunningAuction) (call : Call) (entries : List Entry)
+    → new.curves ≡ old.curves
     → ((front : List ℕ) → AreTables auction.config old.tables.items front
-    → AreTables auction.config new.tables.items (front ++ text_before auction.config (auction.calls + 1) auction.state (step auction.config auction.state call).1))
-    → FollowsBook old auction entries → FollowsBook new (called auction call) (entries ++ answered call (step auction.config auction.state call).1 ∷ [])
+    → AreTables auction.config new.tables.items
+    (front ++ text_before auction.config (auction.calls + 1) auction.state
+    (step auction.config auction.state call).1))
+    → HasTablesSoFar old auction entries
+    → HasTablesSoFar new (auction_after_call auction call)
+    (entries ++ entry_of call (step auction.config auction.state call).1 ∷ [])
 unfolding tables_after
 follows-more old new auction call entries curves tables is =
     let config = auction.config in
     let state = auction.state in
-    let entry = answered call (step config state call).1 in
+    let entry = entry_of call (step config state call).1 in
     let text = text_before config (auction.calls + 1) state (step config state call).1 in
     let long : length (entries ++ entry ∷ []) ≡ length entries + 1 = length-append entries (entry ∷ []) in
     record {
@@ -62,18 +76,25 @@ follows-more old new auction call entries curves tables is =
       front = is.front ++ text;
       tables = tables is.front is.tables;
       goes_on = λ more.
-          rw (long, append_assoc entries (entry ∷ []) more, is.calls, append_assoc is.front _ (tables_after config (length entries + 1) (step config state call).0 more))
+          rw (
+            long,
+            append_assoc entries (entry ∷ []) more,
+            is.calls,
+            append_assoc is.front _ (tables_after config (length entries + 1) (step config state call).0 more),
+          )
           (is.goes_on (entry ∷ more));
     }
 
 -- all calls
-pub holds-closed : (old new : KeptBook) (auction : Running) (entries : List Entry) → new.curves ≡ old.curves
+pub holds-closed : (old new : KeptBook) (auction : RunningAuction) (entries : List Entry) → new.curves ≡ old.curves
     → ((front : List ℕ) → AreTables auction.config old.tables.items front
-    → AreTables auction.config new.tables.items (front ++ table_before auction.config (auction.calls + 1) auction.state))
-    → FollowsBook old auction entries → HoldsBook new auction.config entries
+    → AreTables auction.config new.tables.items
+    (front ++ table_before auction.config (auction.calls + 1) auction.state))
+    → HasTablesSoFar old auction entries → HasAllTables new auction.config entries
 unfolding tables_after
 holds-closed old new auction entries curves tables is =
-    let whole : is.front ++ table_before auction.config (auction.calls + 1) auction.state ≡ tables_of auction.config entries =
+    let whole : is.front ++ table_before auction.config (auction.calls + 1) auction.state
+    ≡ tables_of auction.config entries =
     rw is.calls (is.goes_on [] ∙ ap (λ (es : List Entry). tables_of auction.config es) (append-nil entries)) in
     record {
       room = rw curves is.room;
@@ -82,17 +103,28 @@ holds-closed old new auction entries curves tables is =
 
 -- ---- where memory may be refused
 
-pub follows-kept : {E : Type 0} (r : Result (Unit {0}) E) (old new : KeptBook) (auction : Running) (call : Call) (entries : List Entry) → new.curves ≡ old.curves
+pub follows-kept : {E : Type 0} (r : Result (Unit {0}) E) (old new : KeptBook) (auction : RunningAuction) (call : Call)
+    (entries : List Entry) → new.curves ≡ old.curves
     → ((front : List ℕ) → AreTables auction.config old.tables.items front
-    → OnOk r (AreTables auction.config new.tables.items (front ++ text_before auction.config (auction.calls + 1) auction.state (step auction.config auction.state call).1)))
-    → FollowsBook old auction entries → OnOk r (FollowsBook new (called auction call) (entries ++ answered call (step auction.config auction.state call).1 ∷ []))
-follows-kept (Ok u) old new auction call entries curves tables is = follows-more old new auction call entries curves tables is
+    → OnOk r
+    (AreTables auction.config new.tables.items
+    (front ++ text_before auction.config (auction.calls + 1) auction.state
+    (step auction.config auction.state call).1)))
+    → HasTablesSoFar old auction entries
+    → OnOk r
+    (HasTablesSoFar new (auction_after_call auction call)
+    (entries ++ entry_of call (step auction.config auction.state call).1 ∷ []))
+follows-kept (Ok u) old new auction call entries curves tables is =
+    follows-more old new auction call entries curves tables is
 follows-kept (Err e) old new auction call entries curves tables is = tt
 
-pub holds-kept : {E : Type 0} (r : Result (Unit {0}) E) (old new : KeptBook) (auction : Running) (entries : List Entry) → new.curves ≡ old.curves
+pub holds-kept : {E : Type 0} (r : Result (Unit {0}) E) (old new : KeptBook) (auction : RunningAuction)
+    (entries : List Entry) → new.curves ≡ old.curves
     → ((front : List ℕ) → AreTables auction.config old.tables.items front
-    → OnOk r (AreTables auction.config new.tables.items (front ++ table_before auction.config (auction.calls + 1) auction.state)))
-    → FollowsBook old auction entries → OnOk r (HoldsBook new auction.config entries)
+    → OnOk r
+    (AreTables auction.config new.tables.items
+    (front ++ table_before auction.config (auction.calls + 1) auction.state)))
+    → HasTablesSoFar old auction entries → OnOk r (HasAllTables new auction.config entries)
 holds-kept (Ok u) old new auction entries curves tables is = holds-closed old new auction entries curves tables is
 holds-kept (Err e) old new auction entries curves tables is = tt
 
@@ -102,13 +134,18 @@ holds-kept (Err e) old new auction entries curves tables is = tt
 abbrev pub AreLong : ℕ → List KeptTable → Type 0
 AreLong n tables = AllByRecursion (λ (table : KeptTable). length table.ladder.bids ≡ n) tables
 
-pub tables-long : (config : Config) (tables : List KeptTable) (text : List ℕ) → AreTables config tables text → AreLong (config.high + 1 - config.low) tables
+pub tables-long : (config : Config) (tables : List KeptTable) (text : List ℕ) → AreTables config tables text
+    → AreLong (config.high + 1 - config.low) tables
 tables-long config [] text are = tt
-tables-long config (t ∷ ts) text (state, told, rest, is, more) =
-    (ladder_ticks config.low (config.high + 1 - config.low) (counting state) t.ladder told.over, tables-long config ts rest more)
+tables-long config (t ∷ ts) text (state, told, rest, is, more) = (
+  ladder_ticks config.low (config.high + 1 - config.low) (current_orders state) t.ladder told.over,
+  tables-long config ts rest more,
+)
 
 -- the next table is the first of those that are left
-pub next-table : (tables : List KeptTable) (i : ℕ) (table : KeptTable) → table ≡ get_or tables i table → i < length tables → drop i tables ≡ table ∷ drop (i + 1) tables
+pub next-table : (tables : List KeptTable) (i : ℕ) (table : KeptTable) → table ≡ get_or tables i table
+    → i < length tables → drop i tables ≡ table ∷ drop (i + 1) tables
 next-table tables i table is within =
-    let next : drop i tables ≡ get_or tables i table ∷ drop (i + 1) tables = rw (add-one i) (drop-cons tables i table within) in
+    let next : drop i tables ≡ get_or tables i table ∷ drop (i + 1) tables =
+    rw (add-one i) (drop-cons tables i table within) in
     next ∙ ap (λ (t : KeptTable). t ∷ drop (i + 1) tables) (sym is)

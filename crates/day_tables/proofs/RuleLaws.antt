@@ -1,5 +1,6 @@
 -- The rule that is told of a book says what its price is.
-use Rattle.std.proofs.Common.{◌≡◌, ℕ, Bool, true, false, cond, eqb, List, [], ◌∷◌, All, Some, None, inl, inr, refl, sym, ap, ◌∙◌, subst, arith}
+use Rattle.std.proofs.Common.{◌≡◌, ℕ, Bool, true, false, cond, eqb, List, [], ◌∷◌, All, Some, None, inl, inr, refl, sym}
+use Rattle.std.proofs.Common.{ap, ◌∙◌, subst, arith}
 use Rattle.std.specs.List.{list_all}
 use Rattle.std.proofs.lemmas.Bool.{cases_Bool, eq-eqb, eqb-true, and_parts}
 use Rattle.std.proofs.lemmas.List.Elements.{All-nil, All-cons}
@@ -7,9 +8,9 @@ use Rattle.std.proofs.lemmas.Grind.{common_steps}
 use Rattle.auction_terms.specs.declared.Order.{Order}
 use Rattle.auction_terms.specs.Book.{surplus, has_bid_surplus, has_ask_surplus, limits}
 use Rattle.auction_terms.specs.AuctionPrice.{best_limits, has_market_orders, highest, lowest, is_empty}
-use Rattle.auction_terms.specs.AuctionPrice.{lower_kept, upper_kept, held_between, price_tick}
+use Rattle.auction_terms.specs.AuctionPrice.{lower_end, upper_end, clamp_between, price_tick}
 use Rattle.auction_terms.proofs.BestLaws.{on_bid, on_ask, balanced, side_of}
-use Rattle.day_tables.specs.DecidingRule.{is_one_tick, rule_of, DecidesBy}
+use Rattle.day_tables.specs.DecidingRule.{is_one_tick, rule_of, IsDecidedBy}
 
 -- the ticks of a list are all this one, and there are some
 pub record AreAll (best : ℕ) (ps : List ℕ) : Type 0 where
@@ -43,10 +44,11 @@ pub one_best : (ps : List ℕ) → is_one_tick ps ≡ true → (best : ℕ) × A
 one_best [] h = absurd (let wrong : false ≡ true = h in cc)
 one_best (p ∷ ps) h = (p, one_tick p ps h)
 
-held_at : (best r : ℕ) → held_between (Some best) (Some best) r ≡ Some best
+held_at : (best r : ℕ) → clamp_between (Some best) (Some best) r ≡ Some best
 held_at best r = grind (arith, common_steps)
 
-no_surplus : (book : List Order) (p : ℕ) → has_bid_surplus book p ≡ false → has_ask_surplus book p ≡ false → surplus book p ≡ 0
+no_surplus : (book : List Order) (p : ℕ) → has_bid_surplus book p ≡ false → has_ask_surplus book p ≡ false
+    → surplus book p ≡ 0
 no_surplus book p bid ask = elim (side_of book p) [
   | on_bid side is_bid no_ask more ↦ absurd (let wrong : true ≡ false = sym is_bid ∙ bid in cc)
   | on_ask side no_bid is_ask more ↦ absurd (let wrong : true ≡ false = sym is_ask ∙ ask in cc)
@@ -56,15 +58,26 @@ no_surplus book p bid ask = elim (side_of book p) [
 -- one best limit is the price
 single_price : (book : List Order) (best r : ℕ) → AreAll best (best_limits book)
     → cond (list_all (has_bid_surplus book) (best_limits book)) (highest (best_limits book))
-    (cond (list_all (has_ask_surplus book) (best_limits book)) (lowest (best_limits book)) (held_between (lower_kept book) (upper_kept book) r)) ≡ Some best
-unfolding lower_kept upper_kept
+    (cond (list_all (has_ask_surplus book) (best_limits book)) (lowest (best_limits book))
+    (clamp_between (lower_end book) (upper_end book) r)) ≡ Some best
+unfolding lower_end upper_end
 single_price book best r all = elim (cases_Bool (has_bid_surplus book best)) [
   | inl bid ↦ rw (all.tests (has_bid_surplus book), bid) all.top
   | inr no_bid ↦ elim (cases_Bool (has_ask_surplus book best)) [
     | inl ask ↦ rw (all.tests (has_bid_surplus book), no_bid, all.tests (has_ask_surplus book), ask) all.bottom
     | inr no_ask ↦
-        let zero : eqb (surplus book best) 0 ≡ true = eq-eqb (surplus book best) 0 (no_surplus book best no_bid no_ask) in
-        rw (all.tests (has_bid_surplus book), no_bid, all.tests (has_ask_surplus book), no_ask, all.tests (λ p. eqb (surplus book p) 0), zero, all.top, all.bottom)
+        let zero : eqb (surplus book best) 0 ≡ true =
+        eq-eqb (surplus book best) 0 (no_surplus book best no_bid no_ask) in
+        rw (
+          all.tests (has_bid_surplus book),
+          no_bid,
+          all.tests (has_ask_surplus book),
+          no_ask,
+          all.tests (λ p. eqb (surplus book p) 0),
+          zero,
+          all.top,
+          all.bottom,
+        )
         (held_at best r)
   ]
 ]
@@ -75,11 +88,11 @@ pub price_cases : (book : List Order) (r : ℕ) → price_tick book r
     (cond (is_empty (best_limits book)) None
     (cond (list_all (has_bid_surplus book) (best_limits book)) (highest (best_limits book))
     (cond (list_all (has_ask_surplus book) (best_limits book)) (lowest (best_limits book))
-    (held_between (lower_kept book) (upper_kept book) r))))
+    (clamp_between (lower_end book) (upper_end book) r))))
 unfolding price_tick
 price_cases book r = refl
 
-pub rule_prices : (book : List Order) (r : ℕ) → DecidesBy book r (rule_of book)
+pub rule_prices : (book : List Order) (r : ℕ) → IsDecidedBy book r (rule_of book)
 unfolding rule_of
 rule_prices book r = elim (cases_Bool (is_empty (limits book))) [
   | inl no_limit ↦ elim (cases_Bool (has_market_orders book)) [
@@ -91,12 +104,15 @@ rule_prices book r = elim (cases_Bool (is_empty (limits book))) [
     | inr some ↦ elim (cases_Bool (is_one_tick (best_limits book))) [
       | inl one ↦
           let (best, all) = one_best (best_limits book) one in
-          rw (limited, some, one) (best, all.same, rw (price_cases book r, limited, some) (single_price book best r all))
+          rw (limited, some, one)
+          (best, all.same, rw (price_cases book r, limited, some) (single_price book best r all))
       | inr several ↦ elim (cases_Bool (list_all (has_bid_surplus book) (best_limits book))) [
         | inl bid ↦ rw (limited, some, several, bid) (rw (price_cases book r, limited, some, bid) refl)
         | inr no_bid ↦ elim (cases_Bool (list_all (has_ask_surplus book) (best_limits book))) [
-          | inl ask ↦ rw (limited, some, several, no_bid, ask) (rw (price_cases book r, limited, some, no_bid, ask) refl)
-          | inr no_ask ↦ rw (limited, some, several, no_bid, no_ask) (rw (price_cases book r, limited, some, no_bid, no_ask) refl)
+          | inl ask ↦
+              rw (limited, some, several, no_bid, ask) (rw (price_cases book r, limited, some, no_bid, ask) refl)
+          | inr no_ask ↦
+              rw (limited, some, several, no_bid, no_ask) (rw (price_cases book r, limited, some, no_bid, no_ask) refl)
         ]
       ]
     ]

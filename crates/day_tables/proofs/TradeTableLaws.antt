@@ -1,5 +1,8 @@
 -- The trades of a day, one by one, with their auctions and members.
-use Rattle.std.proofs.Common.{◌≡◌, ℕ, zero, suc, ◌+◌, ◌-◌, ◌<◌, ◌≤◌, Bool, true, false, eqb, List, [], ◌∷◌, ◌++◌, length, map, find, take, drop, get_or, slice_get, min, replicate, Option, Some, None, is_some, option_map, MatchOption, ◌⊎◌, inl, inr, if◌then◌else◌, refl, sym, ap, ◌∙◌, append_assoc, add-one, drop-cons, take_all, length-append, arith}
+use Rattle.std.proofs.Common.{◌≡◌, ℕ, zero, suc, ◌+◌, ◌-◌, ◌<◌, ◌≤◌, Bool, true, false, eqb, List, [], ◌∷◌, ◌++◌}
+use Rattle.std.proofs.Common.{length, map, find, take, drop, get_or, slice_get, min, replicate, Option, Some, None}
+use Rattle.std.proofs.Common.{is_some, option_map, MatchOption, ◌⊎◌, inl, inr, if◌then◌else◌, refl, sym, ap, ◌∙◌}
+use Rattle.std.proofs.Common.{append_assoc, add-one, drop-cons, take_all, length-append, arith}
 use Rattle.std.proofs.Math.Dec.{leb}
 use Rattle.std.proofs.Math.Nat.{zero-add}
 use Rattle.std.proofs.lemmas.Bool.{eq-eqb, ne_eqb}
@@ -8,22 +11,28 @@ use Rattle.std.proofs.lemmas.List.{append-nil, drop_all, take_more}
 use Rattle.std.proofs.lemmas.Grind.{common_steps}
 use Rattle.auction_terms.specs.declared.Config.{Config}
 use Rattle.auction_terms.specs.declared.Entry.{Entry}
-use Rattle.auction_terms.specs.declared.Kind.{Kind}
+use Rattle.auction_terms.specs.declared.AuctionKind.{AuctionKind}
 use Rattle.auction_terms.specs.declared.Trade.{Trade}
-use Rattle.auction_terms.specs.Devices.Running.{Running, called}
-use Rattle.auction_terms.specs.Day.{State, opening_state, step, state_after, replies_from, replay, call_of, calls_of, IsLegal}
+use Rattle.auction_terms.specs.Auxiliary.RunningAuction.{RunningAuction, auction_after_call}
+use Rattle.auction_terms.specs.Day.{State, opening_state, step, state_after, replies_from, replay, call_of, calls_of}
+use Rattle.auction_terms.specs.Day.{IsLegal}
 use Rattle.auction.specs.AuctionState.{call_by}
-use Rattle.day_tables.specs.TradeTable.{id_told, tells_id, member_of, auctions_told, trade_auctions, trade_record, trade_records, trades_header, trades_text}
+use Rattle.day_tables.specs.TradeTable.{entered_id, has_entered_id, member_of, auctions_of_reply, trade_auctions}
+use Rattle.day_tables.specs.TradeTable.{trade_record, trade_records, trades_header, trades_text}
 use Rattle.day_tables.specs.TableMembers.{entering_members, member_at}
-use Rattle.day_tables.proofs.StepLaws.{step_told}
+use Rattle.day_tables.proofs.StepLaws.{step-reported}
 
 -- ---- the commands of a history, one by one
 
-pub replayed-more : (config : Config) (old new : Running) (entries : List Entry) (i : ℕ) (d : Entry) (last : State)
-    → new ≡ called old (call_by (get_or entries i d).member (get_or entries i d).command) → old.config ≡ config → i < length entries
-    → state_after config old.state (calls_of (drop i entries)) ≡ last → state_after config new.state (calls_of (drop (i + 1) entries)) ≡ last
+pub replayed-more : (config : Config) (old new : RunningAuction) (entries : List Entry) (i : ℕ) (d : Entry)
+    (last : State)
+    → new ≡ auction_after_call old (call_by (get_or entries i d).member (get_or entries i d).command)
+    → old.config ≡ config → i < length entries
+    → state_after config old.state (calls_of (drop i entries)) ≡ last
+    → state_after config new.state (calls_of (drop (i + 1) entries)) ≡ last
 replayed-more config old new entries i d last is same within e =
-    let next : drop i entries ≡ get_or entries i d ∷ drop (i + 1) entries = rw (add-one i) (drop-cons entries i d within) in
+    let next : drop i entries ≡ get_or entries i d ∷ drop (i + 1) entries =
+    rw (add-one i) (drop-cons entries i d within) in
     rw (is, same) (rw next at e)
 
 pub replayed-end : (config : Config) (state : State) (entries : List Entry) (i : ℕ) (last : State)
@@ -32,8 +41,11 @@ replayed-end config state entries i last e h = rw (drop_all i entries h) at e
 
 -- ---- the auctions, trade by trade
 
-pub resized : (kind : Kind) (n : ℕ) (old : List Kind) (b : Bool) (new : List Kind) → b ≡ true → new ≡ (if b then take (length old + n) old ++ replicate (length old + n - length old) kind else old) → new ≡ old ++ replicate n kind
-resized kind n old b new ok e =
+pub trade_auctions-resized : (kind : AuctionKind) (n : ℕ) (old : List AuctionKind) (b : Bool) (new : List AuctionKind)
+    → b ≡ true
+    → new ≡ (if b then take (length old + n) old ++ replicate (length old + n - length old) kind else old)
+    → new ≡ old ++ replicate n kind
+trade_auctions-resized kind n old b new ok e =
     let left : length old + n - length old ≡ n = omega arith in
     let all : take (length old + n) old ≡ old = take_all (length old + n) old (omega arith) in
     rw (ok, left, all) at e
@@ -42,39 +54,49 @@ pub auctions_none : trade_auctions [] ≡ []
 unfolding trade_auctions
 auctions_none = refl
 
-auctions_push : (entries : List Entry) (entry : Entry) → trade_auctions (entries ++ entry ∷ []) ≡ trade_auctions entries ++ auctions_told entry.reply
+auctions_push : (entries : List Entry) (entry : Entry) → trade_auctions (entries ++ entry ∷ []) ≡ trade_auctions entries
+    ++ auctions_of_reply entry.reply
 unfolding trade_auctions
-auctions_push [] entry = append-nil (auctions_told entry.reply)
+auctions_push [] entry = append-nil (auctions_of_reply entry.reply)
 auctions_push (first ∷ entries) entry =
-    ap (λ t. auctions_told first.reply ++ t) (auctions_push entries entry) ∙ sym (append_assoc (auctions_told first.reply) (trade_auctions entries) (auctions_told entry.reply))
+    ap (λ t. auctions_of_reply first.reply ++ t) (auctions_push entries entry)
+    ∙ sym (append_assoc (auctions_of_reply first.reply) (trade_auctions entries) (auctions_of_reply entry.reply))
 
-pub auctions-next : (entries : List Entry) (i : ℕ) (d : Entry) (old new : List Kind) → i < length entries
-    → old ≡ trade_auctions (take i entries) → new ≡ old ++ auctions_told (get_or entries i d).reply → new ≡ trade_auctions (take (i + 1) entries)
+pub auctions-next : (entries : List Entry) (i : ℕ) (d : Entry) (old new : List AuctionKind) → i < length entries
+    → old ≡ trade_auctions (take i entries) → new ≡ old ++ auctions_of_reply (get_or entries i d).reply
+    → new ≡ trade_auctions (take (i + 1) entries)
 auctions-next entries i d old new within before more =
-    more ∙ ap (λ t. t ++ auctions_told (get_or entries i d).reply) before ∙ sym (auctions_push (take i entries) (get_or entries i d))
+    more ∙ ap (λ t. t ++ auctions_of_reply (get_or entries i d).reply) before
+    ∙ sym (auctions_push (take i entries) (get_or entries i d))
     ∙ sym (ap trade_auctions (take_more entries i d within))
 
-pub auctions-all : (entries : List Entry) (i : ℕ) (all : List Kind) → all ≡ trade_auctions (take i entries) → length entries ≤ i → all ≡ trade_auctions entries
+pub auctions-all : (entries : List Entry) (i : ℕ) (all : List AuctionKind) → all ≡ trade_auctions (take i entries)
+    → length entries ≤ i → all ≡ trade_auctions entries
 auctions-all entries i all e h = e ∙ ap trade_auctions (take_all i entries h)
 
 -- ---- the members, entry by entry
 
-members_push : (entries : List Entry) (entry : Entry) → entering_members (entries ++ entry ∷ []) ≡ entering_members entries ++ entering_members (entry ∷ [])
+members_push : (entries : List Entry) (entry : Entry) → entering_members (entries ++ entry ∷ [])
+    ≡ entering_members entries ++ entering_members (entry ∷ [])
 members_push [] entry = refl
-members_push (first ∷ entries) entry = by (members_push entries entry) (is_some (id_told first.reply)) refl
+members_push (first ∷ entries) entry = by (members_push entries entry) (is_some (entered_id first.reply)) refl
   where
     by : entering_members (entries ++ entry ∷ []) ≡ entering_members entries ++ entering_members (entry ∷ [])
-        → (b : Bool) → is_some (id_told first.reply) ≡ b → entering_members (first ∷ entries ++ entry ∷ []) ≡ entering_members (first ∷ entries) ++ entering_members (entry ∷ [])
+        → (b : Bool) → is_some (entered_id first.reply) ≡ b → entering_members (first ∷ entries ++ entry ∷ [])
+        ≡ entering_members (first ∷ entries) ++ entering_members (entry ∷ [])
     by rest true e = rw e (ap (λ t. first.member ∷ t) rest)
     by rest false e = rw e rest
 
 pub members-next : (entries : List Entry) (i : ℕ) (d : Entry) (old new : List ℕ) → i < length entries
-    → old ≡ entering_members (take i entries) → new ≡ old ++ entering_members (get_or entries i d ∷ []) → new ≡ entering_members (take (i + 1) entries)
+    → old ≡ entering_members (take i entries) → new ≡ old ++ entering_members (get_or entries i d ∷ [])
+    → new ≡ entering_members (take (i + 1) entries)
 members-next entries i d old new within before more =
-    more ∙ ap (λ t. t ++ entering_members (get_or entries i d ∷ [])) before ∙ sym (members_push (take i entries) (get_or entries i d))
+    more ∙ ap (λ t. t ++ entering_members (get_or entries i d ∷ [])) before
+    ∙ sym (members_push (take i entries) (get_or entries i d))
     ∙ sym (ap entering_members (take_more entries i d within))
 
-pub members-all : (entries : List Entry) (i : ℕ) (all : List ℕ) → all ≡ entering_members (take i entries) → length entries ≤ i → all ≡ entering_members entries
+pub members-all : (entries : List Entry) (i : ℕ) (all : List ℕ) → all ≡ entering_members (take i entries)
+    → length entries ≤ i → all ≡ entering_members entries
 members-all entries i all e h = e ∙ ap entering_members (take_all i entries h)
 
 -- ---- the records, one by one
@@ -87,42 +109,58 @@ one_done a b i h = go (leb_tells a i)
     go (inr (e, more)) = inr (omega (arith, more, h))
 
 module _ (member : ℕ → Option ℕ) where
-  pub records-next : (kinds : List Kind) (tape : List Trade) (front all : List ℕ) (i : ℕ) (k : Kind) (t : Trade)
+  pub records-next : (kinds : List AuctionKind) (tape : List Trade) (front all : List ℕ) (i : ℕ) (k : AuctionKind)
+      (t : Trade)
       → front ++ trade_records member i (drop i kinds) (drop i tape) ≡ all → i < length kinds → i < length tape
-      → front ++ (trade_record member (i + 1) (get_or kinds i k) (get_or tape i t) ++ trade_records member (i + 1) (drop (i + 1) kinds) (drop (i + 1) tape)) ≡ all
+      → front
+      ++ (trade_record member (i + 1) (get_or kinds i k) (get_or tape i t)
+      ++ trade_records member (i + 1) (drop (i + 1) kinds) (drop (i + 1) tape)) ≡ all
   unfolding trade_records
   records-next kinds tape front all i k t e in_kinds in_tape =
-      let first : drop i kinds ≡ get_or kinds i k ∷ drop (i + 1) kinds = rw (add-one i) (drop-cons kinds i k in_kinds) in
+      let first : drop i kinds ≡ get_or kinds i k ∷ drop (i + 1) kinds =
+      rw (add-one i) (drop-cons kinds i k in_kinds) in
       let second : drop i tape ≡ get_or tape i t ∷ drop (i + 1) tape = rw (add-one i) (drop-cons tape i t in_tape) in
       rw (first, second) at e
 
-  pub records-done : (kinds : List Kind) (tape : List Trade) (front all : List ℕ) (i : ℕ) (k : Kind) (t : Trade)
+  pub records-done : (kinds : List AuctionKind) (tape : List Trade) (front all : List ℕ) (i : ℕ) (k : AuctionKind)
+      (t : Trade)
       → front ++ trade_records member i (drop i kinds) (drop i tape) ≡ all → i < length kinds → i < length tape
-      → (front ++ trade_record member (i + 1) (get_or kinds i k) (get_or tape i t)) ++ trade_records member (i + 1) (drop (i + 1) kinds) (drop (i + 1) tape) ≡ all
-  records-done kinds tape front all i k t e in_kinds in_tape = append_assoc front _ _ ∙ records-next kinds tape front all i k t e in_kinds in_tape
+      → (front ++ trade_record member (i + 1) (get_or kinds i k) (get_or tape i t))
+      ++ trade_records member (i + 1) (drop (i + 1) kinds) (drop (i + 1) tape) ≡ all
+  records-done kinds tape front all i k t e in_kinds in_tape =
+      append_assoc front _ _ ∙ records-next kinds tape front all i k t e in_kinds in_tape
 
-  none_left : (i : ℕ) (kinds : List Kind) (tape : List Trade) → (kinds ≡ []) ⊎ (tape ≡ []) → trade_records member i kinds tape ≡ []
+  none_left : (i : ℕ) (kinds : List AuctionKind) (tape : List Trade) → (kinds ≡ []) ⊎ (tape ≡ [])
+      → trade_records member i kinds tape ≡ []
   unfolding trade_records
   none_left i kinds tape (inl none) = rw none refl
   none_left i [] tape (inr none) = refl
   none_left i (kind ∷ kinds) tape (inr none) = rw none refl
 
-  pub records-end : (kinds : List Kind) (tape : List Trade) (front all : List ℕ) (i : ℕ)
-      → front ++ trade_records member i (drop i kinds) (drop i tape) ≡ all → (length kinds ≤ i) ⊎ (length tape ≤ i) → front ≡ all
-  records-end kinds tape front all i e (inl h) = sym (append-nil front) ∙ ap (λ l. front ++ l) (sym (none_left i _ _ (inl (drop_all i kinds h)))) ∙ e
-  records-end kinds tape front all i e (inr h) = sym (append-nil front) ∙ ap (λ l. front ++ l) (sym (none_left i _ _ (inr (drop_all i tape h)))) ∙ e
+  pub records-end : (kinds : List AuctionKind) (tape : List Trade) (front all : List ℕ) (i : ℕ)
+      → front ++ trade_records member i (drop i kinds) (drop i tape) ≡ all → (length kinds ≤ i) ⊎ (length tape ≤ i)
+      → front ≡ all
+  records-end kinds tape front all i e (inl h) =
+      sym (append-nil front) ∙ ap (λ l. front ++ l) (sym (none_left i _ _ (inl (drop_all i kinds h)))) ∙ e
+  records-end kinds tape front all i e (inr h) =
+      sym (append-nil front) ∙ ap (λ l. front ++ l) (sym (none_left i _ _ (inr (drop_all i tape h)))) ∙ e
 
   -- where the place is the lesser of both lengths or more
-  pub records-least : (kinds : List Kind) (tape : List Trade) (front all : List ℕ) (i : ℕ)
-      → front ++ trade_records member i (drop i kinds) (drop i tape) ≡ all → min (length kinds) (length tape) ≤ i → front ≡ all
-  records-least kinds tape front all i e h = records-end kinds tape front all i e (one_done (length kinds) (length tape) i h)
+  pub records-least : (kinds : List AuctionKind) (tape : List Trade) (front all : List ℕ) (i : ℕ)
+      → front ++ trade_records member i (drop i kinds) (drop i tape) ≡ all → min (length kinds) (length tape) ≤ i
+      → front ≡ all
+  records-least kinds tape front all i e h =
+      records-end kinds tape front all i e (one_done (length kinds) (length tape) i h)
 
-same_record : (f g : ℕ → Option ℕ) (number : ℕ) (kind : Kind) (trade : Trade) → ((id : ℕ) → f id ≡ g id) → trade_record f number kind trade ≡ trade_record g number kind trade
+same_record : (f g : ℕ → Option ℕ) (number : ℕ) (kind : AuctionKind) (trade : Trade) → ((id : ℕ) → f id ≡ g id)
+    → trade_record f number kind trade ≡ trade_record g number kind trade
 unfolding trade_record
-same_record f g number kind trade same = rw (same trade.buy, same trade.sell) refl
+same_record f g number kind trade same = rw (same trade.bid, same trade.ask) refl
 
 -- the records name the same members
-pub same_records : (f g : ℕ → Option ℕ) → ((id : ℕ) → f id ≡ g id) → (before : ℕ) (kinds : List Kind) (tape : List Trade) → trade_records f before kinds tape ≡ trade_records g before kinds tape
+pub same_records : (f g : ℕ → Option ℕ) → ((id : ℕ) → f id ≡ g id)
+    → (before : ℕ) (kinds : List AuctionKind) (tape : List Trade)
+    → trade_records f before kinds tape ≡ trade_records g before kinds tape
 unfolding trade_records
 same_records f g same before [] tape = refl
 same_records f g same before (kind ∷ kinds) [] = refl
@@ -135,31 +173,40 @@ same_records f g same before (kind ∷ kinds) (trade ∷ tape) =
 
 -- the replies are the replay's from a state on
 abbrev Replied : Config → State → List Entry → Type 0
-Replied config state entries = map (λ (entry : Entry). entry.reply) entries ≡ replies_from config state (calls_of entries)
+Replied config state entries =
+    map (λ (entry : Entry). entry.reply) entries ≡ replies_from config state (calls_of entries)
 
-head_replied : (config : Config) (state : State) (entry : Entry) (entries : List Entry) → Replied config state (entry ∷ entries) → entry.reply ≡ (step config state (call_of entry)).1
+head_replied : (config : Config) (state : State) (entry : Entry) (entries : List Entry)
+    → Replied config state (entry ∷ entries) → entry.reply ≡ (step config state (call_of entry)).1
 head_replied config state entry entries h = grind (arith, common_steps)
 
-tail_replied : (config : Config) (state : State) (entry : Entry) (entries : List Entry) → Replied config state (entry ∷ entries) → Replied config (step config state (call_of entry)).0 entries
+tail_replied : (config : Config) (state : State) (entry : Entry) (entries : List Entry)
+    → Replied config state (entry ∷ entries) → Replied config (step config state (call_of entry)).0 entries
 tail_replied config state entry entries h = grind (arith, common_steps)
 
-ids_of : (config : Config) (state : State) (entry : Entry) (entries : List Entry) (o : Option ℕ) → Replied config state (entry ∷ entries) → id_told entry.reply ≡ o
-    → MatchOption o ((step config state (call_of entry)).0.next_id ≡ state.next_id) (λ id. (id ≡ state.next_id) × ((step config state (call_of entry)).0.next_id ≡ state.next_id + 1))
+ids_of : (config : Config) (state : State) (entry : Entry) (entries : List Entry) (o : Option ℕ)
+    → Replied config state (entry ∷ entries) → entered_id entry.reply ≡ o
+    → MatchOption o ((step config state (call_of entry)).0.next_id ≡ state.next_id) (λ id. (id ≡ state.next_id)
+    × ((step config state (call_of entry)).0.next_id ≡ state.next_id + 1))
 ids_of config state entry entries o h e =
-    let told = (step_told config state (call_of entry)).ids in
+    let told = (step-reported config state (call_of entry)).ids in
     rw (← head_replied config state entry entries h, e) at told
 
 -- no entry is answered with an id that was given before
-none_before : (config : Config) (state : State) (entries : List Entry) (id : ℕ) → Replied config state entries → id < state.next_id → find (tells_id id) entries ≡ None
+none_before : (config : Config) (state : State) (entries : List Entry) (id : ℕ) → Replied config state entries
+    → id < state.next_id → find (has_entered_id id) entries ≡ None
 none_before config state [] id h before = refl
 none_before config state (entry ∷ entries) id h before =
-    go (none_before config (step config state (call_of entry)).0 entries id (tail_replied config state entry entries h)) (id_told entry.reply) refl
+    go (none_before config (step config state (call_of entry)).0 entries id (tail_replied config state entry entries h))
+    (entered_id entry.reply) refl
   where
     next : State
     next = (step config state (call_of entry)).0
 
-    go : (id < next.next_id → find (tells_id id) entries ≡ None) → (o : Option ℕ) → id_told entry.reply ≡ o → find (tells_id id) (entry ∷ entries) ≡ None
-    go later None e = let same = ids_of config state entry entries None h e in rw e (later (omega (arith, same, before)))
+    go : (id < next.next_id → find (has_entered_id id) entries ≡ None) → (o : Option ℕ) → entered_id entry.reply ≡ o
+        → find (has_entered_id id) (entry ∷ entries) ≡ None
+    go later None e = let same = ids_of config state entry entries None h e in
+        rw e (later (omega (arith, same, before)))
     go later (Some told) e =
         let parts = ids_of config state entry entries (Some told) h e in
         let apart : eqb told id ≡ false = ne_eqb told id (λ is. omega (arith, is, parts.0, before)) in
@@ -167,29 +214,36 @@ none_before config state (entry ∷ entries) id h before =
 
 -- the n-th id from the next on is the n-th entry's that is accepted
 nth_member : (config : Config) (state : State) (entries : List Entry) (n : ℕ) → Replied config state entries
-    → slice_get (entering_members entries) n ≡ option_map (λ (entry : Entry). entry.member) (find (tells_id (state.next_id + n)) entries)
+    → slice_get (entering_members entries) n ≡ option_map (λ (entry : Entry). entry.member)
+    (find (has_entered_id (state.next_id + n)) entries)
 nth_member config state [] n h = refl
 nth_member config state (entry ∷ entries) n h =
-    go (λ k. nth_member config (step config state (call_of entry)).0 entries k (tail_replied config state entry entries h)) n (id_told entry.reply) refl
+    go
+    (λ k. nth_member config (step config state (call_of entry)).0 entries k
+    (tail_replied config state entry entries h)) n (entered_id entry.reply) refl
   where
     next : State
     next = (step config state (call_of entry)).0
 
-    go : ((k : ℕ) → slice_get (entering_members entries) k ≡ option_map (λ (e : Entry). e.member) (find (tells_id (next.next_id + k)) entries))
-        → (n : ℕ) (o : Option ℕ) → id_told entry.reply ≡ o → slice_get (entering_members (entry ∷ entries)) n ≡ option_map (λ (e : Entry). e.member) (find (tells_id (state.next_id + n)) (entry ∷ entries))
+    go : ((k : ℕ) → slice_get (entering_members entries) k
+        ≡ option_map (λ (e : Entry). e.member) (find (has_entered_id (next.next_id + k)) entries))
+        → (n : ℕ) (o : Option ℕ) → entered_id entry.reply ≡ o → slice_get (entering_members (entry ∷ entries)) n
+        ≡ option_map (λ (e : Entry). e.member) (find (has_entered_id (state.next_id + n)) (entry ∷ entries))
     go rest n None e =
         let same = ids_of config state entry entries None h e in
         let to : next.next_id + n ≡ state.next_id + n = omega (arith, same) in
-        rw e (rest n ∙ ap (λ id. option_map (λ (x : Entry). x.member) (find (tells_id id) entries)) to)
+        rw e (rest n ∙ ap (λ id. option_map (λ (x : Entry). x.member) (find (has_entered_id id) entries)) to)
     go rest zero (Some told) e =
         let parts = ids_of config state entry entries (Some told) h e in
-        let here : eqb told (state.next_id + zero) ≡ true = eq-eqb told (state.next_id + zero) (omega (arith, parts.0)) in
+        let here : eqb told (state.next_id + zero) ≡ true =
+        eq-eqb told (state.next_id + zero) (omega (arith, parts.0)) in
         rw (e, here) refl
     go rest (suc m) (Some told) e =
         let parts = ids_of config state entry entries (Some told) h e in
-        let apart : eqb told (state.next_id + suc m) ≡ false = ne_eqb told (state.next_id + suc m) (λ is. omega (arith, is, parts.0)) in
+        let apart : eqb told (state.next_id + suc m) ≡ false =
+        ne_eqb told (state.next_id + suc m) (λ is. omega (arith, is, parts.0)) in
         let to : next.next_id + m ≡ state.next_id + suc m = omega (arith, parts.1) in
-        rw (e, apart) (rest m ∙ ap (λ id. option_map (λ (x : Entry). x.member) (find (tells_id id) entries)) to)
+        rw (e, apart) (rest m ∙ ap (λ id. option_map (λ (x : Entry). x.member) (find (has_entered_id id) entries)) to)
 
 member_after : (members : List ℕ) (n : ℕ) → member_at members (suc n) ≡ slice_get members n
 member_after members n =
@@ -198,37 +252,52 @@ member_after members n =
     rw (other, less) refl
 
 -- the members by their places are the members by their ids
-pub members_by_id : (config : Config) (entries : List Entry) → IsLegal config entries → (id : ℕ) → member_at (entering_members entries) id ≡ member_of entries id
+pub members_by_id : (config : Config) (entries : List Entry) → IsLegal config entries → (id : ℕ)
+    → member_at (entering_members entries) id ≡ member_of entries id
 unfolding member_of
-members_by_id config entries legal zero = sym (ap (option_map (λ (entry : Entry). entry.member)) (none_before config (opening_state config) entries 0 legal.replies (omega arith)))
+members_by_id config entries legal zero =
+    sym
+    (ap (option_map (λ (entry : Entry). entry.member))
+    (none_before config (opening_state config) entries 0 legal.replies (omega arith)))
 members_by_id config entries legal (suc n) =
     let to : 1 + n ≡ suc n = omega arith in
-    member_after (entering_members entries) n ∙ nth_member config (opening_state config) entries n legal.replies ∙ ap (λ id. option_map (λ (entry : Entry). entry.member) (find (tells_id id) entries)) to
+    member_after (entering_members entries) n ∙ nth_member config (opening_state config) entries n legal.replies
+    ∙ ap (λ id. option_map (λ (entry : Entry). entry.member) (find (has_entered_id id) entries)) to
 
 -- the table of a tape, by the members' places
-pub table_of_trades : (config : Config) (entries : List Entry) (members : List ℕ) (kinds : List Kind) (tape : List Trade) → IsLegal config entries
-    → members ≡ entering_members entries → kinds ≡ trade_auctions entries → tape ≡ (replay config (calls_of entries)).0.tape
+pub table_of_trades : (config : Config) (entries : List Entry) (members : List ℕ) (kinds : List AuctionKind)
+    (tape : List Trade) → IsLegal config entries
+    → members ≡ entering_members entries → kinds ≡ trade_auctions entries
+    → tape ≡ (replay config (calls_of entries)).0.tape
     → trades_header ++ trade_records (member_at members) 0 kinds tape ≡ trades_text config entries
 unfolding trades_text
 table_of_trades config entries members kinds tape legal by_place by_trade is =
     rw (by_place, by_trade, is) (ap (λ t. trades_header ++ t)
-    (same_records (member_at (entering_members entries)) (member_of entries) (members_by_id config entries legal) 0 (trade_auctions entries) (replay config (calls_of entries)).0.tape))
+    (same_records (member_at (entering_members entries)) (member_of entries) (members_by_id config entries legal) 0
+    (trade_auctions entries) (replay config (calls_of entries)).0.tape))
 
 -- ---- each trade is told
 
-auctions_cons : (entry : Entry) (entries : List Entry) → trade_auctions (entry ∷ entries) ≡ auctions_told entry.reply ++ trade_auctions entries
+auctions_cons : (entry : Entry) (entries : List Entry)
+    → trade_auctions (entry ∷ entries) ≡ auctions_of_reply entry.reply ++ trade_auctions entries
 unfolding trade_auctions
 auctions_cons entry entries = refl
 
-told_from : (config : Config) (state : State) (entries : List Entry) → Replied config state entries → length state.tape + length (trade_auctions entries) ≡ length (state_after config state (calls_of entries)).tape
-told_from config state [] h = omega (arith, ap length auctions_none)
-told_from config state (entry ∷ entries) h =
+trades-printed_from : (config : Config) (state : State) (entries : List Entry) → Replied config state entries
+    → length state.tape + length (trade_auctions entries) ≡ length (state_after config state (calls_of entries)).tape
+trades-printed_from config state [] h = omega (arith, ap length auctions_none)
+trades-printed_from config state (entry ∷ entries) h =
     let next = (step config state (call_of entry)).0 in
-    let grown = rw (← head_replied config state entry entries h) at (step_told config state (call_of entry)).tape in
-    let rest = told_from config next entries (tail_replied config state entry entries h) in
-    let parts = ap length (auctions_cons entry entries) ∙ length-append (auctions_told entry.reply) (trade_auctions entries) in
+    let grown = rw (← head_replied config state entry entries h) at (step-reported config state (call_of entry)).tape in
+    let rest = trades-printed_from config next entries (tail_replied config state entry entries h) in
+    let parts =
+    ap length (auctions_cons entry entries)
+    ∙ length-append (auctions_of_reply entry.reply) (trade_auctions entries) in
     omega (arith, grown, rest, parts)
 
 -- a lawful history tells an auction for each trade of its tape
-pub told_whole : (config : Config) (entries : List Entry) → IsLegal config entries → length (trade_auctions entries) ≡ length (replay config (calls_of entries)).0.tape
-told_whole config entries legal = sym (zero-add (length (trade_auctions entries))) ∙ told_from config (opening_state config) entries legal.replies
+pub trades-printed : (config : Config) (entries : List Entry) → IsLegal config entries
+    → length (trade_auctions entries) ≡ length (replay config (calls_of entries)).0.tape
+trades-printed config entries legal =
+    sym (zero-add (length (trade_auctions entries))) ∙ trades-printed_from config (opening_state config) entries
+    legal.replies

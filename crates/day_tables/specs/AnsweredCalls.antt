@@ -7,14 +7,14 @@ use Rattle.auction_terms.specs.declared.Entry.{Entry}
 use Rattle.auction_terms.specs.declared.Reply.{Reply}
 
 -- a call with its reply
-abbrev pub answered : Call → Reply → Entry
-answered call reply = record { member = call.member; command = call.command; reply = reply }
+abbrev pub entry_of : Call → Reply → Entry
+entry_of call reply = record { member = call.member; command = call.command; reply = reply }
 
-abbrev pub asks_uncross : Command → Bool
-asks_uncross (command.Enter side only limit quantity peak) = false
-asks_uncross (command.Change id limit quantity) = false
-asks_uncross (command.Delete id) = false
-asks_uncross (command.Status id) = false
-asks_uncross command.Ask = false
-asks_uncross (command.Trade number) = false
-asks_uncross command.Uncross = true
+abbrev pub is_uncross_command : Command → Bool
+is_uncross_command (command.Enter side restriction limit quantity peak) = false
+is_uncross_command (command.Change id limit quantity) = false
+is_uncross_command (command.Delete id) = false
+is_uncross_command (command.OrderStatus id) = false
+is_uncross_command command.Indicate = false
+is_uncross_command (command.ReadTrade number) = false
+is_uncross_command command.Uncross = true

@@ -5,15 +5,14 @@ use Rattle.std.specs.Option.{option_map_or}
 use Rattle.std.specs.List.{list_any, flat_map}
 use Rattle.auction_terms.specs.declared.Config.{Config}
 use Rattle.auction_terms.specs.declared.Entry.{Entry}
-use Rattle.auction_terms.specs.declared.Kind.{Kind}
+use Rattle.auction_terms.specs.declared.AuctionKind.{AuctionKind}
 use Rattle.auction_terms.specs.declared.Order.{Order}
 use Rattle.auction_terms.specs.declared.Reply.{Reply}
-use Rattle.auction_terms.specs.declared.Reply.TheVariants as reply
-use Rattle.auction_terms.specs.declared.Side.TheVariants.{Buy, Sell}
-use Rattle.auction_terms.specs.Book.{demand, supply, volume, surplus, surplus_side, limits, counted}
+use Rattle.auction_terms.specs.declared.Side.TheVariants.{Bid, Ask}
+use Rattle.auction_terms.specs.Book.{demand, supply, volume, surplus, surplus_side, limits, auction_orders}
 use Rattle.auction_terms.specs.AuctionPrice.{best_limits, price_tick}
-use Rattle.auction_terms.specs.Ladder.{standing, market}
-use Rattle.auction_terms.specs.Day.{State, opening_state, step, call_of}
+use Rattle.auction_terms.specs.Ladder.{quantity_at, market_quantity}
+use Rattle.auction_terms.specs.Day.{State, opening_state, step, call_of, is_uncross_reply}
 use Rattle.printed_lines.specs.ReplyWords.{kind_word, side_word}
 use Rattle.day_tables.specs.declared.rule.Rule.{Rule}
 use Rattle.day_tables.specs.declared.rule.Rule.TheVariants.{Market, Single, Highest, Lowest, Reference}
@@ -39,38 +38,38 @@ best_word false = codes "0"
 -- ---- one table
 
 -- the orders that count when a command comes, in the call phase of an auction, with the reference
-pub record Shown : Type 0 where
+pub record ShownBook : Type 0 where
   pub command : ℕ
-  pub auction : Kind
+  pub auction : AuctionKind
   pub book : List Order
   pub reference : ℕ
 
 abbrev pub is_among : ℕ → List ℕ → Bool
 is_among tick ticks = list_any (λ other. other == tick) ticks
 
-abbrev pub is_price : Shown → ℕ → Bool
+abbrev pub is_price : ShownBook → ℕ → Bool
 is_price shown tick = option_map_or (λ price. price == tick) (price_tick shown.book shown.reference) false
 
 -- the limit of an order, or the auction price
-abbrev pub has_record : Shown → ℕ → Bool
+abbrev pub has_record : ShownBook → ℕ → Bool
 has_record shown tick = is_among tick (limits shown.book) || is_price shown tick
 
 -- the rule that decides, at the auction price
-abbrev pub price_word : Shown → ℕ → List ℕ
-price_word shown tick = if is_price shown tick then option_map_or rule_word (rule_of shown.book) [] else []
+abbrev pub rule_field : ShownBook → ℕ → List ℕ
+rule_field shown tick = if is_price shown tick then option_map_or rule_word (rule_of shown.book) [] else []
 
-unfoldable pub tick_record : Shown → ℕ → List ℕ
+unfoldable pub tick_record : ShownBook → ℕ → List ℕ
 tick_record shown tick =
     csv_record (decimal shown.command ∷ kind_word shown.auction ∷ decimal tick
-    ∷ decimal (standing Buy shown.book tick) ∷ decimal (standing Sell shown.book tick)
+    ∷ decimal (quantity_at Bid shown.book tick) ∷ decimal (quantity_at Ask shown.book tick)
     ∷ decimal (demand shown.book tick) ∷ decimal (supply shown.book tick)
     ∷ decimal (volume shown.book tick) ∷ decimal (surplus shown.book tick) ∷ side_word (surplus_side shown.book tick)
-    ∷ best_word (is_among tick (best_limits shown.book)) ∷ price_word shown tick ∷ [])
+    ∷ best_word (is_among tick (best_limits shown.book)) ∷ rule_field shown tick ∷ [])
 
-unfoldable pub market_record : Shown → List ℕ
+unfoldable pub market_record : ShownBook → List ℕ
 market_record shown =
     csv_record (decimal shown.command ∷ kind_word shown.auction ∷ codes "market"
-    ∷ decimal (market Buy shown.book) ∷ decimal (market Sell shown.book)
+    ∷ decimal (market_quantity Bid shown.book) ∷ decimal (market_quantity Ask shown.book)
     ∷ [] ∷ [] ∷ [] ∷ [] ∷ [] ∷ [] ∷ [] ∷ [])
 
 -- n ticks from low on, the highest first
@@ -79,42 +78,30 @@ falling_ticks low zero = []
 falling_ticks low (suc n) = (low + n) ∷ falling_ticks low n
 
 -- the records of n ticks from low on, the highest first
-unfoldable pub tick_records : Shown → ℕ → ℕ → List ℕ
+unfoldable pub tick_records : ShownBook → ℕ → ℕ → List ℕ
 tick_records shown low n = flat_map (tick_record shown) (filter (has_record shown) (falling_ticks low n))
 
-unfoldable pub book_table : Config → Shown → List ℕ
+unfoldable pub book_table : Config → ShownBook → List ℕ
 book_table config shown = market_record shown ++ tick_records shown config.low (config.high + 1 - config.low)
 
 -- ---- the tables of a day
 
--- an uncross that was accepted, an interrupted one too
-abbrev pub is_uncross : Reply → Bool
-is_uncross (reply.Entered id) = false
-is_uncross (reply.Changed kept) = false
-is_uncross reply.Deleted = false
-is_uncross (reply.Standing side limit quantity visible) = false
-is_uncross (reply.Indicated display) = false
-is_uncross (reply.Traded trade) = false
-is_uncross (reply.Uncrossed kind trades price) = true
-is_uncross (reply.Interrupted price) = true
-is_uncross (reply.Refused reason) = false
-
-abbrev pub shown_in : ℕ → State → Kind → Shown
-shown_in command state kind = record {
+abbrev pub shown_book : ℕ → State → AuctionKind → ShownBook
+shown_book command state kind = record {
   command = command;
   auction = kind;
-  book = counted state.book kind;
+  book = auction_orders state.book kind;
   reference = state.reference;
 }
 
 -- the table of the current auction when this command comes, until the day is over
 unfoldable pub table_before : Config → ℕ → State → List ℕ
 table_before config command state =
-    option_map_or (λ kind. book_table config (shown_in command state kind)) state.auction []
+    option_map_or (λ kind. book_table config (shown_book command state kind)) state.auction []
 
 -- the table before a command that was answered so
 abbrev pub text_before : Config → ℕ → State → Reply → List ℕ
-text_before config command state answer = if is_uncross answer then table_before config command state else []
+text_before config command state answer = if is_uncross_reply answer then table_before config command state else []
 
 -- the tables before the uncrosses among entries that come after so many others, and the one at their end
 unfoldable pub tables_after : Config → ℕ → State → List Entry → List ℕ

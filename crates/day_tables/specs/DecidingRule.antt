@@ -4,7 +4,7 @@ use Rattle.std.specs.List.{list_all}
 use Rattle.auction_terms.specs.declared.Order.{Order}
 use Rattle.auction_terms.specs.Book.{has_bid_surplus, has_ask_surplus, limits}
 use Rattle.auction_terms.specs.AuctionPrice.{best_limits, has_market_orders, highest, lowest, is_empty}
-use Rattle.auction_terms.specs.AuctionPrice.{lower_kept, upper_kept, held_between, price_tick}
+use Rattle.auction_terms.specs.AuctionPrice.{lower_end, upper_end, clamp_between, price_tick}
 use Rattle.day_tables.specs.declared.rule.Rule.{Rule}
 use Rattle.day_tables.specs.declared.rule.Rule.TheVariants.{Market, Single, Highest, Lowest, Reference}
 
@@ -24,12 +24,12 @@ rule_of book =
     else Some Reference))))
 
 -- what the rule makes the price at a reference
-abbrev pub DecidesBy : List Order → ℕ → Option Rule → Type 0
-DecidesBy book reference None = price_tick book reference ≡ None
-DecidesBy book reference (Some Market) = price_tick book reference ≡ Some reference
-DecidesBy book reference (Some Single) =
+abbrev pub IsDecidedBy : List Order → ℕ → Option Rule → Type 0
+IsDecidedBy book reference None = price_tick book reference ≡ None
+IsDecidedBy book reference (Some Market) = price_tick book reference ≡ Some reference
+IsDecidedBy book reference (Some Single) =
     (best : ℕ) × All (λ tick. tick ≡ best) (best_limits book) × (price_tick book reference ≡ Some best)
-DecidesBy book reference (Some Highest) = price_tick book reference ≡ highest (best_limits book)
-DecidesBy book reference (Some Lowest) = price_tick book reference ≡ lowest (best_limits book)
-DecidesBy book reference (Some Reference) =
-    price_tick book reference ≡ held_between (lower_kept book) (upper_kept book) reference
+IsDecidedBy book reference (Some Highest) = price_tick book reference ≡ highest (best_limits book)
+IsDecidedBy book reference (Some Lowest) = price_tick book reference ≡ lowest (best_limits book)
+IsDecidedBy book reference (Some Reference) =
+    price_tick book reference ≡ clamp_between (lower_end book) (upper_end book) reference

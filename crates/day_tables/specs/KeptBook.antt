@@ -3,7 +3,7 @@ use Rattle.std.specs.Prelude.{◌≡◌, ℕ, ◌+◌, ◌-◌, List, [], ◌∷
 use Rattle.auction_terms.specs.declared.Config.{Config}
 use Rattle.auction_terms.specs.declared.Entry.{Entry}
 use Rattle.auction_terms.specs.Day.{State, opening_state}
-use Rattle.auction_terms.specs.Devices.Running.{Running}
+use Rattle.auction_terms.specs.Auxiliary.RunningAuction.{RunningAuction}
 use Rattle.day_tables.specs.declared.keeping.KeptTable.{KeptTable}
 use Rattle.day_tables.specs.declared.keeping.KeptBook.{KeptBook}
 use Rattle.day_tables.specs.BookTable.{table_before, tables_after}
@@ -28,7 +28,7 @@ HasRoomFor config book = HasRoom (config.high + 1 - config.low) book.curves
 
 -- The tables before the uncrosses among these entries are kept, after which the auction stands: whatever comes then,
 -- its tables are those that follow.
-pub record FollowsBook (book : KeptBook) (auction : Running) (entries : List Entry) : Type 0 where
+pub record HasTablesSoFar (book : KeptBook) (auction : RunningAuction) (entries : List Entry) : Type 0 where
   pub room : HasRoomFor auction.config book
   pub calls : auction.calls ≡ length entries
   pub front : List ℕ
@@ -38,6 +38,6 @@ pub record FollowsBook (book : KeptBook) (auction : Running) (entries : List Ent
       ≡ tables_of auction.config (entries ++ more)
 
 -- all tables of a day of these entries are kept
-pub record HoldsBook (book : KeptBook) (config : Config) (entries : List Entry) : Type 0 where
+pub record HasAllTables (book : KeptBook) (config : Config) (entries : List Entry) : Type 0 where
   pub room : HasRoomFor config book
   pub tables : AreTables config book.tables.items (tables_of config entries)

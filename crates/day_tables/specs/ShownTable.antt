@@ -4,7 +4,7 @@ use Rattle.auction_terms.specs.declared.Config.{Config}
 use Rattle.auction_terms.specs.Day.{State, display}
 use Rattle.auction_terms.specs.Ladder.{LadderView}
 use Rattle.tick_ladder.specs.TickLadder.{IsLadderOf}
-use Rattle.auction.specs.AuctionState.{counting, ladder_over}
+use Rattle.auction.specs.AuctionState.{current_orders, ladder_over}
 use Rattle.day_tables.specs.declared.book.Heading.{Heading}
 use Rattle.day_tables.specs.TableRows.{tick_shown}
 
@@ -17,5 +17,5 @@ pub record IsHeadingIn (state : State) (command : ℕ) (heading : Heading) : Typ
 -- a heading and a ladder are those of the current auction
 pub record IsShownIn (config : Config) (state : State) (heading : Heading) (ladder : LadderView) : Type 0 where
   pub told : IsHeadingIn state heading.command heading
-  pub over : ladder ≡ ladder_over config (counting state)
-  pub book : IsLadderOf ladder (counting state)
+  pub over : ladder ≡ ladder_over config (current_orders state)
+  pub book : IsLadderOf ladder (current_orders state)

@@ -3,7 +3,7 @@ use Rattle.std.specs.Prelude.{◌≡◌, ℕ, List, Some, IfSome, length}
 use Rattle.auction_terms.specs.declared.Order.{Order}
 use Rattle.auction_terms.specs.Book.{demand, supply, volume, surplus, limits}
 use Rattle.auction_terms.specs.AuctionPrice.{best_limits, price_tick}
-use Rattle.auction_terms.specs.Ladder.{spread}
+use Rattle.auction_terms.specs.Ladder.{tick_values}
 use Rattle.price_rules.specs.declared.candidates.Lanes.{Lanes}
 use Rattle.price_rules.specs.Candidates.{AreCandidates, AreMarked}
 use Rattle.day_tables.specs.declared.curves.Curves.{Curves}
@@ -20,14 +20,14 @@ pub record HasRoom (ticks : ℕ) (curves : Curves) : Type 0 where
 
 -- n ticks from low on
 abbrev pub ticks_from : ℕ → ℕ → List ℕ
-ticks_from low n = spread (λ tick. tick) low n
+ticks_from low n = tick_values (λ tick. tick) low n
 
 -- tick by tick what the definitions say, and a flag at each best limit
 pub record AreCurves (low n : ℕ) (curves : Curves) (book : List Order) : Type 0 where
-  pub demands : curves.demands.items ≡ spread (demand book) low n
-  pub supplies : curves.supplies.items ≡ spread (supply book) low n
-  pub volumes : curves.volumes.items ≡ spread (volume book) low n
-  pub surpluses : curves.surpluses.items ≡ spread (surplus book) low n
+  pub demands : curves.demands.items ≡ tick_values (demand book) low n
+  pub supplies : curves.supplies.items ≡ tick_values (supply book) low n
+  pub volumes : curves.volumes.items ≡ tick_values (volume book) low n
+  pub surpluses : curves.surpluses.items ≡ tick_values (surplus book) low n
   pub best : AreMarked (ticks_from low n) curves.best.items (best_limits book)
   pub flags : length curves.best.items ≡ n
 
@@ -49,5 +49,5 @@ LeavesBest demands supplies old new =
     → AreMarked ticks new (best_limits book)
 
 -- where there is a price, it is the rule that decides
-abbrev pub TellsRule : List Order → Rule → Type 0
-TellsRule book rule = (reference : ℕ) → IfSome (price_tick book reference) (λ tick. rule_of book ≡ Some rule)
+abbrev pub IsDecidingRule : List Order → Rule → Type 0
+IsDecidingRule book rule = (reference : ℕ) → IfSome (price_tick book reference) (λ tick. rule_of book ≡ Some rule)

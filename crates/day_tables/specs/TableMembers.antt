@@ -1,12 +1,12 @@
 -- The members of a day's orders, id by id.
 use Rattle.std.specs.Prelude.{ℕ, ◌-◌, ◌==◌, if◌then◌else◌, List, Option, None, filter, map, is_some, slice_get}
 use Rattle.auction_terms.specs.declared.Entry.{Entry}
-use Rattle.day_tables.specs.TradeTable.{id_told}
+use Rattle.day_tables.specs.TradeTable.{entered_id}
 
 -- the members of the entries that were accepted, in their order
 abbrev pub entering_members : List Entry → List ℕ
 entering_members entries =
-    map (λ (entry : Entry). entry.member) (filter (λ (entry : Entry). is_some (id_told entry.reply)) entries)
+    map (λ (entry : Entry). entry.member) (filter (λ (entry : Entry). is_some (entered_id entry.reply)) entries)
 
 -- the member of an id, if ids are counted from 1
 abbrev pub member_at : List ℕ → ℕ → Option ℕ

@@ -22,6 +22,6 @@ PrintsTable sink old new (Err (Write failed)) text = Prints sink old new (Err fa
 PrintsTable sink old new (Err (Open fault)) text = new ≡ old
 
 -- no auction was opened for want of memory alone, if at all
-abbrev pub WantsMemory : TableFault → Type 0
-WantsMemory (Open fault) = fault ≡ NoMemory
-WantsMemory (Write failed) = Unit {0}
+abbrev pub IsOnlyNoMemory : TableFault → Type 0
+IsOnlyNoMemory (Open fault) = fault ≡ NoMemory
+IsOnlyNoMemory (Write failed) = Unit {0}

@@ -7,16 +7,16 @@ use Rattle.auction_terms.specs.declared.limits.TheConstants.{MAX_TICK, MAX_TICKS
 use Rattle.auction_terms.specs.declared.Display.{Display}
 use Rattle.auction_terms.specs.declared.Display.TheVariants.{Priced, Unpriced}
 use Rattle.auction_terms.specs.declared.Side.{Side}
-use Rattle.auction_terms.specs.declared.Side.TheVariants.{Buy, Sell}
-use Rattle.auction_terms.specs.Ladder.{standing, market, presence, spread}
+use Rattle.auction_terms.specs.declared.Side.TheVariants.{Bid, Ask}
+use Rattle.auction_terms.specs.Ladder.{quantity_at, market_quantity, limit_flag, tick_values}
 use Rattle.auction_terms.specs.AuctionPrice.{price_tick}
 use Rattle.printed_lines.specs.ReplyWords.{kind_word, side_word}
 use Rattle.day_tables.specs.declared.book.Table.{Table}
 use Rattle.day_tables.specs.declared.book.Rows.{Rows}
 use Rattle.day_tables.specs.declared.front_text.TheConstants.{SHORT}
 use Rattle.day_tables.specs.TableRecords.{csv_record}
-use Rattle.day_tables.specs.BookTable.{Shown, rule_word, best_word}
-use Rattle.day_tables.specs.TableCurves.{HasRoom, AreCurves, TellsRule}
+use Rattle.day_tables.specs.BookTable.{ShownBook, rule_word, best_word}
+use Rattle.day_tables.specs.TableCurves.{HasRoom, AreCurves, IsDecidingRule}
 
 -- as many places in each list, which are ticks
 pub record HasPlaces (table : Table) : Type 0 where
@@ -29,7 +29,7 @@ pub record HasPlaces (table : Table) : Type 0 where
 -- the tick of the price that is shown
 abbrev pub tick_shown : Display → Option ℕ
 tick_shown (Priced price) = Some price.tick
-tick_shown (Unpriced best_buy best_sell) = None
+tick_shown (Unpriced best_bid best_ask) = None
 
 abbrev pub is_at_price : Table → ℕ → Bool
 is_at_price table tick = option_map_or (λ price. price == tick) table.price false
@@ -40,7 +40,7 @@ is_row table place = (slice_index table.present.now place == 1) || is_at_price t
 
 abbrev pub side_between : ℕ → ℕ → Option Side
 side_between demands supplies =
-    if nat_lt supplies demands then Some Buy else (if nat_lt demands supplies then Some Sell else None)
+    if nat_lt supplies demands then Some Bid else (if nat_lt demands supplies then Some Ask else None)
 
 abbrev pub rule_at : Table → ℕ → List ℕ
 rule_at table tick = if is_at_price table tick then rule_word table.rule else []
@@ -90,14 +90,14 @@ market_row table =
     ∷ decimal table.market_bids ∷ decimal table.market_asks ∷ [] ∷ [] ∷ [] ∷ [] ∷ [] ∷ [] ∷ [] ∷ [])
 
 -- the table is that of a book
-pub record IsTableOf (shown : Shown) (table : Table) : Type 0 where
+pub record IsTableOf (shown : ShownBook) (table : Table) : Type 0 where
   pub command : table.command ≡ shown.command
   pub kind : table.kind ≡ shown.auction
-  pub market_bids : table.market_bids ≡ market Buy shown.book
-  pub market_asks : table.market_asks ≡ market Sell shown.book
-  pub bids : table.bids.now ≡ spread (standing Buy shown.book) table.low (length table.bids.now)
-  pub asks : table.asks.now ≡ spread (standing Sell shown.book) table.low (length table.bids.now)
-  pub present : table.present.now ≡ spread (presence shown.book) table.low (length table.bids.now)
+  pub market_bids : table.market_bids ≡ market_quantity Bid shown.book
+  pub market_asks : table.market_asks ≡ market_quantity Ask shown.book
+  pub bids : table.bids.now ≡ tick_values (quantity_at Bid shown.book) table.low (length table.bids.now)
+  pub asks : table.asks.now ≡ tick_values (quantity_at Ask shown.book) table.low (length table.bids.now)
+  pub present : table.present.now ≡ tick_values (limit_flag shown.book) table.low (length table.bids.now)
   pub curves : AreCurves table.low (length table.bids.now) table.curves.now shown.book
   pub price : table.price ≡ price_tick shown.book shown.reference
-  pub rule : TellsRule shown.book table.rule
+  pub rule : IsDecidingRule shown.book table.rule

@@ -7,11 +7,11 @@ ghost use Rattle.auction_terms.specs.Day.{IsLegal, State};
 ghost use Rattle.auction.specs.ConfigFault.{open_fault};
 ghost use Rattle.printed_lines.specs.Printing.{Prints};
 ghost use Rattle.printed_lines.specs.declared.page.TheConstants.{LONGEST_LINE, ROOM};
-ghost use Rattle.day_tables.specs.BookTable.{book_header, book_text, best_word, is_uncross};
+ghost use Rattle.day_tables.specs.BookTable.{book_header, book_text, best_word};
 ghost use Rattle.day_tables.specs.BookTable.{table_before, tables_after, text_before};
 ghost use Rattle.day_tables.specs.ShownTable.{IsHeadingIn, IsShownIn};
 ghost use Rattle.day_tables.specs.TableCurves.{HasRoom};
-ghost use Rattle.day_tables.specs.TableRecords.{PrintsTable, WantsMemory};
+ghost use Rattle.day_tables.specs.TableRecords.{PrintsTable, IsOnlyNoMemory};
 ghost use Rattle.day_tables.specs.TableRows.{HasPlaces, HasHead, side_between, is_row, row, row_end, row_if};
 ghost use Rattle.day_tables.specs.TableRows.{rows_below, market_row, is_at_price, rule_at, tick_shown};
 ghost use Rattle.day_tables.specs.declared.front_text.TheConstants.{SHORT, TEXT_ROOM};
@@ -23,7 +23,7 @@ use crate::front_text::{Figure, FrontText};
 use crate::record::{put_number, put_word};
 use crate::rule::{Rule, rule_word};
 use auction::{Auction, OpenFault};
-use auction_terms::{Config, Display, Entry, Kind, Reply, Side};
+use auction_terms::{AuctionKind, Config, Display, Entry, Reply, Side};
 use byte_streams::{Sink, WriteFailed};
 use printed_lines::{Page, Printer, kind_word, side_word};
 use std::alloc::Global;
@@ -34,7 +34,7 @@ use tick_ladder::Ladder;
 pub(crate) struct Table<'a> {
     /// The number of the command before which it stands.
     pub command: u64,
-    pub kind: Kind,
+    pub kind: AuctionKind,
     pub market_bids: u64,
     pub market_asks: u64,
     /// The lowest tick.
@@ -54,10 +54,10 @@ fn side_of(demand: u64, supply: u64) -> Option<Side>
     ensures { result ≡ side_between demand supply }
 {
     if supply < demand {
-        return Some(Side::Buy);
+        return Some(Side::Bid);
     }
     if demand < supply {
-        return Some(Side::Sell);
+        return Some(Side::Ask);
     }
     None
 }
@@ -146,8 +146,8 @@ fn put_plain_end(text: &mut FrontText, side: Option<Side>)
     ensures short { length text.new ≤ SHORT }
 {
     match side {
-        Some(Side::Buy) => text.put("bid,0,\n"),
-        Some(Side::Sell) => text.put("ask,0,\n"),
+        Some(Side::Bid) => text.put("bid,0,\n"),
+        Some(Side::Ask) => text.put("ask,0,\n"),
         None => text.put("none,0,\n"),
     }
 }
@@ -327,7 +327,7 @@ fn price_shown(display: Display) -> Option<u32>
 #[derive(Clone, Copy)]
 pub(crate) struct Heading {
     pub command: u64,
-    pub kind: Kind,
+    pub kind: AuctionKind,
     pub price: Option<u32>,
 }
 
@@ -348,8 +348,8 @@ pub(crate) fn print_ladder<S: Sink>(
     let table = Table {
         command: heading.command,
         kind: heading.kind,
-        market_bids: ladder.market(Side::Buy),
-        market_asks: ladder.market(Side::Sell),
+        market_bids: ladder.market(Side::Bid),
+        market_asks: ladder.market(Side::Ask),
         low: ladder.low(),
         bids: ladder.bids(),
         asks: ladder.asks(),
@@ -395,13 +395,6 @@ fn print_table<S: Sink>(
     print_ladder(printer, auction.ladder(), heading, curves)
 }
 
-/// Whether an uncross was accepted, an interrupted one too.
-fn is_uncross(reply: Reply) -> bool
-    ensures { result ≡ is_uncross reply }
-{
-    matches!(reply, Reply::Uncrossed { .. } | Reply::Interrupted(_))
-}
-
 /// Prints the table before a command that was answered so, if it is an uncross that was accepted.
 fn print_before<S: Sink>(
     printer: &mut Printer<'_, S>,
@@ -416,7 +409,7 @@ fn print_before<S: Sink>(
     ensures auction { auction.new ≡ auction.old }
     ensures room { HasRoom (auction.old.config.high + 1 - auction.old.config.low) curves.new }
 {
-    if !is_uncross(reply) {
+    if !reply.is_uncross() {
         return Ok(());
     }
     print_table(printer, auction, curves, command)
@@ -486,7 +479,7 @@ pub fn print_book<S: Sink>(
     requires legal { IsLegal config entries.now }
     ensures printed { PrintsTable S.Sink printer.old printer.new result (book_text config entries.now) }
     ensures refused { IfSome (open_fault config) (λ unopened. result ≡ Err (fault.Open unopened)) }
-    ensures memory { open_fault config ≡ None → IfErr result WantsMemory }
+    ensures memory { open_fault config ≡ None → IfErr result IsOnlyNoMemory }
 {
     let mut auction = match Auction::open(alloc, config) {
         Ok(auction) => auction,

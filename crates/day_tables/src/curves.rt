@@ -6,11 +6,11 @@ ghost use Rattle.std.specs.Simd.Lanes.{zip2};
 ghost use Rattle.auction_terms.specs.declared.Order.{Order};
 ghost use Rattle.auction_terms.specs.Book.{demand, supply};
 ghost use Rattle.auction_terms.specs.AuctionPrice.{best_limits};
-ghost use Rattle.auction_terms.specs.Ladder.{spread};
+ghost use Rattle.auction_terms.specs.Ladder.{tick_values};
 ghost use Rattle.lane_prefix.specs.RunningSums.{rising_sums, falling_sums};
 ghost use Rattle.price_rules.specs.Candidates.{AreMarked};
 ghost use Rattle.tick_ladder.specs.TickLadder.{IsLadder, OfEachBook};
-ghost use Rattle.day_tables.specs.TableCurves.{AreCurves, HasRoom, LeavesBest, TellsRule, ticks_from};
+ghost use Rattle.day_tables.specs.TableCurves.{AreCurves, HasRoom, LeavesBest, IsDecidingRule, ticks_from};
 
 use crate::rule::Rule;
 use auction_terms::Side;
@@ -81,8 +81,8 @@ fn draw(
     ensures surpluses { surpluses.new ≡ zip2 abs_diff demands.new supplies.new }
     ensures best { LeavesBest demands.new supplies.new ladder.now.present best.new }
 {
-    falling(ladder.market(Side::Buy), ladder.bids(), demands);
-    rising(ladder.market(Side::Sell), ladder.asks(), supplies);
+    falling(ladder.market(Side::Bid), ladder.bids(), demands);
+    rising(ladder.market(Side::Ask), ladder.asks(), supplies);
     lesser(demands, supplies, volumes);
     gap_size(demands, supplies, surpluses);
     best.copy_from_slice(ladder.present());
@@ -94,10 +94,10 @@ fn rule_among(demands: &[u64], supplies: &[u64], best: &[u64]) -> Rule
     requires demands { length demands.now ≡ length best.now }
     requires supplies { length supplies.now ≡ length best.now }
     ensures { (low : ℕ) (book : List Order)
-        → demands.now ≡ spread (demand book) low (length best.now)
-        → supplies.now ≡ spread (supply book) low (length best.now)
+        → demands.now ≡ tick_values (demand book) low (length best.now)
+        → supplies.now ≡ tick_values (supply book) low (length best.now)
         → AreMarked (ticks_from low (length best.now)) best.now (best_limits book)
-        → TellsRule book result }
+        → IsDecidingRule book result }
 {
     let Some(lowest) = first(best) else {
         return Rule::Market;
@@ -158,7 +158,7 @@ impl Curves {
     pub(crate) fn rule(&self) -> Rule
         requires { HasRoom (length self.now.best.items) self.now }
         ensures { (low : ℕ) (book : List Order)
-            → AreCurves low (length self.now.best.items) self.now book → TellsRule book result }
+            → AreCurves low (length self.now.best.items) self.now book → IsDecidingRule book result }
     {
         rule_among(&self.demands, &self.supplies, &self.best)
     }

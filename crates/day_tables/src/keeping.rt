@@ -3,12 +3,12 @@
 ghost use Rattle.std.specs.Prelude.{◌≡◌, ◌<◌, ◌+◌, ◌-◌, ◌++◌, ◌∷◌, [], ℕ, List, IfOk, OnOk};
 ghost use Rattle.auction_terms.specs.declared.Config.{Config};
 ghost use Rattle.auction_terms.specs.declared.Entry.{Entry};
-ghost use Rattle.auction_terms.specs.Day.{step};
-ghost use Rattle.auction_terms.specs.Devices.Running.{called, opened};
+ghost use Rattle.auction_terms.specs.Day.{is_uncross_reply, step};
+ghost use Rattle.auction_terms.specs.Auxiliary.RunningAuction.{auction_after_call, opened_auction};
 ghost use Rattle.printed_lines.specs.Printing.{Prints};
-ghost use Rattle.day_tables.specs.BookTable.{book_text, is_uncross, table_before, text_before};
-ghost use Rattle.day_tables.specs.KeptBook.{AreTables, FollowsBook, HoldsBook};
-ghost use Rattle.day_tables.specs.AnsweredCalls.{answered, asks_uncross};
+ghost use Rattle.day_tables.specs.BookTable.{book_text, table_before, text_before};
+ghost use Rattle.day_tables.specs.KeptBook.{AreTables, HasTablesSoFar, HasAllTables};
+ghost use Rattle.day_tables.specs.AnsweredCalls.{entry_of, is_uncross_command};
 ghost use Rattle.day_tables.specs.TableCurves.{HasRoom};
 
 use crate::book::{Heading, heading_of, print_header, print_ladder};
@@ -36,17 +36,17 @@ pub struct KeptBook {
 }
 
 /// Whether a command asks for an uncross.
-fn asks_uncross(command: Command) -> bool
-    ensures { result ≡ asks_uncross command }
+fn is_uncross_command(command: Command) -> bool
+    ensures { result ≡ is_uncross_command command }
 {
     matches!(command, Command::Uncross)
 }
 
 /// Whether a call will be answered as an uncross that is accepted, an interrupted one too.
 fn will_uncross(auction: &Auction, call: Call) -> bool
-    ensures { result ≡ is_uncross (step auction.now.config auction.now.state call).1 }
+    ensures { result ≡ is_uncross_reply (step auction.now.config auction.now.state call).1 }
 {
-    if !asks_uncross(call.command) {
+    if !is_uncross_command(call.command) {
         return false;
     }
     if call.member != 0 {
@@ -75,7 +75,8 @@ fn print_tables<S: Sink>(
 impl KeptBook {
     /// No table yet of a day that was just opened. The error is that memory is refused.
     pub fn open(alloc: Global, auction: &Auction) -> Result<KeptBook, AllocError>
-        ensures { auction.now ≡ opened auction.now.config → IfOk result (λ book. FollowsBook book auction.now []) }
+        ensures { auction.now ≡ opened_auction auction.now.config
+            → IfOk result (λ book. HasTablesSoFar book auction.now []) }
     {
         let curves = Curves::open(alloc, auction.ladder().bids().len())?;
         Ok(KeptBook {
@@ -130,10 +131,10 @@ impl KeptBook {
         call: Call,
     ) -> Result<(), AllocError>
         requires { auction.old.calls < auction.old.config.max_calls }
-        ensures auction { auction.new ≡ called auction.old call }
-        ensures kept { (entries : List Entry) → FollowsBook self.old auction.old entries
-            → OnOk result (FollowsBook self.new auction.new
-            (entries ++ answered call (step auction.old.config auction.old.state call).1 ∷ [])) }
+        ensures auction { auction.new ≡ auction_after_call auction.old call }
+        ensures kept { (entries : List Entry) → HasTablesSoFar self.old auction.old entries
+            → OnOk result (HasTablesSoFar self.new auction.new
+            (entries ++ entry_of call (step auction.old.config auction.old.state call).1 ∷ [])) }
     {
         let kept = self.keep_before(alloc, auction, call);
         auction.apply(call.member, call.command);
@@ -142,16 +143,16 @@ impl KeptBook {
 
     /// Keeps the table at the end of the input, if the day isn't over. The error is that memory is refused.
     pub fn close(&mut self, alloc: Global, auction: &mut Auction) -> Result<(), AllocError>
-        ensures { (entries : List Entry) → FollowsBook self.old auction.old entries
-            → OnOk result (HoldsBook self.new auction.old.config entries) }
+        ensures { (entries : List Entry) → HasTablesSoFar self.old auction.old entries
+            → OnOk result (HasAllTables self.new auction.old.config entries) }
     {
         self.keep_table(alloc, auction)
     }
 
     /// Prints the book behind each price of the day, as [`print_book`](crate::print_book) does of its history.
     pub fn print<S: Sink>(&mut self, printer: &mut Printer<'_, S>) -> Result<(), WriteFailed>
-        requires { (config : Config) × (entries : List Entry) × HoldsBook self.old config entries }
-        ensures { (config : Config) (entries : List Entry) → HoldsBook self.old config entries
+        requires { (config : Config) × (entries : List Entry) × HasAllTables self.old config entries }
+        ensures { (config : Config) (entries : List Entry) → HasAllTables self.old config entries
             → Prints S.Sink printer.old printer.new result (book_text config entries) }
     {
         print_header(printer)?;

@@ -17,6 +17,6 @@ mod trades;
 pub use book::print_book;
 pub use fault::TableFault;
 pub use keeping::KeptBook;
-pub use laws::{each_trade_is_told, rule_decides};
+pub use laws::{each_trade_is_printed, rule_decides};
 pub use rule::Rule;
 pub use trades::print_trades;

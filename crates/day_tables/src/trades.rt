@@ -6,23 +6,23 @@ ghost use Rattle.auction_terms.specs.Day.{IsLegal, calls_of, state_after};
 ghost use Rattle.auction.specs.ConfigFault.{open_fault};
 ghost use Rattle.printed_lines.specs.Printing.{Prints};
 ghost use Rattle.printed_lines.specs.declared.page.TheConstants.{LONGEST_LINE, ROOM};
-ghost use Rattle.day_tables.specs.TableRecords.{PrintsTable, WantsMemory};
+ghost use Rattle.day_tables.specs.TableRecords.{PrintsTable, IsOnlyNoMemory};
 ghost use Rattle.day_tables.specs.TableMembers.{entering_members, member_at};
-ghost use Rattle.day_tables.specs.TradeTable.{id_told, auctions_told, trade_auctions, trades_header};
+ghost use Rattle.day_tables.specs.TradeTable.{entered_id, auctions_of_reply, trade_auctions, trades_header};
 ghost use Rattle.day_tables.specs.TradeTable.{trade_record, trade_records, trades_text};
 ghost use Rattle.day_tables.specs.declared.fault.TableFault.TheVariants as fault;
 
 use crate::fault::TableFault;
 use crate::record::{put_member, put_number, put_word};
 use auction::{Auction, OpenFault};
-use auction_terms::{Config, Entry, Kind, Reply, Trade};
+use auction_terms::{AuctionKind, Config, Entry, Reply, Trade};
 use byte_streams::{Sink, WriteFailed};
 use printed_lines::{Page, Printer, kind_word};
 use std::alloc::{AllocError, Global};
 
 /// Whether an order was entered.
 fn is_entered(reply: Reply) -> bool
-    ensures { result ≡ is_some (id_told reply) }
+    ensures { result ≡ is_some (entered_id reply) }
 {
     matches!(reply, Reply::Entered { .. })
 }
@@ -49,8 +49,8 @@ fn entering_members(alloc: Global, entries: &[Entry]) -> Result<Vec<u8>, AllocEr
 }
 
 /// Adds the auction that a reply tells of, once for each trade that it made.
-fn add_auctions(auctions: &mut Vec<Kind>, reply: Reply) -> Result<(), AllocError>
-    ensures { OnOk result (auctions.new.items ≡ auctions.old.items ++ auctions_told reply) }
+fn add_auctions(auctions: &mut Vec<AuctionKind>, reply: Reply) -> Result<(), AllocError>
+    ensures { OnOk result (auctions.new.items ≡ auctions.old.items ++ auctions_of_reply reply) }
 {
     match reply {
         Reply::Uncrossed { kind, trades, .. } => {
@@ -62,7 +62,7 @@ fn add_auctions(auctions: &mut Vec<Kind>, reply: Reply) -> Result<(), AllocError
 }
 
 /// Trade by trade the auctions of the day.
-fn trade_auctions(alloc: Global, entries: &[Entry]) -> Result<Vec<Kind>, AllocError>
+fn trade_auctions(alloc: Global, entries: &[Entry]) -> Result<Vec<AuctionKind>, AllocError>
     ensures { IfOk result (λ auctions. auctions.items ≡ trade_auctions entries.now) }
 {
     let mut auctions = Vec::new(alloc);
@@ -97,16 +97,16 @@ fn print_header<S: Sink>(printer: &mut Printer<'_, S>) -> Result<(), WriteFailed
     Ok(())
 }
 
-fn put_trade(page: &mut Page, members: &[u8], number: u64, kind: Kind, trade: Trade)
+fn put_trade(page: &mut Page, members: &[u8], number: u64, kind: AuctionKind, trade: Trade)
     requires { length page.old + LONGEST_LINE ≤ ROOM }
     ensures { page.new ≡ page.old ++ trade_record (member_at members.now) number kind trade }
 {
     put_number(page, number);
     put_word(page, kind_word(kind));
-    put_number(page, u64::from(trade.buy));
-    put_member(page, member_of(members, trade.buy));
-    put_number(page, u64::from(trade.sell));
-    put_member(page, member_of(members, trade.sell));
+    put_number(page, u64::from(trade.bid));
+    put_member(page, member_of(members, trade.bid));
+    put_number(page, u64::from(trade.ask));
+    put_member(page, member_of(members, trade.ask));
     put_number(page, trade.quantity);
     page.put_number(u64::from(trade.tick));
     page.put("\n");
@@ -116,7 +116,7 @@ fn print_trade<S: Sink>(
     printer: &mut Printer<'_, S>,
     members: &[u8],
     number: u64,
-    kind: Kind,
+    kind: AuctionKind,
     trade: Trade,
 ) -> Result<(), WriteFailed>
     ensures { Prints S.Sink printer.old printer.new result
@@ -131,7 +131,7 @@ fn print_trade<S: Sink>(
 fn print_tape<S: Sink>(
     printer: &mut Printer<'_, S>,
     members: &[u8],
-    kinds: &[Kind],
+    kinds: &[AuctionKind],
     tape: &[Trade],
 ) -> Result<(), WriteFailed>
     ensures { Prints S.Sink printer.old printer.new result
@@ -154,7 +154,7 @@ fn print_tape<S: Sink>(
 fn print_trade_table<S: Sink>(
     printer: &mut Printer<'_, S>,
     members: &[u8],
-    kinds: &[Kind],
+    kinds: &[AuctionKind],
     tape: &[Trade],
 ) -> Result<(), WriteFailed>
     ensures { Prints S.Sink printer.old printer.new result
@@ -189,7 +189,7 @@ pub fn print_trades<S: Sink>(
     requires legal { IsLegal config entries.now }
     ensures printed { PrintsTable S.Sink printer.old printer.new result (trades_text config entries.now) }
     ensures refused { IfSome (open_fault config) (λ unopened. result ≡ Err (fault.Open unopened)) }
-    ensures memory { open_fault config ≡ None → IfErr result WantsMemory }
+    ensures memory { open_fault config ≡ None → IfErr result IsOnlyNoMemory }
 {
     let mut auction = match Auction::open(alloc, config) {
         Ok(auction) => auction,

@@ -1,6 +1,6 @@
 -- The likely cause of a fault, by how the input begins.
 use Rattle.std.specs.Prelude.{ℕ, ◌==◌, ◌||◌, ◌&&◌, not, nat_le, Bool, false, List, [], ◌∷◌, Option, Some, None}
-use Rattle.std.specs.Prelude.{if◌then◌else◌}
+use Rattle.std.specs.Prelude.{codes, if◌then◌else◌}
 use Rattle.std.specs.List.{list_any}
 use Rattle.order_file.specs.declared.fault.FileFault.{FileFault}
 use Rattle.order_file.specs.declared.fault.FileFault.TheVariants as fault
@@ -40,3 +40,9 @@ hint_of fault start = None
 abbrev pub is_like_file : List ℕ → Bool
 is_like_file [] = false
 is_like_file (byte ∷ rest) = not (byte == 45) && (has_byte 46 (byte ∷ rest) || has_byte 47 (byte ∷ rest))
+
+-- the line that is printed of a likely cause
+abbrev pub hint_text : Hint → List ℕ
+hint_text hint.Utf16 = codes "the input looks like UTF-16: save it as UTF-8"
+hint_text hint.Semicolons = codes "the input has semicolons: fields are parted by commas"
+hint_text hint.Header = codes "the first record looks like a header: leave it out"

@@ -1,7 +1,8 @@
 //! The likely cause of a fault.
 
-ghost use Rattle.std.specs.Prelude.{◌≡◌};
-ghost use Rattle.input_hints.specs.Hints.{has_byte, has_letter_first, hint_by, hint_of, is_like_file, is_utf_16};
+ghost use Rattle.std.specs.Prelude.{◌≡◌, Some};
+ghost use Rattle.input_hints.specs.Hints.{has_byte, has_letter_first, hint_by, hint_of, hint_text, is_like_file};
+ghost use Rattle.input_hints.specs.Hints.{is_utf_16};
 
 use order_file::FileFault;
 use std::fmt;
@@ -19,12 +20,16 @@ pub enum Hint {
 }
 
 impl Display for Hint {
+    ghost output = { λ hint. Some (hint_text hint) };
+
     fn fmt<W: fmt::Write>(&self, f: &mut Formatter<W>) -> fmt::Result {
-        f.write_str(match self {
-            Hint::Utf16 => "the input looks like UTF-16: save it as UTF-8",
-            Hint::Semicolons => "the input has semicolons: fields are parted by commas",
-            Hint::Header => "the first record looks like a header: leave it out",
-        })
+        match self {
+            Hint::Utf16 => f.write_str("the input looks like UTF-16: save it as UTF-8"),
+            Hint::Semicolons => {
+                f.write_str("the input has semicolons: fields are parted by commas")
+            }
+            Hint::Header => f.write_str("the first record looks like a header: leave it out"),
+        }
     }
 }
 

@@ -3,9 +3,9 @@
 #![tactic(auto)]
 
 mod hint;
-mod noted;
 mod start;
+mod start_keeper;
 
 pub use hint::{Hint, hint_of, is_like_file};
-pub use noted::{KeepsStart, Noted};
 pub use start::{ROOM, Start};
+pub use start_keeper::{KeepsStart, StartKeeper};

@@ -1,94 +1,115 @@
 -- Calls with their replies that go before others.
-use Rattle.std.proofs.Common.{◌≡◌, ◌<◌, ◌≤◌, ◌+◌, ◌++◌, ◌∷◌, ◌∙◌, [], ℕ, List, Bool, Result, Ok, Err, false, true, refl, sym, ap, append_assoc, length, map, nat_le, nat_lt, rules}
+use Rattle.std.proofs.Common.{◌≡◌, ◌<◌, ◌≤◌, ◌+◌, ◌++◌, ◌∷◌, ◌∙◌, [], ℕ, List, Bool, Result, Ok, Err, false, true, refl}
+use Rattle.std.proofs.Common.{sym, ap, append_assoc, length, map, nat_le, nat_lt, rules}
 use Rattle.std.proofs.lemmas.List.{append-nil}
 use Rattle.auction_terms.specs.declared.Call.{Call}
 use Rattle.auction_terms.specs.Results.{◌>>=◌}
-use Rattle.order_file.specs.File.{Fails}
-use Rattle.order_file.specs.Record.{numbered}
+use Rattle.order_file.specs.File.{FailsAsWanted}
+use Rattle.order_file.specs.Record.{with_record_number}
 use Rattle.order_file.specs.FileFault.{in_record}
 use Rattle.order_file.specs.declared.fault.FileFault.{FileFault}
 use Rattle.order_file.specs.declared.fault.FileFault.TheVariants as file
 use Rattle.order_file.specs.declared.fault.RecordFault.{RecordFault}
 use Rattle.order_file.specs.declared.fault.RecordFault.TheVariants as fault
-use Rattle.journal.specs.declared.day.Day.{Day}
+use Rattle.journal.specs.declared.day.DayHeader.{DayHeader}
 use Rattle.journal.specs.declared.entry.Head.{Head}
-use Rattle.journal.specs.EntryRecord.{Said, call_with, fields_of_call, head_of, is_reply_text, reply_of_fields, said_call, said_of, said_text}
-use Rattle.order_file.specs.File.{Gives, IsOfRecord, calls_of, file as file_says, within_limit}
+use Rattle.journal.specs.EntryRecord.{RecordedCall, call_with, fields_of_call, head_of, is_reply_text, reply_of_fields}
+use Rattle.journal.specs.EntryRecord.{call_part, recorded_call_of, reply_part}
+use Rattle.order_file.specs.File.{GivesWanted, IsOfRecord, calls_of, file as file_says, within_limit}
 use Rattle.order_file.specs.declared.reading.TheConstants.{MAX_BYTES}
 use Rattle.journal.specs.DayRecord.{day_of, is_day_row}
-use Rattle.journal.specs.GivenDay.{given_day, given_of, or_orders, orders_for}
-use Rattle.journal.specs.JournalFile.{RecordedDay, journal_of, journal_of_rows, recorded_in, said_after}
-use Rattle.journal.specs.declared.given.Given.{Given}
+use Rattle.journal.specs.DayWithCalls.{day_with_calls, run_input_of, or_orders, orders_for}
+use Rattle.journal.specs.JournalFile.{RecordedDay, journal_of, journal_of_rows, recorded_in, recorded_calls_after}
+use Rattle.journal.specs.declared.run_input.RunInput.{RunInput}
 
 -- these calls, and then those
-abbrev pub behind : List Said → Result (List Said) FileFault → Result (List Said) FileFault
-behind front rest = rest >>= λ said. Ok (front ++ said)
+abbrev pub behind : List RecordedCall → Result (List RecordedCall) FileFault → Result (List RecordedCall) FileFault
+behind front rest = rest >>= λ recording. Ok (front ++ recording)
 
-behind-more : (front : List Said) (said : Said) (r : Result (List Said) FileFault)
-    → behind (front ++ said ∷ []) r ≡ behind front (r >>= λ rest. Ok (said ∷ rest))
-behind-more front said (Ok x) = ap Ok (append_assoc front (said ∷ []) x)
-behind-more front said (Err e) = refl
+behind-more : (front : List RecordedCall) (recording : RecordedCall) (r : Result (List RecordedCall) FileFault)
+    → behind (front ++ recording ∷ []) r ≡ behind front (r >>= λ rest. Ok (recording ∷ rest))
+behind-more front recording (Ok x) = ap Ok (append_assoc front (recording ∷ []) x)
+behind-more front recording (Err e) = refl
 
-pub behind-none : (r : Result (List Said) FileFault) → behind [] r ≡ r
+pub behind-none : (r : Result (List RecordedCall) FileFault) → behind [] r ≡ r
 behind-none (Ok x) = refl
 behind-none (Err e) = refl
 
 one-entry : (members max_calls before : ℕ) (r : List (List ℕ)) (rs : List (List (List ℕ))) → before < max_calls
-    → said_after members max_calls before (r ∷ rs)
-    ≡ (numbered (before + 2) (said_of members r) >>= λ said. said_after members max_calls (before + 1) rs >>= λ rest. Ok (said ∷ rest))
-unfolding said_after
-one-entry members max_calls before r rs room = let full : nat_le max_calls before ≡ false = search (rules) in rw full refl
+    → recorded_calls_after members max_calls before (r ∷ rs)
+    ≡ (with_record_number (before + 2) (recorded_call_of members r) >>= λ recording. recorded_calls_after members
+    max_calls (before + 1) rs >>= λ rest. Ok (recording ∷ rest))
+unfolding recorded_calls_after
+one-entry members max_calls before r rs room = let full : nat_le max_calls before ≡ false =
+    search (rules) in rw full refl
 
 -- no record is left
-pub entries-end : (day : Day) (before : ℕ) (front : List Said) (rows all : List (List (List ℕ))) (calls : List Call) (texts : List (List ℕ))
-    → behind front (said_after day.members day.config.max_calls before rows) ≡ said_after day.members day.config.max_calls 0 all → rows ≡ []
-    → calls ≡ map said_call front → texts ≡ map said_text front
+pub entries-end : (day : DayHeader) (before : ℕ) (front : List RecordedCall) (rows all : List (List (List ℕ)))
+    (calls : List Call) (texts : List (List ℕ))
+    → behind front (recorded_calls_after day.members day.config.max_calls before rows)
+    ≡ recorded_calls_after day.members day.config.max_calls 0 all → rows ≡ []
+    → calls ≡ map call_part front → texts ≡ map reply_part front
     → recorded_in day all ≡ Ok (record { day = day; calls = calls; texts = texts })
-unfolding recorded_in said_after
+unfolding recorded_in recorded_calls_after
 entries-end day before front rows all calls texts same none e f =
-    let done : said_after day.members day.config.max_calls 0 all ≡ Ok front = sym same ∙ rw none (ap Ok (append-nil front)) in
+    let done : recorded_calls_after day.members day.config.max_calls 0 all ≡ Ok front =
+    sym same ∙ rw none (ap Ok (append-nil front)) in
     rw (done, e, f) refl
 
 -- a record has a fault
-pub entries-fault : (day : Day) (before : ℕ) (front : List Said) (rows all : List (List (List ℕ))) (r : List (List ℕ)) (rs : List (List (List ℕ))) (fault : FileFault)
-    → behind front (said_after day.members day.config.max_calls before rows) ≡ said_after day.members day.config.max_calls 0 all → rows ≡ r ∷ rs
-    → before < day.config.max_calls → numbered (before + 2) (said_of day.members r) ≡ Err fault → recorded_in day all ≡ Err fault
+pub entries-fault : (day : DayHeader) (before : ℕ) (front : List RecordedCall) (rows all : List (List (List ℕ)))
+    (r : List (List ℕ)) (rs : List (List (List ℕ))) (fault : FileFault)
+    → behind front (recorded_calls_after day.members day.config.max_calls before rows)
+    ≡ recorded_calls_after day.members day.config.max_calls 0 all → rows ≡ r ∷ rs
+    → before < day.config.max_calls → with_record_number (before + 2) (recorded_call_of day.members r) ≡ Err fault
+    → recorded_in day all ≡ Err fault
 unfolding recorded_in
 entries-fault day before front rows all r rs fault same is room bad =
-    let first : said_after day.members day.config.max_calls before rows ≡ Err fault = rw (is, one-entry day.members day.config.max_calls before r rs room, bad) refl in
-    let done : said_after day.members day.config.max_calls 0 all ≡ Err fault = sym same ∙ rw first refl in
+    let first : recorded_calls_after day.members day.config.max_calls before rows ≡ Err fault =
+    rw (is, one-entry day.members day.config.max_calls before r rs room, bad) refl in
+    let done : recorded_calls_after day.members day.config.max_calls 0 all ≡ Err fault = sym same ∙ rw first refl in
     rw done refl
 
 -- there is a record too many
-pub entries-full : (day : Day) (before : ℕ) (front : List Said) (rows all : List (List (List ℕ))) (r : List (List ℕ)) (rs : List (List (List ℕ)))
-    → behind front (said_after day.members day.config.max_calls before rows) ≡ said_after day.members day.config.max_calls 0 all → rows ≡ r ∷ rs
+pub entries-full : (day : DayHeader) (before : ℕ) (front : List RecordedCall) (rows all : List (List (List ℕ)))
+    (r : List (List ℕ)) (rs : List (List (List ℕ)))
+    → behind front (recorded_calls_after day.members day.config.max_calls before rows)
+    ≡ recorded_calls_after day.members day.config.max_calls 0 all → rows ≡ r ∷ rs
     → day.config.max_calls ≤ before → recorded_in day all ≡ Err (file.TooManyCommands (before + 2))
-unfolding recorded_in said_after
+unfolding recorded_in recorded_calls_after
 entries-full day before front rows all r rs same is full =
     let none : nat_le day.config.max_calls before ≡ true = search rules in
-    let done : said_after day.members day.config.max_calls 0 all ≡ Err (file.TooManyCommands (before + 2)) = sym same ∙ rw (is, none) refl in
+    let done : recorded_calls_after day.members day.config.max_calls 0 all ≡ Err (file.TooManyCommands (before + 2)) =
+    sym same ∙ rw (is, none) refl in
     rw done refl
 
 -- a record has a call
-pub entries-more : (day : Day) (before : ℕ) (front : List Said) (rows all : List (List (List ℕ))) (r : List (List ℕ)) (rs : List (List (List ℕ))) (said : Said)
-    → behind front (said_after day.members day.config.max_calls before rows) ≡ said_after day.members day.config.max_calls 0 all → rows ≡ r ∷ rs
-    → before < day.config.max_calls → numbered (before + 2) (said_of day.members r) ≡ Ok said
-    → behind (front ++ said ∷ []) (said_after day.members day.config.max_calls (before + 1) rs) ≡ said_after day.members day.config.max_calls 0 all
-entries-more day before front rows all r rs said same is room good =
-    let first : said_after day.members day.config.max_calls before rows ≡ (said_after day.members day.config.max_calls (before + 1) rs >>= λ rest. Ok (said ∷ rest))
+pub entries-more : (day : DayHeader) (before : ℕ) (front : List RecordedCall) (rows all : List (List (List ℕ)))
+    (r : List (List ℕ)) (rs : List (List (List ℕ))) (recording : RecordedCall)
+    → behind front (recorded_calls_after day.members day.config.max_calls before rows)
+    ≡ recorded_calls_after day.members day.config.max_calls 0 all → rows ≡ r ∷ rs
+    → before < day.config.max_calls → with_record_number (before + 2) (recorded_call_of day.members r) ≡ Ok recording
+    → behind (front ++ recording ∷ []) (recorded_calls_after day.members day.config.max_calls (before + 1) rs)
+    ≡ recorded_calls_after day.members day.config.max_calls 0 all
+entries-more day before front rows all r rs recording same is room good =
+    let first : recorded_calls_after day.members day.config.max_calls before rows
+    ≡ (recorded_calls_after day.members day.config.max_calls (before + 1) rs >>= λ rest. Ok (recording ∷ rest))
     = rw (is, one-entry day.members day.config.max_calls before r rs room, good) refl in
-    behind-more front said _ ∙ ap (behind front) (sym first) ∙ same
+    behind-more front recording _ ∙ ap (behind front) (sym first) ∙ same
 
-pub calls-more : (front : List Said) (said : Said) → map said_call (front ++ said ∷ []) ≡ map said_call front ++ said.call ∷ []
-calls-more [] said = refl
-calls-more (s ∷ ss) said = ap (λ (t : List Call). s.call ∷ t) (calls-more ss said)
+pub calls-more : (front : List RecordedCall) (recording : RecordedCall) → map call_part (front ++ recording ∷ [])
+    ≡ map call_part front ++ recording.call ∷ []
+calls-more [] recording = refl
+calls-more (s ∷ ss) recording = ap (λ (t : List Call). s.call ∷ t) (calls-more ss recording)
 
-pub texts-more : (front : List Said) (said : Said) → map said_text (front ++ said ∷ []) ≡ map said_text front ++ said.text ∷ []
-texts-more [] said = refl
-texts-more (s ∷ ss) said = ap (λ (t : List (List ℕ)). s.text ∷ t) (texts-more ss said)
+pub texts-more : (front : List RecordedCall) (recording : RecordedCall) → map reply_part (front ++ recording ∷ [])
+    ≡ map reply_part front ++ recording.text ∷ []
+texts-more [] recording = refl
+texts-more (s ∷ ss) recording = ap (λ (t : List (List ℕ)). s.text ∷ t) (texts-more ss recording)
 
 -- what fails one of two that fail alike fails the other
-pub fails-alike : {X Y : Type 0} (e : FileFault) (x : Result X FileFault) (y : Result Y FileFault) → (x ≡ Err e → y ≡ Err e) → Fails e x → Fails e y
+pub fails-alike : {X Y : Type 0} (e : FileFault) (x : Result X FileFault) (y : Result Y FileFault)
+    → (x ≡ Err e → y ≡ Err e) → FailsAsWanted e x → FailsAsWanted e y
 fails-alike file.TooLong x y f h = f h
 fails-alike file.ReadFailed x y f h = tt
 fails-alike (file.BadMember n) x y f h = f h
@@ -100,7 +121,8 @@ fails-alike file.NotADay x y f h = f h
 fails-alike file.NoMemory x y f h = tt
 
 -- a fault that was wanted
-pub fails-record : {Y : Type 0} (number : ℕ) (fault : RecordFault) (wanted : Result Y FileFault) → wanted ≡ Err (in_record number fault) → Fails (in_record number fault) wanted
+pub fails-record : {Y : Type 0} (number : ℕ) (fault : RecordFault) (wanted : Result Y FileFault)
+    → wanted ≡ Err (in_record number fault) → FailsAsWanted (in_record number fault) wanted
 fails-record number fault.BadMember wanted h = h
 fails-record number fault.BadCommand wanted h = h
 fails-record number fault.BadCount wanted h = h
@@ -109,24 +131,34 @@ fails-record number (fault.BadField k) wanted h = h
 -- ---- one record
 
 pub head-bad : (members number : ℕ) (fields : List (List ℕ)) (fault : RecordFault) → Err fault ≡ head_of members fields
-    → numbered number (said_of members fields) ≡ Err (in_record number fault)
-unfolding said_of
+    → with_record_number number (recorded_call_of members fields) ≡ Err (in_record number fault)
+unfolding recorded_call_of
 head-bad members number fields fault e = rw (sym e) refl
 
-pub call-bad : (members number : ℕ) (fields front : List (List ℕ)) (head : Head) (fine : Bool) (place : ℕ) (fault : RecordFault) → Ok head ≡ head_of members fields
-    → front ≡ fields_of_call fields → fine ≡ is_reply_text (reply_of_fields fields) → place ≡ length fields → Err fault ≡ call_with head front fine place
-    → numbered number (said_of members fields) ≡ Err (in_record number fault)
-unfolding said_of
+pub call-bad : (members number : ℕ) (fields front : List (List ℕ)) (head : Head) (fine : Bool) (place : ℕ)
+    (fault : RecordFault) → Ok head ≡ head_of members fields
+    → front ≡ fields_of_call fields → fine ≡ is_reply_text (reply_of_fields fields) → place ≡ length fields
+    → Err fault ≡ call_with head front fine place
+    → with_record_number number (recorded_call_of members fields) ≡ Err (in_record number fault)
+unfolding recorded_call_of
 call-bad members number fields front head fine place fault e f g h k =
-    let bad : call_with head (fields_of_call fields) (is_reply_text (reply_of_fields fields)) (length fields) ≡ Err fault = sym (rw (f, g, h) at k) in
+    let bad : call_with head (fields_of_call fields) (is_reply_text (reply_of_fields fields)) (length fields)
+    ≡ Err fault = sym (rw (f, g, h) at k) in
     rw (sym e, bad) refl
 
-pub call-good : (members number : ℕ) (fields front : List (List ℕ)) (head : Head) (fine : Bool) (place : ℕ) (call : Call) → Ok head ≡ head_of members fields
-    → front ≡ fields_of_call fields → fine ≡ is_reply_text (reply_of_fields fields) → place ≡ length fields → Ok call ≡ call_with head front fine place
-    → numbered number (said_of members fields) ≡ Ok (record { call = call; text = reply_of_fields fields })
-unfolding said_of
+pub call-good : (members number : ℕ) (fields front : List (List ℕ)) (head : Head) (fine : Bool) (place : ℕ)
+    (call : Call) → Ok head ≡ head_of members fields
+    → front ≡ fields_of_call fields → fine ≡ is_reply_text (reply_of_fields fields) → place ≡ length fields
+    → Ok call ≡ call_with head front fine place
+    → with_record_number number (recorded_call_of members fields) ≡ Ok (record {
+      call = call;
+      text =
+          reply_of_fields fields;
+    })
+unfolding recorded_call_of
 call-good members number fields front head fine place call e f g h k =
-    let good : call_with head (fields_of_call fields) (is_reply_text (reply_of_fields fields)) (length fields) ≡ Ok call = sym (rw (f, g, h) at k) in
+    let good : call_with head (fields_of_call fields) (is_reply_text (reply_of_fields fields)) (length fields)
+    ≡ Ok call = sym (rw (f, g, h) at k) in
     rw (sym e, good) refl
 
 -- ---- the first record
@@ -135,42 +167,52 @@ pub first-missing : (rows : List (List (List ℕ))) → rows ≡ [] → journal_
 unfolding journal_of_rows
 first-missing rows e = rw e refl
 
-pub first-other : (rows rest : List (List (List ℕ))) (row : List (List ℕ)) → rows ≡ row ∷ rest → is_day_row row ≡ false → journal_of_rows rows ≡ Err file.NotADay
+pub first-other : (rows rest : List (List (List ℕ))) (row : List (List ℕ)) → rows ≡ row ∷ rest → is_day_row row ≡ false
+    → journal_of_rows rows ≡ Err file.NotADay
 unfolding journal_of_rows
 first-other rows rest row e f = rw (e, f) refl
 
-pub first-faulty : (rows rest : List (List (List ℕ))) (row : List (List ℕ)) (fault : RecordFault) → rows ≡ row ∷ rest → is_day_row row ≡ true
+pub first-faulty : (rows rest : List (List (List ℕ))) (row : List (List ℕ)) (fault : RecordFault) → rows ≡ row ∷ rest
+    → is_day_row row ≡ true
     → Err fault ≡ day_of row → journal_of_rows rows ≡ Err (in_record 1 fault)
 unfolding journal_of_rows
 first-faulty rows rest row fault e f g = rw (e, f, sym g) refl
 
-pub first-day : (rows rest : List (List (List ℕ))) (row : List (List ℕ)) (day : Day) → rows ≡ row ∷ rest → is_day_row row ≡ true
+pub first-day : (rows rest : List (List (List ℕ))) (row : List (List ℕ)) (day : DayHeader) → rows ≡ row ∷ rest
+    → is_day_row row ≡ true
     → Ok day ≡ day_of row → journal_of_rows rows ≡ recorded_in day rest
 unfolding journal_of_rows
 first-day rows rest row day e f g = rw (e, f, sym g) refl
 
 -- ---- what bytes give
 
-pub orders-long : (day : Day) (bytes : List ℕ) → MAX_BYTES < length bytes → orders_for day bytes ≡ Err file.TooLong
+pub orders-long : (day : DayHeader) (bytes : List ℕ) → MAX_BYTES < length bytes
+    → orders_for day bytes ≡ Err file.TooLong
 unfolding orders_for file_says within_limit
 orders-long day bytes h = let long : nat_lt MAX_BYTES (length bytes) ≡ true = search rules in rw long refl
 
-pub orders-bad : (day : Day) (bytes : List ℕ) (fault : FileFault) → length bytes ≤ MAX_BYTES → calls_of day.members day.config.max_calls bytes ≡ Err fault
+pub orders-bad : (day : DayHeader) (bytes : List ℕ) (fault : FileFault) → length bytes ≤ MAX_BYTES
+    → calls_of day.members day.config.max_calls bytes ≡ Err fault
     → orders_for day bytes ≡ Err fault
 unfolding orders_for file_says within_limit
-orders-bad day bytes fault h e = let short : nat_lt MAX_BYTES (length bytes) ≡ false = search rules in rw (short, e) refl
+orders-bad day bytes fault h e = let short : nat_lt MAX_BYTES (length bytes) ≡ false =
+    search rules in rw (short, e) refl
 
-pub orders-good : (day : Day) (bytes : List ℕ) (calls : List Call) → length bytes ≤ MAX_BYTES → calls_of day.members day.config.max_calls bytes ≡ Ok calls
+pub orders-good : (day : DayHeader) (bytes : List ℕ) (calls : List Call) → length bytes ≤ MAX_BYTES
+    → calls_of day.members day.config.max_calls bytes ≡ Ok calls
     → orders_for day bytes ≡ Ok (record { day = day; calls = calls })
 unfolding orders_for file_says within_limit
-orders-good day bytes calls h e = let short : nat_lt MAX_BYTES (length bytes) ≡ false = search rules in rw (short, e) refl
+orders-good day bytes calls h e = let short : nat_lt MAX_BYTES (length bytes) ≡ false =
+    search rules in rw (short, e) refl
 
-pub given-journal : (day : Day) (bytes : List ℕ) (j : RecordedDay) → journal_of bytes ≡ Ok j → given_of day bytes ≡ Ok (record { day = j.day; calls = j.calls })
-unfolding given_of
-given-journal day bytes j e = rw e refl
+pub run_input-journal : (day : DayHeader) (bytes : List ℕ) (j : RecordedDay) → journal_of bytes ≡ Ok j
+    → run_input_of day bytes ≡ Ok (record { day = j.day; calls = j.calls })
+unfolding run_input_of
+run_input-journal day bytes j e = rw e refl
 
 -- want of memory alone stands for want of memory
-gives-none : {X Y : Type 0} (view : X → Y) (r : Result X FileFault) (wanted : Result Y FileFault) → Gives view r (Err file.NoMemory) → Gives view r wanted
+gives-none : {X Y : Type 0} (view : X → Y) (r : Result X FileFault) (wanted : Result Y FileFault)
+    → GivesWanted view r (Err file.NoMemory) → GivesWanted view r wanted
 gives-none view (Ok x) wanted h = absurd (cc h)
 gives-none view (Err file.TooLong) wanted h = absurd (cc h)
 gives-none view (Err file.ReadFailed) wanted h = tt
@@ -183,15 +225,17 @@ gives-none view (Err file.NotADay) wanted h = absurd (cc h)
 gives-none view (Err file.NoMemory) wanted h = tt
 
 -- what fails as a journal, and then as orders
-pub given-orders : (day : Day) (bytes : List ℕ) (fault : FileFault) (r : Result Given FileFault) → Fails fault (journal_of bytes) → IsOfRecord fault
-    → Gives given_day r (or_orders (orders_for day bytes) fault) → Gives given_day r (given_of day bytes)
-unfolding given_of
-given-orders day bytes file.TooLong r f n h = absurd n
-given-orders day bytes file.ReadFailed r f n h = absurd n
-given-orders day bytes (file.BadMember k) r f n h = rw f h
-given-orders day bytes (file.BadCommand k) r f n h = rw f h
-given-orders day bytes (file.BadCount k) r f n h = rw f h
-given-orders day bytes (file.BadField k l) r f n h = rw f h
-given-orders day bytes (file.TooManyCommands k) r f n h = rw f h
-given-orders day bytes file.NotADay r f n h = rw f h
-given-orders day bytes file.NoMemory r f n h = gives-none given_day r _ h
+pub run_input-orders : (day : DayHeader) (bytes : List ℕ) (fault : FileFault) (r : Result RunInput FileFault)
+    → FailsAsWanted fault (journal_of bytes) → IsOfRecord fault
+    → GivesWanted day_with_calls r (or_orders (orders_for day bytes) fault)
+    → GivesWanted day_with_calls r (run_input_of day bytes)
+unfolding run_input_of
+run_input-orders day bytes file.TooLong r f n h = absurd n
+run_input-orders day bytes file.ReadFailed r f n h = absurd n
+run_input-orders day bytes (file.BadMember k) r f n h = rw f h
+run_input-orders day bytes (file.BadCommand k) r f n h = rw f h
+run_input-orders day bytes (file.BadCount k) r f n h = rw f h
+run_input-orders day bytes (file.BadField k l) r f n h = rw f h
+run_input-orders day bytes (file.TooManyCommands k) r f n h = rw f h
+run_input-orders day bytes file.NotADay r f n h = rw f h
+run_input-orders day bytes file.NoMemory r f n h = gives-none day_with_calls r _ h

@@ -10,6 +10,6 @@ pub mod JournalReadLaws
 pub mod ReplayTextLaws
 pub mod JournalSizeLaws
 pub mod FileFitLaws
-pub mod GivenFitLaws
+pub mod RunInputFitLaws
 pub mod WideReplyLaws
 pub mod KeptLineLaws

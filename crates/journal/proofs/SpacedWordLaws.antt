@@ -1,5 +1,6 @@
 -- Words with a space between each two, and such a text taken apart again.
-use Rattle.std.proofs.Common.{◌≡◌, ◌≤◌, ◌==◌, ◌<◌, ◌++◌, ◌∷◌, ◌∙◌, [], ℕ, List, Bool, true, false, refl, ap, append_assoc, arith, nat_le, rules}
+use Rattle.std.proofs.Common.{◌≡◌, ◌≤◌, ◌==◌, ◌<◌, ◌++◌, ◌∷◌, ◌∙◌, [], ℕ, List, Bool, true, false, refl, ap}
+use Rattle.std.proofs.Common.{append_assoc, arith, nat_le, rules}
 use Rattle.std.specs.Prelude.{◌&&◌, not, if◌then◌else◌, decimal, ◌^◌}
 use Rattle.std.specs.List.{list_all, AllByRecursion}
 use Rattle.std.specs.Char.{is_ascii_digit}
@@ -40,16 +41,20 @@ words-run word (b ∷ rest) tail e =
     rw space (words-run (word ++ (b ∷ [])) rest tail (and-right _ _ e)
     ∙ ap (λ (w : List ℕ). words_from w tail) (append_assoc word (b ∷ []) rest))
 
-words-after : (word w : List ℕ) (ws : List (List ℕ)) → IsWord w → AllByRecursion IsWord ws → words_from word (w ++ spaced_after ws) ≡ (word ++ w) ∷ ws
+words-after : (word w : List ℕ) (ws : List (List ℕ)) → IsWord w → AllByRecursion IsWord ws
+    → words_from word (w ++ spaced_after ws) ≡ (word ++ w) ∷ ws
 words-after word w [] e es = words-run word w [] e
 words-after word w (v ∷ vs) e es =
-    words-run word w (32 ∷ (v ++ spaced_after vs)) e ∙ ap (λ (t : List (List ℕ)). (word ++ w) ∷ t) (words-after [] v vs es.0 es.1)
+    words-run word w (32 ∷ (v ++ spaced_after vs)) e
+    ∙ ap (λ (t : List (List ℕ)). (word ++ w) ∷ t) (words-after [] v vs es.0 es.1)
 
-pub words-spaced : (w : List ℕ) (ws : List (List ℕ)) → AllByRecursion IsWord (w ∷ ws) → words_from [] (spaced (w ∷ ws)) ≡ w ∷ ws
+pub words-spaced : (w : List ℕ) (ws : List (List ℕ)) → AllByRecursion IsWord (w ∷ ws)
+    → words_from [] (spaced (w ∷ ws)) ≡ w ∷ ws
 words-spaced w ws es = words-after [] w ws es.0 es.1
 
 -- what passes one test passes another
-pub all-pass : (p q : ℕ → Bool) → ((b : ℕ) → p b ≡ true → q b ≡ true) → (xs : List ℕ) → list_all p xs ≡ true → list_all q xs ≡ true
+pub all-pass : (p q : ℕ → Bool) → ((b : ℕ) → p b ≡ true → q b ≡ true) → (xs : List ℕ) → list_all p xs ≡ true
+    → list_all q xs ≡ true
 all-pass p q h [] e = refl
 all-pass p q h (x ∷ xs) e =
     let first : q x ≡ true = h x (and-left (p x) (list_all p xs) e) in
@@ -58,22 +63,30 @@ all-pass p q h (x ∷ xs) e =
 
 word-plain : (w : List ℕ) → IsWord w → IsPlain w
 word-plain w e =
-    all-pass is_letter is_plain_byte (λ b h. and-left (is_plain_byte b) (is_printable b) (and-right (not (b == 32)) (is_plain_byte b && is_printable b) h)) w e
+    all-pass is_letter is_plain_byte
+    (λ b h. and-left (is_plain_byte b) (is_printable b)
+    (and-right (not (b == 32)) (is_plain_byte b && is_printable b) h)) w e
 
 word-printable : (w : List ℕ) → IsWord w → list_all is_printable w ≡ true
 word-printable w e =
-    all-pass is_letter is_printable (λ b h. and-right (is_plain_byte b) (is_printable b) (and-right (not (b == 32)) (is_plain_byte b && is_printable b) h)) w e
+    all-pass is_letter is_printable
+    (λ b h. and-right (is_plain_byte b) (is_printable b)
+    (and-right (not (b == 32)) (is_plain_byte b && is_printable b) h)) w e
 
 -- what a space and each word passes, words with spaces between them pass
-pass-behind : (p : ℕ → Bool) → p 32 ≡ true → ((w : List ℕ) → IsWord w → list_all p w ≡ true) → (ws : List (List ℕ)) → AllByRecursion IsWord ws
+pass-behind : (p : ℕ → Bool) → p 32 ≡ true → ((w : List ℕ) → IsWord w → list_all p w ≡ true) → (ws : List (List ℕ))
+    → AllByRecursion IsWord ws
     → list_all p (spaced_after ws) ≡ true
 pass-behind p space one [] es = refl
-pass-behind p space one (w ∷ ws) es = rw (space, list_all-append p w (spaced_after ws), one w es.0, pass-behind p space one ws es.1) refl
+pass-behind p space one (w ∷ ws) es =
+    rw (space, list_all-append p w (spaced_after ws), one w es.0, pass-behind p space one ws es.1) refl
 
-pass-spaced : (p : ℕ → Bool) → p 32 ≡ true → ((w : List ℕ) → IsWord w → list_all p w ≡ true) → (ws : List (List ℕ)) → AllByRecursion IsWord ws
+pass-spaced : (p : ℕ → Bool) → p 32 ≡ true → ((w : List ℕ) → IsWord w → list_all p w ≡ true) → (ws : List (List ℕ))
+    → AllByRecursion IsWord ws
     → list_all p (spaced ws) ≡ true
 pass-spaced p space one [] es = refl
-pass-spaced p space one (w ∷ ws) es = rw (list_all-append p w (spaced_after ws), one w es.0, pass-behind p space one ws es.1) refl
+pass-spaced p space one (w ∷ ws) es =
+    rw (list_all-append p w (spaced_after ws), one w es.0, pass-behind p space one ws es.1) refl
 
 pub spaced-plain : (ws : List (List ℕ)) → AllByRecursion IsWord ws → IsPlain (spaced ws)
 spaced-plain ws es = pass-spaced is_plain_byte refl word-plain ws es

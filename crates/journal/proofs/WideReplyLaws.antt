@@ -5,10 +5,12 @@ use Rattle.auction_terms.specs.declared.Entry.{Entry}
 use Rattle.journal.specs.WideReplies.{AreWide, IsWideReply}
 
 -- one entry more
-pub wide-next : (entries : List Entry) (before : ℕ) (d : Entry) → before < length entries → IsWideReply (get_or entries before d).reply
+pub wide-next : (entries : List Entry) (before : ℕ) (d : Entry) → before < length entries
+    → IsWideReply (get_or entries before d).reply
     → AreWide (drop (before + 1) entries) → AreWide (drop before entries)
 wide-next entries before d h first rest =
-    let next : drop before entries ≡ get_or entries before d ∷ drop (before + 1) entries = rw (add-one before) (drop-cons entries before d h) in
+    let next : drop before entries ≡ get_or entries before d ∷ drop (before + 1) entries =
+    rw (add-one before) (drop-cons entries before d h) in
     subst AreWide (sym next) (first, rest)
 
 -- no entry is left

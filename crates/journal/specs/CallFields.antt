@@ -1,18 +1,19 @@
 -- A member's command as the fields of a record, in the shortest form.
 use Rattle.std.specs.Prelude.{ℕ, ◌<◌, ◌^◌, List, [], ◌∷◌, Option, Some, None, codes, decimal, IfSome}
 use Rattle.auction_terms.specs.declared.Side.{Side}
-use Rattle.auction_terms.specs.declared.Side.TheVariants.{Buy, Sell}
+use Rattle.auction_terms.specs.declared.Side.TheVariants.{Bid, Ask}
 use Rattle.auction_terms.specs.declared.Limit.{Limit}
 use Rattle.auction_terms.specs.declared.Limit.TheVariants.{Market, At}
-use Rattle.auction_terms.specs.declared.Only.{Only}
-use Rattle.auction_terms.specs.declared.Only.TheVariants.{Any, Opening, Closing}
+use Rattle.auction_terms.specs.declared.Restriction.{Restriction}
+use Rattle.auction_terms.specs.declared.Restriction.TheVariants.{Unrestricted, OpeningOnly, ClosingOnly}
 use Rattle.auction_terms.specs.declared.Call.{Call}
 use Rattle.auction_terms.specs.declared.Command.{Command}
-use Rattle.auction_terms.specs.declared.Command.TheVariants.{Enter, Change, Delete, Status, Ask, Trade, Uncross}
+use Rattle.auction_terms.specs.declared.Command.TheVariants.{Enter, Change, Delete, OrderStatus, Indicate, ReadTrade}
+use Rattle.auction_terms.specs.declared.Command.TheVariants.{Uncross}
 
 abbrev pub side_field : Side → List ℕ
-side_field Buy = codes "bid"
-side_field Sell = codes "ask"
+side_field Bid = codes "bid"
+side_field Ask = codes "ask"
 
 abbrev pub limit_field : Limit → List ℕ
 limit_field Market = codes "market"
@@ -24,21 +25,21 @@ number_field None = []
 number_field (Some number) = decimal number
 
 -- the fields that may be left out at the end
-abbrev pub enter_ending : Only → Option ℕ → List (List ℕ)
-enter_ending Any None = []
-enter_ending Any (Some peak) = decimal peak ∷ []
-enter_ending Opening peak = number_field peak ∷ codes "opening" ∷ []
-enter_ending Closing peak = number_field peak ∷ codes "closing" ∷ []
+abbrev pub enter_ending : Restriction → Option ℕ → List (List ℕ)
+enter_ending Unrestricted None = []
+enter_ending Unrestricted (Some peak) = decimal peak ∷ []
+enter_ending OpeningOnly peak = number_field peak ∷ codes "opening" ∷ []
+enter_ending ClosingOnly peak = number_field peak ∷ codes "closing" ∷ []
 
 -- the command word and what stands behind it
 abbrev pub command_fields : Command → List (List ℕ)
-command_fields (Enter side only limit quantity peak) =
-    codes "enter" ∷ side_field side ∷ decimal quantity ∷ limit_field limit ∷ enter_ending only peak
+command_fields (Enter side restriction limit quantity peak) =
+    codes "enter" ∷ side_field side ∷ decimal quantity ∷ limit_field limit ∷ enter_ending restriction peak
 command_fields (Change id limit quantity) = codes "change" ∷ decimal id ∷ decimal quantity ∷ limit_field limit ∷ []
 command_fields (Delete id) = codes "delete" ∷ decimal id ∷ []
-command_fields (Status id) = codes "status" ∷ decimal id ∷ []
-command_fields Ask = codes "ask" ∷ []
-command_fields (Trade number) = codes "trade" ∷ decimal number ∷ []
+command_fields (OrderStatus id) = codes "status" ∷ decimal id ∷ []
+command_fields Indicate = codes "ask" ∷ []
+command_fields (ReadTrade number) = codes "trade" ∷ decimal number ∷ []
 command_fields Uncross = codes "uncross" ∷ []
 
 -- the fields of a member's command
@@ -55,10 +56,10 @@ HasShortTick Market = Unit {0}
 HasShortTick (At tick) = IsShort tick
 
 abbrev pub FitsRecord : Command → Type 0
-FitsRecord (Enter side only limit quantity peak) = HasShortTick limit × IsShort quantity × IfSome peak IsShort
+FitsRecord (Enter side restriction limit quantity peak) = HasShortTick limit × IsShort quantity × IfSome peak IsShort
 FitsRecord (Change id limit quantity) = IsShort id × HasShortTick limit × IsShort quantity
 FitsRecord (Delete id) = IsShort id
-FitsRecord (Status id) = IsShort id
-FitsRecord Ask = Unit {0}
-FitsRecord (Trade number) = IsShort number
+FitsRecord (OrderStatus id) = IsShort id
+FitsRecord Indicate = Unit {0}
+FitsRecord (ReadTrade number) = IsShort number
 FitsRecord Uncross = Unit {0}

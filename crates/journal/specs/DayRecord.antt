@@ -9,10 +9,10 @@ use Rattle.order_file.specs.Field.{number_of}
 use Rattle.order_file.specs.Record.{count_within, field_as}
 use Rattle.order_file.specs.declared.fault.RecordFault.{RecordFault}
 use Rattle.order_file.specs.declared.fault.RecordFault.TheVariants.{BadField}
-use Rattle.journal.specs.declared.day.Day.{Day}
+use Rattle.journal.specs.declared.day.DayHeader.{DayHeader}
 use Rattle.journal.specs.CallFields.{number_field}
 
-unfoldable pub day_fields : Day → List (List ℕ)
+unfoldable pub day_fields : DayHeader → List (List ℕ)
 day_fields day =
     codes "day" ∷ decimal day.config.low ∷ decimal day.config.high ∷ decimal day.config.reference
     ∷ decimal day.members ∷ decimal day.config.max_open ∷ decimal day.config.max_calls
@@ -46,7 +46,7 @@ number_if_any most place fields =
     else number_within 0 most place fields >>= λ number. Ok (Some number)
 
 -- the day of a record, each number in the range of the option of its name, or the record's first fault
-unfoldable pub day_of : List (List ℕ) → Result Day RecordFault
+unfoldable pub day_of : List (List ℕ) → Result DayHeader RecordFault
 day_of fields = do
   _ ← count_within 8 8 fields
   low ← number_within 1 MAX_TICK 1 fields
@@ -75,7 +75,7 @@ abbrev pub IsUpTo : ℕ → ℕ → Type 0
 IsUpTo most n = (1 ≤ n) × (n ≤ most)
 
 -- each number is in the range of the option of its name
-pub record FitsDay (day : Day) : Type 0 where
+pub record FitsDay (day : DayHeader) : Type 0 where
   pub low : IsUpTo MAX_TICK day.config.low
   pub high : IsUpTo MAX_TICK day.config.high
   pub reference : IsUpTo MAX_TICK day.config.reference

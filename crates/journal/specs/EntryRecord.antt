@@ -13,19 +13,19 @@ use Rattle.journal.specs.declared.entry.TheConstants.{MAX_REPLY}
 use Rattle.journal.specs.CallFields.{call_fields}
 
 -- a call, and the recorded text of its reply, which is empty where none was recorded
-pub record Said : Type 0 where
+pub record RecordedCall : Type 0 where
   pub call : Call
   pub text : List ℕ
 
-abbrev pub said_call : Said → Call
-said_call said = said.call
+abbrev pub call_part : RecordedCall → Call
+call_part recording = recording.call
 
-abbrev pub said_text : Said → List ℕ
-said_text said = said.text
+abbrev pub reply_part : RecordedCall → List ℕ
+reply_part recording = recording.text
 
 -- the fields of the call, and then the reply
-unfoldable pub said_fields : Said → List (List ℕ)
-said_fields said = call_fields said.call ++ said.text ∷ []
+unfoldable pub recorded_call_fields : RecordedCall → List (List ℕ)
+recorded_call_fields recording = call_fields recording.call ++ recording.text ∷ []
 
 -- ---- read
 
@@ -62,8 +62,8 @@ call_with head fields fine place = do
   if fine then Ok (record { member = head.member; command = command }) else Err (BadField place)
 
 -- a record as a call with its reply, or its first fault
-unfoldable pub said_of : ℕ → List (List ℕ) → Result Said RecordFault
-said_of members fields = do
+unfoldable pub recorded_call_of : ℕ → List (List ℕ) → Result RecordedCall RecordFault
+recorded_call_of members fields = do
   head ← head_of members fields
   call ← call_with head (fields_of_call fields) (is_reply_text (reply_of_fields fields)) (length fields)
   Ok (record { call = call; text = reply_of_fields fields })

@@ -5,42 +5,43 @@ use Rattle.csv.specs.Records.{fields_of}
 use Rattle.auction_terms.specs.declared.Call.{Call}
 use Rattle.auction_terms.specs.Results.{◌>>=◌}
 use Rattle.order_file.specs.File.{within_limit}
-use Rattle.order_file.specs.Record.{numbered}
+use Rattle.order_file.specs.Record.{with_record_number}
 use Rattle.order_file.specs.declared.fault.FileFault.{FileFault}
 use Rattle.order_file.specs.declared.fault.FileFault.TheVariants.{NotADay, TooManyCommands}
-use Rattle.journal.specs.declared.day.Day.{Day}
+use Rattle.journal.specs.declared.day.DayHeader.{DayHeader}
 use Rattle.journal.specs.declared.reading.Journal.{Journal}
 use Rattle.journal.specs.declared.reading.TheConstants.{MAX_JOURNAL_BYTES}
 use Rattle.journal.specs.DayRecord.{day_of, is_day_row}
-use Rattle.journal.specs.EntryRecord.{Said, said_call, said_of, said_text}
+use Rattle.journal.specs.EntryRecord.{RecordedCall, call_part, recorded_call_of, reply_part}
 
 -- a day, its calls, and the recorded text of each call's reply
 pub record RecordedDay : Type 0 where
-  pub day : Day
+  pub day : DayHeader
   pub calls : List Call
   pub texts : List (List ℕ)
 
-abbrev pub recorded_day : Day → List Said → RecordedDay
-recorded_day day said = record { day = day; calls = map said_call said; texts = map said_text said }
+abbrev pub recorded_day : DayHeader → List RecordedCall → RecordedDay
+recorded_day day recording = record { day = day; calls = map call_part recording; texts = map reply_part recording }
 
 -- What the records say that come after the day's and after so many others; the day's is record 1.
-unfoldable pub said_after : ℕ → ℕ → ℕ → List (List (List ℕ)) → Result (List Said) FileFault
-said_after members max_calls before [] = Ok []
-said_after members max_calls before (row ∷ rows) =
+unfoldable pub recorded_calls_after : ℕ → ℕ → ℕ → List (List (List ℕ)) → Result (List RecordedCall) FileFault
+recorded_calls_after members max_calls before [] = Ok []
+recorded_calls_after members max_calls before (row ∷ rows) =
     if nat_le max_calls before then Err (TooManyCommands (before + 2))
     else do
-      said ← numbered (before + 2) (said_of members row)
-      rest ← said_after members max_calls (before + 1) rows
-      Ok (said ∷ rest)
+      recording ← with_record_number (before + 2) (recorded_call_of members row)
+      rest ← recorded_calls_after members max_calls (before + 1) rows
+      Ok (recording ∷ rest)
 
 -- what the records after that of this day say
-unfoldable pub recorded_in : Day → List (List (List ℕ)) → Result RecordedDay FileFault
-recorded_in day rows = said_after day.members day.config.max_calls 0 rows >>= λ said. Ok (recorded_day day said)
+unfoldable pub recorded_in : DayHeader → List (List (List ℕ)) → Result RecordedDay FileFault
+recorded_in day rows =
+    recorded_calls_after day.members day.config.max_calls 0 rows >>= λ recording. Ok (recorded_day day recording)
 
 unfoldable pub journal_of_rows : List (List (List ℕ)) → Result RecordedDay FileFault
 journal_of_rows [] = Err NotADay
 journal_of_rows (row ∷ rows) =
-    if is_day_row row then (numbered 1 (day_of row) >>= λ day. recorded_in day rows) else Err NotADay
+    if is_day_row row then (with_record_number 1 (day_of row) >>= λ day. recorded_in day rows) else Err NotADay
 
 unfoldable pub journal_of : List ℕ → Result RecordedDay FileFault
 journal_of bytes = journal_of_rows (records default_config (strip_bom bytes))

@@ -11,12 +11,12 @@ use Rattle.printed_lines.specs.ReplyWords.{reply_text}
 use Rattle.journal.specs.PlainLines.{IsPlain}
 use Rattle.journal.specs.CallFields.{FitsRecord}
 use Rattle.journal.specs.DayRecord.{FitsDay}
-use Rattle.journal.specs.EntryRecord.{Said, is_reply_text, said_call, said_of, said_text}
-use Rattle.journal.specs.GivenDay.{GivenDay, given}
+use Rattle.journal.specs.EntryRecord.{RecordedCall, is_reply_text, call_part, recorded_call_of, reply_part}
+use Rattle.journal.specs.DayWithCalls.{DayWithCalls, run_input}
 use Rattle.journal.specs.JournalFile.{journal, recorded_day}
-use Rattle.journal.specs.JournalText.{journal_text, said_by, said_journal}
-use Rattle.journal.specs.WideReplies.{IsTold, IsWideReply}
-use Rattle.journal.specs.declared.day.Day.{Day}
+use Rattle.journal.specs.JournalText.{journal_text, recorded_call_by, recorded_journal}
+use Rattle.journal.specs.WideReplies.{IsFullyPrinted, IsWideReply}
+use Rattle.journal.specs.declared.day.DayHeader.{DayHeader}
 use Rattle.journal.specs.declared.reading.TheConstants.{MAX_JOURNAL_BYTES}
 
 -- a reply's text, or none, that can stand in a field without quotes
@@ -25,16 +25,17 @@ pub record IsFieldText (text : List ℕ) : Type 0 where
   pub plain : IsPlain text
 
 -- a call of one of the members, which a record can hold, and such a text
-pub record FitsEntry (members : ℕ) (said : Said) : Type 0 where
-  pub member : said.call.member < members
-  pub command : FitsRecord said.call.command
-  pub text : IsFieldText said.text
+pub record FitsEntry (members : ℕ) (recording : RecordedCall) : Type 0 where
+  pub member : recording.call.member < members
+  pub command : FitsRecord recording.call.command
+  pub text : IsFieldText recording.text
 
 -- reading a journal's text gives what was written
 abbrev pub ReadsBack : Type 0
-ReadsBack = (day : Day) (said : List Said) → FitsDay day → AllByRecursion (FitsEntry day.members) said
-    → length said ≤ day.config.max_calls → length (said_journal day said) ≤ MAX_JOURNAL_BYTES
-    → journal (said_journal day said) ≡ Ok (recorded_day day said)
+ReadsBack =
+    (day : DayHeader) (recording : List RecordedCall) → FitsDay day → AllByRecursion (FitsEntry day.members) recording
+    → length recording ≤ day.config.max_calls → length (recorded_journal day recording) ≤ MAX_JOURNAL_BYTES
+    → journal (recorded_journal day recording) ≡ Ok (recorded_day day recording)
 
 -- reading the journal of a history, each reply with numbers below 2 ^ 64, gives its calls and the texts of its replies
 pub record FitsJournal (members : ℕ) (entry : Entry) : Type 0 where
@@ -43,25 +44,26 @@ pub record FitsJournal (members : ℕ) (entry : Entry) : Type 0 where
   pub reply : IsWideReply entry.reply
 
 abbrev pub ReadsHistory : Type 0
-ReadsHistory = (day : Day) (entries : List Entry) → FitsDay day → AllByRecursion (FitsJournal day.members) entries
+ReadsHistory = (day : DayHeader) (entries : List Entry) → FitsDay day → AllByRecursion (FitsJournal day.members) entries
     → length entries ≤ day.config.max_calls
-    → journal (journal_text day entries) ≡ Ok (recorded_day day (map said_by entries))
+    → journal (journal_text day entries) ≡ Ok (recorded_day day (map recorded_call_by entries))
 
 -- and to a run it gives the day and the calls
 abbrev pub GivesDay : Type 0
-GivesDay = (asked day : Day) (entries : List Entry) → FitsDay day → AllByRecursion (FitsJournal day.members) entries
+GivesDay =
+    (asked day : DayHeader) (entries : List Entry) → FitsDay day → AllByRecursion (FitsJournal day.members) entries
     → length entries ≤ day.config.max_calls
-    → given asked (journal_text day entries) ≡ Ok (record { day = day; calls = calls_of entries })
+    → run_input asked (journal_text day entries) ≡ Ok (record { day = day; calls = calls_of entries })
 
 -- ---- replies and their texts
 
 -- each number is below 2 ^ 64, and no trades are told of an auction without a price
-abbrev pub IsClear : Reply → Type 0
-IsClear r = IsWideReply r × IsTold r
+abbrev pub HasUniqueText : Reply → Type 0
+HasUniqueText r = IsWideReply r × IsFullyPrinted r
 
 -- replies with the same text are the same
-abbrev pub AreApart : Type 0
-AreApart = (r s : Reply) → IsClear r → IsClear s → reply_text r ≡ reply_text s → r ≡ s
+abbrev pub AreUniqueTexts : Type 0
+AreUniqueTexts = (r s : Reply) → HasUniqueText r → HasUniqueText s → reply_text r ≡ reply_text s → r ≡ s
 
 -- there is a text to each reply, and it can stand in a field without quotes
 abbrev pub AreFieldTexts : Type 0
@@ -70,24 +72,24 @@ AreFieldTexts = (r : Reply) → IsWideReply r → (0 < length (reply_text r)) ×
 -- ---- journals and lawful histories
 
 -- the texts are those of the replay's replies
-abbrev pub TellsReplay : Config → List Said → Type 0
-TellsReplay config said = map said_text said ≡ map reply_text (replay config (map said_call said)).1
+abbrev pub HasReplayTexts : Config → List RecordedCall → Type 0
+HasReplayTexts config recording = map reply_part recording ≡ map reply_text (replay config (map call_part recording)).1
 
 -- a legal history's journal tells the replay's replies
-abbrev pub LegalTellsReplay : Type 0
-LegalTellsReplay = (config : Config) (entries : List Entry) → IsLegal config entries
-    → TellsReplay config (map said_by entries)
+abbrev pub LegalHasReplayTexts : Type 0
+LegalHasReplayTexts = (config : Config) (entries : List Entry) → IsLegal config entries
+    → HasReplayTexts config (map recorded_call_by entries)
 
 -- each number of the replay's replies is below 2 ^ 64, as in those that an auction gives
-abbrev pub TellsClearly : Config → List Call → Type 0
-TellsClearly config calls = AllByRecursion IsWideReply (replay config calls).1
+abbrev pub HasWideReplies : Config → List Call → Type 0
+HasWideReplies config calls = AllByRecursion IsWideReply (replay config calls).1
 
 -- and no other history's does, as replies with the same text are the same
 abbrev pub ReplayIsLegal : Type 0
 ReplayIsLegal = (config : Config) (entries : List Entry) → length entries ≤ config.max_calls
-    → AllByRecursion IsClear (map (λ entry. entry.reply) entries)
-    → TellsClearly config (calls_of entries)
-    → TellsReplay config (map said_by entries) → IsLegal config entries
+    → AllByRecursion HasUniqueText (map (λ entry. entry.reply) entries)
+    → HasWideReplies config (calls_of entries)
+    → HasReplayTexts config (map recorded_call_by entries) → IsLegal config entries
 
 -- a call that a record of an order file says is one that a record can hold
 abbrev pub OrderCallsFit : Type 0
@@ -96,19 +98,21 @@ OrderCallsFit = (members : ℕ) (fields : List (List ℕ)) (call : Call) → cal
 
 -- and so is one that a record of a journal says
 abbrev pub JournalCallsFit : Type 0
-JournalCallsFit = (members : ℕ) (fields : List (List ℕ)) (said : Said) → said_of members fields ≡ Ok said
-    → FitsRecord said.call.command
+JournalCallsFit =
+    (members : ℕ) (fields : List (List ℕ)) (recording : RecordedCall) → recorded_call_of members fields ≡ Ok recording
+    → FitsRecord recording.call.command
 
 -- a call of one of so many members that a record can hold
 abbrev pub FitsCall : ℕ → Call → Type 0
 FitsCall members call = (call.member < members) × FitsRecord call.command
 
 -- a day in the ranges of its numbers, and no more calls than it may have, each of which a record can hold
-pub record FitsGiven (g : GivenDay) : Type 0 where
+pub record FitsRunInput (g : DayWithCalls) : Type 0 where
   pub day : FitsDay g.day
   pub calls : AllByRecursion (FitsCall g.day.members) g.calls
   pub few : length g.calls ≤ g.day.config.max_calls
 
 -- whatever a run is given can stand in a journal
-abbrev pub GivenFits : Type 0
-GivenFits = (day : Day) (bytes : List ℕ) (g : GivenDay) → FitsDay day → given day bytes ≡ Ok g → FitsGiven g
+abbrev pub RunInputFits : Type 0
+RunInputFits =
+    (day : DayHeader) (bytes : List ℕ) (g : DayWithCalls) → FitsDay day → run_input day bytes ≡ Ok g → FitsRunInput g

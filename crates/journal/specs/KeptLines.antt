@@ -5,5 +5,5 @@ use Rattle.journal.specs.PrintedJournal.{call_lines}
 use Rattle.journal.specs.WideReplies.{AreWide}
 
 -- the lines of these entries, each number of whose replies is below 2 ^ 64
-abbrev pub HoldsLines : List ℕ → List Entry → Type 0
-HoldsLines text entries = (text ≡ call_lines 0 entries) × AreWide entries
+abbrev pub HasEntryLines : List ℕ → List Entry → Type 0
+HasEntryLines text entries = (text ≡ call_lines 0 entries) × AreWide entries

@@ -10,13 +10,13 @@ abbrev pub IsPlain : List ℕ → Type 0
 IsPlain field = IsTrue (list_all is_plain_byte field)
 
 -- what follows the first field of a record
-unfoldable pub fields_behind : List (List ℕ) → List ℕ
-fields_behind [] = 10 ∷ []
-fields_behind (field ∷ fields) = 44 ∷ (field ++ fields_behind fields)
+unfoldable pub fields_to_line_end : List (List ℕ) → List ℕ
+fields_to_line_end [] = 10 ∷ []
+fields_to_line_end (field ∷ fields) = 44 ∷ (field ++ fields_to_line_end fields)
 
 unfoldable pub record_line : List (List ℕ) → List ℕ
 record_line [] = 10 ∷ []
-record_line (field ∷ fields) = field ++ fields_behind fields
+record_line (field ∷ fields) = field ++ fields_to_line_end fields
 
 -- the text of records
 unfoldable pub record_lines : List (List (List ℕ)) → List ℕ

@@ -21,7 +21,7 @@ abbrev pub IsWidePrice : Price → Type 0
 IsWidePrice p = IsWide p.tick × IsWide p.volume × IsWide p.surplus
 
 abbrev pub IsWideTrade : Trade → Type 0
-IsWideTrade t = IsWide t.buy × IsWide t.sell × IsWide t.tick × IsWide t.quantity
+IsWideTrade t = IsWide t.bid × IsWide t.ask × IsWide t.tick × IsWide t.quantity
 
 abbrev pub IsWideUncross : ℕ → Option Price → Type 0
 IsWideUncross trades None = Unit {0}
@@ -32,9 +32,9 @@ abbrev pub IsWideReply : Reply → Type 0
 IsWideReply (reply.Entered id) = IsWide id
 IsWideReply (reply.Changed kept) = Unit {0}
 IsWideReply reply.Deleted = Unit {0}
-IsWideReply (reply.Standing side limit quantity visible) = HasWideTick limit × IsWide quantity × IsWide visible
+IsWideReply (reply.OpenOrder side limit quantity visible) = HasWideTick limit × IsWide quantity × IsWide visible
 IsWideReply (reply.Indicated (Priced p)) = IsWidePrice p
-IsWideReply (reply.Indicated (Unpriced best_buy best_sell)) = IfSome best_buy IsWide × IfSome best_sell IsWide
+IsWideReply (reply.Indicated (Unpriced best_bid best_ask)) = IfSome best_bid IsWide × IfSome best_ask IsWide
 IsWideReply (reply.Traded t) = IsWideTrade t
 IsWideReply (reply.Uncrossed kind trades price) = IsWideUncross trades price
 IsWideReply (reply.Interrupted p) = IsWidePrice p
@@ -44,18 +44,18 @@ IsWideReply (reply.Refused r) = Unit {0}
 abbrev pub AreWide : List Entry → Type 0
 AreWide entries = AllByRecursion (λ (entry : Entry). IsWideReply entry.reply) entries
 
-abbrev pub IsToldUncross : ℕ → Option Price → Type 0
-IsToldUncross trades None = trades ≡ 0
-IsToldUncross trades (Some p) = Unit {0}
+abbrev pub IsFullyPrintedUncross : ℕ → Option Price → Type 0
+IsFullyPrintedUncross trades None = trades ≡ 0
+IsFullyPrintedUncross trades (Some p) = Unit {0}
 
 -- no trades are told of an auction without a price, as its text doesn't say how many
-abbrev pub IsTold : Reply → Type 0
-IsTold (reply.Entered id) = Unit {0}
-IsTold (reply.Changed kept) = Unit {0}
-IsTold reply.Deleted = Unit {0}
-IsTold (reply.Standing side limit quantity visible) = Unit {0}
-IsTold (reply.Indicated display) = Unit {0}
-IsTold (reply.Traded t) = Unit {0}
-IsTold (reply.Uncrossed kind trades price) = IsToldUncross trades price
-IsTold (reply.Interrupted p) = Unit {0}
-IsTold (reply.Refused r) = Unit {0}
+abbrev pub IsFullyPrinted : Reply → Type 0
+IsFullyPrinted (reply.Entered id) = Unit {0}
+IsFullyPrinted (reply.Changed kept) = Unit {0}
+IsFullyPrinted reply.Deleted = Unit {0}
+IsFullyPrinted (reply.OpenOrder side limit quantity visible) = Unit {0}
+IsFullyPrinted (reply.Indicated display) = Unit {0}
+IsFullyPrinted (reply.Traded t) = Unit {0}
+IsFullyPrinted (reply.Uncrossed kind trades price) = IsFullyPrintedUncross trades price
+IsFullyPrinted (reply.Interrupted p) = Unit {0}
+IsFullyPrinted (reply.Refused r) = Unit {0}

@@ -10,7 +10,7 @@ use order_file::{RecordFault, count_within, number_at};
 
 /// The auction that was opened, and for how many members.
 #[derive(Clone, Copy, Debug, PartialEq, Eq)]
-pub struct Day {
+pub struct DayHeader {
     pub config: Config,
     pub members: u8,
 }
@@ -69,7 +69,7 @@ fn number_if_any(fields: &ByteRecord, place: usize, most: u32) -> Result<Option<
 
 /// The day of a record that is one, or its first fault.
 #[tactic(auto, unfolding(crate::specs::DayRecord::day_of))]
-pub(crate) fn day_of(fields: &ByteRecord) -> Result<Day, RecordFault>
+pub(crate) fn day_of(fields: &ByteRecord) -> Result<DayHeader, RecordFault>
     ensures { result ≡ day_of (fields_of fields.now) }
 {
     count_within(fields, 8, 8)?;
@@ -80,7 +80,7 @@ pub(crate) fn day_of(fields: &ByteRecord) -> Result<Day, RecordFault>
     let max_open = number_within(fields, 5, 1, MAX_OPEN_ORDERS)?;
     let max_calls = number_within(fields, 6, 1, MAX_CALLS)?;
     let range = number_if_any(fields, 7, MAX_TICK)?;
-    Ok(Day {
+    Ok(DayHeader {
         config: Config {
             low,
             high,

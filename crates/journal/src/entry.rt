@@ -3,10 +3,10 @@
 ghost use Rattle.std.specs.Prelude.{◌≡◌, ◌<◌, ◌++◌, ◌∷◌, [], length, true, IfErr, IfOk, MatchResult, OnOk};
 ghost use Rattle.std.specs.List.{list_all};
 ghost use Rattle.csv.specs.Records.{fields_of, partial_of};
-ghost use Rattle.order_file.specs.File.{Fails, IsOfRecord};
-ghost use Rattle.order_file.specs.Record.{numbered};
+ghost use Rattle.order_file.specs.File.{FailsAsWanted, IsOfRecord};
+ghost use Rattle.order_file.specs.Record.{with_record_number};
 ghost use Rattle.journal.specs.EntryRecord.{IsReplyText, call_with, fields_of_call, head_of, is_printable};
-ghost use Rattle.journal.specs.EntryRecord.{is_reply_text, reply_of_fields, said_of};
+ghost use Rattle.journal.specs.EntryRecord.{is_reply_text, reply_of_fields, recorded_call_of};
 
 use auction_terms::Call;
 use csv::ByteRecord;
@@ -101,9 +101,9 @@ pub(crate) fn call_of(
 ) -> Result<Call, FileFault>
     requires { partial_of texts.old ≡ [] }
     ensures call { MatchResult result
-        (λ call. numbered number (said_of members (fields_of row.old))
+        (λ call. with_record_number number (recorded_call_of members (fields_of row.old))
         ≡ Ok (record { call = call; text = reply_of_fields (fields_of row.old) }))
-        (λ e. Fails e (numbered number (said_of members (fields_of row.old)))) }
+        (λ e. FailsAsWanted e (with_record_number number (recorded_call_of members (fields_of row.old)))) }
     ensures texts { OnOk result
         (fields_of texts.new ≡ fields_of texts.old ++ reply_of_fields (fields_of row.old) ∷ []) }
     ensures partial { OnOk result (partial_of texts.new ≡ []) }

@@ -5,9 +5,9 @@ ghost use Rattle.auction_terms.specs.declared.Entry.{Entry};
 ghost use Rattle.printed_lines.specs.KeptText.{text_of};
 ghost use Rattle.printed_lines.specs.Printing.{Prints};
 ghost use Rattle.journal.specs.JournalText.{journal_text};
-ghost use Rattle.journal.specs.KeptLines.{HoldsLines};
+ghost use Rattle.journal.specs.KeptLines.{HasEntryLines};
 
-use crate::day::Day;
+use crate::day::DayHeader;
 use crate::printing::{print_day, put_entry};
 use crate::wide::see_reply;
 use auction_terms::Entry;
@@ -17,8 +17,8 @@ use std::alloc::AllocError;
 
 /// Keeps the line of an entry behind those of the entries before it. The error is that memory is refused.
 pub fn keep_entry(lines: &mut KeptText, entry: Entry) -> Result<(), AllocError>
-    ensures { (entries : List Entry) → HoldsLines (text_of lines.old) entries
-        → OnOk result (HoldsLines (text_of lines.new) (entries ++ entry ∷ [])) }
+    ensures { (entries : List Entry) → HasEntryLines (text_of lines.old) entries
+        → OnOk result (HasEntryLines (text_of lines.new) (entries ++ entry ∷ [])) }
 {
     see_reply(entry.reply);
     lines.make_room()?;
@@ -29,10 +29,10 @@ pub fn keep_entry(lines: &mut KeptText, entry: Entry) -> Result<(), AllocError>
 /// Prints the journal of a history whose lines were kept.
 pub fn print_kept_journal<S: Sink>(
     printer: &mut Printer<'_, S>,
-    day: Day,
+    day: DayHeader,
     lines: &KeptText,
 ) -> Result<(), WriteFailed>
-    ensures { (entries : List Entry) → HoldsLines (text_of lines.now) entries
+    ensures { (entries : List Entry) → HasEntryLines (text_of lines.now) entries
         → Prints S.Sink printer.old printer.new result (journal_text day entries) }
 {
     print_day(printer, day)?;

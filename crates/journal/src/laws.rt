@@ -1,7 +1,7 @@
 //! Laws of journals. Each is what the function's contract says; the functions do nothing.
 
-ghost use Rattle.journal.specs.JournalPromises.{AreApart, AreFieldTexts, GivenFits, GivesDay, JournalCallsFit};
-ghost use Rattle.journal.specs.JournalPromises.{LegalTellsReplay, OrderCallsFit, ReadsBack, ReadsHistory};
+ghost use Rattle.journal.specs.JournalPromises.{AreUniqueTexts, AreFieldTexts, RunInputFits, GivesDay, JournalCallsFit};
+ghost use Rattle.journal.specs.JournalPromises.{LegalHasReplayTexts, OrderCallsFit, ReadsBack, ReadsHistory};
 ghost use Rattle.journal.specs.JournalPromises.{ReplayIsLegal};
 
 /// What is written as a journal is read back, and so is a history's journal, however long its lines are.
@@ -16,14 +16,14 @@ pub fn gives_day()
 {}
 
 /// Replies with the same text are the same, and each text of a reply can stand in a record.
-pub fn replies_are_told()
-    ensures apart { AreApart }
+pub fn reply_texts_are_unique()
+    ensures apart { AreUniqueTexts }
     ensures texts { AreFieldTexts }
 {}
 
 /// A legal history's journal tells the replay's replies.
-pub fn legal_tells_replay()
-    ensures { LegalTellsReplay }
+pub fn legal_has_replay_texts()
+    ensures { LegalHasReplayTexts }
 {}
 
 /// A history whose journal tells the replay's replies is legal.
@@ -38,6 +38,6 @@ pub fn file_calls_fit()
 {}
 
 /// What a run is given, by a journal or by an order file, can stand in a journal.
-pub fn given_fits()
-    ensures { GivenFits }
+pub fn run_input_fits()
+    ensures { RunInputFits }
 {}

@@ -5,12 +5,12 @@ ghost use Rattle.printed_lines.specs.declared.page.TheConstants.{LONGEST_LINE, R
 ghost use Rattle.printed_lines.specs.Printing.{Prints};
 ghost use Rattle.journal.specs.CallFields.{command_fields, enter_ending, limit_field, number_field, side_field};
 ghost use Rattle.journal.specs.JournalText.{journal_text};
-ghost use Rattle.journal.specs.PrintedJournal.{call_line, call_lines, day_line, each_behind, sizes_text, ticks_text};
+ghost use Rattle.journal.specs.PrintedJournal.{call_line, call_lines, day_line, comma_fields, sizes_text, ticks_text};
 ghost use Rattle.journal.specs.WideReplies.{AreWide};
 
-use crate::day::Day;
+use crate::day::DayHeader;
 use crate::wide::see_replies;
-use auction_terms::{Command, Config, Entry, Limit, Only, Side};
+use auction_terms::{Command, Config, Entry, Limit, Restriction, Side};
 use byte_streams::{Sink, WriteFailed};
 use printed_lines::{Page, Printer, put_reply};
 
@@ -72,25 +72,25 @@ fn put_side_field(page: &mut Page, side: Side)
     ensures longer { length page.new ≤ length page.old + 4 }
 {
     match side {
-        Side::Buy => page.put(",bid"),
-        Side::Sell => page.put(",ask"),
+        Side::Bid => page.put(",bid"),
+        Side::Ask => page.put(",ask"),
     }
 }
 
 /// Puts the fields that may be left out at the end.
-fn put_ending(page: &mut Page, only: Only, peak: Option<u64>)
+fn put_ending(page: &mut Page, restriction: Restriction, peak: Option<u64>)
     requires { length page.old + 30 ≤ ROOM }
-    ensures text { page.new ≡ page.old ++ each_behind (enter_ending only peak) }
+    ensures text { page.new ≡ page.old ++ comma_fields (enter_ending restriction peak) }
     ensures longer { length page.new ≤ length page.old + 30 }
 {
-    match (only, peak) {
-        (Only::Any, None) => {}
-        (Only::Any, Some(peak)) => put_number_field(page, peak),
-        (Only::Opening, peak) => {
+    match (restriction, peak) {
+        (Restriction::Unrestricted, None) => {}
+        (Restriction::Unrestricted, Some(peak)) => put_number_field(page, peak),
+        (Restriction::OpeningOnly, peak) => {
             put_optional_field(page, peak);
             page.put(",opening");
         }
-        (Only::Closing, peak) => {
+        (Restriction::ClosingOnly, peak) => {
             put_optional_field(page, peak);
             page.put(",closing");
         }
@@ -110,24 +110,25 @@ fn put_lone(page: &mut Page, word: &str, number: u32)
 fn put_enter(
     page: &mut Page,
     side: Side,
-    only: Only,
+    restriction: Restriction,
     limit: Limit,
     quantity: u64,
     peak: Option<u64>,
 )
     requires { length page.old + 82 ≤ ROOM }
-    ensures text { page.new ≡ page.old ++ each_behind (command_fields (Command.Enter side only limit quantity peak)) }
+    ensures text { page.new ≡ page.old ++ comma_fields (command_fields
+        (Command.Enter side restriction limit quantity peak)) }
     ensures longer { length page.new ≤ length page.old + 82 }
 {
     page.put(",enter");
     put_side_field(page, side);
     put_terms(page, quantity, limit);
-    put_ending(page, only, peak);
+    put_ending(page, restriction, peak);
 }
 
 fn put_change(page: &mut Page, id: u32, limit: Limit, quantity: u64)
     requires { length page.old + 82 ≤ ROOM }
-    ensures text { page.new ≡ page.old ++ each_behind (command_fields (Command.Change id limit quantity)) }
+    ensures text { page.new ≡ page.old ++ comma_fields (command_fields (Command.Change id limit quantity)) }
     ensures longer { length page.new ≤ length page.old + 82 }
 {
     put_lone(page, ",change", id);
@@ -137,26 +138,26 @@ fn put_change(page: &mut Page, id: u32, limit: Limit, quantity: u64)
 /// Puts the fields of a command behind those of its member.
 fn put_command(page: &mut Page, command: Command)
     requires { length page.old + 82 ≤ ROOM }
-    ensures text { page.new ≡ page.old ++ each_behind (command_fields command) }
+    ensures text { page.new ≡ page.old ++ comma_fields (command_fields command) }
     ensures longer { length page.new ≤ length page.old + 82 }
 {
     match command {
         Command::Enter {
             side,
-            only,
+            restriction,
             limit,
             quantity,
             peak,
-        } => put_enter(page, side, only, limit, quantity, peak),
+        } => put_enter(page, side, restriction, limit, quantity, peak),
         Command::Change {
             id,
             limit,
             quantity,
         } => put_change(page, id, limit, quantity),
         Command::Delete { id } => put_lone(page, ",delete", id),
-        Command::Status { id } => put_lone(page, ",status", id),
-        Command::Ask => page.put(",ask"),
-        Command::Trade { number } => put_lone(page, ",trade", number),
+        Command::OrderStatus { id } => put_lone(page, ",status", id),
+        Command::Indicate => page.put(",ask"),
+        Command::ReadTrade { number } => put_lone(page, ",trade", number),
         Command::Uncross => page.put(",uncross"),
     }
 }
@@ -191,7 +192,7 @@ fn put_ticks(page: &mut Page, config: Config)
     put_number_field(page, u64::from(config.reference));
 }
 
-fn put_sizes(page: &mut Page, day: Day)
+fn put_sizes(page: &mut Page, day: DayHeader)
     requires { length page.old + 84 ≤ ROOM }
     ensures text { page.new ≡ page.old ++ sizes_text day }
     ensures longer { length page.new ≤ length page.old + 84 }
@@ -203,7 +204,7 @@ fn put_sizes(page: &mut Page, day: Day)
 }
 
 /// Puts the record of the day.
-fn put_day(page: &mut Page, day: Day)
+fn put_day(page: &mut Page, day: DayHeader)
     requires { length page.old + LONGEST_LINE ≤ ROOM }
     ensures { page.new ≡ page.old ++ day_line day }
 {
@@ -213,7 +214,10 @@ fn put_day(page: &mut Page, day: Day)
     page.put("\n");
 }
 
-pub(crate) fn print_day<S: Sink>(printer: &mut Printer<'_, S>, day: Day) -> Result<(), WriteFailed>
+pub(crate) fn print_day<S: Sink>(
+    printer: &mut Printer<'_, S>,
+    day: DayHeader,
+) -> Result<(), WriteFailed>
     ensures { Prints S.Sink printer.old printer.new result (day_line day) }
 {
     printer.make_room()?;
@@ -234,7 +238,7 @@ fn print_calls<S: Sink>(printer: &mut Printer<'_, S>, entries: &[Entry]) -> Resu
 /// form, and the text of its reply. Each number of a reply is below 2 ^ 64.
 pub fn print_journal<S: Sink>(
     printer: &mut Printer<'_, S>,
-    day: Day,
+    day: DayHeader,
     entries: &[Entry],
 ) -> Result<(), WriteFailed>
     ensures text { Prints S.Sink printer.old printer.new result (journal_text day entries.now) }

@@ -3,14 +3,14 @@
 ghost use Rattle.std.specs.Prelude.{◌≡◌, ◌<◌, ◌≤◌, ◌↔◌, ◌+◌, All, length, IfErr, IfOk, IfSome, IsErrOf};
 ghost use Rattle.std.specs.Prelude.{MatchResult};
 ghost use Rattle.byte_streams.specs.Streams.{TakesAtMost};
-ghost use Rattle.order_file.specs.File.{Fails, Gives, IsBelow, IsOfRecord};
-ghost use Rattle.order_file.specs.Rows.{Stands, rows_left};
+ghost use Rattle.order_file.specs.File.{FailsAsWanted, GivesWanted, IsBelow, IsOfRecord};
+ghost use Rattle.order_file.specs.Rows.{IsRecordReader, rows_left};
 ghost use Rattle.csv.specs.Records.{fields_of};
 ghost use Rattle.journal.specs.EntryRecord.{IsReplyText};
 ghost use Rattle.journal.specs.JournalFile.{journal, journal_of, journal_of_rows, recorded, recorded_in};
 ghost use Rattle.journal.specs.declared.reading.TheConstants.{MAX_JOURNAL_BYTES};
 
-use crate::day::{Day, day_of, is_day_row};
+use crate::day::{DayHeader, day_of, is_day_row};
 use crate::entry::call_of;
 use auction_terms::Call;
 use byte_streams::Source;
@@ -25,7 +25,7 @@ pub const MAX_JOURNAL_BYTES: usize = 268_435_456;
 #[derive(Drop)]
 pub struct Journal {
     /// The day of its first record.
-    pub day: Day,
+    pub day: DayHeader,
     /// The calls of the others, in their order.
     pub calls: Vec<Call>,
     /// Of each call the recorded text of its reply, as one field; it is empty where no reply was recorded.
@@ -33,9 +33,13 @@ pub struct Journal {
 }
 
 /// The calls and replies of the records that a reader has left, behind that of this day.
-fn entries_from(alloc: Global, rows: &mut Reader<&[u8]>, day: Day) -> Result<Journal, FileFault>
-    requires { Stands rows.old }
-    ensures said { Gives recorded result (recorded_in day (rows_left rows.old)) }
+fn entries_from(
+    alloc: Global,
+    rows: &mut Reader<&[u8]>,
+    day: DayHeader,
+) -> Result<Journal, FileFault>
+    requires { IsRecordReader rows.old }
+    ensures recording { GivesWanted recorded result (recorded_in day (rows_left rows.old)) }
     ensures parsed { IfErr result IsOfRecord }
     ensures few { IfOk result (λ j. length j.calls.items ≤ j.day.config.max_calls) }
     ensures below { IfOk result (λ j. All (IsBelow j.day.members) j.calls.items) }
@@ -64,11 +68,11 @@ fn entries_from(alloc: Global, rows: &mut Reader<&[u8]>, day: Day) -> Result<Jou
 }
 
 /// The day of the first record.
-fn day_from(alloc: Global, rows: &mut Reader<&[u8]>) -> Result<Day, FileFault>
-    requires { Stands rows.old }
+fn day_from(alloc: Global, rows: &mut Reader<&[u8]>) -> Result<DayHeader, FileFault>
+    requires { IsRecordReader rows.old }
     ensures day { MatchResult result
-        (λ day. Stands rows.new × (journal_of_rows (rows_left rows.old) ≡ recorded_in day (rows_left rows.new)))
-        (λ e. Fails e (journal_of_rows (rows_left rows.old))) }
+        (λ day. IsRecordReader rows.new × (journal_of_rows (rows_left rows.old) ≡ recorded_in day (rows_left rows.new)))
+        (λ e. FailsAsWanted e (journal_of_rows (rows_left rows.old))) }
     ensures parsed { IfErr result IsOfRecord }
 {
     let mut row = ByteRecord::new(alloc);
@@ -87,7 +91,7 @@ fn day_from(alloc: Global, rows: &mut Reader<&[u8]>) -> Result<Day, FileFault>
 /// What bytes say as a journal, with the faults of [`read_journal`]; the limit of its size aside.
 #[tactic(auto, unfolding(crate::specs::JournalFile::journal_of))]
 pub fn journal_of(alloc: Global, bytes: &[u8]) -> Result<Journal, FileFault>
-    ensures said { Gives recorded result (journal_of bytes.now) }
+    ensures recording { GivesWanted recorded result (journal_of bytes.now) }
     ensures parsed { IfErr result IsOfRecord }
     ensures few { IfOk result (λ j. length j.calls.items ≤ j.day.config.max_calls) }
     ensures below { IfOk result (λ j. All (IsBelow j.day.members) j.calls.items) }
@@ -110,7 +114,7 @@ pub fn read_journal<R: Source>(alloc: Global, reader: &mut R) -> Result<Journal,
     // A read failed.
     ensures failed { IsErrOf result FileFault.ReadFailed ↔ (R.failures reader.old < R.failures reader.new) }
     // Else, want of memory aside, it is what the bytes say.
-    ensures answer { IfSome (R.left reader.old) (λ bytes. Gives recorded result (journal bytes)) }
+    ensures answer { IfSome (R.left reader.old) (λ bytes. GivesWanted recorded result (journal bytes)) }
     // It is never more calls than may be applied, each of one of the members.
     ensures few { IfOk result (λ j. length j.calls.items ≤ j.day.config.max_calls) }
     ensures below { IfOk result (λ j. All (IsBelow j.day.members) j.calls.items) }

@@ -27,7 +27,7 @@ fn see_price(price: Price)
 fn see_trade(trade: Trade)
     ensures { IsWideTrade trade }
 {
-    let _numbers = (trade.buy, trade.sell, trade.tick, trade.quantity);
+    let _numbers = (trade.bid, trade.ask, trade.tick, trade.quantity);
 }
 
 fn see_uncross(trades: u32, price: Option<Price>)
@@ -43,12 +43,9 @@ fn see_display(display: Display)
 {
     match display {
         Display::Priced(price) => see_price(price),
-        Display::Unpriced {
-            best_buy,
-            best_sell,
-        } => {
-            see_tick(best_buy);
-            see_tick(best_sell);
+        Display::Unpriced { best_bid, best_ask } => {
+            see_tick(best_bid);
+            see_tick(best_ask);
         }
     }
 }
@@ -57,7 +54,7 @@ pub(crate) fn see_reply(reply: Reply)
     ensures { IsWideReply reply }
 {
     match reply {
-        Reply::Standing {
+        Reply::OpenOrder {
             limit,
             quantity: _quantity,
             visible: _visible,

@@ -1,5 +1,6 @@
 -- Running sums of two lists, one after the other, and the steps of the loops.
-use Rattle.std.proofs.Common.{◌≡◌, ℕ, ◌+◌, ◌≤◌, ◌<◌, List, [], ◌∷◌, ◌++◌, length, replicate, take, drop, get_or, set, sum, refl, sym, ap, ◌∙◌, arith}
+use Rattle.std.proofs.Common.{◌≡◌, ℕ, ◌+◌, ◌≤◌, ◌<◌, List, [], ◌∷◌, ◌++◌, length, replicate, take, drop, get_or, set}
+use Rattle.std.proofs.Common.{sum, refl, sym, ap, ◌∙◌, arith}
 use Rattle.std.specs.Simd.Lanes.{chunk, put_chunk}
 use Rattle.std.proofs.Math.Seq.{take-add, drop-append_seam}
 use Rattle.std.proofs.lemmas.List.{take_more, take_more_set, drop-drop, length-take-le}
@@ -23,15 +24,20 @@ pub length-falling_sums : (s : ℕ) (xs : List ℕ) → length (falling_sums s x
 length-falling_sums s [] = refl
 length-falling_sums s (x ∷ xs) = omega (arith, length-falling_sums s xs)
 
-pub rising_sums-append : (s : ℕ) (xs ys : List ℕ) → rising_sums s (xs ++ ys) ≡ rising_sums s xs ++ rising_sums (s + sum xs) ys
+pub rising_sums-append : (s : ℕ) (xs ys : List ℕ) → rising_sums s (xs ++ ys) ≡ rising_sums s xs
+    ++ rising_sums (s + sum xs) ys
 rising_sums-append s [] ys = ap (λ n. rising_sums n ys) (omega arith)
-rising_sums-append s (x ∷ xs) ys = ap (λ l. (s + x) ∷ l) (rising_sums-append (s + x) xs ys ∙ ap (λ n. rising_sums (s + x) xs ++ rising_sums n ys) (omega (arith, sum-cons x xs)))
+rising_sums-append s (x ∷ xs) ys =
+    ap (λ l. (s + x) ∷ l) (rising_sums-append (s + x) xs ys
+    ∙ ap (λ n. rising_sums (s + x) xs ++ rising_sums n ys) (omega (arith, sum-cons x xs)))
 
-pub falling_sums-append : (s : ℕ) (xs ys : List ℕ) → falling_sums s (xs ++ ys) ≡ falling_sums (s + sum ys) xs ++ falling_sums s ys
+pub falling_sums-append : (s : ℕ) (xs ys : List ℕ) → falling_sums s (xs ++ ys) ≡ falling_sums (s + sum ys) xs
+    ++ falling_sums s ys
 falling_sums-append s [] ys = refl
 falling_sums-append s (x ∷ xs) ys =
     let e : s + (x + sum (xs ++ ys)) ≡ s + sum ys + (x + sum xs) = omega (arith, sum-append xs ys) in
-    let r : falling_sums s (xs ++ ys) ≡ falling_sums (s + sum ys) xs ++ falling_sums s ys = falling_sums-append s xs ys in
+    let r : falling_sums s (xs ++ ys) ≡ falling_sums (s + sum ys) xs ++ falling_sums s ys =
+    falling_sums-append s xs ys in
     rw (e, r)
 
 -- the sums of the numbers up to and after a chunk
@@ -48,19 +54,29 @@ pub sum_drop_le : (i : ℕ) (xs : List ℕ) → sum (drop i xs) ≤ sum xs
 sum_drop_le i xs = omega (arith, sum_by-take-drop (λ n. n) xs i)
 
 -- what stands from a chunk on, after the chunk was written
-pub drop_put_chunk : (i : ℕ) (xs ys : List ℕ) → i + length ys ≤ length xs → drop i (put_chunk i xs ys) ≡ ys ++ drop (i + length ys) xs
+pub drop_put_chunk : (i : ℕ) (xs ys : List ℕ) → i + length ys ≤ length xs
+    → drop i (put_chunk i xs ys) ≡ ys ++ drop (i + length ys) xs
 drop_put_chunk i xs ys room = grind (arith, common_steps, length-take-le, put_chunk_is, drop-append_seam, drop-drop)
 
-pub rising_eights : (s carry at : ℕ) (src out : List ℕ) → at + 8 ≤ length src → length out ≡ length src → carry ≡ s + sum (take at src) → take at out ≡ rising_sums s (take at src) → take (at + 8) (put_chunk at out (rising_sums carry (chunk at 8 src))) ≡ rising_sums s (take (at + 8) src)
-rising_eights s carry at src out room same is done = grind (arith, common_steps, length-rising_sums, length-chunk, take_more_put_chunk, rising_sums-append, take-add)
+pub rising_eights : (s carry at : ℕ) (src out : List ℕ) → at + 8 ≤ length src → length out ≡ length src
+    → carry ≡ s + sum (take at src) → take at out ≡ rising_sums s (take at src)
+    → take (at + 8) (put_chunk at out (rising_sums carry (chunk at 8 src))) ≡ rising_sums s (take (at + 8) src)
+rising_eights s carry at src out room same is done =
+    grind (arith, common_steps, length-rising_sums, length-chunk, take_more_put_chunk, rising_sums-append, take-add)
 
-pub rising_one : (s carry at : ℕ) (src out : List ℕ) → at < length src → length out ≡ length src → carry ≡ s + sum (take at src) → take at out ≡ rising_sums s (take at src) → take (at + 1) (set out at (carry + get_or src at 0)) ≡ rising_sums s (take (at + 1) src)
-rising_one s carry at src out room same is done = grind (arith, common_steps, take_more_set, rising_sums-append, take_more)
+pub rising_one : (s carry at : ℕ) (src out : List ℕ) → at < length src → length out ≡ length src
+    → carry ≡ s + sum (take at src) → take at out ≡ rising_sums s (take at src)
+    → take (at + 1) (set out at (carry + get_or src at 0)) ≡ rising_sums s (take (at + 1) src)
+rising_one s carry at src out room same is done =
+    grind (arith, common_steps, take_more_set, rising_sums-append, take_more)
 
-pub falling_eights : (s carry at next : ℕ) (src out : List ℕ) → next ≡ at + 8 → next ≤ length src → length out ≡ length src → carry ≡ s + sum (drop next src) → drop next out ≡ falling_sums s (drop next src) → drop at (put_chunk at out (falling_sums carry (chunk at 8 src))) ≡ falling_sums s (drop at src)
+pub falling_eights : (s carry at next : ℕ) (src out : List ℕ) → next ≡ at + 8 → next ≤ length src
+    → length out ≡ length src → carry ≡ s + sum (drop next src) → drop next out ≡ falling_sums s (drop next src)
+    → drop at (put_chunk at out (falling_sums carry (chunk at 8 src))) ≡ falling_sums s (drop at src)
 falling_eights s carry at next src out q room same is done =
     let ys = falling_sums carry (chunk at 8 src) in
-    let long : length (falling_sums carry (chunk at 8 src)) ≡ 8 = length-falling_sums carry (chunk at 8 src) ∙ length-chunk at 8 src (omega arith) in
+    let long : length (falling_sums carry (chunk at 8 src)) ≡ 8 =
+    length-falling_sums carry (chunk at 8 src) ∙ length-chunk at 8 src (omega arith) in
     drop_put_chunk at out ys (omega (arith, long))
     ∙ ap (λ n. ys ++ drop n out) (omega (arith, long))
     ∙ ap (λ l. ys ++ l) done

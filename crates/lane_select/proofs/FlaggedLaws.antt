@@ -1,14 +1,18 @@
 -- The flagged values of two lists.
-use Rattle.std.proofs.Common.{◌≡◌, ℕ, suc, zero, ◌≤◌, ◌<◌, ◌⊎◌, inl, inr, List, [], ◌∷◌, ◌++◌, length, get_or, refl, ap, arith, cond, eqb, true, false}
+use Rattle.std.proofs.Common.{◌≡◌, ℕ, suc, zero, ◌≤◌, ◌<◌, ◌⊎◌, inl, inr, List, [], ◌∷◌, ◌++◌, length, get_or, refl, ap}
+use Rattle.std.proofs.Common.{arith, cond, eqb, true, false}
 use Rattle.lane_select.specs.Selection.{flagged}
 
-pub flagged-append : (xs ys us vs : List ℕ) → length xs ≡ length us → flagged (xs ++ ys) (us ++ vs) ≡ flagged xs us ++ flagged ys vs
+pub flagged-append : (xs ys us vs : List ℕ) → length xs ≡ length us → flagged (xs ++ ys) (us ++ vs) ≡ flagged xs us
+    ++ flagged ys vs
 flagged-append [] ys [] vs e = refl
 flagged-append [] ys (u ∷ us) vs e = absurd (omega (arith, e))
 flagged-append (x ∷ xs) ys [] vs e = absurd (omega (arith, e))
 flagged-append (x ∷ xs) ys (u ∷ us) vs e =
-    let r : flagged (xs ++ ys) (us ++ vs) ≡ flagged xs us ++ flagged ys vs = flagged-append xs ys us vs (omega (arith, e)) in
-    elim (eqb u 1) as (λ b. cond b (x ∷ flagged (xs ++ ys) (us ++ vs)) (flagged (xs ++ ys) (us ++ vs)) ≡ cond b (x ∷ flagged xs us) (flagged xs us) ++ flagged ys vs) [ true ↦ ap (λ l. x ∷ l) r | false ↦ r ]
+    let r : flagged (xs ++ ys) (us ++ vs) ≡ flagged xs us ++ flagged ys vs =
+    flagged-append xs ys us vs (omega (arith, e)) in
+    elim (eqb u 1) as (λ b. cond b (x ∷ flagged (xs ++ ys) (us ++ vs)) (flagged (xs ++ ys) (us ++ vs))
+    ≡ cond b (x ∷ flagged xs us) (flagged xs us) ++ flagged ys vs) [ true ↦ ap (λ l. x ∷ l) r | false ↦ r ]
 
 -- a flagged place with this value
 pub record Place (vs fs : List ℕ) (m : ℕ) : Type 0 where

@@ -28,39 +28,43 @@ sel_greater (x ∷ xs) (y ∷ ys) =
     let r : sel_l (zip2 ltb xs ys) ys xs ≡ zip2 max xs ys = sel_greater xs ys in
     rw (e, r)
 
-pub sel_equal : (vs fs : List ℕ) (w : ℕ) → length vs ≡ 8 → length fs ≡ 8 → sel_l (zip2 eqb vs (replicate 8 w)) fs (replicate 8 0) ≡ zip2 (kept_if_equal w) vs fs
+pub sel_equal : (vs fs : List ℕ) (w : ℕ) → length vs ≡ 8 → length fs ≡ 8
+    → sel_l (zip2 eqb vs (replicate 8 w)) fs (replicate 8 0) ≡ zip2 (kept_if_equal w) vs fs
 sel_equal vs fs w p q =
     let v = eight vs p in
     let f = eight fs q in
     rw (v.is, f.is)
 
-pub sel_above : (xs bs fs : List ℕ) → length xs ≡ 8 → length bs ≡ 8 → length fs ≡ 8 → sel_l (zip2 ltb bs xs) fs (replicate 8 0) ≡ kept_if_above xs bs fs
+pub sel_above : (xs bs fs : List ℕ) → length xs ≡ 8 → length bs ≡ 8 → length fs ≡ 8
+    → sel_l (zip2 ltb bs xs) fs (replicate 8 0) ≡ kept_if_above xs bs fs
 sel_above xs bs fs p q r =
     let a = eight xs p in
     let b = eight bs q in
     let f = eight fs r in
     rw (a.is, b.is, f.is)
 
-pub sel_marked : (vs fs : List ℕ) → length vs ≡ 8 → length fs ≡ 8 → sel_l (zip2 eqb fs (replicate 8 1)) vs (replicate 8 0) ≡ zip2 value_or_zero vs fs
+pub sel_marked : (vs fs : List ℕ) → length vs ≡ 8 → length fs ≡ 8
+    → sel_l (zip2 eqb fs (replicate 8 1)) vs (replicate 8 0) ≡ zip2 value_or_zero vs fs
 sel_marked vs fs p q =
     let v = eight vs p in
     let f = eight fs q in
     rw (v.is, f.is)
 
-pub subtracted : (xs ys : List ℕ) → zip2 (λ a b. a - b) (zip2 max xs ys) (zip2 min xs ys) ≡ zip2 abs_diff xs ys
-subtracted [] ys = refl
-subtracted (x ∷ xs) [] = refl
-subtracted (x ∷ xs) (y ∷ ys) =
+pub zip2-abs_diff : (xs ys : List ℕ) → zip2 (λ a b. a - b) (zip2 max xs ys) (zip2 min xs ys) ≡ zip2 abs_diff xs ys
+zip2-abs_diff [] ys = refl
+zip2-abs_diff (x ∷ xs) [] = refl
+zip2-abs_diff (x ∷ xs) (y ∷ ys) =
     let e : max x y - min x y ≡ abs_diff x y = omega arith in
-    let r : zip2 (λ a b. a - b) (zip2 max xs ys) (zip2 min xs ys) ≡ zip2 abs_diff xs ys = subtracted xs ys in
+    let r : zip2 (λ a b. a - b) (zip2 max xs ys) (zip2 min xs ys) ≡ zip2 abs_diff xs ys = zip2-abs_diff xs ys in
     rw (e, r)
 
-pub ordered : (xs ys : List ℕ) → Each2 (λ a b. b ≤ a) (zip2 max xs ys) (zip2 min xs ys)
-ordered [] ys = tt
-ordered (x ∷ xs) [] = tt
-ordered (x ∷ xs) (y ∷ ys) = (omega arith, ordered xs ys)
+pub zip2-max_min : (xs ys : List ℕ) → Each2 (λ a b. b ≤ a) (zip2 max xs ys) (zip2 min xs ys)
+zip2-max_min [] ys = tt
+zip2-max_min (x ∷ xs) [] = tt
+zip2-max_min (x ∷ xs) (y ∷ ys) = (omega arith, zip2-max_min xs ys)
 
-pub sel_most : (vs fs : List ℕ) → length vs ≡ 8 → length fs ≡ 8 → sel_l (zip2 eqb fs (replicate 8 1)) vs (replicate 8 18446744073709551615) ≡ zip2 value_or_most vs fs
+pub sel_most : (vs fs : List ℕ) → length vs ≡ 8 → length fs ≡ 8
+    → sel_l (zip2 eqb fs (replicate 8 1)) vs (replicate 8 18446744073709551615) ≡ zip2 value_or_most vs fs
 sel_most vs fs p q =
     let v = eight vs p in
     let f = eight fs q in

@@ -1,15 +1,18 @@
 -- What is held of an input.
-use Rattle.std.proofs.Common.{◌≡◌, ◌≤◌, ◌+◌, ◌-◌, ℕ, List, [], ◌∷◌, ◌++◌, length, take, drop, Bool, true, false, not, ◌==◌, if◌then◌else◌, refl, ap, sym, arith, rules, length-drop, append_assoc, add-one, ◌∙◌}
+use Rattle.std.proofs.Common.{◌≡◌, ◌≤◌, ◌+◌, ◌-◌, ℕ, List, [], ◌∷◌, ◌++◌, length, take, drop, Bool, true, false, not}
+use Rattle.std.proofs.Common.{◌==◌, if◌then◌else◌, refl, ap, sym, arith, rules, length-drop, append_assoc, add-one, ◌∙◌}
 use Rattle.std.proofs.lemmas.Bool.{true≢false}
 use Rattle.std.proofs.lemmas.List.{drop-drop, take-append-drop, take_all}
 use Rattle.csv.specs.Reading.{default_config, is_bom, records, strip_bom}
 use Rattle.order_file.proofs.RowLaws.{records_from-done}
 use Rattle.live_session.specs.Arrival as arrival
 use Rattle.live_session.specs.Arrival.{all_records, complete, is_too_long, start, taken, taken_from, whole_count}
-use Rattle.live_session.specs.HeldInput.{Brings, IsFirstBrought, IsHeld, IsUnbegun, is_mark_begun, is_marked, place_of, taken_of}
+use Rattle.live_session.specs.HeldInput.{Brings, IsFirstBrought, IsHeld, IsUnbegun, is_mark_begun, is_marked, place_of}
+use Rattle.live_session.specs.HeldInput.{taken_of}
 use Rattle.live_session.specs.declared.held.Held.{Held}
 use Rattle.live_session.specs.declared.held.Taken.{Taken}
-use Rattle.live_session.proofs.ArrivalLaws.{at_hand, cut, line-end-first, more, more-size, records-of_whole, records-then, size-within, taken_more, then_taken, whole-closed, whole_more}
+use Rattle.live_session.proofs.ArrivalLaws.{at_hand, cut, line-end-first, more, more-size, records-of_whole}
+use Rattle.live_session.proofs.ArrivalLaws.{records-then, size-within, taken_more, then_taken, whole-closed, whole_more}
 
 -- ---- the byte order mark
 
@@ -66,7 +69,8 @@ mark-more (a ∷ b ∷ []) new e = by new
     by (c ∷ rest) = rw (no_bom c) refl
 mark-more (a ∷ b ∷ c ∷ rest) new e = by (is_bom a b c)
   where
-    by : (b0 : Bool) → (if b0 then rest ++ new else a ∷ b ∷ c ∷ (rest ++ new)) ≡ (if b0 then rest else a ∷ b ∷ c ∷ rest) ++ new
+    by : (b0 : Bool) → (if b0 then rest ++ new else a ∷ b ∷ c ∷ (rest ++ new)) ≡ (if b0 then rest else a ∷ b ∷ c ∷ rest)
+        ++ new
     by true = refl
     by false = refl
 
@@ -103,14 +107,17 @@ strip-unmarked (a ∷ b ∷ c ∷ rest) e = rw e refl
 -- ---- what is held
 
 -- the records that are left are those of what is held
-pub held-rows : (held : Held) (heard : List ℕ) → IsHeld held heard → all_records heard ≡ complete heard ++ records default_config (strip_bom held.bytes.items)
+pub held-rows : (held : Held) (heard : List ℕ) → IsHeld held heard
+    → all_records heard ≡ complete heard ++ records default_config (strip_bom held.bytes.items)
 held-rows held heard h =
     records-of_whole (strip_bom heard)
     ∙ ap (λ (rs : List (List (List ℕ))). complete heard ++ rs)
-    (sym (ap (λ (bytes : List ℕ). records default_config (strip_bom bytes)) h.bytes ∙ line-end-first (at_hand (strip_bom heard))))
+    (sym (ap (λ (bytes : List ℕ). records default_config (strip_bom bytes)) h.bytes
+    ∙ line-end-first (at_hand (strip_bom heard))))
 
 -- nothing has come
-pub held-none : (held : Held) → held.bytes.items ≡ 10 ∷ [] → held.begun ≡ false → place_of held.place ≡ start → IsHeld held []
+pub held-none : (held : Held) → held.bytes.items ≡ 10 ∷ [] → held.begun ≡ false → place_of held.place ≡ start
+    → IsHeld held []
 unfolding strip_bom taken_from
 held-none held bytes begun place = record { bytes = bytes; short = refl; begun = begun; place = rw begun place }
 
@@ -121,11 +128,15 @@ front-take k xs = let e : 1 + k ≡ k + 1 = omega arith in rw (e, add-one k) ref
 front-drop : (k : ℕ) (xs : List ℕ) → drop (1 + k) (10 ∷ xs) ≡ drop k xs
 front-drop k xs = let e : 1 + k ≡ k + 1 = omega arith in rw (e, add-one k) refl
 
-rows-of_front : (k : ℕ) (xs bytes : List ℕ) → bytes ≡ 10 ∷ xs → records default_config (strip_bom (take (1 + k) bytes)) ≡ records default_config (take k xs)
-rows-of_front k xs bytes is = ap (λ (b : List ℕ). records default_config (strip_bom b)) (ap (take (1 + k)) is ∙ front-take k xs) ∙ line-end-first (take k xs)
+rows-of_front : (k : ℕ) (xs bytes : List ℕ) → bytes ≡ 10 ∷ xs → records default_config (strip_bom (take (1 + k) bytes))
+    ≡ records default_config (take k xs)
+rows-of_front k xs bytes is =
+    ap (λ (b : List ℕ). records default_config (strip_bom b)) (ap (take (1 + k)) is ∙ front-take k xs)
+    ∙ line-end-first (take k xs)
 
 -- the start of an input
-pub brings-first : (held : Held) (heard now : List ℕ) (whole : ℕ) → is_mark_begun heard ≡ true → IsFirstBrought held now whole → Brings held heard now whole
+pub brings-first : (held : Held) (heard now : List ℕ) (whole : ℕ) → is_mark_begun heard ≡ true
+    → IsFirstBrought held now whole → Brings held heard now whole
 brings-first held heard now whole mark first = by held.begun refl
   where
     wc : ℕ
@@ -144,9 +155,15 @@ brings-first held heard now whole mark first = by held.begun refl
           some = omega arith;
           within = omega (arith, within, ap (λ (b : List ℕ). length b) first.bytes);
           first = ap (take 1) first.bytes;
-          rows = sym (ap (λ (rs : List (List (List ℕ))). rs ++ records default_config (strip_bom (take whole held.bytes.items))) none
-              ∙ ap (λ (n : ℕ). records default_config (strip_bom (take n held.bytes.items))) is ∙ rows-of_front wc (strip_bom now) held.bytes.items first.bytes);
-          rest = λ short. ap (λ (n : ℕ). drop n held.bytes.items) is ∙ ap (drop (1 + wc)) first.bytes ∙ front-drop wc (strip_bom now);
+          rows =
+              sym
+              (ap
+              (λ (rs : List (List (List ℕ))). rs ++ records default_config (strip_bom (take whole held.bytes.items)))
+              none
+              ∙ ap (λ (n : ℕ). records default_config (strip_bom (take n held.bytes.items))) is
+              ∙ rows-of_front wc (strip_bom now) held.bytes.items first.bytes);
+          rest = λ short. ap (λ (n : ℕ). drop n held.bytes.items) is ∙ ap (drop (1 + wc)) first.bytes
+              ∙ front-drop wc (strip_bom now);
           long = ap is_too_long (rw e at first.place);
           begun = first.begun;
           place = first.place;
@@ -158,9 +175,16 @@ brings-first held heard now whole mark first = by held.begun refl
           some = omega arith;
           within = omega (arith, ap (λ (b : List ℕ). length b) first.bytes);
           first = ap (take 1) first.bytes;
-          rows = unknown.none ∙ sym (ap (λ (rs : List (List (List ℕ))). rs ++ records default_config (strip_bom (take whole held.bytes.items))) none
-              ∙ ap (λ (n : ℕ). records default_config (strip_bom (take n held.bytes.items))) is ∙ rows-of_front 0 (strip_bom now) held.bytes.items first.bytes ∙ records_from-done default_config 1);
-          rest = λ short. ap (λ (n : ℕ). drop n held.bytes.items) is ∙ ap (drop (1 + 0)) first.bytes ∙ front-drop 0 (strip_bom now)
+          rows =
+              unknown.none
+              ∙ sym
+              (ap
+              (λ (rs : List (List (List ℕ))). rs ++ records default_config (strip_bom (take whole held.bytes.items)))
+              none
+              ∙ ap (λ (n : ℕ). records default_config (strip_bom (take n held.bytes.items))) is
+              ∙ rows-of_front 0 (strip_bom now) held.bytes.items first.bytes ∙ records_from-done default_config 1);
+          rest = λ short. ap (λ (n : ℕ). drop n held.bytes.items) is ∙ ap (drop (1 + 0)) first.bytes
+              ∙ front-drop 0 (strip_bom now)
               ∙ ap (λ (n : ℕ). drop n (strip_bom now)) (sym unknown.whole);
           long = ap is_too_long (rw e at first.place) ∙ sym unknown.short;
           begun = first.begun;
@@ -173,7 +197,8 @@ brings-first held heard now whole mark first = by held.begun refl
 
 -- more of an input that has begun
 pub brings-more : (old held : Held) (heard new : List ℕ) (t : Taken) (whole : ℕ) → IsHeld old heard → old.begun ≡ true
-    → taken_of t ≡ taken_from (place_of old.place) new → held.bytes.items ≡ old.bytes.items ++ new → held.place ≡ t.place → held.begun ≡ true
+    → taken_of t ≡ taken_from (place_of old.place) new → held.bytes.items ≡ old.bytes.items ++ new
+    → held.place ≡ t.place → held.begun ≡ true
     → whole ≡ (length old.bytes.items + t.count) - t.place.size → Brings held heard (heard ++ new) whole
 brings-more old held heard new t whole h was is bytes place begun whole_is =
     let text = strip_bom heard in
@@ -184,20 +209,25 @@ brings-more old held heard new t whole h was is bytes place begun whole_is =
     let took : taken_of t ≡ taken_more text new = is ∙ ap (λ (p : arrival.Place). taken_from p new) at in
     let count : t.count ≡ (taken_more text new).count = ap (λ (u : arrival.Taken). u.count) took in
     let size : t.place.size ≡ (taken_more text new).place.size = ap (λ (u : arrival.Taken). u.place.size) took in
-    let long : length old.bytes.items ≡ length (at_hand text) + 1 = ap (λ (b : List ℕ). length b) h.bytes ∙ sym (add-one (length (at_hand text))) in
+    let long : length old.bytes.items ≡ length (at_hand text) + 1 =
+    ap (λ (b : List ℕ). length b) h.bytes ∙ sym (add-one (length (at_hand text))) in
     let k : whole ≡ 1 + whole_more text new = omega (arith, whole_is, count, size, long, m.at_hand_is, m.size) in
     let all : held.bytes.items ≡ 10 ∷ (at_hand text ++ new) = bytes ∙ ap (λ (b : List ℕ). b ++ new) h.bytes in
-    let taken_now : taken (heard ++ new) ≡ then_taken (length text) (taken_more text new) = ap (taken_from start) now ∙ m.taken_is in
+    let taken_now : taken (heard ++ new) ≡ then_taken (length text) (taken_more text new) =
+    ap (taken_from start) now ∙ m.taken_is in
     let same_place : place_of held.place ≡ (taken (heard ++ new)).place =
-    ap place_of place ∙ ap (λ (u : arrival.Taken). u.place) took ∙ ap (λ (u : arrival.Taken). u.place) (sym taken_now) in
+    ap place_of place ∙ ap (λ (u : arrival.Taken). u.place) took
+    ∙ ap (λ (u : arrival.Taken). u.place) (sym taken_now) in
     record {
       some = omega (arith, k);
       within = omega (arith, k, m.bound, ap (λ (b : List ℕ). length b) all);
       first = ap (take 1) all;
       rows = ap (λ (x : List ℕ). records default_config (take (whole_count (taken_from start x)) x)) now ∙ m.whole
           ∙ ap (λ (rs : List (List (List ℕ))). complete heard ++ rs)
-          (sym (ap (λ (n : ℕ). records default_config (strip_bom (take n held.bytes.items))) k ∙ rows-of_front (whole_more text new) (at_hand text ++ new) held.bytes.items all));
-      rest = λ short. ap (λ (n : ℕ). drop n held.bytes.items) k ∙ ap (drop (1 + whole_more text new)) all ∙ front-drop (whole_more text new) (at_hand text ++ new)
+          (sym (ap (λ (n : ℕ). records default_config (strip_bom (take n held.bytes.items))) k
+          ∙ rows-of_front (whole_more text new) (at_hand text ++ new) held.bytes.items all));
+      rest = λ short. ap (λ (n : ℕ). drop n held.bytes.items) k ∙ ap (drop (1 + whole_more text new)) all
+          ∙ front-drop (whole_more text new) (at_hand text ++ new)
           ∙ sym m.rest ∙ ap (λ (x : List ℕ). drop (whole_count (taken_from start x)) x) (sym now);
       long = ap is_too_long same_place;
       begun = begun ∙ sym (ap not (mark-known heard new known));
@@ -213,14 +243,22 @@ pub complete-first : (heard new : List ℕ) → is_too_long (taken heard).place 
     → (rest : List (List (List ℕ))) × (complete heard ++ rest ≡ all_records (heard ++ new))
 complete-first heard new short = by (is_mark_begun heard) refl
   where
-    by : (b : Bool) → is_mark_begun heard ≡ b → (rest : List (List (List ℕ))) × (complete heard ++ rest ≡ all_records (heard ++ new))
-    by true e = (all_records (heard ++ new), ap (λ (rs : List (List (List ℕ))). rs ++ all_records (heard ++ new)) (begun-mark heard e).none)
+    by : (b : Bool) → is_mark_begun heard ≡ b → (rest : List (List (List ℕ)))
+        × (complete heard ++ rest ≡ all_records (heard ++ new))
+    by true e = (
+      all_records (heard ++ new),
+      ap (λ (rs : List (List (List ℕ))). rs ++ all_records (heard ++ new))
+          (begun-mark heard e).none,
+    )
     by false e =
         let text = strip_bom heard in
         let n = whole_count (taken heard) in
-        let parted : text ++ new ≡ take n text ++ (drop n text ++ new) = ap (λ (x : List ℕ). x ++ new) (sym (take-append-drop n text)) ∙ append_assoc (take n text) (drop n text) new in (
+        let parted : text ++ new ≡ take n text ++ (drop n text ++ new) =
+        ap (λ (x : List ℕ). x ++ new) (sym (take-append-drop n text))
+        ∙ append_assoc (take n text) (drop n text) new in (
           records default_config (drop n text ++ new),
-          sym (ap (records default_config) (mark-more heard new e ∙ parted) ∙ records-then (take n text) (drop n text ++ new) (whole-closed text)),
+          sym (ap (records default_config) (mark-more heard new e ∙ parted)
+              ∙ records-then (take n text) (drop n text ++ new) (whole-closed text)),
         )
 
 -- and of all that there are
@@ -243,7 +281,11 @@ taken-part t p xs is =
     let c = cut p xs in
     let count : t.count ≡ (taken_from p xs).count = ap (λ (u : arrival.Taken). u.count) is in
     let size : t.place.size ≡ (taken_from p xs).place.size = ap (λ (u : arrival.Taken). u.place.size) is in
-    record { within = omega (arith, count, c.within); size = omega (arith, count, size, more-size p xs (taken_from p xs) c) }
+    record {
+      within = omega (arith, count, c.within);
+      size =
+          omega (arith, count, size, more-size p xs (taken_from p xs) c);
+    }
 
 -- a byte order mark behind the first byte is dropped
 pub mark-dropped : (bytes new : List ℕ) → is_marked (drop 1 bytes) ≡ true → new ≡ take 1 bytes ++ drop 4 bytes
@@ -253,10 +295,12 @@ mark-dropped bytes new marked is =
 
 pub mark-absent : (bytes : List ℕ) → is_marked (drop 1 bytes) ≡ false → bytes ≡ take 1 bytes ++ strip_bom (drop 1 bytes)
 mark-absent bytes unmarked =
-    sym (ap (λ (rest : List ℕ). take 1 bytes ++ rest) (strip-unmarked (drop 1 bytes) unmarked) ∙ take-append-drop 1 bytes)
+    sym (ap (λ (rest : List ℕ). take 1 bytes ++ rest) (strip-unmarked (drop 1 bytes) unmarked)
+    ∙ take-append-drop 1 bytes)
 
 -- the first bytes may still be a byte order mark
-pub first-waits : (held : Held) → IsUnbegun held → is_mark_begun (drop 1 held.bytes.items) ≡ true → IsFirstBrought held (drop 1 held.bytes.items) 1
+pub first-waits : (held : Held) → IsUnbegun held → is_mark_begun (drop 1 held.bytes.items) ≡ true
+    → IsFirstBrought held (drop 1 held.bytes.items) 1
 first-waits held h mark =
     let heard = drop 1 held.bytes.items in
     record {
@@ -268,7 +312,8 @@ first-waits held h mark =
     }
 
 -- the input begins
-pub first-taken : (held : Held) (heard : List ℕ) (t : Taken) (text : List ℕ) → held.bytes.items ≡ 10 ∷ strip_bom heard → held.begun ≡ true
+pub first-taken : (held : Held) (heard : List ℕ) (t : Taken) (text : List ℕ) → held.bytes.items ≡ 10 ∷ strip_bom heard
+    → held.begun ≡ true
     → is_mark_begun heard ≡ false → held.place ≡ t.place → text ≡ strip_bom heard → taken_of t ≡ taken_from start text
     → IsFirstBrought held heard ((1 + t.count) - t.place.size)
 first-taken held heard t text bytes begun known place same is =
@@ -298,10 +343,12 @@ brings-begun old held heard new items whole h unbegun more first =
     begins false p q = absurd (true≢false (sym (q ∙ ap not p)))
 
 -- the record at hand is held
-pub held-size : (held : Held) (heard : List ℕ) → IsHeld held heard → held.begun ≡ true → held.place.size ≤ length held.bytes.items
+pub held-size : (held : Held) (heard : List ℕ) → IsHeld held heard → held.begun ≡ true
+    → held.place.size ≤ length held.bytes.items
 held-size held heard h begun =
     let text = strip_bom heard in
     let size : held.place.size ≡ (taken heard).place.size = ap (λ (p : arrival.Place). p.size) (rw begun at h.place) in
     let at : length (at_hand text) ≡ (taken heard).place.size = (more text [] h.short).at_hand_is in
-    let long : length held.bytes.items ≡ length (at_hand text) + 1 = ap (λ (b : List ℕ). length b) h.bytes ∙ sym (add-one (length (at_hand text))) in
+    let long : length held.bytes.items ≡ length (at_hand text) + 1 =
+    ap (λ (b : List ℕ). length b) h.bytes ∙ sym (add-one (length (at_hand text))) in
     omega (arith, size, at, long)

@@ -3,7 +3,7 @@ use Rattle.std.specs.Prelude.{ℕ, ◌+◌, List, [], ◌∷◌, ◌++◌, nat_l
 use Rattle.auction_terms.specs.declared.Call.{Call}
 use Rattle.auction_terms.specs.declared.Config.{Config}
 use Rattle.auction_terms.specs.Day.{step}
-use Rattle.auction_terms.specs.Devices.Running.{Running, called, opened}
+use Rattle.auction_terms.specs.Auxiliary.RunningAuction.{RunningAuction, auction_after_call, opened_auction}
 use Rattle.order_file.specs.Record.{numbered_call}
 use Rattle.order_file.specs.declared.fault.FileFault.{FileFault}
 use Rattle.order_file.specs.declared.fault.FileFault.TheVariants.{TooManyCommands}
@@ -13,16 +13,16 @@ use Rattle.live_session.specs.declared.fault.Ending.TheVariants.{AllGood, SomeBa
 
 -- the auction after the records so far, how many they were, the lines of the good ones and the faults of the bad ones
 pub record Answered : Type 0 where
-  pub auction : Running
+  pub auction : RunningAuction
   pub count : ℕ
   pub text : List ℕ
   pub faults : List FileFault
 
 abbrev pub nothing_yet : Config → Answered
-nothing_yet config = record { auction = opened config; count = 0; text = []; faults = [] }
+nothing_yet config = record { auction = opened_auction config; count = 0; text = []; faults = [] }
 
 -- the call of a record by its number, which is at fault where the auction takes no further command
-unfoldable pub live_call : ℕ → Running → ℕ → List (List ℕ) → Result Call FileFault
+unfoldable pub live_call : ℕ → RunningAuction → ℕ → List (List ℕ) → Result Call FileFault
 live_call members auction number fields =
     if nat_le auction.config.max_calls auction.calls then Err (TooManyCommands number)
     else numbered_call members number fields
@@ -30,7 +30,7 @@ live_call members auction number fields =
 -- a good record is a command, and its reply a line
 abbrev pub replied : Answered → Call → Answered
 replied so_far call = record {
-  auction = called so_far.auction call;
+  auction = auction_after_call so_far.auction call;
   count = so_far.count + 1;
   text = so_far.text ++ line (so_far.count + 1) (step so_far.auction.config so_far.auction.state call).1;
   faults = so_far.faults;

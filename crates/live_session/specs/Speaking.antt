@@ -1,11 +1,11 @@
 -- A session in the middle of its input.
 use Rattle.std.specs.Prelude.{◌≡◌, ◌<◌, ℕ, List, [], ◌++◌, unwrap_or, None, Result, Ok, Err}
 use Rattle.auction_terms.specs.declared.Config.{Config}
-use Rattle.auction_terms.specs.Devices.Running.{opened}
+use Rattle.auction_terms.specs.Auxiliary.RunningAuction.{opened_auction}
 use Rattle.auction.specs.ConfigFault.{open_fault}
 use Rattle.auction.specs.declared.OpenFault.TheVariants.{NoMemory}
 use Rattle.order_file.specs.declared.fault.FileFault.{FileFault}
-use Rattle.printed_lines.specs.Printing.{Keeps}
+use Rattle.printed_lines.specs.Printing.{KeepsOnPage}
 use Rattle.live_session.specs.Answered.{Answered, answered, ending_of}
 use Rattle.live_session.specs.Arrival.{complete}
 use Rattle.live_session.specs.HeldInput.{IsHeld}
@@ -25,7 +25,7 @@ pub record Speaks {C : Type 0} (c : Ghosts C) (base now : C) (session : Session)
   pub count : session.count ≡ so_far.count
   pub ending : session.ending ≡ ending_of so_far.faults
   pub device : Heard c base now heard
-  pub text : Keeps (c.written base) (c.written now) session.page so_far.text
+  pub text : KeepsOnPage (c.written base) (c.written now) session.page so_far.text
   pub faults : Tells (c.told base) (c.told now) so_far.faults
   pub reads : c.read_failures now ≡ c.read_failures base
   pub writes : c.write_failures now ≡ c.write_failures base
@@ -64,7 +64,7 @@ Reaches {C} c old new session after wanted r = (base : C) (heard : List ℕ) (so
 
 -- a session that was just opened
 pub record IsNew (config : Config) (members : ℕ) (session : Session) : Type 0 where
-  pub auction : session.auction ≡ opened config
+  pub auction : session.auction ≡ opened_auction config
   pub members_are : session.members ≡ members
   pub count : session.count ≡ 0
   pub ending : session.ending ≡ AllGood

@@ -2,7 +2,7 @@
 
 ghost use Rattle.std.specs.Prelude.{◌≡◌, ◌+◌, ◌∷◌, [], ℕ, List, Option, is_ok};
 ghost use Rattle.std.specs.Io.KnownBytes.{ReadConsumes};
-ghost use Rattle.byte_streams.specs.Streams.{FitsBuffer, TellsFailure, Writes, failures_after};
+ghost use Rattle.byte_streams.specs.Streams.{FitsBuffer, ReportsFailure, Writes, failures_after};
 ghost use Rattle.order_file.specs.declared.fault.FileFault.{FileFault};
 ghost use Rattle.live_session.specs.ToldFaults.{Tells};
 
@@ -46,7 +46,7 @@ pub trait Conversation {
     /// Writes all of a text, or at a failure a beginning of it.
     fn write(&mut self, text: &[u8]) -> Result<(), WriteFailed>
         ensures text { Writes (written self.old) (written self.new) result text.now }
-        ensures failures { TellsFailure (write_failures self.old) (write_failures self.new) result }
+        ensures failures { ReportsFailure (write_failures self.old) (write_failures self.new) result }
         ensures left { left self.new ≡ left self.old }
         ensures told { told self.new ≡ told self.old }
         ensures reads { read_failures self.new ≡ read_failures self.old }

@@ -3,7 +3,7 @@
 ghost use Rattle.std.specs.Prelude.{◌≡◌, ◌<◌, ◌≤◌, ◌+◌, List, ℕ, [], length, IfErr, IfOk, OnOk};
 ghost use Rattle.csv.specs.Reading.{default_config, records, strip_bom};
 ghost use Rattle.csv.specs.Records.{fields_of};
-ghost use Rattle.order_file.specs.Rows.{Stands, rows_left};
+ghost use Rattle.order_file.specs.Rows.{IsRecordReader, rows_left};
 ghost use Rattle.printed_lines.specs.declared.page.TheConstants.{LONGEST_LINE, ROOM};
 ghost use Rattle.live_session.specs.Answered.{after_record, after_records, live_call, refused, replied};
 ghost use Rattle.live_session.specs.Speaking.{IsOpened, Reaches};
@@ -160,7 +160,7 @@ impl Session {
         talk: &mut C,
         rows: &mut Reader<&[u8]>,
     ) -> Result<(), LiveFault>
-        requires { Stands rows.old }
+        requires { IsRecordReader rows.old }
         ensures goes { Reaches C.Conversation talk.old talk.new self.old self.new
             (λ so_far. after_records self.old.members so_far (rows_left rows.old)) result }
         ensures members { self.new.members ≡ self.old.members }

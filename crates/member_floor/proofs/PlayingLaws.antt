@@ -1,32 +1,44 @@
 -- Lists of what was played.
-use Rattle.std.proofs.Common.{◌≡◌, ℕ, ◌+◌, List, [], ◌∷◌, ◌++◌, map, take, drop, length, refl, ap, sym, subst, ◌∙◌, append_assoc, arith}
+use Rattle.std.proofs.Common.{◌≡◌, ℕ, ◌+◌, List, [], ◌∷◌, ◌++◌, map, take, drop, length, refl, ap, sym, subst, ◌∙◌}
+use Rattle.std.proofs.Common.{append_assoc, arith}
 use Rattle.std.proofs.lemmas.List.{append-nil}
 use Rattle.std.proofs.Math.Seq.{take-append_seam, drop-append-add}
 use Rattle.auction_terms.specs.declared.Config.{Config}
-use Rattle.call_board.specs.Standing.{Standing}
+use Rattle.board_terms.specs.MemberView.{MemberView}
 use Rattle.member_floor.specs.declared.script.Script.{Script}
-use Rattle.member_floor.specs.Plays.{Task, PlayedScript, Plays, EachPlays, AllPlay, SameNumbers}
+use Rattle.member_floor.specs.PlaysScript.{Task, PlayedScript, PlaysScript, EachPlaysScript, AllPlayScripts}
+use Rattle.member_floor.specs.PlaysScript.{HaveSameNumbers}
 use Rattle.std.proofs.lemmas.Grind.{common_steps}
 
-pub EachPlays-push : (c : Config) (ts : List Task) (rs : List PlayedScript) (t : Task) (r : PlayedScript) → EachPlays c ts rs → Plays c t.member t.commands r → EachPlays c (ts ++ t ∷ []) (rs ++ r ∷ [])
-EachPlays-push c [] [] t r h p = (p, tt)
-EachPlays-push c [] (y ∷ rs) t r h p = absurd h
-EachPlays-push c (x ∷ ts) [] t r h p = absurd h
-EachPlays-push c (x ∷ ts) (y ∷ rs) t r h p = (h.0, EachPlays-push c ts rs t r h.1 p)
+pub EachPlaysScript-push : (c : Config) (ts : List Task) (rs : List PlayedScript) (t : Task) (r : PlayedScript)
+    → EachPlaysScript c ts rs → PlaysScript c t.member t.commands r → EachPlaysScript c (ts ++ t ∷ []) (rs ++ r ∷ [])
+EachPlaysScript-push c [] [] t r h p = (p, tt)
+EachPlaysScript-push c [] (y ∷ rs) t r h p = absurd h
+EachPlaysScript-push c (x ∷ ts) [] t r h p = absurd h
+EachPlaysScript-push c (x ∷ ts) (y ∷ rs) t r h p = (h.0, EachPlaysScript-push c ts rs t r h.1 p)
 
-pub plays-next : {H : Type 0} (f : H → Task) (c : Config) (ts all : List Task) (h : H) (old new : List H) (rs rs' : List PlayedScript) (r : PlayedScript)
-    → old ≡ h ∷ new → ts ++ map f old ≡ all → rs' ≡ rs ++ r ∷ [] → EachPlays c ts rs → Plays c (f h).member (f h).commands r → (us : List Task) × (us ++ map f new ≡ all) × EachPlays c us rs'
-plays-next f c ts all h old new rs rs' r is_old is_all is_rs each plays = (
+pub PlaysScript-next : {H : Type 0} (f : H → Task) (c : Config) (ts all : List Task) (h : H) (old new : List H)
+    (rs rs' : List PlayedScript) (r : PlayedScript)
+    → old ≡ h ∷ new → ts ++ map f old ≡ all → rs' ≡ rs ++ r ∷ [] → EachPlaysScript c ts rs
+    → PlaysScript c (f h).member (f h).commands r → (us : List Task) × (us ++ map f new ≡ all)
+    × EachPlaysScript c us rs'
+PlaysScript-next f c ts all h old new rs rs' r is_old is_all is_rs each plays = (
   ts ++ f h ∷ [],
   append_assoc ts (f h ∷ []) (map f new) ∙ (λ i. ts ++ map f (sym is_old i)) ∙ is_all,
-  subst (EachPlays c (ts ++ f h ∷ [])) (sym is_rs) (EachPlays-push c ts rs (f h) r each plays),
+  subst (EachPlaysScript c (ts ++ f h ∷ [])) (sym is_rs) (EachPlaysScript-push c ts rs (f h) r each plays),
 )
 
-pub plays-end : {H : Type 0} (f : H → Task) (c : Config) (ts all : List Task) (rest : List H) (rs : List PlayedScript) → length rest ≡ 0 → ts ++ map f rest ≡ all → EachPlays c ts rs → EachPlays c all rs
-plays-end f c ts all [] rs none is_all each = subst (λ us. EachPlays c us rs) (sym (append-nil ts) ∙ is_all) each
-plays-end f c ts all (h ∷ rest) rs none is_all each = absurd (omega arith)
+pub PlaysScript-end : {H : Type 0} (f : H → Task) (c : Config) (ts all : List Task) (rest : List H)
+    (rs : List PlayedScript) → length rest ≡ 0 → ts ++ map f rest ≡ all → EachPlaysScript c ts rs
+    → EachPlaysScript c all rs
+PlaysScript-end f c ts all [] rs none is_all each =
+    subst (λ us. EachPlaysScript c us rs) (sym (append-nil ts) ∙ is_all) each
+PlaysScript-end f c ts all (h ∷ rest) rs none is_all each = absurd (omega arith)
 
-pub all_play : (c : Config) (ts : List Task) (ms : List Standing) (ss : List Script) (rs : List PlayedScript) → map (λ (t : Task). t.member) ts ≡ ms → map (λ (t : Task). t.commands) ts ≡ map (λ (s : Script). s.commands.items) ss → EachPlays c ts rs → AllPlay c ms ss rs
+pub all_play : (c : Config) (ts : List Task) (ms : List MemberView) (ss : List Script) (rs : List PlayedScript)
+    → map (λ (t : Task). t.member) ts ≡ ms
+    → map (λ (t : Task). t.commands) ts ≡ map (λ (s : Script). s.commands.items) ss → EachPlaysScript c ts rs
+    → AllPlayScripts c ms ss rs
 all_play c [] [] [] [] p q h = tt
 all_play c [] [] [] (r ∷ rs) p q h = absurd h
 all_play c [] [] (s ∷ ss) rs p q h = absurd cc
@@ -34,9 +46,10 @@ all_play c [] (m ∷ ms) ss rs p q h = absurd cc
 all_play c (t ∷ ts) [] ss rs p q h = absurd cc
 all_play c (t ∷ ts) (m ∷ ms) [] rs p q h = absurd cc
 all_play c (t ∷ ts) (m ∷ ms) (s ∷ ss) [] p q h = absurd h
-all_play c (t ∷ ts) (m ∷ ms) (s ∷ ss) (r ∷ rs) p q h = grind (arith, common_steps, (all_play c ts ms ss rs (cc (p)) (cc (q)) h.1))
+all_play c (t ∷ ts) (m ∷ ms) (s ∷ ss) (r ∷ rs) p q h =
+    grind (arith, common_steps, (all_play c ts ms ss rs (cc (p)) (cc (q)) h.1))
 
-pub same_length : (ms : List Standing) (ss : List Script) → SameNumbers ms ss → length ss ≡ length ms
+pub same_length : (ms : List MemberView) (ss : List Script) → HaveSameNumbers ms ss → length ss ≡ length ms
 same_length [] [] h = refl
 same_length [] (s ∷ ss) h = absurd h
 same_length (m ∷ ms) [] h = absurd h
@@ -47,18 +60,24 @@ drop_none [] = refl
 drop_none (y ∷ ys) = refl
 
 -- what came of the tasks before one that was lost, and the members of those after it
-pub some_play : (c : Config) (xs ys all : List Task) (t : Task) (rs : List PlayedScript) (rest : List Standing) → xs ++ t ∷ ys ≡ all → EachPlays c xs rs → rest ≡ map (λ (x : Task). x.member) ys
-    → (n : ℕ) × EachPlays c (take n all) rs × (rest ≡ map (λ (x : Task). x.member) (drop (n + 1) all))
+pub some_play : (c : Config) (xs ys all : List Task) (t : Task) (rs : List PlayedScript) (rest : List MemberView)
+    → xs ++ t ∷ ys ≡ all → EachPlaysScript c xs rs → rest ≡ map (λ (x : Task). x.member) ys
+    → (n : ℕ) × EachPlaysScript c (take n all) rs × (rest ≡ map (λ (x : Task). x.member) (drop (n + 1) all))
 some_play c xs ys all t rs rest is each left = (
   length xs,
-  subst (λ (ts : List Task). EachPlays c (take (length xs) ts) rs) is (subst (λ (ts : List Task). EachPlays c ts rs) (sym (take-append_seam xs (t ∷ ys))) each),
-  left ∙ ap (map (λ (x : Task). x.member)) (sym (drop-append-add xs (t ∷ ys) 1 ∙ drop_none ys)) ∙ ap (λ ts. map (λ (x : Task). x.member) (drop (length xs + 1) ts)) is,
+  subst (λ (ts : List Task). EachPlaysScript c (take (length xs) ts) rs) is
+      (subst (λ (ts : List Task). EachPlaysScript c ts rs) (sym (take-append_seam xs (t ∷ ys))) each),
+  left ∙ ap (map (λ (x : Task). x.member)) (sym (drop-append-add xs (t ∷ ys) 1 ∙ drop_none ys))
+      ∙ ap (λ ts. map (λ (x : Task). x.member) (drop (length xs + 1) ts)) is,
 )
 
-pub none_left : (ys : List Task) (rest : List Standing) → length ys ≡ 0 → rest ≡ map (λ (x : Task). x.member) ys → rest ≡ []
+pub none_left : (ys : List Task) (rest : List MemberView) → length ys ≡ 0 → rest ≡ map (λ (x : Task). x.member) ys
+    → rest ≡ []
 none_left [] rest none left = left
 none_left (y ∷ ys) rest none left = absurd (omega arith)
 
-pub whole_play : (c : Config) (xs ys all : List Task) (rs : List PlayedScript) → length ys ≡ 0 → xs ++ ys ≡ all → EachPlays c xs rs → EachPlays c all rs
-whole_play c xs [] all rs none is each = subst (λ (ts : List Task). EachPlays c ts rs) (sym (append-nil xs) ∙ is) each
+pub whole_play : (c : Config) (xs ys all : List Task) (rs : List PlayedScript) → length ys ≡ 0 → xs ++ ys ≡ all
+    → EachPlaysScript c xs rs → EachPlaysScript c all rs
+whole_play c xs [] all rs none is each =
+    subst (λ (ts : List Task). EachPlaysScript c ts rs) (sym (append-nil xs) ∙ is) each
 whole_play c xs (y ∷ ys) all rs none is each = absurd (omega arith)

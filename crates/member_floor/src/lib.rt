@@ -6,17 +6,17 @@
 //! - `gate`: what stands before and after each call, as a test needs to hold a member's call.
 //! - `script`: what a member is to call.
 //! - `played`: one script, played on the thread that runs it.
-//! - `seats`: all room that playing needs, taken before the first thread starts.
+//! - `prepared_scripts`: all room that playing needs, taken before the first thread starts.
 //! - `threads`: `run`, one scoped thread for each member.
 #![tactic(auto)]
 
 mod gate;
 mod played;
+mod prepared_scripts;
 mod script;
-mod seats;
 mod threads;
 
 pub use gate::{Gate, OpenGate};
-pub use played::Played;
+pub use played::ScriptRun;
 pub use script::Script;
 pub use threads::{Outcome, RunFault, run};

@@ -1,27 +1,27 @@
 //! One script, played.
 ghost use Rattle.std.specs.Prelude.{◌≡◌, ◌+◌, ◌<◌, ◌≤◌, [], length, vec_capacity};
 ghost use Rattle.auction_terms.specs.declared.limits.TheConstants.{MAX_CALLS};
-ghost use Rattle.member_floor.specs.Plays.{Plays};
+ghost use Rattle.member_floor.specs.PlaysScript.{PlaysScript};
 
 use crate::gate::Gate;
 use auction_terms::Command;
-use call_board::{Board, CallFault, Day, Member, Receipt, Update, Version};
 use left_right::Absorb;
+use member_board::{Board, BoardIdentity, CallFault, Member, Receipt, Update, Version};
 use std::marker::Model;
 use std::sync::Wait;
 
 /// What came of a script: its member, the receipts of its calls in their order, and the fault that ended it, if one
 /// did. A script ends at its first fault.
 #[derive(Drop)]
-pub struct Played<K: Day> {
+pub struct ScriptRun<K: BoardIdentity> {
     pub member: Member<K>,
     pub receipts: Vec<Receipt>,
     pub fault: Option<CallFault>,
 }
 
-impl<K: Day> Model for Played<K> {
+impl<K: BoardIdentity> Model for ScriptRun<K> {
     ghost use Rattle.auction_terms.specs.declared.limits.TheConstants.{MAX_CALLS};
-    ghost use Rattle.member_floor.specs.Plays.{PlayedScript};
+    ghost use Rattle.member_floor.specs.PlaysScript.{PlayedScript};
 
     ghost Value = { PlayedScript };
 
@@ -29,19 +29,19 @@ impl<K: Day> Model for Played<K> {
 }
 
 // Calls each command under the gate, up to the first fault. The room for the receipts is there.
-pub(crate) fn play<K: Day, G: Gate, R: Wait>(
+pub(crate) fn play<K: BoardIdentity, G: Gate, R: Wait>(
     board: &Board<K>,
     member: Member<K>,
     commands: &[Command],
     receipts: Vec<Receipt>,
     gate: &G,
     rt: &R,
-) -> Played<K>
+) -> ScriptRun<K>
 where
     Version<K>: Absorb<Update<K>, State = ()>,
     requires room { (receipts.items ≡ []) × (length commands.now ≤ vec_capacity receipts) }
     requires few { length commands.now ≤ MAX_CALLS }
-    ensures { Plays K.config member commands.now result }
+    ensures { PlaysScript K.config member commands.now result }
 {
     let mut member = member;
     let mut receipts = receipts;
@@ -54,7 +54,7 @@ where
         match answer {
             Ok(receipt) => receipts.push_reserved(receipt),
             Err(fault) => {
-                return Played {
+                return ScriptRun {
                     member,
                     receipts,
                     fault: Some(fault),
@@ -62,7 +62,7 @@ where
             }
         }
     }
-    Played {
+    ScriptRun {
         member,
         receipts,
         fault: None,

@@ -1,13 +1,16 @@
 //! One scoped thread for each member.
 ghost use Rattle.std.specs.Prelude.{◌≡◌, ◌≢◌, ◌≤◌, [], map, length, vec_capacity, None, Some, IfOk};
-ghost use Rattle.member_floor.specs.Plays.{EachPlays, Fits, Plays, PlayedAll, PlayedSome, TasksAll, TasksSome};
+ghost use Rattle.member_floor.specs.PlaysScript.{EachPlaysScript, FitsMembers, PlaysScript, HasPlayedAll};
+ghost use Rattle.member_floor.specs.PlaysScript.{HasPlayedSome, HasPlayedAllTasks, HasPlayedSomeTasks};
 
 use crate::gate::Gate;
-use crate::played::Played;
+use crate::played::ScriptRun;
+use crate::prepared_scripts::{
+    MemberTask, PreparedScript, members_left, pair_members, prepare_scripts,
+};
 use crate::script::Script;
-use crate::seats::{Part, Seat, sit_down, stand_up, take_seats};
-use call_board::{Board, Day, Member, Update, Version};
 use left_right::Absorb;
+use member_board::{Board, BoardIdentity, Member, Update, Version};
 use std::alloc::{AllocError, Global};
 use std::snapshot::Snapshot;
 use std::sync::Wait;
@@ -25,43 +28,43 @@ pub enum RunFault {
 
 /// What came of each script, in the order of the scripts, the members that didn't play, and why they didn't.
 #[derive(Drop)]
-pub struct Outcome<K: Day> {
-    pub played: Vec<Played<K>>,
+pub struct Outcome<K: BoardIdentity> {
+    pub played: Vec<ScriptRun<K>>,
     pub unplayed: Vec<Member<K>>,
     pub fault: Option<RunFault>,
 }
 
 /// What a thread promises of its member and script.
 #[derive(Drop)]
-struct Playing<K: Day> {
-    part: Snapshot<Part<K>>,
+struct ThreadPromise<K: BoardIdentity> {
+    task: Snapshot<MemberTask<K>>,
 }
 
-impl<K: Day> Promise<Played<K>> for Playing<K> {
-    ghost kept_by = { λ p r. Plays K.config p.part.value.member p.part.value.commands r };
+impl<K: BoardIdentity> Promise<ScriptRun<K>> for ThreadPromise<K> {
+    ghost kept_by = { λ p r. PlaysScript K.config p.task.value.member p.task.value.commands r };
 }
 
 /// The members at their seats, and the room that a run needs beside that for the receipts.
 #[derive(Drop)]
-struct Stage<K: Day> {
-    parts: Vec<Part<K>>,
-    handles: Vec<PromisedHandle<Played<K>, Playing<K>>>,
-    played: Vec<Played<K>>,
+struct RunRoom<K: BoardIdentity> {
+    tasks: Vec<MemberTask<K>>,
+    handles: Vec<PromisedHandle<ScriptRun<K>, ThreadPromise<K>>>,
+    played: Vec<ScriptRun<K>>,
     rest: Vec<Member<K>>,
-    ghost handles_fit: { (handles.items ≡ []) × (length parts.items ≤ vec_capacity handles) },
-    ghost played_fit: { (played.items ≡ []) × (length parts.items ≤ vec_capacity played) },
-    ghost rest_fit: { (rest.items ≡ []) × (length parts.items ≤ vec_capacity rest) },
+    ghost handles_fit: { (handles.items ≡ []) × (length tasks.items ≤ vec_capacity handles) },
+    ghost played_fit: { (played.items ≡ []) × (length tasks.items ≤ vec_capacity played) },
+    ghost rest_fit: { (rest.items ≡ []) × (length tasks.items ≤ vec_capacity rest) },
 }
 
 // A stage for so many members, on which there is nobody.
-fn empty_stage<K: Day>(alloc: Global, n: usize) -> Result<Stage<K>, AllocError>
-    ensures parts { IfOk result (λ s. (s.parts.items ≡ []) × (n ≤ vec_capacity s.parts)) }
+fn take_run_room<K: BoardIdentity>(alloc: Global, n: usize) -> Result<RunRoom<K>, AllocError>
+    ensures tasks { IfOk result (λ s. (s.tasks.items ≡ []) × (n ≤ vec_capacity s.tasks)) }
     ensures handles { IfOk result (λ s. n ≤ vec_capacity s.handles) }
     ensures played { IfOk result (λ s. n ≤ vec_capacity s.played) }
     ensures rest { IfOk result (λ s. n ≤ vec_capacity s.rest) }
 {
-    Ok(Stage {
-        parts: Vec::with_capacity(alloc, n)?,
+    Ok(RunRoom {
+        tasks: Vec::with_capacity(alloc, n)?,
         handles: Vec::with_capacity(alloc, n)?,
         played: Vec::with_capacity(alloc, n)?,
         rest: Vec::with_capacity(alloc, n)?,
@@ -69,23 +72,27 @@ fn empty_stage<K: Day>(alloc: Global, n: usize) -> Result<Stage<K>, AllocError>
 }
 
 // Puts the members at their seats on a stage that has room for them.
-fn seat_all<K: Day>(stage: Stage<K>, members: Vec<Member<K>>, seats: Vec<Seat>) -> Stage<K>
-    requires parts { (stage.parts.items ≡ []) × (length members.items ≤ vec_capacity stage.parts) }
-    requires handles { length members.items ≤ vec_capacity stage.handles }
-    requires played { length members.items ≤ vec_capacity stage.played }
-    requires rest { length members.items ≤ vec_capacity stage.rest }
-    requires many { length seats.items ≡ length members.items }
-    ensures members { map (λ p. p.member) result.parts.items ≡ members.items }
-    ensures commands { map (λ p. p.commands) result.parts.items ≡ seats.items }
+fn pair_all<K: BoardIdentity>(
+    run_room: RunRoom<K>,
+    members: Vec<Member<K>>,
+    prepared_scripts: Vec<PreparedScript>,
+) -> RunRoom<K>
+    requires tasks { (run_room.tasks.items ≡ []) × (length members.items ≤ vec_capacity run_room.tasks) }
+    requires handles { length members.items ≤ vec_capacity run_room.handles }
+    requires played { length members.items ≤ vec_capacity run_room.played }
+    requires rest { length members.items ≤ vec_capacity run_room.rest }
+    requires many { length prepared_scripts.items ≡ length members.items }
+    ensures members { map (λ p. p.member) result.tasks.items ≡ members.items }
+    ensures commands { map (λ p. p.commands) result.tasks.items ≡ prepared_scripts.items }
 {
-    let Stage {
-        parts,
+    let RunRoom {
+        tasks,
         handles,
         played,
         rest,
-    } = stage;
-    Stage {
-        parts: sit_down(parts, members, seats),
+    } = run_room;
+    RunRoom {
+        tasks: pair_members(tasks, members, prepared_scripts),
         handles,
         played,
         rest,
@@ -93,13 +100,13 @@ fn seat_all<K: Day>(stage: Stage<K>, members: Vec<Member<K>>, seats: Vec<Seat>) 
 }
 
 // Joins each thread. The room is there.
-fn join_all<K: Day, R: Threads>(
+fn join_all<K: BoardIdentity, R: Threads>(
     rt: &R,
-    handles: Vec<PromisedHandle<Played<K>, Playing<K>>>,
-    played: Vec<Played<K>>,
-) -> Vec<Played<K>>
+    handles: Vec<PromisedHandle<ScriptRun<K>, ThreadPromise<K>>>,
+    played: Vec<ScriptRun<K>>,
+) -> Vec<ScriptRun<K>>
     requires room { (played.items ≡ []) × (length handles.items ≤ vec_capacity played) }
-    ensures { EachPlays K.config (map (λ h. h.promise.part.value) handles.items) result.items }
+    ensures { EachPlaysScript K.config (map (λ h. h.promise.task.value) handles.items) result.items }
 {
     let n = handles.len();
     let mut played = played;
@@ -111,7 +118,7 @@ fn join_all<K: Day, R: Threads>(
     played
 }
 
-fn refused<K: Day>(alloc: Global, members: Vec<Member<K>>) -> Outcome<K>
+fn refused<K: BoardIdentity>(alloc: Global, members: Vec<Member<K>>) -> Outcome<K>
     ensures played { result.played.items ≡ [] }
     ensures unplayed { result.unplayed.items ≡ members.items }
     ensures fault { result.fault ≡ Some RunFault.NoMemory }
@@ -131,7 +138,7 @@ fn refused<K: Day>(alloc: Global, members: Vec<Member<K>>) -> Outcome<K>
 /// no thread started, and all members come back in `unplayed` as they were. At `NoThread` the scripts before the one
 /// whose thread couldn't be started were played; its member is lost, so that `close` answers `MissingMember`, and
 /// those after it come back in `unplayed` as they were.
-pub fn run<K: Day + Send + Sync, G: Gate + Sync, R: Wait + Threads + Sync>(
+pub fn run<K: BoardIdentity + Send + Sync, G: Gate + Sync, R: Wait + Threads + Sync>(
     alloc: Global,
     board: &Board<K>,
     members: Vec<Member<K>>,
@@ -141,48 +148,48 @@ pub fn run<K: Day + Send + Sync, G: Gate + Sync, R: Wait + Threads + Sync>(
 ) -> Outcome<K>
 where
     Version<K>: Absorb<Update<K>, State = ()> + Send + Sync,
-    requires fits { Fits members.items scripts.items }
+    requires fits { FitsMembers members.items scripts.items }
     ensures all { result.fault ≡ None →
-        PlayedAll K.config members.items scripts.items result.played.items result.unplayed.items }
+        HasPlayedAll K.config members.items scripts.items result.played.items result.unplayed.items }
     ensures room { result.fault ≡ Some RunFault.NoMemory →
         (result.unplayed.items ≡ members.items) × (result.played.items ≡ []) }
     ensures thread { result.fault ≡ Some RunFault.NoThread →
-        PlayedSome K.config members.items scripts.items result.played.items result.unplayed.items }
+        HasPlayedSome K.config members.items scripts.items result.played.items result.unplayed.items }
 {
-    let Ok(seats) = take_seats(alloc, scripts) else {
+    let Ok(prepared_scripts) = prepare_scripts(alloc, scripts) else {
         return refused(alloc, members);
     };
-    let Ok(stage) = empty_stage(alloc, members.len()) else {
+    let Ok(run_room) = take_run_room(alloc, members.len()) else {
         return refused(alloc, members);
     };
-    let stage = seat_all(stage, members, seats);
+    let run_room = pair_all(run_room, members, prepared_scripts);
     thread::scope(
         thread::scope_env(),
         rt,
         move |scope| -> Outcome<K>
             ensures all { result.fault ≡ None →
-                TasksAll K.config stage.parts.items result.played.items result.unplayed.items }
+                HasPlayedAllTasks K.config run_room.tasks.items result.played.items result.unplayed.items }
             ensures room { result.fault ≢ Some RunFault.NoMemory }
             ensures thread { result.fault ≡ Some RunFault.NoThread →
-                TasksSome K.config stage.parts.items result.played.items result.unplayed.items }
+                HasPlayedSomeTasks K.config run_room.tasks.items result.played.items result.unplayed.items }
         {
             // The stage moves in whole, with what its type says of the room.
-            let whole = stage;
-            let Stage {
-                parts,
+            let whole = run_room;
+            let RunRoom {
+                tasks,
                 mut handles,
                 played,
                 rest,
             } = whole;
-            let n = parts.len();
-            let mut parts = parts.into_iter();
+            let n = tasks.len();
+            let mut tasks = tasks.into_iter();
             let mut fault = None;
             for _ in 0..n {
-                let part = parts.next().unwrap();
-                let promise = Playing {
-                    part: Snapshot::of(&part),
+                let task = tasks.next().unwrap();
+                let promise = ThreadPromise {
+                    task: Snapshot::of(&task),
                 };
-                let Ok(handle) = scope.spawn_with(promise, move || part.play(board, gate, rt))
+                let Ok(handle) = scope.spawn_with(promise, move || task.play(board, gate, rt))
                 else {
                     fault = Some(RunFault::NoThread);
                     break;
@@ -191,7 +198,7 @@ where
             }
             Outcome {
                 played: join_all(rt, handles, played),
-                unplayed: stand_up(parts, rest),
+                unplayed: members_left(tasks, rest),
                 fault,
             }
         },

@@ -7,8 +7,8 @@ use Rattle.std.proofs.lemmas.Grind.{common_steps}
 use Rattle.auction_terms.specs.declared.limits.TheConstants.{MAX_QUANTITY}
 use Rattle.auction_terms.specs.declared.Order.{Order}
 use Rattle.auction_terms.specs.declared.Stamped.{Stamped}
-use Rattle.auction_terms.specs.Devices.StampedOrders.{orders_of}
-use Rattle.auction_terms.specs.Devices.OrderLists.{NoneHas, IdsDiffer, IsOrderly}
+use Rattle.auction_terms.specs.Auxiliary.StampedOrders.{orders_of}
+use Rattle.auction_terms.specs.Auxiliary.OrderLists.{NoneHas, IdsDiffer, IsOrderly}
 use Rattle.auction_terms.proofs.SortLaws.{Before, Rising}
 use Rattle.order_book.specs.Orders.{by_stamp, IsSound, line_of}
 use Rattle.order_book.proofs.LineLaws.{Among, Among-line_from, rising_line, by_stamp_total}
@@ -17,14 +17,16 @@ use Rattle.order_book.proofs.KeyLaws.{same_key}
 not_before_itself : (x : Stamped) → by_stamp x x ≡ Less → ⊥
 not_before_itself x h = let e = tied_itself by_stamp_total x in cc
 
-none_has : (x : Stamped) (ys : List Stamped) → Before by_stamp x ys → ((y : Stamped) → Among ys y → y.order.id ≡ x.order.id → y ≡ x) → NoneHas x.order.id (orders_of ys)
+none_has : (x : Stamped) (ys : List Stamped) → Before by_stamp x ys
+    → ((y : Stamped) → Among ys y → y.order.id ≡ x.order.id → y ≡ x) → NoneHas x.order.id (orders_of ys)
 none_has x [] b same = tt
 none_has x (y ∷ ys) b same = (
   λ e. not_before_itself x (ap (by_stamp x) (sym (same y (inl refl) e)) ∙ b.0),
   none_has x ys b.1 (λ z m. same z (inr m)),
 )
 
-ids_differ : (xs : List Stamped) → Rising by_stamp xs → ((x y : Stamped) → Among xs x → Among xs y → y.order.id ≡ x.order.id → y ≡ x) → IdsDiffer (orders_of xs)
+ids_differ : (xs : List Stamped) → Rising by_stamp xs
+    → ((x y : Stamped) → Among xs x → Among xs y → y.order.id ≡ x.order.id → y ≡ x) → IdsDiffer (orders_of xs)
 ids_differ [] r same = tt
 ids_differ (x ∷ xs) r same = (
   none_has x xs r.0 (λ y m. same x y (inl refl) (inr m)),
@@ -35,12 +37,18 @@ all_orders : (P : Order → Type 0) (xs : List Stamped) → ((y : Stamped) → A
 all_orders P [] h = All-nil P
 all_orders P (x ∷ xs) h = All-cons P x.order (orders_of xs) (h x (inl refl)) (all_orders P xs (λ y m. h y (inr m)))
 
-pub orderly : (slots : List (Option Stamped)) (keys : List ℕ) (stamps : ℕ) → IsSound slots keys stamps → IsOrderly (orders_of (line_of slots))
-orderly slots keys stamps is = record {
-  ids = ids_differ (line_of slots) (rising_line slots is.apart) (grind (arith, common_steps, Among-line_from, same_key));
-  positive = all_orders (λ order. 0 < order.quantity) (line_of slots) (λ y m. let h = Among-line_from slots y m in (is.held h.0 y h.1).positive);
-  bounded = all_orders (λ order. order.quantity ≤ MAX_QUANTITY) (line_of slots) (λ y m. let h = Among-line_from slots y m in (is.held h.0 y h.1).bounded);
+pub IsOrderly-line : (slots : List (Option Stamped)) (keys : List ℕ) (stamps : ℕ) → IsSound slots keys stamps
+    → IsOrderly (orders_of (line_of slots))
+IsOrderly-line slots keys stamps is = record {
+  ids =
+      ids_differ (line_of slots) (rising_line slots is.apart) (grind (arith, common_steps, Among-line_from, same_key));
+  positive = all_orders (λ order. 0 < order.quantity) (line_of slots) (λ y m. let h = Among-line_from slots y m in
+      (is.held h.0 y h.1).positive);
+  bounded = all_orders (λ order. order.quantity ≤ MAX_QUANTITY) (line_of slots) (λ y m. let h =
+      Among-line_from slots y m in (is.held h.0 y h.1).bounded);
 }
 
-pub orderly_line : (slots : List (Option Stamped)) (keys : List ℕ) (stamps : ℕ) (line : List Stamped) → IsSound slots keys stamps → line_of slots ≡ line → IsOrderly (orders_of line)
-orderly_line slots keys stamps line is same = subst (λ l. IsOrderly (orders_of l)) same (orderly slots keys stamps is)
+pub orderly_line : (slots : List (Option Stamped)) (keys : List ℕ) (stamps : ℕ) (line : List Stamped)
+    → IsSound slots keys stamps → line_of slots ≡ line → IsOrderly (orders_of line)
+orderly_line slots keys stamps line is same =
+    subst (λ l. IsOrderly (orders_of l)) same (IsOrderly-line slots keys stamps is)

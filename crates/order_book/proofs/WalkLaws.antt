@@ -1,24 +1,27 @@
 -- A walk through the places, one place after the other.
-use Rattle.std.proofs.Common.{◌≡◌, ℕ, zero, suc, ◌+◌, ◌≤◌, List, [], ◌∷◌, ◌++◌, Option, Some, None, length, take, sum_by, refl, sym, ap, ◌∙◌, arith}
+use Rattle.std.proofs.Common.{◌≡◌, ℕ, zero, suc, ◌+◌, ◌≤◌, List, [], ◌∷◌, ◌++◌, Option, Some, None, length, take}
+use Rattle.std.proofs.Common.{sum_by, refl, sym, ap, ◌∙◌, arith}
 use Rattle.std.proofs.lemmas.List.{take_all}
 use Rattle.std.proofs.lemmas.List.Sums.{sum_by-cons}
 use Rattle.std.proofs.Math.Numerals.{add-one}
 use Rattle.std.specs.Option.{option_to_list}
 use Rattle.auction_terms.specs.declared.Stamped.{Stamped}
-use Rattle.auction_terms.specs.Devices.StampedOrders.{IsLineOf}
+use Rattle.auction_terms.specs.Auxiliary.StampedOrders.{IsLineOf}
 use Rattle.order_book.specs.Orders.{present, slot_at}
 
 -- the orders at the first places, and the one at the next
-step : (slots : List (Option Stamped)) (i : ℕ) → present (take (suc i) slots) ≡ present (take i slots) ++ option_to_list (slot_at slots i)
-step [] zero = refl
-step [] (suc i) = refl
-step (None ∷ slots) zero = refl
-step (Some s ∷ slots) zero = refl
-step (None ∷ slots) (suc i) = step slots i
-step (Some s ∷ slots) (suc i) = ap (λ l. s ∷ l) (step slots i)
+present-take : (slots : List (Option Stamped)) (i : ℕ) → present (take (suc i) slots) ≡ present (take i slots)
+    ++ option_to_list (slot_at slots i)
+present-take [] zero = refl
+present-take [] (suc i) = refl
+present-take (None ∷ slots) zero = refl
+present-take (Some s ∷ slots) zero = refl
+present-take (None ∷ slots) (suc i) = present-take slots i
+present-take (Some s ∷ slots) (suc i) = ap (λ l. s ∷ l) (present-take slots i)
 
-pub present_more : (slots : List (Option Stamped)) (i : ℕ) → present (take (i + 1) slots) ≡ present (take i slots) ++ option_to_list (slot_at slots i)
-present_more slots i = rw add-one (step slots i)
+pub present_more : (slots : List (Option Stamped)) (i : ℕ) → present (take (i + 1) slots) ≡ present (take i slots)
+    ++ option_to_list (slot_at slots i)
+present_more slots i = rw add-one (present-take slots i)
 
 pub present_few : (slots : List (Option Stamped)) (i : ℕ) → length (present (take i slots)) ≤ length (present slots)
 present_few [] zero = omega arith

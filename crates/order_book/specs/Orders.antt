@@ -11,9 +11,10 @@ use Rattle.auction_terms.specs.declared.Order.{Order}
 use Rattle.auction_terms.specs.declared.Limit.{Limit}
 use Rattle.auction_terms.specs.declared.Stamped.{Stamped}
 use Rattle.auction_terms.specs.Edits.{find_by, changed_by, with_terms, less_quantity}
-use Rattle.auction_terms.specs.Devices.OrderLists.{moved_by, left_by, IsOrderly}
-use Rattle.auction_terms.specs.Devices.Sort.{in_order}
-use Rattle.auction_terms.specs.Devices.StampedOrders.{order_of, orders_of, on_order, under_stamp, open_in, IsLineOf}
+use Rattle.auction_terms.specs.Auxiliary.OrderLists.{moved_by, left_by, IsOrderly}
+use Rattle.auction_terms.specs.Auxiliary.Sort.{in_order}
+use Rattle.auction_terms.specs.Auxiliary.StampedOrders.{order_of, orders_of, on_order, under_stamp, open_quantity_of}
+use Rattle.auction_terms.specs.Auxiliary.StampedOrders.{IsLineOf}
 
 -- the open orders in time order, with their stamps; the places that a walk goes through; how many
 -- stamps and ids were given out
@@ -61,8 +62,8 @@ abbrev pub with_less : OrdersView → ℕ → ℕ → List Stamped
 with_less orders id quantity = left_by order_of (changed_by order_of id (on_order (less_quantity quantity)) orders.line)
 
 -- no orders, and none entered
-abbrev pub emptied : OrdersView → OrdersView
-emptied orders = record orders { line = []; slots = []; stamps = 0; entered = 0 }
+abbrev pub without_orders : OrdersView → OrdersView
+without_orders orders = record orders { line = []; slots = []; stamps = 0; entered = 0 }
 
 -- nothing has changed but the line, and the places of the walk
 abbrev pub OnlyLineChanges : OrdersView → OrdersView → Type 0
@@ -79,21 +80,21 @@ GivesStampUnless kept old new =
     new ≡ record old { line = new.line; slots = new.slots; stamps = (if kept then old.stamps else old.stamps + 1) }
 
 -- what stands at a place stood there before, and has another id
-abbrev pub OthersStand : ℕ → OrdersView → OrdersView → Type 0
-OthersStand id old new =
+abbrev pub HasOnlyOthers : ℕ → OrdersView → OrdersView → Type 0
+HasOnlyOthers id old new =
     (place : ℕ) → IfSome (slot_at new.slots place) (λ s. (slot_at old.slots place ≡ Some s) × (s.order.id ≢ id))
 
 -- a walk through so many places passes the orders of the line, each with an id of its own and something open
-pub record IsWalk (places : ℕ) (orders : OrdersView) : Type 0 where
+pub record HasAllOrders (places : ℕ) (orders : OrdersView) : Type 0 where
   pub all : length orders.slots ≤ places
   pub line : IsLineOf (present orders.slots) orders.line
-  pub bounded : open_in orders.line ≤ MAX_TOTAL
+  pub bounded : open_quantity_of orders.line ≤ MAX_TOTAL
   pub orderly : IsOrderly (orders_of orders.line)
 
 -- ---- what is kept of the fields
 
 -- it stands at this key, which is the key of its id, and its stamp was given out
-pub record IsHeld (keys : List ℕ) (stamps key : ℕ) (s : Stamped) : Type 0 where
+pub record IsStoredAt (keys : List ℕ) (stamps key : ℕ) (s : Stamped) : Type 0 where
   pub id_above : 0 < s.order.id
   pub id_within : s.order.id ≤ length keys
   pub key_is : slice_index keys (s.order.id - 1) ≡ key
@@ -103,7 +104,7 @@ pub record IsHeld (keys : List ℕ) (stamps key : ℕ) (s : Stamped) : Type 0 wh
 
 -- each order is held, and no two have one stamp
 pub record IsSound (slots : List (Option Stamped)) (keys : List ℕ) (stamps : ℕ) : Type 0 where
-  pub held : (key : ℕ) (s : Stamped) → slot_at slots key ≡ Some s → IsHeld keys stamps key s
+  pub held : (key : ℕ) (s : Stamped) → slot_at slots key ≡ Some s → IsStoredAt keys stamps key s
   pub apart :
       (i j : ℕ) (s t : Stamped) →
       slot_at slots i ≡ Some s →
@@ -123,12 +124,12 @@ pub record HasRoom (orders : Slab Stamped) (keys : Vec ℕ) (stamps max_open max
 -- ---- an order by its id
 
 -- the order with this id stands at the key
-pub record IsStanding (slots : List (Option Stamped)) (id key : ℕ) (s : Stamped) : Type 0 where
+pub record IsOrderAt (slots : List (Option Stamped)) (id key : ℕ) (s : Stamped) : Type 0 where
   pub stands : slot_at slots key ≡ Some s
   pub same_id : s.order.id ≡ id
 
 -- some order with this id stands at the key
-pub record IsAt (slots : List (Option Stamped)) (key id : ℕ) : Type 0 where
+pub record HasIdAt (slots : List (Option Stamped)) (key id : ℕ) : Type 0 where
   pub stamped : Stamped
   pub stands : slot_at slots key ≡ Some stamped
   pub same_id : stamped.order.id ≡ id
@@ -144,7 +145,7 @@ IsNotAtKey slots keys id =
     ⊥
 
 -- the order with this id stands at the key of the id
-pub record IsOpened (slots : List (Option Stamped)) (keys : List ℕ) (id : ℕ) : Type 0 where
+pub record IsOpenId (slots : List (Option Stamped)) (keys : List ℕ) (id : ℕ) : Type 0 where
   pub stamped : Stamped
   pub above : 0 < id
   pub within : id ≤ length keys

@@ -1,7 +1,7 @@
 //! The open orders emptied, and the open orders copied.
 ghost use Rattle.std.specs.Prelude.{◌≡◌, ◌≤◌, vec_capacity, IfOk};
 ghost use Rattle.slab.specs.Slab.{slab_len};
-ghost use Rattle.order_book.specs.Orders.{emptied};
+ghost use Rattle.order_book.specs.Orders.{without_orders};
 
 use crate::Orders;
 use auction_terms::Stamped;
@@ -32,7 +32,7 @@ fn copied_keys(alloc: Global, keys: &[usize], room: usize) -> Result<Vec<usize>,
 impl Orders {
     /// Removes all orders and forgets their ids and stamps, as if none had been entered. It takes no memory.
     pub fn reset(&mut self)
-        ensures { self.new ≡ emptied self.old }
+        ensures { self.new ≡ without_orders self.old }
     {
         self.orders.clear();
         self.keys.clear();

@@ -1,14 +1,14 @@
 //! Open orders at their keys.
 ghost use Rattle.std.specs.Prelude.{◌≡◌, Some, IfSome, IfNone};
 ghost use Rattle.slab.specs.Slab.{ContainsKey, Updates, slab_len};
-ghost use Rattle.order_book.specs.Orders.{IsAt, IsNotAtKey, IsOpened, IsStanding};
+ghost use Rattle.order_book.specs.Orders.{HasIdAt, IsNotAtKey, IsOpenId, IsOrderAt};
 
 use auction_terms::Stamped;
 use slab::Slab;
 
 /// The key of the open order with an id, looked up without a walk.
 pub(crate) fn key_of(orders: &Slab<Stamped>, keys: &[usize], id: u32) -> Option<usize>
-    ensures found { IfSome result (λ key. IsAt orders.now.slots key id) }
+    ensures found { IfSome result (λ key. HasIdAt orders.now.slots key id) }
     ensures absent { IfNone result (IsNotAtKey orders.now.slots keys.now id) }
 {
     if id == 0 || id as usize > keys.len() {
@@ -23,8 +23,8 @@ pub(crate) fn key_of(orders: &Slab<Stamped>, keys: &[usize], id: u32) -> Option<
 
 /// The key of an id whose order is open, and that order.
 pub(crate) fn open_at(orders: &Slab<Stamped>, keys: &[usize], id: u32) -> (usize, Stamped)
-    requires { IsOpened orders.now.slots keys.now id }
-    ensures { IsStanding orders.now.slots id result.0 result.1 }
+    requires { IsOpenId orders.now.slots keys.now id }
+    ensures { IsOrderAt orders.now.slots id result.0 result.1 }
 {
     let key = keys[id as usize - 1];
     (key, orders[key])

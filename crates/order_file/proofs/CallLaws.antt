@@ -1,9 +1,10 @@
 -- Calls that go before others.
-use Rattle.std.proofs.Common.{◌≡◌, ◌<◌, ◌≤◌, ◌+◌, ℕ, List, ◌++◌, [], ◌∷◌, Result, Ok, Err, false, nat_le, refl, ap, sym, length, Bool, true, ◌∙◌, append_assoc, rules, arith}
+use Rattle.std.proofs.Common.{◌≡◌, ◌<◌, ◌≤◌, ◌+◌, ℕ, List, ◌++◌, [], ◌∷◌, Result, Ok, Err, false, nat_le, refl, ap, sym}
+use Rattle.std.proofs.Common.{length, Bool, true, ◌∙◌, append_assoc, rules, arith}
 use Rattle.std.proofs.lemmas.List.{append-nil}
 use Rattle.auction_terms.specs.declared.Call.{Call}
 use Rattle.auction_terms.specs.Results.{◌>>=◌}
-use Rattle.order_file.specs.File.{Fails, calls_after}
+use Rattle.order_file.specs.File.{FailsAsWanted, calls_after}
 use Rattle.order_file.specs.Record.{numbered_call}
 use Rattle.order_file.specs.declared.fault.FileFault.{FileFault}
 use Rattle.order_file.specs.declared.fault.FileFault.TheVariants as file
@@ -22,32 +23,101 @@ after-more front call (Err e) = refl
 -- what the calls of these records are, with room for one more
 one_more : (members max_calls before : ℕ) (r : List (List ℕ)) (rs : List (List (List ℕ))) → before < max_calls
     → calls_after members max_calls before (r ∷ rs)
-    ≡ (numbered_call members (before + 1) r >>= λ call. calls_after members max_calls (before + 1) rs >>= λ rest. Ok (call ∷ rest))
+    ≡ (numbered_call members (before + 1) r >>= λ call. calls_after members max_calls (before + 1) rs >>= λ rest. Ok
+    (call ∷ rest))
 unfolding calls_after
-one_more members max_calls before r rs room = let full : nat_le max_calls before ≡ false = search (rules) in rw full refl
+one_more members max_calls before r rs room = let full : nat_le max_calls before ≡ false =
+    search (rules) in rw full refl
+
+-- ---- what is left, by the first record
+
+-- there is none
+pub calls_after-end : (members max_calls before : ℕ) (rows : List (List (List ℕ))) → rows ≡ []
+    → calls_after members max_calls before rows ≡ Ok []
+unfolding calls_after
+calls_after-end members max_calls before rows is = rw is refl
+
+-- it is one too many
+pub calls_after-full : (members max_calls before : ℕ) (rows : List (List (List ℕ))) (r : List (List ℕ))
+    (rs : List (List (List ℕ)))
+    → rows ≡ r ∷ rs → max_calls ≤ before → calls_after members max_calls before rows
+    ≡ Err (file.TooManyCommands (before + 1))
+unfolding calls_after
+calls_after-full members max_calls before rows r rs is full =
+    let test : nat_le max_calls before ≡ true = search rules in
+    rw (is, test) refl
+
+-- it has a fault
+pub calls_after-bad : (members max_calls before : ℕ) (rows : List (List (List ℕ))) (r : List (List ℕ))
+    (rs : List (List (List ℕ)))
+    (fault : FileFault) → rows ≡ r ∷ rs → before < max_calls → numbered_call members (before + 1) r ≡ Err fault
+    → calls_after members max_calls before rows ≡ Err fault
+calls_after-bad members max_calls before rows r rs fault is room bad =
+    rw is (one_more members max_calls before r rs room ∙ rw bad refl)
+
+-- it has a call
+pub calls_after-next : (members max_calls before : ℕ) (rows : List (List (List ℕ))) (r : List (List ℕ))
+    (rs : List (List (List ℕ)))
+    (call : Call) → rows ≡ r ∷ rs → before < max_calls → numbered_call members (before + 1) r ≡ Ok call
+    → calls_after members max_calls before rows
+    ≡ (calls_after members max_calls (before + 1) rs >>= λ rest. Ok (call ∷ rest))
+calls_after-next members max_calls before rows r rs call is room good =
+    rw is (one_more members max_calls before r rs room ∙ rw good refl)
+
+-- ---- calls that go before those that are left
+
+-- no call is left
+pub after-end : (front : List Call) (left all : Result (List Call) FileFault) → after front left ≡ all → left ≡ Ok []
+    → all ≡ Ok front
+after-end front left all same none = grind (arith, common_steps, append-nil)
+
+-- the first that is left goes to the end of those before
+pub after-next : (front : List Call) (call : Call) (left rest all : Result (List Call) FileFault)
+    → after front left ≡ all
+    → left ≡ (rest >>= λ calls. Ok (call ∷ calls)) → after (front ++ call ∷ []) rest ≡ all
+after-next front call left rest all same is = after-more front call rest ∙ ap (after front) (sym is) ∙ same
+
+-- what is left has a fault
+pub after-fails : (front : List Call) (left all : Result (List Call) FileFault) (e : FileFault) → after front left ≡ all
+    → FailsAsWanted e left → FailsAsWanted e all
+after-fails front left all file.TooLong same fails = sym same ∙ ap (after front) fails
+after-fails front left all file.ReadFailed same fails = tt
+after-fails front left all (file.BadMember n) same fails = sym same ∙ ap (after front) fails
+after-fails front left all (file.BadCommand n) same fails = sym same ∙ ap (after front) fails
+after-fails front left all (file.BadCount n) same fails = sym same ∙ ap (after front) fails
+after-fails front left all (file.BadField n f) same fails = sym same ∙ ap (after front) fails
+after-fails front left all (file.TooManyCommands n) same fails = sym same ∙ ap (after front) fails
+after-fails front left all file.NotADay same fails = sym same ∙ ap (after front) fails
+after-fails front left all file.NoMemory same fails = tt
 
 -- no record is left
-pub at-end : (members max_calls before : ℕ) (front : List Call) (rows : List (List (List ℕ))) (all : Result (List Call) FileFault)
+pub at-end : (members max_calls before : ℕ) (front : List Call) (rows : List (List (List ℕ)))
+    (all : Result (List Call) FileFault)
     → after front (calls_after members max_calls before rows) ≡ all → rows ≡ [] → all ≡ Ok front
 unfolding calls_after
 at-end members max_calls before front rows all same none = grind (arith, common_steps, append-nil)
 
 -- a record has a fault
-pub at-fault : (members max_calls before : ℕ) (front : List Call) (rows : List (List (List ℕ))) (all : Result (List Call) FileFault)
+pub at-fault : (members max_calls before : ℕ) (front : List Call) (rows : List (List (List ℕ)))
+    (all : Result (List Call) FileFault)
     (r : List (List ℕ)) (rs : List (List (List ℕ))) (fault : FileFault)
     → after front (calls_after members max_calls before rows) ≡ all → rows ≡ r ∷ rs → before < max_calls
     → numbered_call members (before + 1) r ≡ Err fault → all ≡ Err fault
 at-fault members max_calls before front rows all r rs fault same is room bad = grind (arith, common_steps, one_more)
 
 -- a record has a call
-pub at-call : (members max_calls before : ℕ) (front : List Call) (rows : List (List (List ℕ))) (all : Result (List Call) FileFault)
+pub at-call : (members max_calls before : ℕ) (front : List Call) (rows : List (List (List ℕ)))
+    (all : Result (List Call) FileFault)
     (r : List (List ℕ)) (rs : List (List (List ℕ))) (call : Call)
     → after front (calls_after members max_calls before rows) ≡ all → rows ≡ r ∷ rs → before < max_calls
-    → numbered_call members (before + 1) r ≡ Ok call → after (front ++ call ∷ []) (calls_after members max_calls (before + 1) rs) ≡ all
-at-call members max_calls before front rows all r rs call same is room good = grind (arith, common_steps, one_more, after-more)
+    → numbered_call members (before + 1) r ≡ Ok call
+    → after (front ++ call ∷ []) (calls_after members max_calls (before + 1) rs) ≡ all
+at-call members max_calls before front rows all r rs call same is room good =
+    grind (arith, common_steps, one_more, after-more)
 
 -- there is a record too many
-pub at-too_many : (members max_calls before : ℕ) (front : List Call) (rows : List (List (List ℕ))) (all : Result (List Call) FileFault)
+pub at-too_many : (members max_calls before : ℕ) (front : List Call) (rows : List (List (List ℕ)))
+    (all : Result (List Call) FileFault)
     (r : List (List ℕ)) (rs : List (List (List ℕ)))
     → after front (calls_after members max_calls before rows) ≡ all → rows ≡ r ∷ rs → max_calls ≤ before
     → all ≡ Err (file.TooManyCommands (before + 1))
@@ -55,7 +125,7 @@ unfolding calls_after
 at-too_many members max_calls before front rows all r rs same is full = grind (arith, common_steps)
 
 -- a fault that was wanted
-pub fails-at : {Y : Type 0} (e : FileFault) (wanted : Result Y FileFault) → wanted ≡ Err e → Fails e wanted
+pub fails-at : {Y : Type 0} (e : FileFault) (wanted : Result Y FileFault) → wanted ≡ Err e → FailsAsWanted e wanted
 fails-at file.TooLong wanted h = h
 fails-at file.ReadFailed wanted h = tt
 fails-at (file.BadMember n) wanted h = h
@@ -80,12 +150,15 @@ after-first call front (Err e) = refl
 -- the calls of some records, and then those of others, which come after them
 pub calls-append : (members max_calls before : ℕ) (xs ys : List (List (List ℕ)))
     → calls_after members max_calls before (xs ++ ys)
-    ≡ (calls_after members max_calls before xs >>= λ front. after front (calls_after members max_calls (before + length xs) ys))
+    ≡ (calls_after members max_calls before xs >>= λ front. after front
+    (calls_after members max_calls (before + length xs) ys))
 unfolding calls_after
 calls-append members max_calls before [] ys =
     let none : before + length {A = List (List ℕ)} [] ≡ before = omega arith in
     rw none (sym (nothing-before (calls_after members max_calls before ys)))
-calls-append members max_calls before (r ∷ rs) ys = by (nat_le max_calls before) (numbered_call members (before + 1) r) refl refl (calls-append members max_calls (before + 1) rs ys)
+calls-append members max_calls before (r ∷ rs) ys =
+    by (nat_le max_calls before) (numbered_call members (before + 1) r) refl refl
+    (calls-append members max_calls (before + 1) rs ys)
   where
     wanted : Result (List Call) FileFault
     wanted = calls_after members max_calls (before + length (r ∷ rs)) ys
@@ -94,16 +167,23 @@ calls-append members max_calls before (r ∷ rs) ys = by (nat_le max_calls befor
     same = omega arith
 
     more : (call : Call) (some : Result (List Call) FileFault)
-        → ((some >>= λ front. after front wanted) >>= λ rest. Ok (call ∷ rest)) ≡ ((some >>= λ rest. Ok (call ∷ rest)) >>= λ front. after front wanted)
+        → ((some >>= λ front. after front wanted) >>= λ rest. Ok (call ∷ rest))
+        ≡ ((some >>= λ rest. Ok (call ∷ rest)) >>= λ front. after front wanted)
     more call (Ok front) = after-first call front wanted
     more call (Err e) = refl
 
-    by : (full : Bool) (first : Result Call FileFault) → nat_le max_calls before ≡ full → numbered_call members (before + 1) r ≡ first
-        → (calls_after members max_calls (before + 1) (rs ++ ys) ≡ (calls_after members max_calls (before + 1) rs >>= λ front. after front (calls_after members max_calls (before + 1 + length rs) ys)))
-        → calls_after members max_calls before (r ∷ (rs ++ ys)) ≡ (calls_after members max_calls before (r ∷ rs) >>= λ front. after front wanted)
+    by : (full : Bool) (first : Result Call FileFault) → nat_le max_calls before ≡ full
+        → numbered_call members (before + 1) r ≡ first
+        → (calls_after members max_calls (before + 1) (rs ++ ys)
+        ≡ (calls_after members max_calls (before + 1) rs >>= λ front. after front
+        (calls_after members max_calls (before + 1 + length rs) ys)))
+        → calls_after members max_calls before (r ∷ (rs ++ ys))
+        ≡ (calls_after members max_calls before (r ∷ rs) >>= λ front. after front wanted)
     by true first e d later = rw e refl
     by false (Err fault) e d later = rw (e, d) refl
-    by false (Ok call) e d later = rw (e, d) (ap (λ (some : Result (List Call) FileFault). some >>= λ rest. Ok (call ∷ rest)) (rw same at later) ∙ more call (calls_after members max_calls (before + 1) rs))
+    by false (Ok call) e d later =
+        rw (e, d) (ap (λ (some : Result (List Call) FileFault). some >>= λ rest. Ok (call ∷ rest)) (rw same at later)
+        ∙ more call (calls_after members max_calls (before + 1) rs))
 
 -- each record has a call
 pub calls-length : (members max_calls before : ℕ) (rows : List (List (List ℕ))) (calls : List Call)
@@ -111,12 +191,17 @@ pub calls-length : (members max_calls before : ℕ) (rows : List (List (List ℕ
 unfolding calls_after
 calls-length members max_calls before [] calls is = let none : [] ≡ calls = cc in ap length (sym none)
 calls-length members max_calls before (r ∷ rs) calls is =
-    by (nat_le max_calls before) (numbered_call members (before + 1) r) (calls_after members max_calls (before + 1) rs) refl refl refl (calls-length members max_calls (before + 1) rs)
+    by (nat_le max_calls before) (numbered_call members (before + 1) r) (calls_after members max_calls (before + 1) rs)
+    refl refl refl (calls-length members max_calls (before + 1) rs)
   where
-    by : (full : Bool) (first : Result Call FileFault) (rest : Result (List Call) FileFault) → nat_le max_calls before ≡ full
+    by : (full : Bool) (first : Result Call FileFault) (rest : Result (List Call) FileFault)
+        → nat_le max_calls before ≡ full
         → numbered_call members (before + 1) r ≡ first → calls_after members max_calls (before + 1) rs ≡ rest
-        → ((some : List Call) → calls_after members max_calls (before + 1) rs ≡ Ok some → length some ≡ length rs) → length calls ≡ length (r ∷ rs)
-    by true first rest e d f later = let no_calls : Err (file.TooManyCommands (before + 1)) ≡ Ok calls = rw e at is in absurd (cc)
+        → ((some : List Call) → calls_after members max_calls (before + 1) rs ≡ Ok some → length some ≡ length rs)
+        → length calls ≡ length (r ∷ rs)
+    by true first rest e d f later = let no_calls : Err (file.TooManyCommands (before + 1)) ≡ Ok calls =
+        rw e at is in absurd (cc)
     by false (Err fault) rest e d f later = let no_calls : Err fault ≡ Ok calls = rw (e, d) at is in absurd (cc)
     by false (Ok call) (Err fault) e d f later = let no_calls : Err fault ≡ Ok calls = rw (e, d, f) at is in absurd (cc)
-    by false (Ok call) (Ok some) e d f later = let same : Ok (call ∷ some) ≡ Ok calls = rw (e, d, f) at is in let found = later some f in let one : call ∷ some ≡ calls = cc in omega (arith, found, ap length one)
+    by false (Ok call) (Ok some) e d f later = let same : Ok (call ∷ some) ≡ Ok calls = rw (e, d, f) at is in
+        let found = later some f in let one : call ∷ some ≡ calls = cc in omega (arith, found, ap length one)

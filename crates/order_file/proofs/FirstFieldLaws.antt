@@ -1,5 +1,6 @@
 -- The first field of a text that begins with a digit.
-use Rattle.std.proofs.Common.{◌≡◌, ◌<◌, ◌≤◌, ◌+◌, ◌⊎◌, inl, inr, ℕ, List, [], ◌∷◌, ◌++◌, Option, Some, None, Bool, true, false, ◌==◌, ◌&&◌, nat_le, refl, ap, arith, rules, ◌∙◌}
+use Rattle.std.proofs.Common.{◌≡◌, ◌<◌, ◌≤◌, ◌+◌, ◌⊎◌, inl, inr, ℕ, List, [], ◌∷◌, ◌++◌, Option, Some, None, Bool, true}
+use Rattle.std.proofs.Common.{false, ◌==◌, ◌&&◌, nat_le, refl, ap, arith, rules, ◌∙◌}
 use Rattle.csv.specs.Machine.{Read, ends_at_end, field_after, fields_after, in_field, is_end, next_record, step}
 use Rattle.csv.specs.Reading.{default_config, is_bom, records, strip_bom}
 use Rattle.csv.specs.declared.parser.Action.{Action}
@@ -21,24 +22,29 @@ IsInside s = ⊥
 -- the first field begins with this byte: it is the field at hand, or was read
 abbrev Begins : ℕ → List (List ℕ) → List ℕ → Type 0
 Begins d fields field =
-    ((fields ≡ []) × (more : List ℕ) × (field ≡ d ∷ more)) ⊎ ((more : List ℕ) × (others : List (List ℕ)) × (fields ≡ (d ∷ more) ∷ others))
+    ((fields ≡ []) × (more : List ℕ) × (field ≡ d ∷ more))
+    ⊎ ((more : List ℕ) × (others : List (List ℕ)) × (fields ≡ (d ∷ more) ∷ others))
 
 abbrev pub BeginsWith : ℕ → List (List ℕ) → Type 0
 BeginsWith d fields = (more : List ℕ) × (others : List (List ℕ)) × (fields ≡ (d ∷ more) ∷ others)
 
-ended : (d : ℕ) (fields : List (List ℕ)) (field : List ℕ) → Begins d fields field → BeginsWith d (fields ++ (field ∷ []))
+ended : (d : ℕ) (fields : List (List ℕ)) (field : List ℕ) → Begins d fields field
+    → BeginsWith d (fields ++ (field ∷ []))
 ended d fields field (inl (none, more, is)) = (more, [], rw (none, is) refl)
 ended d fields field (inr (more, others, is)) = (more, others ++ (field ∷ []), rw is refl)
 
 -- so it stays, byte for byte
-stays : (a : Action) (d c : ℕ) (fields : List (List ℕ)) (field : List ℕ) → Begins d fields field → Begins d (fields_after a fields field) (field_after a c field)
+stays : (a : Action) (d c : ℕ) (fields : List (List ℕ)) (field : List ℕ) → Begins d fields field
+    → Begins d (fields_after a fields field) (field_after a c field)
 stays act.EndField d c fields field h = inr (ended d fields field h)
 stays act.EndRecord d c fields field h = inr (ended d fields field h)
 stays act.Skip d c fields field h = h
-stays act.Copy d c fields field (inl (none, more, is)) = inl (none, more ++ c ∷ [], ap (λ (xs : List ℕ). xs ++ c ∷ []) is)
+stays act.Copy d c fields field (inl (none, more, is)) =
+    inl (none, more ++ c ∷ [], ap (λ (xs : List ℕ). xs ++ c ∷ []) is)
 stays act.Copy d c fields field (inr h) = inr h
 
-ends_as : (a : Action) (d : ℕ) (fields : List (List ℕ)) (field : List ℕ) → is_end a ≡ true → Begins d fields field → BeginsWith d (fields_after a fields field)
+ends_as : (a : Action) (d : ℕ) (fields : List (List ℕ)) (field : List ℕ) → is_end a ≡ true → Begins d fields field
+    → BeginsWith d (fields_after a fields field)
 ends_as act.EndRecord d fields field e h = ended d fields field h
 ends_as act.EndField d fields field e h = absurd (cc e)
 ends_as act.Skip d fields field e h = absurd (cc e)
@@ -93,14 +99,24 @@ inside-end st.AfterCr i = absurd i
 inside-record : (d : ℕ) (s : State) (fields : List (List ℕ)) (field rest : List ℕ) → IsInside s → Begins d fields field
     → (p : Read) × (next_record default_config s fields field rest ≡ Some p) × BeginsWith d p.0
 unfolding next_record
-inside-record d s fields field [] i h = ((fields ++ (field ∷ []), st.StartRecord, []), rw (inside-end s i) refl, ended d fields field h)
+inside-record d s fields field [] i h =
+    ((fields ++ (field ∷ []), st.StartRecord, []), rw (inside-end s i) refl, ended d fields field h)
 inside-record d s fields field (c ∷ rest) i h = by (is_end (step default_config s c).1) refl
-    (λ inside. inside-record d (step default_config s c).0 _ _ rest inside (stays (step default_config s c).1 d c fields field h))
+    (λ inside. inside-record d (step default_config s c).0 _ _ rest inside
+    (stays (step default_config s c).1 d c fields field h))
   where
     by : (b : Bool) → is_end (step default_config s c).1 ≡ b
-        → (IsInside (step default_config s c).0 → (p : Read) × (next_record default_config (step default_config s c).0 (fields_after (step default_config s c).1 fields field) (field_after (step default_config s c).1 c field) rest ≡ Some p) × BeginsWith d p.0)
+        → (IsInside (step default_config s c).0
+        → (p : Read)
+        × (next_record default_config (step default_config s c).0
+        (fields_after (step default_config s c).1 fields field) (field_after (step default_config s c).1 c field)
+        rest ≡ Some p) × BeginsWith d p.0)
         → (p : Read) × (next_record default_config s fields field (c ∷ rest) ≡ Some p) × BeginsWith d p.0
-    by true e more = ((fields_after (step default_config s c).1 fields field, (step default_config s c).0, rest), rw e refl, ends_as (step default_config s c).1 d fields field e h)
+    by true e more = (
+      (fields_after (step default_config s c).1 fields field, (step default_config s c).0, rest),
+      rw e refl,
+      ends_as (step default_config s c).1 d fields field e h,
+    )
     by false e more = rw e (more (inside-step s c i e))
 
 digit-step : (d : ℕ) → 48 ≤ d → d ≤ 57 → step default_config st.StartRecord d ≡ (st.InField, act.Copy)
@@ -118,8 +134,13 @@ digit-unmarked d (a ∷ []) h = refl
 digit-unmarked d (a ∷ b ∷ rest) h = let no_mark : (d == 0xEF) ≡ false = search rules in rw no_mark refl
 
 -- the first record of a text that begins with a digit begins with it
-pub digit-first : (d : ℕ) (rest : List ℕ) → 48 ≤ d → d ≤ 57 → (row : List (List ℕ)) × (rows : List (List (List ℕ))) × (records default_config (strip_bom (d ∷ rest)) ≡ row ∷ rows) × BeginsWith d row
+pub digit-first : (d : ℕ) (rest : List ℕ) → 48 ≤ d → d ≤ 57 → (row : List (List ℕ)) × (rows : List (List (List ℕ)))
+    × (records default_config (strip_bom (d ∷ rest)) ≡ row ∷ rows) × BeginsWith d row
 digit-first d rest low high =
     let first = steps-on st.StartRecord st.InField act.Copy [] [] d rest (digit-step d low high) refl in
-    let (p, is, begins) = inside-record d st.InField [] (d ∷ []) rest tt (inl (refl, [], refl)) in
-    (p.0, records_left p.1 p.2, rw (digit-unmarked d rest high) (first-record st.StartRecord (d ∷ rest) p (first ∙ is)), begins)
+    let (p, is, begins) = inside-record d st.InField [] (d ∷ []) rest tt (inl (refl, [], refl)) in (
+      p.0,
+      records_left p.1 p.2,
+      rw (digit-unmarked d rest high) (first-record st.StartRecord (d ∷ rest) p (first ∙ is)),
+      begins,
+    )

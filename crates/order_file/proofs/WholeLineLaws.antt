@@ -1,5 +1,6 @@
 -- The records of lines: outside quotes a line end ends a record.
-use Rattle.std.proofs.Common.{◌≡◌, ◌≢◌, ◌<◌, ◌+◌, ◌⊎◌, inl, inr, ℕ, zero, suc, List, [], ◌∷◌, ◌++◌, length, Option, Some, None, Bool, true, false, ◌==◌, refl, ap, sym, arith, rules, ◌∙◌}
+use Rattle.std.proofs.Common.{◌≡◌, ◌≢◌, ◌<◌, ◌+◌, ◌⊎◌, inl, inr, ℕ, zero, suc, List, [], ◌∷◌, ◌++◌, length, Option}
+use Rattle.std.proofs.Common.{Some, None, Bool, true, false, ◌==◌, refl, ap, sym, arith, rules, ◌∙◌}
 use Rattle.std.proofs.lemmas.List.Elements.{All-head, All-tail}
 use Rattle.std.specs.List.{All}
 use Rattle.csv.specs.Machine.{Read, field_after, fields_after, in_field, is_end, next_record, step}
@@ -39,7 +40,8 @@ Ends s c = (t : State) × IsOutside t × (step default_config s c ≡ (t, act.En
 abbrev Passes : State → ℕ → Type 0
 Passes s c = IsBetween s × (step default_config s c ≡ (st.StartRecord, act.Skip))
 
-in-field-step : (s : State) (c : ℕ) → step default_config s c ≡ in_field default_config c → GoesOn s c ⊎ Ends s c ⊎ Passes s c
+in-field-step : (s : State) (c : ℕ) → step default_config s c ≡ in_field default_config c → GoesOn s c ⊎ Ends s c
+    ⊎ Passes s c
 in-field-step s c e = by (c == 44) (c == 13) (c == 10) refl refl refl
   where
     by : (x y z : Bool) → (c == 44) ≡ x → (c == 13) ≡ y → (c == 10) ≡ z → GoesOn s c ⊎ Ends s c ⊎ Passes s c
@@ -51,7 +53,8 @@ in-field-step s c e = by (c == 44) (c == 13) (c == 10) refl refl refl
 not_quote : (c : ℕ) → c ≢ 34 → (c == 34) ≡ false
 not_quote c h = search rules
 
-start-step : (s : State) (c : ℕ) → c ≢ 34 → IsBetween s → step default_config s c ≡ step default_config st.StartRecord c → GoesOn s c ⊎ Ends s c ⊎ Passes s c
+start-step : (s : State) (c : ℕ) → c ≢ 34 → IsBetween s → step default_config s c ≡ step default_config st.StartRecord c
+    → GoesOn s c ⊎ Ends s c ⊎ Passes s c
 start-step s c h between e = by (c == 13) (c == 10) refl refl
   where
     by : (y z : Bool) → (c == 13) ≡ y → (c == 10) ≡ z → GoesOn s c ⊎ Ends s c ⊎ Passes s c
@@ -78,12 +81,15 @@ outside-step st.InComment c h (inl o) = absurd o
 outside-step st.InComment c h (inr o) = absurd o
 
 -- a byte is read, and the record goes on
-pub steps-on : (s t : State) (a : Action) (fields : List (List ℕ)) (field : List ℕ) (c : ℕ) (rest : List ℕ) → step default_config s c ≡ (t, a) → is_end a ≡ false
-    → next_record default_config s fields field (c ∷ rest) ≡ next_record default_config t (fields_after a fields field) (field_after a c field) rest
+pub steps-on : (s t : State) (a : Action) (fields : List (List ℕ)) (field : List ℕ) (c : ℕ) (rest : List ℕ)
+    → step default_config s c ≡ (t, a) → is_end a ≡ false
+    → next_record default_config s fields field (c ∷ rest) ≡ next_record default_config t (fields_after a fields field)
+    (field_after a c field) rest
 unfolding next_record
 steps-on s t a fields field c rest e stays = rw (e, stays) refl
 
-ends-here : (s t : State) (fields : List (List ℕ)) (field : List ℕ) (c : ℕ) (rest : List ℕ) → step default_config s c ≡ (t, act.EndRecord)
+ends-here : (s t : State) (fields : List (List ℕ)) (field : List ℕ) (c : ℕ) (rest : List ℕ)
+    → step default_config s c ≡ (t, act.EndRecord)
     → next_record default_config s fields field (c ∷ rest) ≡ Some (fields ++ (field ∷ []), t, rest)
 unfolding next_record
 ends-here s t fields field c rest e = rw e refl
@@ -106,20 +112,33 @@ pub record EndsAt (zs : List ℕ) (a b : Option Read) : Type 0 where
   pub long : b ≡ Some (fields, st.StartRecord, zs)
 
 -- there is none up to the line end
-pub record BeginsAfter (zs : List ℕ) (s : State) (fields : List (List ℕ)) (field : List ℕ) (a b : Option Read) : Type 0 where
-  pub between : IsBetween s
-  pub short : a ≡ None
-  pub long : b ≡ next_record default_config st.StartRecord fields field zs
+pub record BeginsAfter (zs : List ℕ) (s : State) (fields : List (List ℕ)) (field : List ℕ) (a b : Option Read) : Type 0
+  where
+    pub between : IsBetween s
+    pub short : a ≡ None
+    pub long : b ≡ next_record default_config st.StartRecord fields field zs
 
 abbrev Cut : List ℕ → ℕ → State → List (List ℕ) → List ℕ → Option Read → Option Read → Type 0
 Cut zs n s fields field a b = EndsBefore zs n a b ⊎ EndsAt zs a b ⊎ BeginsAfter zs s fields field a b
 
 -- what is so of a record that goes on is so of the whole
-steps-on-cut : (zs : List ℕ) (n m : ℕ) (s t : State) (f g : List (List ℕ)) (p q : List ℕ) (a b a' b' : Option Read) → a ≡ a' → b ≡ b' → IsInRecord t
+steps-on-cut : (zs : List ℕ) (n m : ℕ) (s t : State) (f g : List (List ℕ)) (p q : List ℕ) (a b a' b' : Option Read)
+    → a ≡ a' → b ≡ b' → IsInRecord t
     → n < m → Cut zs n t g q a' b' → Cut zs m s f p a b
 steps-on-cut zs n m s t f g p q a b a' b' e d within h (inl c) =
-    inl (record { fields = c.fields; state = c.state; text = c.text; outside = c.outside; no_quote = c.no_quote; less = omega arith; short = e ∙ c.short; long = d ∙ c.long })
-steps-on-cut zs n m s t f g p q a b a' b' e d within h (inr (inl c)) = inr (inl (record { fields = c.fields; short = e ∙ c.short; long = d ∙ c.long }))
+    inl (record {
+      fields = c.fields;
+      state = c.state;
+      text = c.text;
+      outside = c.outside;
+      no_quote = c.no_quote;
+      less =
+          omega arith;
+      short = e ∙ c.short;
+      long = d ∙ c.long;
+    })
+steps-on-cut zs n m s t f g p q a b a' b' e d within h (inr (inl c)) =
+    inr (inl (record { fields = c.fields; short = e ∙ c.short; long = d ∙ c.long }))
 steps-on-cut zs n m s t f g p q a b a' b' e d within h (inr (inr c)) = absurd (not-both t c.between within)
   where
     not-both : (t : State) → IsBetween t → IsInRecord t → ⊥
@@ -132,20 +151,35 @@ steps-on-cut zs n m s t f g p q a b a' b' e d within h (inr (inr c)) = absurd (n
     not-both st.InEscape x y = x
     not-both st.InComment x y = x
 
-passes-cut : (zs : List ℕ) (n m : ℕ) (s : State) (f : List (List ℕ)) (p : List ℕ) (a b a' b' : Option Read) → a ≡ a' → b ≡ b' → IsBetween s
+passes-cut : (zs : List ℕ) (n m : ℕ) (s : State) (f : List (List ℕ)) (p : List ℕ) (a b a' b' : Option Read) → a ≡ a'
+    → b ≡ b' → IsBetween s
     → n < m → Cut zs n st.StartRecord f p a' b' → Cut zs m s f p a b
 passes-cut zs n m s f p a b a' b' e d between h (inl c) =
-    inl (record { fields = c.fields; state = c.state; text = c.text; outside = c.outside; no_quote = c.no_quote; less = omega arith; short = e ∙ c.short; long = d ∙ c.long })
-passes-cut zs n m s f p a b a' b' e d between h (inr (inl c)) = inr (inl (record { fields = c.fields; short = e ∙ c.short; long = d ∙ c.long }))
-passes-cut zs n m s f p a b a' b' e d between h (inr (inr c)) = inr (inr (record { between = between; short = e ∙ c.short; long = d ∙ c.long }))
+    inl (record {
+      fields = c.fields;
+      state = c.state;
+      text = c.text;
+      outside = c.outside;
+      no_quote = c.no_quote;
+      less =
+          omega arith;
+      short = e ∙ c.short;
+      long = d ∙ c.long;
+    })
+passes-cut zs n m s f p a b a' b' e d between h (inr (inl c)) =
+    inr (inl (record { fields = c.fields; short = e ∙ c.short; long = d ∙ c.long }))
+passes-cut zs n m s f p a b a' b' e d between h (inr (inr c)) =
+    inr (inr (record { between = between; short = e ∙ c.short; long = d ∙ c.long }))
 
 -- the line end itself
 cut-end : (zs : List ℕ) (s : State) (fields : List (List ℕ)) (field : List ℕ) → IsOutside s
-    → Cut zs 0 s fields field (next_record default_config s fields field (10 ∷ [])) (next_record default_config s fields field (10 ∷ zs))
+    → Cut zs 0 s fields field (next_record default_config s fields field (10 ∷ []))
+    (next_record default_config s fields field (10 ∷ zs))
 unfolding next_record
 cut-end zs st.StartRecord fields field o = inr (inr (record { between = tt; short = refl; long = refl }))
 cut-end zs st.AfterCr fields field o = inr (inr (record { between = tt; short = refl; long = refl }))
-cut-end zs st.StartField fields field o = inr (inl (record { fields = fields ++ (field ∷ []); short = refl; long = refl }))
+cut-end zs st.StartField fields field o =
+    inr (inl (record { fields = fields ++ (field ∷ []); short = refl; long = refl }))
 cut-end zs st.InField fields field o = inr (inl (record { fields = fields ++ (field ∷ []); short = refl; long = refl }))
 cut-end zs st.InQuoted fields field (inl o) = absurd o
 cut-end zs st.InQuoted fields field (inr o) = absurd o
@@ -157,52 +191,80 @@ cut-end zs st.InComment fields field (inl o) = absurd o
 cut-end zs st.InComment fields field (inr o) = absurd o
 
 cut-at : (zs : List ℕ) (s : State) (fields : List (List ℕ)) (field ys : List ℕ) → IsOutside s → NoQuote ys
-    → Cut zs (length ys) s fields field (next_record default_config s fields field (ys ++ 10 ∷ [])) (next_record default_config s fields field (ys ++ 10 ∷ zs))
+    → Cut zs (length ys) s fields field (next_record default_config s fields field (ys ++ 10 ∷ []))
+    (next_record default_config s fields field (ys ++ 10 ∷ zs))
 cut-at zs s fields field [] o free = cut-end zs s fields field o
-cut-at zs s fields field (c ∷ rest) o free = by (outside-step s c (All-head (λ b. b ≢ 34) c rest free) o) (λ t f p out. cut-at zs t f p rest out (All-tail (λ b. b ≢ 34) c rest free))
+cut-at zs s fields field (c ∷ rest) o free =
+    by (outside-step s c (All-head (λ b. b ≢ 34) c rest free) o)
+    (λ t f p out. cut-at zs t f p rest out (All-tail (λ b. b ≢ 34) c rest free))
   where
     by : GoesOn s c ⊎ Ends s c ⊎ Passes s c
-        → ((t : State) (f : List (List ℕ)) (p : List ℕ) → IsOutside t → Cut zs (length rest) t f p (next_record default_config t f p (rest ++ 10 ∷ [])) (next_record default_config t f p (rest ++ 10 ∷ zs)))
-        → Cut zs (length (c ∷ rest)) s fields field (next_record default_config s fields field (c ∷ (rest ++ 10 ∷ []))) (next_record default_config s fields field (c ∷ (rest ++ 10 ∷ zs)))
+        → ((t : State) (f : List (List ℕ)) (p : List ℕ) → IsOutside t
+        → Cut zs (length rest) t f p (next_record default_config t f p (rest ++ 10 ∷ []))
+        (next_record default_config t f p (rest ++ 10 ∷ zs)))
+        → Cut zs (length (c ∷ rest)) s fields field (next_record default_config s fields field (c ∷ (rest ++ 10 ∷ [])))
+        (next_record default_config s fields field (c ∷ (rest ++ 10 ∷ zs)))
     by (inl (t, a, within, no_end, e)) more =
-        steps-on-cut zs (length rest) _ s t _ _ _ _ _ _ _ _ (steps-on s t a fields field c _ e no_end) (steps-on s t a fields field c _ e no_end) within (omega arith) (more t _ _ (inr within))
+        steps-on-cut zs (length rest) _ s t _ _ _ _ _ _ _ _ (steps-on s t a fields field c _ e no_end)
+        (steps-on s t a fields field c _ e no_end) within (omega arith) (more t _ _ (inr within))
     by (inr (inl (t, out, e))) more =
-        inl (record { fields = fields ++ (field ∷ []); state = t; text = rest; outside = out; no_quote = All-tail (λ b. b ≢ 34) c rest free; less = omega arith; short = ends-here s t fields field c _ e; long = ends-here s t fields field c _ e })
+        inl (record {
+          fields = fields ++ (field ∷ []);
+          state = t;
+          text = rest;
+          outside = out;
+          no_quote = All-tail (λ b. b ≢ 34) c rest free;
+          less = omega arith;
+          short = ends-here s t fields field c _ e;
+          long = ends-here s t fields field c _ e;
+        })
     by (inr (inr (between, e))) more =
-        passes-cut zs (length rest) _ s _ _ _ _ _ _ (steps-on s st.StartRecord act.Skip fields field c _ e refl) (steps-on s st.StartRecord act.Skip fields field c _ e refl) between (omega arith) (more st.StartRecord fields field (inl tt))
+        passes-cut zs (length rest) _ s _ _ _ _ _ _ (steps-on s st.StartRecord act.Skip fields field c _ e refl)
+        (steps-on s st.StartRecord act.Skip fields field c _ e refl) between (omega arith)
+        (more st.StartRecord fields field (inl tt))
 
 -- the records after the same next record
-records-alike : (s t : State) (x y : List ℕ) → next_record default_config s [] [] x ≡ next_record default_config t [] [] y → records_left s x ≡ records_left t y
+records-alike : (s t : State) (x y : List ℕ)
+    → next_record default_config s [] [] x ≡ next_record default_config t [] [] y → records_left s x ≡ records_left t y
 records-alike s t x y same = by (next_record default_config t [] [] y) same refl
   where
-    by : (o : Option Read) → next_record default_config s [] [] x ≡ o → next_record default_config t [] [] y ≡ o → records_left s x ≡ records_left t y
+    by : (o : Option Read) → next_record default_config s [] [] x ≡ o → next_record default_config t [] [] y ≡ o
+        → records_left s x ≡ records_left t y
     by None e d = no-record s x e ∙ sym (no-record t y d)
     by (Some p) e d = first-record s x p e ∙ sym (first-record t y p d)
 
 -- a line end at the start of a record is passed over
 pub line-end-first : (zs : List ℕ) → records default_config (10 ∷ zs) ≡ records default_config zs
-line-end-first zs = records-alike st.StartRecord st.StartRecord (10 ∷ zs) zs (steps-on st.StartRecord st.StartRecord act.Skip [] [] 10 zs refl refl)
+line-end-first zs =
+    records-alike st.StartRecord st.StartRecord (10 ∷ zs) zs
+    (steps-on st.StartRecord st.StartRecord act.Skip [] [] 10 zs refl refl)
 
 lines-first : (n : ℕ) (zs : List ℕ) (s : State) (ys : List ℕ) → length ys < n → IsOutside s → NoQuote ys
     → records_left s (ys ++ 10 ∷ zs) ≡ records_left s (ys ++ 10 ∷ []) ++ records_left st.StartRecord zs
 lines-first zero zs s ys h o free = absurd (omega arith)
-lines-first (suc n) zs s ys h o free = by (cut-at zs s [] [] ys o free) (λ t x less out none. lines-first n zs t x (omega arith) out none)
+lines-first (suc n) zs s ys h o free =
+    by (cut-at zs s [] [] ys o free) (λ t x less out none. lines-first n zs t x (omega arith) out none)
   where
-    by : Cut zs (length ys) s [] [] (next_record default_config s [] [] (ys ++ 10 ∷ [])) (next_record default_config s [] [] (ys ++ 10 ∷ zs))
-        → ((t : State) (x : List ℕ) → length x < length ys → IsOutside t → NoQuote x → records_left t (x ++ 10 ∷ zs) ≡ records_left t (x ++ 10 ∷ []) ++ records_left st.StartRecord zs)
+    by : Cut zs (length ys) s [] [] (next_record default_config s [] [] (ys ++ 10 ∷ []))
+        (next_record default_config s [] [] (ys ++ 10 ∷ zs))
+        → ((t : State) (x : List ℕ) → length x < length ys → IsOutside t → NoQuote x
+        → records_left t (x ++ 10 ∷ zs) ≡ records_left t (x ++ 10 ∷ []) ++ records_left st.StartRecord zs)
         → records_left s (ys ++ 10 ∷ zs) ≡ records_left s (ys ++ 10 ∷ []) ++ records_left st.StartRecord zs
     by (inl c) more =
         first-record s _ (c.fields, c.state, c.text ++ 10 ∷ zs) c.long
         ∙ ap (λ (rs : List (List (List ℕ))). c.fields ∷ rs) (more c.state c.text c.less c.outside c.no_quote)
-        ∙ ap (λ (rs : List (List (List ℕ))). rs ++ records_left st.StartRecord zs) (sym (first-record s _ (c.fields, c.state, c.text ++ 10 ∷ []) c.short))
+        ∙ ap (λ (rs : List (List (List ℕ))). rs ++ records_left st.StartRecord zs)
+        (sym (first-record s _ (c.fields, c.state, c.text ++ 10 ∷ []) c.short))
     by (inr (inl c)) more =
         first-record s _ (c.fields, st.StartRecord, zs) c.long
         ∙ ap (λ (rs : List (List (List ℕ))). rs ++ records_left st.StartRecord zs)
-        (sym (first-record s _ (c.fields, st.StartRecord, []) c.short ∙ ap (λ (rs : List (List (List ℕ))). c.fields ∷ rs) (records_from-done default_config 1)))
+        (sym (first-record s _ (c.fields, st.StartRecord, []) c.short
+        ∙ ap (λ (rs : List (List (List ℕ))). c.fields ∷ rs) (records_from-done default_config 1)))
     by (inr (inr c)) more =
         records-alike s st.StartRecord _ zs c.long
         ∙ ap (λ (rs : List (List (List ℕ))). rs ++ records_left st.StartRecord zs) (sym (no-record s _ c.short))
 
 -- the records of whole lines without a quote, and then those of the rest
-pub lines-then : (ys zs : List ℕ) → NoQuote ys → records default_config (ys ++ 10 ∷ zs) ≡ records default_config (ys ++ 10 ∷ []) ++ records default_config zs
+pub lines-then : (ys zs : List ℕ) → NoQuote ys → records default_config (ys ++ 10 ∷ zs)
+    ≡ records default_config (ys ++ 10 ∷ []) ++ records default_config zs
 lines-then ys zs free = lines-first (length ys + 1) zs st.StartRecord ys (omega arith) (inl tt) free

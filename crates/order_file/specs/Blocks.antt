@@ -7,13 +7,13 @@ use Rattle.csv.specs.Reading.{default_config, is_bom, records, strip_bom}
 use Rattle.auction_terms.specs.Results.{◌>>=◌}
 use Rattle.byte_streams.specs.Streams.{TakesAtMost}
 use Rattle.auction_terms.specs.declared.Call.{Call}
-use Rattle.order_file.specs.File.{Fails, calls_after, within_limit}
+use Rattle.order_file.specs.File.{FailsAsWanted, calls_after, within_limit}
 use Rattle.order_file.specs.declared.fault.FileFault.{FileFault}
 use Rattle.order_file.specs.declared.fault.FileFault.TheVariants.{TooLong, ReadFailed, NoMemory}
 
 -- What is held of an input: bytes, of which so many at the front are whole lines, how many more may be taken, and
 -- whether the end was found.
-pub record Held : Type 0 where
+pub record BlockState : Type 0 where
   pub bytes : List ℕ
   pub whole : ℕ
   pub room : ℕ
@@ -23,17 +23,17 @@ abbrev pub Rows : Type 0
 Rows = List (List (List ℕ))
 
 -- what comes after the bytes that are held, where this is left to read
-abbrev pub ahead : Held → List ℕ → List ℕ
-ahead held left = if held.ended then [] else left
+abbrev pub bytes_ahead : BlockState → List ℕ → List ℕ
+bytes_ahead held left = if held.ended then [] else left
 
 -- the records of the lines at the front
-unfoldable pub block_rows : Held → Rows
+unfoldable pub block_rows : BlockState → Rows
 block_rows held = records default_config (take held.whole held.bytes)
 
 -- the records from here on, where this is left to read, if it is no more than it may be
-unfoldable pub rows_to_come : Held → List ℕ → Result Rows FileFault
+unfoldable pub rows_to_come : BlockState → List ℕ → Result Rows FileFault
 rows_to_come held left = do
-  more ← within_limit held.room (ahead held left)
+  more ← within_limit held.room (bytes_ahead held left)
   Ok (records default_config (held.bytes ++ more))
 
 -- the records of a whole input, if it is no longer than it may be
@@ -49,17 +49,18 @@ and_then_rows front rest = do
   Ok (front ++ rows)
 
 -- bytes were taken, as many as the room fell by
-abbrev pub Takes : ℕ → ℕ → Option (List ℕ) → Option (List ℕ) → Type 0
-Takes room room_left old new = (bytes : List ℕ) × Consumes old new bytes × (length bytes + room_left ≡ room)
+abbrev pub TakesBytes : ℕ → ℕ → Option (List ℕ) → Option (List ℕ) → Type 0
+TakesBytes room room_left old new = (bytes : List ℕ) × Consumes old new bytes × (length bytes + room_left ≡ room)
 
 -- the same, and at a failure at most one byte more than there was room for
-abbrev pub TakesRoom : {X : Type 0} → Result X FileFault → ℕ → (X → ℕ) → Option (List ℕ) → Option (List ℕ) → Type 0
-TakesRoom result room room_left old new = MatchResult result
-    (λ x. Takes room (room_left x) old new)
+abbrev pub TakesBytesOrFails : {X : Type 0} → Result X FileFault → ℕ → (X → ℕ) → Option (List ℕ) → Option (List ℕ)
+    → Type 0
+TakesBytesOrFails result room room_left old new = MatchResult result
+    (λ x. TakesBytes room (room_left x) old new)
     (λ _. TakesAtMost (room + 1) old new)
 
 -- a number that falls from block to block: how many bytes may be taken, and whether the end may yet be found
-abbrev pub turns_left : Held → ℕ
+abbrev pub turns_left : BlockState → ℕ
 turns_left held = held.room + (if held.ended then 0 else 1)
 
 -- a fault of the reading
@@ -76,24 +77,24 @@ IsOfInput TooLong = Unit {0}
 IsOfInput e = ⊥
 
 -- what opening an input of this text gives
-abbrev pub Opens : Result Held FileFault → ℕ → Option (List ℕ) → List ℕ → Type 0
-Opens result most new text = MatchResult result
+abbrev pub OpensBlock : Result BlockState FileFault → ℕ → Option (List ℕ) → List ℕ → Type 0
+OpensBlock result most new text = MatchResult result
     (λ held. IsSomeAnd new (λ left. rows_within most text ≡ rows_to_come held left))
-    (λ e. Fails e (rows_within most text))
+    (λ e. FailsAsWanted e (rows_within most text))
 
 -- what going on to the next block gives, where this was left to read
-abbrev pub GoesOn : Result Bool FileFault → Held → Held → Option (List ℕ) → List ℕ → Type 0
-GoesOn result old held new before = MatchResult result
+abbrev pub GivesNextBlock : Result Bool FileFault → BlockState → BlockState → Option (List ℕ) → List ℕ → Type 0
+GivesNextBlock result old held new before = MatchResult result
     (λ more. MatchBool more
     (IsSomeAnd new (λ left. rows_to_come old before ≡ and_then_rows (block_rows old) (rows_to_come held left)))
     (rows_to_come old before ≡ Ok (block_rows old)))
-    (λ e. Fails e (rows_to_come old before))
+    (λ e. FailsAsWanted e (rows_to_come old before))
 
 -- what passing over the rest gives, where this was left to read
-abbrev pub PassesOver : Result (Unit {0}) FileFault → Held → List ℕ → Type 0
-PassesOver result held before = MatchResult result
+abbrev pub PassesOverRest : Result (Unit {0}) FileFault → BlockState → List ℕ → Type 0
+PassesOverRest result held before = MatchResult result
     (λ _. (rest : Rows) × (rows_to_come held before ≡ Ok (block_rows held ++ rest)))
-    (λ e. Fails e (rows_to_come held before))
+    (λ e. FailsAsWanted e (rows_to_come held before))
 
 -- So many bytes at the front are whole lines: up to a line end that no quote stands before, or all of them where
 -- the input ends there.
@@ -103,13 +104,13 @@ IsCut bytes whole ended = MatchBool ended
     ((whole ≤ length bytes) × (slice_index bytes (whole - 1) ≡ 10) × All (λ c. c ≢ 34) (take (whole - 1) bytes))
 
 -- the first byte is a line end, and what is whole begins with it
-pub record IsHeld (bytes : List ℕ) (whole : ℕ) (ended : Bool) : Type 0 where
+pub record IsBlock (bytes : List ℕ) (whole : ℕ) (ended : Bool) : Type 0 where
   pub begun : 0 < whole
   pub first : slice_index bytes 0 ≡ 10
   pub cut : IsCut bytes whole ended
 
 -- bytes were read to the end of those that are held
-pub record Reads (old new : Option (List ℕ)) (before after : List ℕ) (room room_left : ℕ) : Type 0 where
+pub record ReadsBytes (old new : Option (List ℕ)) (before after : List ℕ) (room room_left : ℕ) : Type 0 where
   pub bytes : List ℕ
   pub read : Consumes old new bytes
   pub held : after ≡ before ++ bytes
@@ -130,7 +131,7 @@ without_mark bytes =
     else bytes
 
 -- these calls, and then those of more records
-abbrev pub calls_on : ℕ → ℕ → List Call → Rows → Result (List Call) FileFault
-calls_on members max_calls front rows = do
+abbrev pub calls_with_more : ℕ → ℕ → List Call → Rows → Result (List Call) FileFault
+calls_with_more members max_calls front rows = do
   calls ← calls_after members max_calls (length front) rows
   Ok (front ++ calls)

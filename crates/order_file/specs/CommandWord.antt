@@ -9,8 +9,8 @@ word_of field =
     if bytes_eq field (codes "enter") then Some word.Enter
     else if bytes_eq field (codes "change") then Some word.Change
     else if bytes_eq field (codes "delete") then Some word.Delete
-    else if bytes_eq field (codes "status") then Some word.Status
-    else if bytes_eq field (codes "ask") then Some word.Ask
-    else if bytes_eq field (codes "trade") then Some word.Trade
+    else if bytes_eq field (codes "status") then Some word.OrderStatus
+    else if bytes_eq field (codes "ask") then Some word.Indicate
+    else if bytes_eq field (codes "trade") then Some word.ReadTrade
     else if bytes_eq field (codes "uncross") then Some word.Uncross
     else None

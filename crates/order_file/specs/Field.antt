@@ -4,10 +4,10 @@ use Rattle.std.specs.Prelude.{Option, Some, None, option_map, option_and_then, c
 use Rattle.std.specs.Char.{is_ascii_digit}
 use Rattle.std.specs.Str.{bytes_eq}
 use Rattle.auction_terms.specs.declared.Side.{Side}
-use Rattle.auction_terms.specs.declared.Side.TheVariants.{Buy, Sell}
+use Rattle.auction_terms.specs.declared.Side.TheVariants.{Bid, Ask}
 use Rattle.auction_terms.specs.declared.Limit.{Limit}
-use Rattle.auction_terms.specs.declared.Only.{Only}
-use Rattle.auction_terms.specs.declared.Only.TheVariants as only
+use Rattle.auction_terms.specs.declared.Restriction.{Restriction}
+use Rattle.auction_terms.specs.declared.Restriction.TheVariants as restriction
 use Rattle.auction_terms.specs.declared.Limit.TheVariants.{Market, At}
 
 -- the value of digits after those that make n, if they are digits
@@ -27,8 +27,8 @@ number_of field =
 
 unfoldable pub side_of : List ℕ → Option Side
 side_of field =
-    if bytes_eq field (codes "bid") then Some Buy
-    else if bytes_eq field (codes "ask") then Some Sell
+    if bytes_eq field (codes "bid") then Some Bid
+    else if bytes_eq field (codes "ask") then Some Ask
     else None
 
 unfoldable pub limit_of : List ℕ → Option Limit
@@ -40,9 +40,9 @@ peak_of [] = Some None
 peak_of (d ∷ ds) = option_map Some (number_of (d ∷ ds))
 
 -- the auctions that an order is for, which an empty field leaves at every one
-unfoldable pub only_of : List ℕ → Option Only
-only_of [] = Some only.Any
-only_of (d ∷ ds) =
-    if bytes_eq (d ∷ ds) (codes "opening") then Some only.Opening
-    else if bytes_eq (d ∷ ds) (codes "closing") then Some only.Closing
+unfoldable pub restriction_of : List ℕ → Option Restriction
+restriction_of [] = Some restriction.Unrestricted
+restriction_of (d ∷ ds) =
+    if bytes_eq (d ∷ ds) (codes "opening") then Some restriction.OpeningOnly
+    else if bytes_eq (d ∷ ds) (codes "closing") then Some restriction.ClosingOnly
     else None

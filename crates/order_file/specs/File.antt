@@ -30,14 +30,14 @@ unfoldable pub file : List ℕ → ℕ → ℕ → Result (List Call) FileFault
 file bytes members max_calls = within_limit MAX_BYTES bytes >>= calls_of members max_calls
 
 -- What a function returned, seen by view, is what was wanted, unless memory ran out or a read failed.
-abbrev pub Fails : {Y : Type 0} → FileFault → Result Y FileFault → Type 0
-Fails NoMemory wanted = Unit {0}
-Fails ReadFailed wanted = Unit {0}
-Fails e wanted = wanted ≡ Err e
+abbrev pub FailsAsWanted : {Y : Type 0} → FileFault → Result Y FileFault → Type 0
+FailsAsWanted NoMemory wanted = Unit {0}
+FailsAsWanted ReadFailed wanted = Unit {0}
+FailsAsWanted e wanted = wanted ≡ Err e
 
-abbrev pub Gives : {X Y : Type 0} → (X → Y) → Result X FileFault → Result Y FileFault → Type 0
-Gives view (Ok x) wanted = wanted ≡ Ok (view x)
-Gives view (Err e) wanted = Fails e wanted
+abbrev pub GivesWanted : {X Y : Type 0} → (X → Y) → Result X FileFault → Result Y FileFault → Type 0
+GivesWanted view (Ok x) wanted = wanted ≡ Ok (view x)
+GivesWanted view (Err e) wanted = FailsAsWanted e wanted
 
 -- a call of a member with a number below this
 abbrev pub IsBelow : ℕ → Call → Type 0

@@ -5,3 +5,4 @@ pub mod Record
 pub mod File
 pub mod Rows
 pub mod Blocks
+pub mod Calls

@@ -4,7 +4,7 @@ use Rattle.std.specs.Prelude.{ℕ, ◌+◌, List, length, Option, Some, None, op
 use Rattle.std.specs.Prelude.{◌&&◌, if◌then◌else◌, Result, Ok, Err}
 use Rattle.csv.specs.Records.{field_at}
 use Rattle.order_file.specs.FileFault.{in_record}
-use Rattle.order_file.specs.Field.{number_of, side_of, limit_of, peak_of, only_of}
+use Rattle.order_file.specs.Field.{number_of, side_of, limit_of, peak_of, restriction_of}
 use Rattle.order_file.specs.CommandWord.{word_of}
 use Rattle.order_file.specs.declared.fault.FileFault.{FileFault}
 use Rattle.order_file.specs.declared.fault.RecordFault.{RecordFault}
@@ -13,8 +13,8 @@ use Rattle.order_file.specs.declared.record.Word.{Word}
 use Rattle.order_file.specs.declared.record.Word.TheVariants as word
 use Rattle.auction_terms.specs.declared.Call.{Call}
 use Rattle.auction_terms.specs.declared.Command.{Command}
-use Rattle.auction_terms.specs.declared.Only.{Only}
-use Rattle.auction_terms.specs.declared.Only.TheVariants.{Any}
+use Rattle.auction_terms.specs.declared.Restriction.{Restriction}
+use Rattle.auction_terms.specs.declared.Restriction.TheVariants.{Unrestricted}
 use Rattle.auction_terms.specs.declared.Command.TheVariants as command
 use Rattle.auction_terms.specs.Results.{◌>>=◌}
 
@@ -35,13 +35,13 @@ peak_in place (Some field) = ok_or (peak_of field) (BadField (place + 1))
 unfoldable pub peak_at : ℕ → List (List ℕ) → Result (Option ℕ) RecordFault
 peak_at place fields = peak_in place (field_at fields place)
 
-abbrev pub only_in : ℕ → Option (List ℕ) → Result Only RecordFault
-only_in place None = Ok Any
-only_in place (Some field) = ok_or (only_of field) (BadField (place + 1))
+abbrev pub restriction_in : ℕ → Option (List ℕ) → Result Restriction RecordFault
+restriction_in place None = Ok Unrestricted
+restriction_in place (Some field) = ok_or (restriction_of field) (BadField (place + 1))
 
 -- the auctions that the order is for, which may be left out
-unfoldable pub only_at : ℕ → List (List ℕ) → Result Only RecordFault
-only_at place fields = only_in place (field_at fields place)
+unfoldable pub restriction_at : ℕ → List (List ℕ) → Result Restriction RecordFault
+restriction_at place fields = restriction_in place (field_at fields place)
 
 -- a member is a number below the count of members
 unfoldable pub member_of : ℕ → List (List ℕ) → Result ℕ RecordFault
@@ -59,8 +59,8 @@ enter_of fields = do
   quantity ← field_as number_of 3 fields
   limit ← field_as limit_of 4 fields
   peak ← peak_at 5 fields
-  only ← only_at 6 fields
-  Ok (command.Enter side only limit quantity peak)
+  restriction ← restriction_at 6 fields
+  Ok (command.Enter side restriction limit quantity peak)
 
 unfoldable pub change_of : List (List ℕ) → Result Command RecordFault
 change_of fields = do
@@ -79,9 +79,9 @@ unfoldable pub command_of : Word → List (List ℕ) → Result Command RecordFa
 command_of word.Enter fields = enter_of fields
 command_of word.Change fields = change_of fields
 command_of word.Delete fields = lone_number fields >>= λ id. Ok (command.Delete id)
-command_of word.Status fields = lone_number fields >>= λ id. Ok (command.Status id)
-command_of word.Trade fields = lone_number fields >>= λ number. Ok (command.Trade number)
-command_of word.Ask fields = count_within 2 2 fields >>= λ _. Ok command.Ask
+command_of word.OrderStatus fields = lone_number fields >>= λ id. Ok (command.OrderStatus id)
+command_of word.ReadTrade fields = lone_number fields >>= λ number. Ok (command.ReadTrade number)
+command_of word.Indicate fields = count_within 2 2 fields >>= λ _. Ok command.Indicate
 command_of word.Uncross fields = count_within 2 2 fields >>= λ _. Ok command.Uncross
 
 unfoldable pub call_of : ℕ → List (List ℕ) → Result Call RecordFault
@@ -91,10 +91,10 @@ call_of members fields = do
   command ← command_of word fields
   Ok (record { member = member; command = command })
 
-abbrev pub numbered : {X : Type 0} → ℕ → Result X RecordFault → Result X FileFault
-numbered number (Ok x) = Ok x
-numbered number (Err fault) = Err (in_record number fault)
+abbrev pub with_record_number : {X : Type 0} → ℕ → Result X RecordFault → Result X FileFault
+with_record_number number (Ok x) = Ok x
+with_record_number number (Err fault) = Err (in_record number fault)
 
 -- the same, with the number of the record in its fault
 unfoldable pub numbered_call : ℕ → ℕ → List (List ℕ) → Result Call FileFault
-numbered_call members number fields = numbered number (call_of members fields)
+numbered_call members number fields = with_record_number number (call_of members fields)

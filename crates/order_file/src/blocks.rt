@@ -5,11 +5,16 @@ ghost use Rattle.std.specs.Prelude.{drop, length, slice_index, take, IfErr, IfOk
 ghost use Rattle.std.specs.Prelude.{MatchResult};
 ghost use Rattle.std.specs.Io.KnownBytes.{Consumes, IsAtEnd, prepend_known};
 ghost use Rattle.byte_streams.specs.Streams.{TakesAtMost};
-ghost use Rattle.order_file.specs.Blocks.{ExplainsReading, GoesOn, Held, IsCut, IsHeld, IsOfInput, IsOfReading};
-ghost use Rattle.order_file.specs.Blocks.{Opens, PassesOver, Reads, Takes, TakesRoom, block_rows, turns_left};
+ghost use Rattle.order_file.specs.Blocks.{ExplainsReading, GivesNextBlock, BlockState, IsCut, IsBlock, IsOfInput};
+ghost use Rattle.order_file.specs.Blocks.{IsOfReading};
+ghost use Rattle.order_file.specs.Blocks.{OpensBlock, PassesOverRest, ReadsBytes, TakesBytes, TakesBytesOrFails};
+ghost use Rattle.order_file.specs.Blocks.{block_rows, turns_left};
 ghost use Rattle.order_file.specs.Blocks.{without_mark};
-ghost use Rattle.order_file.specs.Rows.{Stands, rows_left};
+ghost use Rattle.order_file.specs.Calls.{IsReady, calls_left};
+ghost use Rattle.order_file.specs.File.{calls_after};
+ghost use Rattle.order_file.specs.Rows.{IsRecordReader, rows_left};
 
+use crate::calls::Calls;
 use crate::fault::FileFault;
 use crate::reading::reader_of;
 use byte_streams::Source;
@@ -38,11 +43,11 @@ pub struct Blocks {
 }
 
 impl Model for Blocks {
-    ghost Value = { Held };
+    ghost Value = { BlockState };
 
     ghost view = { λ b. record { bytes = b.bytes.items; whole = b.whole; room = b.room; ended = b.ended } };
 
-    ghost invariant = { λ b. IsHeld b.bytes.items b.whole b.ended };
+    ghost invariant = { λ b. IsBlock b.bytes.items b.whole b.ended };
 }
 
 // How many bytes at the front are whole lines, and whether they are all up to the end of the input.
@@ -64,7 +69,7 @@ fn read_on<R: Source>(
     ensures fault { IfErr result (λ e. ExplainsReading e room.old (R.left reader.old)) }
     ensures grown { (more : List ℕ) × (bytes.new.items ≡ bytes.old.items ++ more) }
     ensures read { IfOk result (λ _.
-        Reads (R.left reader.old) (R.left reader.new) bytes.old.items bytes.new.items room.old room.new) }
+        ReadsBytes (R.left reader.old) (R.left reader.new) bytes.old.items bytes.new.items room.old room.new) }
     ensures ended { IfOk result (λ ended.
         MatchBool ended (IsAtEnd (R.left reader.new)) (enough ≤ length bytes.new.items)) }
     ensures taken { TakesAtMost (room.old + 1) (R.left reader.old) (R.left reader.new) }
@@ -127,7 +132,7 @@ fn cut_lines<R: Source>(
     ensures fault { IfErr result (λ e. ExplainsReading e room.old (R.left reader.old)) }
     ensures grown { (more : List ℕ) × (bytes.new.items ≡ bytes.old.items ++ more) }
     ensures read { IfOk result (λ _.
-        Reads (R.left reader.old) (R.left reader.new) bytes.old.items bytes.new.items room.old room.new) }
+        ReadsBytes (R.left reader.old) (R.left reader.new) bytes.old.items bytes.new.items room.old room.new) }
     ensures cut { IfOk result (λ cut. (0 < cut.whole) × IsCut bytes.new.items cut.whole cut.ended) }
     ensures ended { IfOk result (λ cut. cut.ended ≡ true → IsAtEnd (R.left reader.new)) }
     ensures stays { IfOk result (λ cut. ended ≡ true → cut.ended ≡ true) }
@@ -212,8 +217,8 @@ impl Blocks {
         ensures steady { IfOk result (λ _. R.failures reader.new ≡ R.failures reader.old) }
         ensures faults { IfErr result IsOfReading }
         ensures rows { IfSome (prepend_known start.now (R.left reader.old))
-            (λ text. Opens result most (R.left reader.new) text) }
-        ensures taken { TakesRoom result (most - length start.now) (λ b. b.room)
+            (λ text. OpensBlock result most (R.left reader.new) text) }
+        ensures taken { TakesBytesOrFails result (most - length start.now) (λ b. b.room)
             (R.left reader.old) (R.left reader.new) }
     {
         let mut bytes = begun_with(alloc, start)?;
@@ -230,11 +235,30 @@ impl Blocks {
     }
 
     /// A reader of the records of this block, with none read yet. The fault is want of memory.
-    pub fn rows(&self, alloc: Global) -> Result<Reader<&[u8]>, FileFault>
+    pub(crate) fn rows(&self, alloc: Global) -> Result<Reader<&[u8]>, FileFault>
         ensures memory { IfErr result (λ e. e ≡ FileFault.NoMemory) }
-        ensures reader { IfOk result (λ r. Stands r × (rows_left r ≡ block_rows self.now)) }
+        ensures reader { IfOk result (λ r. IsRecordReader r × (rows_left r ≡ block_rows self.now)) }
     {
         reader_of(alloc, &self.bytes[..self.whole])
+    }
+
+    /// The calls of the records of this block, of which none was read yet: they come after `count` others, and there
+    /// may be `max_calls` of both, each of one of `members` members. The fault is want of memory.
+    pub fn calls(
+        &self,
+        alloc: Global,
+        members: u8,
+        max_calls: u32,
+        count: u32,
+    ) -> Result<Calls<'_>, FileFault>
+        requires { count ≤ max_calls }
+        ensures memory { IfErr result (λ e. e ≡ FileFault.NoMemory) }
+        ensures ready { IfOk result (IsReady members max_calls count) }
+        ensures calls { IfOk result (λ calls.
+            calls_left calls ≡ calls_after members max_calls count (block_rows self.now)) }
+    {
+        let rows = self.rows(alloc)?;
+        Ok(Calls::new(alloc, rows, members, max_calls, count))
     }
 
     /// Goes on to the next block, and says whether there is one. The faults are those of `open`; after a fault there is
@@ -243,8 +267,10 @@ impl Blocks {
         ensures failed { IsErrOf result FileFault.ReadFailed ↔ (R.failures reader.old < R.failures reader.new) }
         ensures steady { IfOk result (λ _. R.failures reader.new ≡ R.failures reader.old) }
         ensures faults { IfErr result IsOfReading }
-        ensures rows { IfSome (R.left reader.old) (λ left. GoesOn result self.old self.new (R.left reader.new) left) }
-        ensures taken { TakesRoom result self.old.room (λ _. self.new.room) (R.left reader.old) (R.left reader.new) }
+        ensures rows { IfSome (R.left reader.old)
+            (λ left. GivesNextBlock result self.old self.new (R.left reader.new) left) }
+        ensures taken { TakesBytesOrFails result self.old.room (λ _. self.new.room) (R.left reader.old)
+            (R.left reader.new) }
         ensures falls { IfOk result (λ more. more ≡ true → turns_left self.new < turns_left self.old) }
     {
         if self.ended {
@@ -266,7 +292,7 @@ impl Blocks {
         ensures failed { IsErrOf result FileFault.ReadFailed ↔ (R.failures reader.old < R.failures reader.new) }
         ensures steady { IfOk result (λ _. R.failures reader.new ≡ R.failures reader.old) }
         ensures faults { IfErr result IsOfInput }
-        ensures rows { IfSome (R.left reader.old) (λ left. PassesOver result self.now left) }
+        ensures rows { IfSome (R.left reader.old) (λ left. PassesOverRest result self.now left) }
         ensures taken { TakesAtMost (self.now.room + 1) (R.left reader.old) (R.left reader.new) }
     {
         if self.ended {

@@ -1,42 +1,71 @@
 //! Why an order file is refused.
 
-ghost use Rattle.std.specs.Prelude.{◌≡◌};
-ghost use Rattle.order_file.specs.FileFault.{in_record};
+ghost use Rattle.std.specs.Prelude.{◌≡◌, Some};
+ghost use Rattle.order_file.specs.FileFault.{fault_text, in_record};
+ghost use Rattle.order_file.specs.declared.fault.FileFault.TheVariants.{NoMemory};
 
-use thiserror::Error;
+use std::alloc::AllocError;
+use std::error::Error;
+use std::fmt;
+use std::fmt::{Display, Formatter};
 
 /// The first fault of an order file, or of a journal, of which the first record is the day's; its text
 /// is the line that the program prints. Records count from 1 as they are read, and so do the fields of
 /// a record.
-#[derive(Clone, Copy, Debug, PartialEq, Eq, Error)]
+#[derive(Clone, Copy, Debug, PartialEq, Eq)]
 pub enum FileFault {
     /// The file has more bytes than it may have.
-    #[error("file too long")]
     TooLong,
     /// The reader failed.
-    #[error("read failed")]
     ReadFailed,
     /// The first field is no number, or not below the count of members.
-    #[error("record {number}: bad member")]
     BadMember { number: u64 },
     /// The second field is missing, or no known word.
-    #[error("record {number}: bad command")]
     BadCommand { number: u64 },
     /// There are too few or too many fields for the command.
-    #[error("record {number}: wrong number of fields")]
     BadCount { number: u64 },
     /// A field after the command word is badly formed.
-    #[error("record {number}: bad field {field}")]
     BadField { number: u64, field: usize },
     /// There is a record more than commands may be applied, whatever it holds.
-    #[error("record {number}: too many commands")]
     TooManyCommands { number: u64 },
     /// A journal was asked for, and the first record is missing or isn't that of a day.
-    #[error("record 1: not a day record")]
     NotADay,
     /// Memory was refused.
-    #[error("out of memory")]
     NoMemory,
+}
+
+impl Display for FileFault {
+    ghost output = { λ fault. Some (fault_text fault) };
+
+    fn fmt<W: fmt::Write>(&self, f: &mut Formatter<W>) -> fmt::Result {
+        match self {
+            FileFault::TooLong => f.write_str("file too long"),
+            FileFault::ReadFailed => f.write_str("read failed"),
+            FileFault::BadMember { number } => write!(f, "record {number}: bad member"),
+            FileFault::BadCommand { number } => write!(f, "record {number}: bad command"),
+            FileFault::BadCount { number } => {
+                write!(f, "record {number}: wrong number of fields")
+            }
+            FileFault::BadField { number, field } => {
+                write!(f, "record {number}: bad field {field}")
+            }
+            FileFault::TooManyCommands { number } => {
+                write!(f, "record {number}: too many commands")
+            }
+            FileFault::NotADay => f.write_str("record 1: not a day record"),
+            FileFault::NoMemory => f.write_str("out of memory"),
+        }
+    }
+}
+
+impl Error for FileFault {}
+
+impl From<AllocError> for FileFault {
+    ghost from_gives = { λ _ fault. fault ≡ NoMemory };
+
+    fn from(_refused: AllocError) -> FileFault {
+        FileFault::NoMemory
+    }
 }
 
 /// What is wrong with a record: the first fault from the left.

@@ -1,9 +1,9 @@
 //! The fields of a record: numbers, sides and limits.
 
 ghost use Rattle.std.specs.Prelude.{◌≡◌};
-ghost use Rattle.order_file.specs.Field.{number_of, side_of, limit_of, peak_of, only_of};
+ghost use Rattle.order_file.specs.Field.{number_of, side_of, limit_of, peak_of, restriction_of};
 
-use auction_terms::{Limit, Only, Side};
+use auction_terms::{Limit, Restriction, Side};
 
 /// A number: one to ten digits, at most the greatest `u32`.
 #[tactic(auto, unfolding(crate::specs::Field::number_of))]
@@ -29,9 +29,9 @@ pub fn side_of(field: &[u8]) -> Option<Side>
     ensures { result ≡ side_of field.now }
 {
     if field == b"bid".as_slice() {
-        Some(Side::Buy)
+        Some(Side::Bid)
     } else if field == b"ask".as_slice() {
-        Some(Side::Sell)
+        Some(Side::Ask)
     } else {
         None
     }
@@ -62,16 +62,16 @@ pub fn peak_of(field: &[u8]) -> Option<Option<u64>>
 }
 
 /// The auctions that an order is for: every one where the field is empty.
-#[tactic(auto, unfolding(crate::specs::Field::only_of))]
-pub fn only_of(field: &[u8]) -> Option<Only>
-    ensures { result ≡ only_of field.now }
+#[tactic(auto, unfolding(crate::specs::Field::restriction_of))]
+pub fn restriction_of(field: &[u8]) -> Option<Restriction>
+    ensures { result ≡ restriction_of field.now }
 {
     if field.is_empty() {
-        Some(Only::Any)
+        Some(Restriction::Unrestricted)
     } else if field == b"opening".as_slice() {
-        Some(Only::Opening)
+        Some(Restriction::OpeningOnly)
     } else if field == b"closing".as_slice() {
-        Some(Only::Closing)
+        Some(Restriction::ClosingOnly)
     } else {
         None
     }

@@ -7,6 +7,7 @@
 #![tactic(auto)]
 
 mod blocks;
+mod calls;
 mod fault;
 mod field;
 mod reading;
@@ -15,9 +16,8 @@ mod record;
 mod tests;
 
 pub use blocks::Blocks;
+pub use calls::Calls;
 pub use fault::{FileFault, RecordFault};
 pub use field::number_of;
-pub use reading::{
-    MAX_BYTES, bytes_after, bytes_of, calls_of, next_row, read_orders, read_start, reader_of,
-};
+pub use reading::{MAX_BYTES, bytes_after, bytes_of, calls_of, next_row, read_start, reader_of};
 pub use record::{Word, command_of, count_within, member_of, number_at, numbered_call, word_at};

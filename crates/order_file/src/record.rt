@@ -1,16 +1,17 @@
 //! A record of the order file as a call.
 
-ghost use Rattle.std.specs.Prelude.{◌≡◌, ◌<◌, IfErr, IfOk};
+ghost use Rattle.std.specs.Prelude.{◌≡◌, ◌<◌, IfErr, IfOk, Some, None, if◌then◌else◌};
+ghost use Rattle.std.specs.Str.{bytes_eq};
 ghost use Rattle.csv.specs.Records.{fields_of};
-ghost use Rattle.order_file.specs.Field.{number_of, side_of, limit_of, peak_of, only_of};
+ghost use Rattle.order_file.specs.Field.{number_of, side_of, limit_of, peak_of, restriction_of};
 ghost use Rattle.order_file.specs.File.{IsOfRecord};
 ghost use Rattle.order_file.specs.CommandWord.{word_of};
-ghost use Rattle.order_file.specs.Record.{field_as, peak_at, only_at, member_of, word_at, count_within};
+ghost use Rattle.order_file.specs.Record.{field_as, peak_at, restriction_at, member_of, word_at, count_within};
 ghost use Rattle.order_file.specs.Record.{enter_of, change_of, lone_number, command_of, call_of, numbered_call};
 
 use crate::fault::{FileFault, RecordFault};
-use crate::field::{limit_of, number_of, only_of, peak_of, side_of};
-use auction_terms::{Call, Command, Limit, Only, Side};
+use crate::field::{limit_of, number_of, peak_of, restriction_of, side_of};
+use auction_terms::{Call, Command, Limit, Restriction, Side};
 use csv::ByteRecord;
 
 /// The word of a command.
@@ -19,32 +20,36 @@ pub enum Word {
     Enter,
     Change,
     Delete,
-    Status,
-    Ask,
-    Trade,
+    OrderStatus,
+    Indicate,
+    ReadTrade,
     Uncross,
+}
+
+/// This word, where the field is its text.
+#[inline(always)]
+fn word_if(field: &[u8], text: &[u8], word: Word) -> Option<Word>
+    ensures { result ≡ (if bytes_eq field.now text.now then Some word else None) }
+{
+    if field == text {
+        return Some(word);
+    }
+    None
 }
 
 #[tactic(auto, unfolding(crate::specs::CommandWord::word_of))]
 fn word_of(field: &[u8]) -> Option<Word>
     ensures { result ≡ word_of field.now }
 {
-    if field == b"enter".as_slice() {
-        Some(Word::Enter)
-    } else if field == b"change".as_slice() {
-        Some(Word::Change)
-    } else if field == b"delete".as_slice() {
-        Some(Word::Delete)
-    } else if field == b"status".as_slice() {
-        Some(Word::Status)
-    } else if field == b"ask".as_slice() {
-        Some(Word::Ask)
-    } else if field == b"trade".as_slice() {
-        Some(Word::Trade)
-    } else if field == b"uncross".as_slice() {
-        Some(Word::Uncross)
-    } else {
-        None
+    match field {
+        [b'e', ..] => word_if(field, b"enter".as_slice(), Word::Enter),
+        [b'c', ..] => word_if(field, b"change".as_slice(), Word::Change),
+        [b'd', ..] => word_if(field, b"delete".as_slice(), Word::Delete),
+        [b's', ..] => word_if(field, b"status".as_slice(), Word::OrderStatus),
+        [b'a', ..] => word_if(field, b"ask".as_slice(), Word::Indicate),
+        [b't', ..] => word_if(field, b"trade".as_slice(), Word::ReadTrade),
+        [b'u', ..] => word_if(field, b"uncross".as_slice(), Word::Uncross),
+        _ => None,
     }
 }
 
@@ -108,14 +113,14 @@ fn peak_at(fields: &ByteRecord, place: usize) -> Result<Option<u64>, RecordFault
 }
 
 /// The auctions that the order is for, which may be left out.
-#[tactic(auto, unfolding(crate::specs::Record::only_at))]
-fn only_at(fields: &ByteRecord, place: usize) -> Result<Only, RecordFault>
+#[tactic(auto, unfolding(crate::specs::Record::restriction_at))]
+fn restriction_at(fields: &ByteRecord, place: usize) -> Result<Restriction, RecordFault>
     requires { place < 64 }
-    ensures { result ≡ only_at place (fields_of fields.now) }
+    ensures { result ≡ restriction_at place (fields_of fields.now) }
 {
     match fields.get(place) {
-        None => Ok(Only::Any),
-        Some(field) => only_of(field).ok_or(RecordFault::BadField { field: place + 1 }),
+        None => Ok(Restriction::Unrestricted),
+        Some(field) => restriction_of(field).ok_or(RecordFault::BadField { field: place + 1 }),
     }
 }
 
@@ -157,13 +162,13 @@ fn enter_of(fields: &ByteRecord) -> Result<Command, RecordFault>
     let quantity = number_at(fields, 3)?;
     let limit = limit_at(fields, 4)?;
     let peak = peak_at(fields, 5)?;
-    let only = only_at(fields, 6)?;
+    let restriction = restriction_at(fields, 6)?;
     Ok(Command::Enter {
         side,
         limit,
         quantity: u64::from(quantity),
         peak,
-        only,
+        restriction,
     })
 }
 
@@ -203,17 +208,17 @@ pub fn command_of(word: Word, fields: &ByteRecord) -> Result<Command, RecordFaul
             let id = lone_number(fields)?;
             Ok(Command::Delete { id })
         }
-        Word::Status => {
+        Word::OrderStatus => {
             let id = lone_number(fields)?;
-            Ok(Command::Status { id })
+            Ok(Command::OrderStatus { id })
         }
-        Word::Trade => {
+        Word::ReadTrade => {
             let number = lone_number(fields)?;
-            Ok(Command::Trade { number })
+            Ok(Command::ReadTrade { number })
         }
-        Word::Ask => {
+        Word::Indicate => {
             count_within(fields, 2, 2)?;
-            Ok(Command::Ask)
+            Ok(Command::Indicate)
         }
         Word::Uncross => {
             count_within(fields, 2, 2)?;

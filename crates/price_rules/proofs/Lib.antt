@@ -1,5 +1,5 @@
 pub mod CoverLaws
-pub mod HeldPriceLaws
+pub mod ClampedPriceLaws
 pub mod CurveLaws
 pub mod NearbyLaws
 pub mod DecidingLaws

@@ -2,11 +2,11 @@
 use Rattle.std.specs.Simd.Lanes.{zip2}
 use Rattle.std.specs.Prelude.{◌≡◌, ℕ, ◌+◌, ◌-◌, ◌<◌, ◌≤◌, List, All, Option, Some, None, length, sum}
 use Rattle.auction_terms.specs.declared.Order.{Order}
-use Rattle.auction_terms.specs.declared.Side.TheVariants.{Buy, Sell}
+use Rattle.auction_terms.specs.declared.Side.TheVariants.{Bid, Ask}
 use Rattle.auction_terms.specs.declared.Price.{Price}
 use Rattle.auction_terms.specs.Book.{limits}
 use Rattle.auction_terms.specs.AuctionPrice.{price}
-use Rattle.auction_terms.specs.Ladder.{LadderView, standing, market, flag_of, AreOpen}
+use Rattle.auction_terms.specs.Ladder.{LadderView, quantity_at, market_quantity, flag_of, AreOpen}
 use Rattle.tick_ladder.specs.TickLadder.{IsLadderOf}
 use Rattle.lane_prefix.specs.Meeting.{before}
 use Rattle.price_rules.specs.declared.surroundings.Around.{Around}
@@ -22,10 +22,10 @@ pub record IsBookOver (low n : ℕ) (book : List Order) : Type 0 where
 
 -- the same quantities, but for bids below one tick and asks above another
 pub record IsSameWithin (lowest highest : ℕ) (book other : List Order) : Type 0 where
-  pub bids : (t : ℕ) → lowest ≤ t → standing Buy other t ≡ standing Buy book t
-  pub asks : (t : ℕ) → t ≤ highest → standing Sell other t ≡ standing Sell book t
-  pub market_bids : market Buy other ≡ market Buy book
-  pub market_asks : market Sell other ≡ market Sell book
+  pub bids : (t : ℕ) → lowest ≤ t → quantity_at Bid other t ≡ quantity_at Bid book t
+  pub asks : (t : ℕ) → t ≤ highest → quantity_at Ask other t ≡ quantity_at Ask book t
+  pub market_bids : market_quantity Bid other ≡ market_quantity Bid book
+  pub market_asks : market_quantity Ask other ≡ market_quantity Ask book
 
 -- the first place that decides, and the last of n
 abbrev pub from_place : Option ℕ → ℕ

@@ -1,4 +1,4 @@
-pub mod HeldPrice
+pub mod ClampedPrice
 pub mod Around
 pub mod Candidates
 pub mod Decision

@@ -1,7 +1,7 @@
 //! The choice among candidates in lanes.
 
 ghost use Rattle.std.specs.Prelude.{◌≡◌, ◌<◌, IfSome, option_map, slice_index};
-ghost use Rattle.auction_terms.specs.Devices.Leading.{AreBest, lower_among, upper_among};
+ghost use Rattle.auction_terms.specs.Auxiliary.BestTicks.{AreBest, lower_among, upper_among};
 ghost use Rattle.price_rules.specs.Candidates.{OfMarked, lead_of};
 
 use crate::candidates::Lanes;

@@ -6,7 +6,7 @@ ghost use Rattle.std.specs.Simd.Lanes.{zip2};
 ghost use Rattle.auction_terms.specs.AuctionPrice.{price, HasMostVolume};
 ghost use Rattle.auction_terms.specs.Ladder.{flag_of};
 ghost use Rattle.tick_ladder.specs.TickLadder.{OfEachBook};
-ghost use Rattle.price_rules.specs.HeldPrice.{sided, price_from, priced_by, market_priced};
+ghost use Rattle.price_rules.specs.ClampedPrice.{sided, price_from, priced_by, market_priced};
 ghost use Rattle.price_rules.specs.Candidates.{lead_of};
 ghost use Rattle.price_rules.specs.Around.{IsAround};
 ghost use Rattle.price_rules.specs.declared.surroundings.Around.{Around as AroundView};
@@ -32,9 +32,9 @@ fn price_at(tick: u32, demand: u64, supply: u64) -> Price
         volume: demand.min(supply),
         surplus: demand.abs_diff(supply),
         side: if demand > supply {
-            Some(Side::Buy)
+            Some(Side::Bid)
         } else if demand < supply {
-            Some(Side::Sell)
+            Some(Side::Ask)
         } else {
             None
         },
@@ -63,12 +63,12 @@ fn hold(leaders: Leaders, reference: u32) -> Option<Price>
 {
     match (leaders.lower, leaders.upper) {
         (None, None) => None,
-        (Some(low), None) => Some(sided_price(leaders, low, Side::Buy)),
-        (None, Some(high)) => Some(sided_price(leaders, high, Side::Sell)),
+        (Some(low), None) => Some(sided_price(leaders, low, Side::Bid)),
+        (None, Some(high)) => Some(sided_price(leaders, high, Side::Ask)),
         (Some(low), Some(high)) => Some(if reference >= high {
-            sided_price(leaders, high, Side::Sell)
+            sided_price(leaders, high, Side::Ask)
         } else if reference <= low {
-            sided_price(leaders, low, Side::Buy)
+            sided_price(leaders, low, Side::Bid)
         } else {
             Price {
                 tick: reference,
@@ -86,8 +86,8 @@ fn market_price(ladder: &Ladder, reference: u32) -> Option<Price>
 {
     let price = price_at(
         reference,
-        ladder.market(Side::Buy),
-        ladder.market(Side::Sell),
+        ladder.market(Side::Bid),
+        ladder.market(Side::Ask),
     );
     if price.volume > 0 { Some(price) } else { None }
 }
@@ -142,8 +142,13 @@ fn highest_deciding(ladder: &Ladder, around: &Around) -> u32
     ladder.low() + last as u32
 }
 
-/// The auction price of every book whose ladder this is, at a reference price in its bounds, as [`determine`] gives it,
-/// with the ticks from which on bids, and up to which asks, decide it.
+/// The auction price of every book whose ladder this is, at a reference price in its bounds, with the ticks from which
+/// on bids, and up to which asks, decide it.
+///
+/// The price is the limit with the most volume and, among those, the least surplus. Where several are left, it is the
+/// highest of them if all have more wanted than offered, the lowest if all have more offered than wanted, and else the
+/// reference price, held between the highest with a bid surplus and the lowest with an ask surplus. A book of market
+/// orders alone is priced at the reference price.
 ///
 /// Around the place where demand and supply cross lie at most four limits among which the price is chosen. A bid below
 /// them adds to the demand at lower limits alone, which are worse by then, and so does an ask above them to the supply.
@@ -151,6 +156,9 @@ pub fn decide(ladder: &Ladder, reference: u32) -> Decision
     requires low { ladder.now.low ≤ reference }
     requires high { reference < ladder.now.low + length ladder.now.bids }
     ensures price { OfEachBook ladder.now (λ book. result.price ≡ price book reference) }
+
+    // No tick has more volume than the price, and without a price none has any.
+    ensures most { OfEachBook ladder.now (λ book. HasMostVolume book result.price) }
 
     // Any book with the same quantities there has the same price.
     ensures deciding { DecidesPrice ladder.now reference result }
@@ -164,22 +172,4 @@ pub fn decide(ladder: &Ladder, reference: u32) -> Decision
         lowest: lowest_deciding(ladder, &around),
         highest: highest_deciding(ladder, &around),
     }
-}
-
-/// The auction price of every book whose ladder this is, at a reference price in its bounds: the tick, with the volume
-/// there, the surplus and the side of the surplus.
-///
-/// It is the limit with the most volume and, among those, the least surplus. Where several are left, it is the highest
-/// of them if all have more wanted than offered, the lowest if all have more offered than wanted, and else the
-/// reference price, held between the highest with a bid surplus and the lowest with an ask surplus. A book of market
-/// orders alone is priced at the reference price.
-pub fn determine(ladder: &Ladder, reference: u32) -> Option<Price>
-    requires low { ladder.now.low ≤ reference }
-    requires high { reference < ladder.now.low + length ladder.now.bids }
-    ensures price { OfEachBook ladder.now (λ book. result ≡ price book reference) }
-
-    // No tick has more volume than the price, and without a price none has any.
-    ensures most { OfEachBook ladder.now (λ book. HasMostVolume book result) }
-{
-    decide(ladder, reference).price
 }

@@ -1,30 +1,30 @@
 -- The words of a reply, as texts that are printed one after the other.
 use Rattle.std.specs.Prelude.{ℕ, List, [], ◌∷◌, ◌++◌, Bool, true, false, Option, Some, None, codes, decimal}
 use Rattle.auction_terms.specs.declared.Side.{Side}
-use Rattle.auction_terms.specs.declared.Side.TheVariants.{Buy, Sell}
+use Rattle.auction_terms.specs.declared.Side.TheVariants.{Bid, Ask}
 use Rattle.auction_terms.specs.declared.Limit.{Limit}
 use Rattle.auction_terms.specs.declared.Limit.TheVariants.{Market, At}
-use Rattle.auction_terms.specs.declared.Kind.{Kind}
-use Rattle.auction_terms.specs.declared.Kind.TheVariants.{Opening, Intraday, Closing}
+use Rattle.auction_terms.specs.declared.AuctionKind.{AuctionKind}
+use Rattle.auction_terms.specs.declared.AuctionKind.TheVariants.{Opening, Intraday, Closing}
 use Rattle.auction_terms.specs.declared.Price.{Price}
 use Rattle.auction_terms.specs.declared.Display.TheVariants.{Priced, Unpriced}
-use Rattle.auction_terms.specs.declared.Refused.{Refused}
-use Rattle.auction_terms.specs.declared.Refused.TheVariants as refused
+use Rattle.auction_terms.specs.declared.Refusal.{Refusal}
+use Rattle.auction_terms.specs.declared.Refusal.TheVariants as refused
 use Rattle.auction_terms.specs.declared.Reply.{Reply}
 use Rattle.auction_terms.specs.declared.Reply.TheVariants as reply
 
 -- texts, one after the other
-abbrev pub joined : List (List ℕ) → List ℕ
-joined [] = []
-joined (text ∷ texts) = text ++ joined texts
+abbrev pub words_text : List (List ℕ) → List ℕ
+words_text [] = []
+words_text (text ∷ texts) = text ++ words_text texts
 
 -- the side of an order, or of a surplus where there is one
 abbrev pub side_word : Option Side → List ℕ
-side_word (Some Buy) = codes "bid"
-side_word (Some Sell) = codes "ask"
+side_word (Some Bid) = codes "bid"
+side_word (Some Ask) = codes "ask"
 side_word None = codes "none"
 
-abbrev pub kind_word : Kind → List ℕ
+abbrev pub kind_word : AuctionKind → List ℕ
 kind_word Opening = codes "opening"
 kind_word Intraday = codes "intraday"
 kind_word Closing = codes "closing"
@@ -45,7 +45,7 @@ price_words p =
     ∷ codes " " ∷ side_word p.side ∷ []
 
 -- the number and the name of a refusal
-abbrev pub refusal_word : Refused → List ℕ
+abbrev pub refusal_word : Refusal → List ℕ
 refusal_word refused.BadQuantity = codes "1 BadQuantity"
 refusal_word refused.BadLimit = codes "2 BadLimit"
 refusal_word refused.BadPeak = codes "3 BadPeak"
@@ -68,13 +68,13 @@ abbrev pub reply_words : Reply → List (List ℕ)
 reply_words (reply.Entered id) = codes "entered " ∷ decimal id ∷ []
 reply_words (reply.Changed kept) = codes "changed " ∷ place_word kept ∷ []
 reply_words reply.Deleted = codes "deleted" ∷ []
-reply_words (reply.Standing side limit quantity visible) =
+reply_words (reply.OpenOrder side limit quantity visible) =
     codes "order " ∷ side_word (Some side) ∷ codes " " ∷ decimal quantity ∷ limit_words limit ++ (decimal visible ∷ [])
 reply_words (reply.Indicated (Priced p)) = price_words p
-reply_words (reply.Indicated (Unpriced best_buy best_sell)) =
-    codes "no price bid " ∷ number_word best_buy ∷ codes " ask " ∷ number_word best_sell ∷ []
+reply_words (reply.Indicated (Unpriced best_bid best_ask)) =
+    codes "no price bid " ∷ number_word best_bid ∷ codes " ask " ∷ number_word best_ask ∷ []
 reply_words (reply.Traded t) =
-    codes "trade " ∷ decimal t.buy ∷ codes " " ∷ decimal t.sell ∷ codes " " ∷ decimal t.quantity
+    codes "trade " ∷ decimal t.bid ∷ codes " " ∷ decimal t.ask ∷ codes " " ∷ decimal t.quantity
     ∷ codes " at " ∷ decimal t.tick ∷ []
 reply_words (reply.Uncrossed kind trades price) = kind_word kind ∷ uncross_words price trades
 reply_words (reply.Interrupted p) = codes "interrupted " ∷ price_words p
@@ -82,4 +82,4 @@ reply_words (reply.Refused r) = codes "refused " ∷ refusal_word r ∷ []
 
 -- the text of a reply
 abbrev pub reply_text : Reply → List ℕ
-reply_text r = joined (reply_words r)
+reply_text r = words_text (reply_words r)

@@ -30,10 +30,10 @@ entry_line number entry =
     ++ (codes " " ++ (reply_text entry.reply ++ codes "\n"))))
 
 -- the lines of entries that come after so many others
-unfoldable pub story_after : ℕ → List Entry → List ℕ
-story_after before [] = []
-story_after before (entry ∷ entries) = entry_line (before + 1) entry ++ story_after (before + 1) entries
+unfoldable pub history_lines_after : ℕ → List Entry → List ℕ
+history_lines_after before [] = []
+history_lines_after before (entry ∷ entries) = entry_line (before + 1) entry ++ history_lines_after (before + 1) entries
 
 -- the lines of a history, numbered from 1
-abbrev pub story : List Entry → List ℕ
-story entries = story_after 0 entries
+abbrev pub history_lines : List Entry → List ℕ
+history_lines entries = history_lines_after 0 entries

@@ -22,5 +22,5 @@ pub use page::{LONGEST_LINE, LONGEST_NUMBER, Page, ROOM};
 pub use printer::Printer;
 pub use reply::put_reply;
 pub use same::is_text_of;
-pub use tally::{print_audit, print_entries, print_story, print_tally};
+pub use tally::{print_audit, print_entries, print_history, print_tally};
 pub use words::{kind_word, side_word};

@@ -3,11 +3,11 @@
 ghost use Rattle.std.specs.Prelude.{◌≡◌, ◌≤◌, ◌+◌, ◌++◌, ◌∷◌, [], length, decimal};
 ghost use Rattle.auction_terms.specs.declared.Reply.TheVariants as reply;
 ghost use Rattle.printed_lines.specs.declared.page.TheConstants.{LONGEST_NUMBER, ROOM};
-ghost use Rattle.printed_lines.specs.ReplyWords.{joined, limit_words, number_word, price_words, reply_text};
+ghost use Rattle.printed_lines.specs.ReplyWords.{words_text, limit_words, number_word, price_words, reply_text};
 
 use crate::page::Page;
 use crate::words::{kind_word, place_word, refusal_word, side_word};
-use auction_terms::{Display, Kind, Limit, Price, Reply, Side, Trade};
+use auction_terms::{AuctionKind, Display, Limit, Price, Reply, Side, Trade};
 
 /// Puts a number on the page, or a dash where there is none.
 fn put_number_word(page: &mut Page, number: Option<u32>)
@@ -23,7 +23,7 @@ fn put_number_word(page: &mut Page, number: Option<u32>)
 
 fn put_price(page: &mut Page, price: Price)
     requires { length page.old + 100 ≤ ROOM }
-    ensures text { page.new ≡ page.old ++ joined (price_words price) }
+    ensures text { page.new ≡ page.old ++ words_text (price_words price) }
     ensures longer { length page.new ≤ length page.old + 100 }
 {
     page.put("price ");
@@ -43,14 +43,11 @@ fn put_display(page: &mut Page, display: Display)
 {
     match display {
         Display::Priced(price) => put_price(page, price),
-        Display::Unpriced {
-            best_buy,
-            best_sell,
-        } => {
+        Display::Unpriced { best_bid, best_ask } => {
             page.put("no price bid ");
-            put_number_word(page, best_buy);
+            put_number_word(page, best_bid);
             page.put(" ask ");
-            put_number_word(page, best_sell);
+            put_number_word(page, best_ask);
         }
     }
 }
@@ -58,7 +55,7 @@ fn put_display(page: &mut Page, display: Display)
 /// Puts what stands behind an order's open quantity on the page: its limit, and its visible quantity.
 fn put_limit(page: &mut Page, limit: Limit, visible: u64)
     requires { length page.old + 60 ≤ ROOM }
-    ensures text { page.new ≡ page.old ++ joined (limit_words limit ++ (decimal visible ∷ [])) }
+    ensures text { page.new ≡ page.old ++ words_text (limit_words limit ++ (decimal visible ∷ [])) }
     ensures longer { length page.new ≤ length page.old + 60 }
 {
     match limit {
@@ -75,9 +72,9 @@ fn put_limit(page: &mut Page, limit: Limit, visible: u64)
     }
 }
 
-fn put_standing(page: &mut Page, side: Side, limit: Limit, quantity: u64, visible: u64)
+fn put_open_order(page: &mut Page, side: Side, limit: Limit, quantity: u64, visible: u64)
     requires { length page.old + 100 ≤ ROOM }
-    ensures text { page.new ≡ page.old ++ reply_text (reply.Standing side limit quantity visible) }
+    ensures text { page.new ≡ page.old ++ reply_text (reply.OpenOrder side limit quantity visible) }
     ensures longer { length page.new ≤ length page.old + 100 }
 {
     page.put("order ");
@@ -93,16 +90,16 @@ fn put_trade(page: &mut Page, trade: Trade)
     ensures longer { length page.new ≤ length page.old + 100 }
 {
     page.put("trade ");
-    page.put_number(u64::from(trade.buy));
+    page.put_number(u64::from(trade.bid));
     page.put(" ");
-    page.put_number(u64::from(trade.sell));
+    page.put_number(u64::from(trade.ask));
     page.put(" ");
     page.put_number(trade.quantity);
     page.put(" at ");
     page.put_number(u64::from(trade.tick));
 }
 
-fn put_uncrossed(page: &mut Page, kind: Kind, price: Option<Price>, trades: u32)
+fn put_uncrossed(page: &mut Page, kind: AuctionKind, price: Option<Price>, trades: u32)
     requires { length page.old + 150 ≤ ROOM }
     ensures text { page.new ≡ page.old ++ reply_text (reply.Uncrossed kind trades price) }
     ensures longer { length page.new ≤ length page.old + 150 }
@@ -135,12 +132,12 @@ pub fn put_reply(page: &mut Page, reply: Reply)
             page.put(place_word(kept));
         }
         Reply::Deleted => page.put("deleted"),
-        Reply::Standing {
+        Reply::OpenOrder {
             side,
             limit,
             quantity,
             visible,
-        } => put_standing(page, side, limit, quantity, visible),
+        } => put_open_order(page, side, limit, quantity, visible),
         Reply::Indicated(display) => put_display(page, display),
         Reply::Traded(trade) => put_trade(page, trade),
         Reply::Uncrossed {

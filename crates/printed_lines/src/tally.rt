@@ -4,7 +4,7 @@ ghost use Rattle.std.specs.Prelude.{◌≡◌, ◌≤◌, ◌+◌, ◌++◌, len
 ghost use Rattle.printed_lines.specs.declared.page.TheConstants.{ROOM};
 ghost use Rattle.printed_lines.specs.Printing.{Prints};
 ghost use Rattle.printed_lines.specs.Tally.{audit_line, entries_line, entry_line, member_line, member_lines};
-ghost use Rattle.printed_lines.specs.Tally.{story, tally};
+ghost use Rattle.printed_lines.specs.Tally.{history_lines, tally};
 
 use crate::page::Page;
 use crate::printer::Printer;
@@ -116,11 +116,11 @@ fn print_entry<S: Sink>(
 }
 
 /// Prints a history: a line for each entry, with its number from 1, its member and its reply.
-pub fn print_story<S: Sink>(
+pub fn print_history<S: Sink>(
     printer: &mut Printer<'_, S>,
     entries: &[Entry],
 ) -> Result<(), WriteFailed>
-    ensures { Prints S.Sink printer.old printer.new result (story entries.now) }
+    ensures { Prints S.Sink printer.old printer.new result (history_lines entries.now) }
 {
     for (before, entry) in entries.iter().enumerate() {
         print_entry(printer, before as u64 + 1, *entry)?;

@@ -3,7 +3,7 @@
 ghost use Rattle.std.specs.Prelude.{◌≡◌, ◌≤◌, length};
 ghost use Rattle.printed_lines.specs.ReplyWords.{side_word, kind_word, place_word, refusal_word};
 
-use auction_terms::{Kind, Refused, Side};
+use auction_terms::{AuctionKind, Refusal, Side};
 
 /// The side of an order, or of a surplus where there is one.
 pub fn side_word(side: Option<Side>) -> &'static str
@@ -11,21 +11,21 @@ pub fn side_word(side: Option<Side>) -> &'static str
     ensures short { length result.now ≤ 4 }
 {
     match side {
-        Some(Side::Buy) => "bid",
-        Some(Side::Sell) => "ask",
+        Some(Side::Bid) => "bid",
+        Some(Side::Ask) => "ask",
         None => "none",
     }
 }
 
 /// The auction that a call phase ends with.
-pub fn kind_word(kind: Kind) -> &'static str
+pub fn kind_word(kind: AuctionKind) -> &'static str
     ensures word { result.now ≡ kind_word kind }
     ensures short { length result.now ≤ 8 }
 {
     match kind {
-        Kind::Opening => "opening",
-        Kind::Intraday => "intraday",
-        Kind::Closing => "closing",
+        AuctionKind::Opening => "opening",
+        AuctionKind::Intraday => "intraday",
+        AuctionKind::Closing => "closing",
     }
 }
 
@@ -38,19 +38,19 @@ pub fn place_word(kept: bool) -> &'static str
 }
 
 /// The number and the name of a refusal.
-pub fn refusal_word(refused: Refused) -> &'static str
+pub fn refusal_word(refused: Refusal) -> &'static str
     ensures word { result.now ≡ refusal_word refused }
     ensures short { length result.now ≤ 14 }
 {
     match refused {
-        Refused::BadQuantity => "1 BadQuantity",
-        Refused::BadLimit => "2 BadLimit",
-        Refused::BadPeak => "3 BadPeak",
-        Refused::BookFull => "4 BookFull",
-        Refused::UnknownOrder => "5 UnknownOrder",
-        Refused::NotOperator => "6 NotOperator",
-        Refused::DayOver => "7 DayOver",
-        Refused::NoSuchTrade => "8 NoSuchTrade",
-        Refused::PastAuction => "9 PastAuction",
+        Refusal::BadQuantity => "1 BadQuantity",
+        Refusal::BadLimit => "2 BadLimit",
+        Refusal::BadPeak => "3 BadPeak",
+        Refusal::BookFull => "4 BookFull",
+        Refusal::UnknownOrder => "5 UnknownOrder",
+        Refusal::NotOperator => "6 NotOperator",
+        Refusal::DayOver => "7 DayOver",
+        Refusal::NoSuchTrade => "8 NoSuchTrade",
+        Refusal::PastAuction => "9 PastAuction",
     }
 }

@@ -9,9 +9,9 @@ ghost use Rattle.std.specs.Prelude.{◌≡◌, ◌<◌, ◌≤◌, ◌+◌, ◌-
 ghost use Rattle.std.specs.Prelude.{List, get_or, length, true, IfOk, IfSome, OnOk};
 ghost use Rattle.auction_terms.specs.declared.Reply.TheVariants as replies;
 ghost use Rattle.auction_terms.specs.declared.Reply.{Reply};
-ghost use Rattle.reply_list.specs.ReplyList.{brief, reply_of};
+ghost use Rattle.reply_list.specs.ReplyList.{brief_reply, reply_of};
 
-use auction_terms::{Refused, Reply};
+use auction_terms::{Refusal, Reply};
 use std::alloc::{AllocError, Global};
 use std::marker::Model;
 
@@ -41,29 +41,29 @@ impl Model for ReplyList {
 }
 
 /// The code of a refusal.
-#[tactic(auto, unfolding(crate::specs::ReplyList::brief))]
-fn refusal_code(refused: Refused) -> u32
-    ensures code { brief result ≡ replies.Refused refused }
-    ensures brief { result < FIRST_ID }
+#[tactic(auto, unfolding(crate::specs::ReplyList::brief_reply))]
+fn refusal_code(refusal: Refusal) -> u32
+    ensures code { brief_reply result ≡ replies.Refused refusal }
+    ensures brief_reply { result < FIRST_ID }
 {
-    match refused {
-        Refused::BadQuantity => 1,
-        Refused::BadLimit => 2,
-        Refused::BadPeak => 3,
-        Refused::BookFull => 4,
-        Refused::UnknownOrder => 5,
-        Refused::NotOperator => 6,
-        Refused::DayOver => 7,
-        Refused::NoSuchTrade => 8,
-        Refused::PastAuction => 9,
+    match refusal {
+        Refusal::BadQuantity => 1,
+        Refusal::BadLimit => 2,
+        Refusal::BadPeak => 3,
+        Refusal::BookFull => 4,
+        Refusal::UnknownOrder => 5,
+        Refusal::NotOperator => 6,
+        Refusal::DayOver => 7,
+        Refusal::NoSuchTrade => 8,
+        Refusal::PastAuction => 9,
     }
 }
 
 /// The code of an entry, if its id leaves room for it.
-#[tactic(auto, unfolding(crate::specs::ReplyList::brief))]
+#[tactic(auto, unfolding(crate::specs::ReplyList::brief_reply))]
 #[inline]
 fn entry_code(id: u32) -> Option<u32>
-    ensures { IfSome result (λ code. (brief code ≡ replies.Entered id) × (code < FIRST_OTHER)) }
+    ensures { IfSome result (λ code. (brief_reply code ≡ replies.Entered id) × (code < FIRST_OTHER)) }
 {
     if id >= FIRST_OTHER - FIRST_ID {
         return None;
@@ -72,33 +72,34 @@ fn entry_code(id: u32) -> Option<u32>
 }
 
 /// The code of a reply that is said by its code.
-#[tactic(auto, unfolding(crate::specs::ReplyList::brief))]
+#[tactic(auto, unfolding(crate::specs::ReplyList::brief_reply))]
 #[inline]
-fn brief_code(reply: Reply) -> Option<u32>
-    ensures { IfSome result (λ code. (brief code ≡ reply) × (code < FIRST_OTHER)) }
+fn brief_code(reply: &Reply) -> Option<u32>
+    ensures { IfSome result (λ code. (brief_reply code ≡ reply.now) × (code < FIRST_OTHER)) }
 {
     match reply {
         Reply::Deleted => Some(0),
-        Reply::Refused(refused) => Some(refusal_code(refused)),
-        Reply::Changed { kept } => Some(if kept { 10 } else { 11 }),
-        Reply::Entered { id } => entry_code(id),
+        Reply::Refused(refusal) => Some(refusal_code(*refusal)),
+        Reply::Changed { kept } => Some(if *kept { 10 } else { 11 }),
+        Reply::Entered { id } => entry_code(*id),
         _ => None,
     }
 }
 
 /// Whether the last of these replies is this one.
-fn ends_with(others: &[Reply], reply: Reply) -> bool
-    ensures { result ≡ true → (0 < length others.now) × (get_or others.now (length others.now - 1) reply ≡ reply) }
+fn ends_with(others: &[Reply], reply: &Reply) -> bool
+    ensures { result ≡ true
+        → (0 < length others.now) × (get_or others.now (length others.now - 1) reply.now ≡ reply.now) }
 {
     match others.last() {
-        Some(last) => *last == reply,
+        Some(last) => last == reply,
         None => false,
     }
 }
 
 /// The code of a reply that is kept whole: it is put behind the others, but where it is the last of them already.
-fn other_code(others: &mut Vec<Reply>, reply: Reply) -> Result<u32, AllocError>
-    ensures code { IfOk result (λ code. (reply_of others.new.items code ≡ reply)
+fn other_code(others: &mut Vec<Reply>, reply: &Reply) -> Result<u32, AllocError>
+    ensures code { IfOk result (λ code. (reply_of others.new.items code ≡ reply.now)
         × (code < FIRST_OTHER + length others.new.items)) }
     ensures kept { (more : List Reply) × (others.new.items ≡ others.old.items ++ more) }
 {
@@ -109,14 +110,14 @@ fn other_code(others: &mut Vec<Reply>, reply: Reply) -> Result<u32, AllocError>
     if ends_with(others.as_slice(), reply) {
         return Ok(FIRST_OTHER + (count as u32 - 1));
     }
-    others.push(reply)?;
+    others.push(*reply)?;
     Ok(FIRST_OTHER + count as u32)
 }
 
 /// The code of a reply beside these others, which may grow by it.
 #[inline]
-fn code_of(others: &mut Vec<Reply>, reply: Reply) -> Result<u32, AllocError>
-    ensures code { IfOk result (λ code. (reply_of others.new.items code ≡ reply)
+fn code_of(others: &mut Vec<Reply>, reply: &Reply) -> Result<u32, AllocError>
+    ensures code { IfOk result (λ code. (reply_of others.new.items code ≡ reply.now)
         × (code < FIRST_OTHER + length others.new.items)) }
     ensures kept { (more : List Reply) × (others.new.items ≡ others.old.items ++ more) }
 {
@@ -127,10 +128,10 @@ fn code_of(others: &mut Vec<Reply>, reply: Reply) -> Result<u32, AllocError>
 }
 
 /// The reply that a code below that of the others says.
-#[tactic(auto, unfolding(crate::specs::ReplyList::brief))]
+#[tactic(auto, unfolding(crate::specs::ReplyList::brief_reply))]
 #[inline]
 fn brief_reply(code: u32) -> Reply
-    ensures { result ≡ brief code }
+    ensures { result ≡ brief_reply code }
 {
     if code >= FIRST_ID {
         return Reply::Entered {
@@ -138,15 +139,15 @@ fn brief_reply(code: u32) -> Reply
         };
     }
     match code {
-        1 => Reply::Refused(Refused::BadQuantity),
-        2 => Reply::Refused(Refused::BadLimit),
-        3 => Reply::Refused(Refused::BadPeak),
-        4 => Reply::Refused(Refused::BookFull),
-        5 => Reply::Refused(Refused::UnknownOrder),
-        6 => Reply::Refused(Refused::NotOperator),
-        7 => Reply::Refused(Refused::DayOver),
-        8 => Reply::Refused(Refused::NoSuchTrade),
-        9 => Reply::Refused(Refused::PastAuction),
+        1 => Reply::Refused(Refusal::BadQuantity),
+        2 => Reply::Refused(Refusal::BadLimit),
+        3 => Reply::Refused(Refusal::BadPeak),
+        4 => Reply::Refused(Refusal::BookFull),
+        5 => Reply::Refused(Refusal::UnknownOrder),
+        6 => Reply::Refused(Refusal::NotOperator),
+        7 => Reply::Refused(Refusal::DayOver),
+        8 => Reply::Refused(Refusal::NoSuchTrade),
+        9 => Reply::Refused(Refusal::PastAuction),
         10 => Reply::Changed { kept: true },
         11 => Reply::Changed { kept: false },
         _ => Reply::Deleted,
@@ -167,8 +168,8 @@ impl ReplyList {
     /// One more reply, behind the others. Where memory is refused, which it is too for more than 2,147,483,648 replies
     /// that are kept whole, the list is as it was.
     #[inline]
-    pub fn push(&mut self, reply: Reply) -> Result<(), AllocError>
-        ensures pushed { OnOk result (self.new ≡ self.old ++ reply ∷ []) }
+    pub fn push(&mut self, reply: &Reply) -> Result<(), AllocError>
+        ensures pushed { OnOk result (self.new ≡ self.old ++ reply.now ∷ []) }
     {
         let code = code_of(&mut self.others, reply)?;
         self.codes.push(code)?;

@@ -5,72 +5,297 @@ use Rattle.clap.specs.Kinds.{Kinds}
 use Rattle.clap.specs.declared.error.kind.ErrorKind.TheVariants as kind
 use Rattle.clap.proofs.OnLiterals.{clap_on_literals}
 use Rattle.settings.specs.Options.{callboard}
-use Rattle.settings.specs.CommandLine.{Accepts, Refuses, words_kinds}
-use Rattle.settings.specs.declared.fault.WordsFault.TheVariants.{AuditNotAlone, LiveNotAlone}
+use Rattle.settings.specs.CommandLine.{AcceptsWords, RefusesWords, words_kinds}
+use Rattle.settings.specs.declared.fault.WordsFault.TheVariants.{AuditNotAlone, LiveNotAlone, ResultsWithoutAudit}
+use Rattle.settings.specs.declared.types.FloorForm.TheVariants as floor
 use Rattle.settings.specs.declared.types.Form.TheVariants.{Lines, Listing}
 use Rattle.settings.specs.declared.types.Listing.TheVariants.{Journal, Trades, Book}
 use Rattle.settings.specs.declared.types.Settings.{Settings}
-use Rattle.settings.specs.declared.types.Task.TheVariants.{Audit, Live, Run}
+use Rattle.settings.specs.declared.types.Task.TheVariants.{Audit, Floor, Live, Run}
 
 -- the settings where no word is given
 abbrev plain : Settings
 plain = record {
   config = record { low = 1; high = 1000; reference = 200; max_open = 4096; max_calls = 65536; range = None };
   members = 4;
-  task = Run false false Lines;
+  task = Run Lines;
 }
 
 -- no word
-no_words : Accepts (codes "callboard" ∷ []) plain
+no_words : AcceptsWords (codes "callboard" ∷ []) plain
 unfolding callboard clap_on_literals
-no_words = (refl, record { low = refl; high = refl; reference = refl; max_open = refl; max_calls = refl; range = refl; members = refl; task = refl }, refl, refl)
+no_words = (
+  refl,
+  record {
+    low = refl;
+    high = refl;
+    reference = refl;
+    max_open = refl;
+    max_calls = refl;
+    range =
+        refl;
+    members = refl;
+    task = refl;
+  },
+  refl,
+  refl,
+  refl,
+)
 
 -- `--low 5 --floor`
-low_and_floor : Accepts (codes "callboard" ∷ codes "--low" ∷ codes "5" ∷ codes "--floor" ∷ []) (record plain { config = record plain.config { low = 5 }; task = Run true false Lines })
+low_and_floor : AcceptsWords (codes "callboard" ∷ codes "--low" ∷ codes "5" ∷ codes "--floor" ∷ [])
+    (record plain { config = record plain.config { low = 5 }; task = Floor floor.Tally })
 unfolding callboard clap_on_literals
-low_and_floor = (refl, record { low = refl; high = refl; reference = refl; max_open = refl; max_calls = refl; range = refl; members = refl; task = refl }, refl, refl)
+low_and_floor = (
+  refl,
+  record {
+    low = refl;
+    high = refl;
+    reference = refl;
+    max_open = refl;
+    max_calls = refl;
+    range =
+        refl;
+    members = refl;
+    task = refl;
+  },
+  refl,
+  refl,
+  refl,
+)
 
 -- `--range 0`
-range_of_zero : Accepts (codes "callboard" ∷ codes "--range" ∷ codes "0" ∷ []) (record plain { config = record plain.config { range = Some 0 } })
+range_of_zero : AcceptsWords (codes "callboard" ∷ codes "--range" ∷ codes "0" ∷ []) (record plain {
+  config =
+      record plain.config { range = Some 0 };
+})
 unfolding callboard clap_on_literals
-range_of_zero = (refl, record { low = refl; high = refl; reference = refl; max_open = refl; max_calls = refl; range = refl; members = refl; task = refl }, refl, refl)
+range_of_zero = (
+  refl,
+  record {
+    low = refl;
+    high = refl;
+    reference = refl;
+    max_open = refl;
+    max_calls = refl;
+    range =
+        refl;
+    members = refl;
+    task = refl;
+  },
+  refl,
+  refl,
+  refl,
+)
 
 -- each option of a run
-every_option : Accepts (codes "callboard" ∷ codes "--low" ∷ codes "5" ∷ codes "--high=6" ∷ codes "--reference" ∷ codes "1000000" ∷ codes "--members=64" ∷ codes "--open" ∷ codes "65536"
-    ∷ codes "--calls" ∷ codes "1048576" ∷ codes "--range=7" ∷ codes "--floor" ∷ codes "--history" ∷ codes "--print=journal" ∷ [])
+every_option : AcceptsWords (codes "callboard" ∷ codes "--low" ∷ codes "5" ∷ codes "--high=6" ∷ codes "--reference"
+    ∷ codes "1000000" ∷ codes "--members=64" ∷ codes "--open" ∷ codes "65536"
+    ∷ codes "--calls" ∷ codes "1048576" ∷ codes "--range=7" ∷ codes "--floor" ∷ codes "--history"
+    ∷ codes "--print=journal" ∷ [])
     (record {
       config = record { low = 5; high = 6; reference = 1000000; max_open = 65536; max_calls = 1048576; range = Some 7 };
       members = 64;
-      task = Run true true (Listing Journal);
+      task = Floor (floor.Listing Journal);
     })
 unfolding callboard clap_on_literals
-every_option = (refl, record { low = refl; high = refl; reference = refl; max_open = refl; max_calls = refl; range = refl; members = refl; task = refl }, refl, refl)
+every_option = (
+  refl,
+  record {
+    low = refl;
+    high = refl;
+    reference = refl;
+    max_open = refl;
+    max_calls = refl;
+    range =
+        refl;
+    members = refl;
+    task = refl;
+  },
+  refl,
+  refl,
+  refl,
+)
 
 -- `--print lines`
-lines_asked_for : Accepts (codes "callboard" ∷ codes "--print" ∷ codes "lines" ∷ []) plain
+lines_asked_for : AcceptsWords (codes "callboard" ∷ codes "--print" ∷ codes "lines" ∷ []) plain
 unfolding callboard clap_on_literals
-lines_asked_for = (refl, record { low = refl; high = refl; reference = refl; max_open = refl; max_calls = refl; range = refl; members = refl; task = refl }, refl, refl)
+lines_asked_for = (
+  refl,
+  record {
+    low = refl;
+    high = refl;
+    reference = refl;
+    max_open = refl;
+    max_calls = refl;
+    range =
+        refl;
+    members = refl;
+    task = refl;
+  },
+  refl,
+  refl,
+  refl,
+)
 
 -- `--print trades`
-trades_asked_for : Accepts (codes "callboard" ∷ codes "--print" ∷ codes "trades" ∷ []) (record plain { task = Run false false (Listing Trades) })
+trades_asked_for : AcceptsWords (codes "callboard" ∷ codes "--print" ∷ codes "trades" ∷ []) (record plain {
+  task =
+      Run (Listing Trades);
+})
 unfolding callboard clap_on_literals
-trades_asked_for = (refl, record { low = refl; high = refl; reference = refl; max_open = refl; max_calls = refl; range = refl; members = refl; task = refl }, refl, refl)
+trades_asked_for = (
+  refl,
+  record {
+    low = refl;
+    high = refl;
+    reference = refl;
+    max_open = refl;
+    max_calls = refl;
+    range =
+        refl;
+    members = refl;
+    task = refl;
+  },
+  refl,
+  refl,
+  refl,
+)
 
 -- `--floor --print book`
-book_of_a_floor : Accepts (codes "callboard" ∷ codes "--floor" ∷ codes "--print" ∷ codes "book" ∷ []) (record plain { task = Run true false (Listing Book) })
+book_of_a_floor : AcceptsWords (codes "callboard" ∷ codes "--floor" ∷ codes "--print" ∷ codes "book" ∷ [])
+    (record plain { task = Floor (floor.Listing Book) })
 unfolding callboard clap_on_literals
-book_of_a_floor = (refl, record { low = refl; high = refl; reference = refl; max_open = refl; max_calls = refl; range = refl; members = refl; task = refl }, refl, refl)
+book_of_a_floor = (
+  refl,
+  record {
+    low = refl;
+    high = refl;
+    reference = refl;
+    max_open = refl;
+    max_calls = refl;
+    range =
+        refl;
+    members = refl;
+    task = refl;
+  },
+  refl,
+  refl,
+  refl,
+)
+
+-- `--floor --history`
+floor_and_history : AcceptsWords (codes "callboard" ∷ codes "--floor" ∷ codes "--history" ∷ []) (record plain {
+  task =
+      Floor floor.History;
+})
+unfolding callboard clap_on_literals
+floor_and_history = (
+  refl,
+  record {
+    low = refl;
+    high = refl;
+    reference = refl;
+    max_open = refl;
+    max_calls =
+        refl;
+    range = refl;
+    members = refl;
+    task = refl;
+  },
+  refl,
+  refl,
+  refl,
+)
+
+-- `--history` alone: without a board there is no history to print
+history_alone : AcceptsWords (codes "callboard" ∷ codes "--history" ∷ []) plain
+unfolding callboard clap_on_literals
+history_alone = (
+  refl,
+  record {
+    low = refl;
+    high = refl;
+    reference = refl;
+    max_open = refl;
+    max_calls = refl;
+    range =
+        refl;
+    members = refl;
+    task = refl;
+  },
+  refl,
+  refl,
+  refl,
+)
 
 -- `--audit`
-audit_alone : Accepts (codes "callboard" ∷ codes "--audit" ∷ codes "--members" ∷ codes "2" ∷ []) (record plain { members = 2; task = Audit })
+audit_alone : AcceptsWords (codes "callboard" ∷ codes "--audit" ∷ codes "--members" ∷ codes "2" ∷ [])
+    (record plain { members = 2; task = Audit false })
 unfolding callboard clap_on_literals
-audit_alone = (refl, record { low = refl; high = refl; reference = refl; max_open = refl; max_calls = refl; range = refl; members = refl; task = refl }, refl, refl)
+audit_alone = (
+  refl,
+  record {
+    low = refl;
+    high = refl;
+    reference = refl;
+    max_open = refl;
+    max_calls = refl;
+    range =
+        refl;
+    members = refl;
+    task = refl;
+  },
+  refl,
+  refl,
+  refl,
+)
+
+-- and its results too
+audit_with_results : AcceptsWords
+    (codes "callboard" ∷ codes "--results" ∷ codes "--audit" ∷ codes "--members" ∷ codes "2" ∷ [])
+    (record plain { members = 2; task = Audit true })
+unfolding callboard clap_on_literals
+audit_with_results = (
+  refl,
+  record {
+    low = refl;
+    high = refl;
+    reference = refl;
+    max_open = refl;
+    max_calls = refl;
+    range =
+        refl;
+    members = refl;
+    task = refl;
+  },
+  refl,
+  refl,
+  refl,
+)
 
 -- `--live`, also with the lines
-live_asked_for : Accepts (codes "callboard" ∷ codes "--live" ∷ codes "--print" ∷ codes "lines" ∷ codes "--range" ∷ codes "3" ∷ [])
+live_asked_for : AcceptsWords (codes "callboard" ∷ codes "--live" ∷ codes "--print" ∷ codes "lines" ∷ codes "--range"
+    ∷ codes "3" ∷ [])
     (record plain { config = record plain.config { range = Some 3 }; task = Live })
 unfolding callboard clap_on_literals
-live_asked_for = (refl, record { low = refl; high = refl; reference = refl; max_open = refl; max_calls = refl; range = refl; members = refl; task = refl }, refl, refl)
+live_asked_for = (
+  refl,
+  record {
+    low = refl;
+    high = refl;
+    reference = refl;
+    max_open = refl;
+    max_calls = refl;
+    range =
+        refl;
+    members = refl;
+    task = refl;
+  },
+  refl,
+  refl,
+  refl,
+)
 
 -- ---- words that are refused
 
@@ -129,31 +354,36 @@ unfolding callboard clap_on_literals
 print_alone = refl
 
 -- an audit beside each option that it doesn't go with
-audit_and_floor : Refuses (codes "callboard" ∷ codes "--audit" ∷ codes "--floor" ∷ []) AuditNotAlone
+audit_and_floor : RefusesWords (codes "callboard" ∷ codes "--audit" ∷ codes "--floor" ∷ []) AuditNotAlone
 unfolding callboard clap_on_literals
 audit_and_floor = (refl, refl)
 
-audit_and_history : Refuses (codes "callboard" ∷ codes "--history" ∷ codes "--audit" ∷ []) AuditNotAlone
+audit_and_history : RefusesWords (codes "callboard" ∷ codes "--history" ∷ codes "--audit" ∷ []) AuditNotAlone
 unfolding callboard clap_on_literals
 audit_and_history = (refl, refl)
 
-audit_and_lines : Refuses (codes "callboard" ∷ codes "--audit" ∷ codes "--print=lines" ∷ []) AuditNotAlone
+audit_and_lines : RefusesWords (codes "callboard" ∷ codes "--audit" ∷ codes "--print=lines" ∷ []) AuditNotAlone
 unfolding callboard clap_on_literals
 audit_and_lines = (refl, refl)
 
 -- and answers as records come beside each option that they don't go with
-live_and_floor : Refuses (codes "callboard" ∷ codes "--live" ∷ codes "--floor" ∷ []) LiveNotAlone
+live_and_floor : RefusesWords (codes "callboard" ∷ codes "--live" ∷ codes "--floor" ∷ []) LiveNotAlone
 unfolding callboard clap_on_literals
 live_and_floor = (refl, refl, refl)
 
-live_and_history : Refuses (codes "callboard" ∷ codes "--history" ∷ codes "--live" ∷ []) LiveNotAlone
+live_and_history : RefusesWords (codes "callboard" ∷ codes "--history" ∷ codes "--live" ∷ []) LiveNotAlone
 unfolding callboard clap_on_literals
 live_and_history = (refl, refl, refl)
 
-live_and_audit : Refuses (codes "callboard" ∷ codes "--live" ∷ codes "--audit" ∷ []) LiveNotAlone
+live_and_audit : RefusesWords (codes "callboard" ∷ codes "--live" ∷ codes "--audit" ∷ []) LiveNotAlone
 unfolding callboard clap_on_literals
 live_and_audit = (refl, refl, refl)
 
-live_and_journal : Refuses (codes "callboard" ∷ codes "--live" ∷ codes "--print=journal" ∷ []) LiveNotAlone
+live_and_journal : RefusesWords (codes "callboard" ∷ codes "--live" ∷ codes "--print=journal" ∷ []) LiveNotAlone
 unfolding callboard clap_on_literals
 live_and_journal = (refl, refl, refl)
+
+-- the results of a day without its audit
+results_alone : RefusesWords (codes "callboard" ∷ codes "--results" ∷ []) ResultsWithoutAudit
+unfolding callboard clap_on_literals
+results_alone = (refl, refl, refl, refl)

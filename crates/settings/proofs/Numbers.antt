@@ -1,5 +1,6 @@
 -- The texts of numbers.
-use Rattle.std.proofs.Common.{◌≡◌, ◌<◌, ◌==◌, ◌^◌, ap, ℕ, Bool, true, false, cond, drop, refl, sym, subst, arith, List, [], ◌∷◌, Option, Some, None, Result, Ok, Err}
+use Rattle.std.proofs.Common.{◌≡◌, ◌<◌, ◌==◌, ◌^◌, ap, ℕ, Bool, true, false, cond, drop, refl, sym, subst, arith, List}
+use Rattle.std.proofs.Common.{[], ◌∷◌, Option, Some, None, Result, Ok, Err}
 use Rattle.std.specs.Prelude.{pos, unwrap_or}
 use Rattle.std.specs.Str.Parse.{IsNumeral, ParsesUnsigned, starts_with_minus, without_leading_plus}
 use Rattle.std.proofs.lemmas.Bool.{ne_eqb}
@@ -26,7 +27,8 @@ no_plus (d ∷ ds) h =
     ap (λ (b : Bool). drop (cond b 1 0) (d ∷ ds)) plus
 
 -- a text that passed a range is a number in it, with its minus taken off
-pub passed_text : (low high : ℕ) (t : List ℕ) → IsSignedIn (pos low) (pos high) t → IsNumberIn low high (without_minus t)
+pub passed_text : (low high : ℕ) (t : List ℕ) → IsSignedIn (pos low) (pos high) t
+    → IsNumberIn low high (without_minus t)
 passed_text low high t passed = subst (IsNumberIn low high) (sym (minus_off t)) (go (starts_with_minus t) refl)
   where
     go : (b : Bool) → starts_with_minus t ≡ b → IsNumberIn low high (cond (starts_with_minus t) (drop 1 t) t)
@@ -41,7 +43,9 @@ passed_text low high t passed = subst (IsNumberIn low high) (sym (minus_off t)) 
         rw minus (numeral, omega (arith, ints), omega (arith, ints))
 
 -- such a text reads as its number
-pub number_read : (E : Type 0) (G : List ℕ → Result ℕ E → Type 0) (low high : ℕ) (t : List ℕ) (r : Option ℕ) → ReadsOne G t r
-    → ((x : Result ℕ E) → G t x → ParsesUnsigned 32 10 t x) → high < 2 ^ 32 → IsNumberIn low high t → r ≡ Some (number_in t)
+pub number_read : (E : Type 0) (G : List ℕ → Result ℕ E → Type 0) (low high : ℕ) (t : List ℕ) (r : Option ℕ)
+    → ReadsOne G t r
+    → ((x : Result ℕ E) → G t x → ParsesUnsigned 32 10 t x) → high < 2 ^ 32 → IsNumberIn low high t
+    → r ≡ Some (number_in t)
 number_read E G low high t (Some n) read parses fits is = ap (λ n. Some n) (parses (Ok n) read).1
 number_read E G low high t None read parses fits is = absurd (parses (Err read.0) read.1 (is.0, omega arith))

@@ -1,5 +1,6 @@
 -- What a parse of the command holds of each option.
-use Rattle.std.proofs.Common.{◌≡◌, ◌∙◌, ◌<◌, ◌≤◌, ap, ℕ, Bool, true, false, zero, suc, refl, sym, subst, arith, List, [], ◌∷◌, length, map, ap₂, Option, Some, None, inl, inr}
+use Rattle.std.proofs.Common.{◌≡◌, ◌∙◌, ◌<◌, ◌≤◌, ap, ℕ, Bool, true, false, zero, suc, refl, sym, subst, arith, List}
+use Rattle.std.proofs.Common.{[], ◌∷◌, length, map, ap₂, Option, Some, None, inl, inr}
 use Rattle.std.specs.Borrow.{Bor}
 use Rattle.std.specs.List.{All, list_all, slice_index_or}
 use Rattle.std.specs.Prelude.{find, option_map, slice_get, unwrap_or}
@@ -10,7 +11,8 @@ use Rattle.clap.specs.Built.{IsParsedFrom, NamesNoGroup, SameRules}
 use Rattle.clap.specs.Simple.{App, IsSimple, IsSimpleArg, app_of, is_ready, is_ready_leaf}
 use Rattle.clap.specs.Texts.{items_of}
 use Rattle.clap.specs.Walk.{Rule, one_of, rows_of, rule_of, texts}
-use Rattle.clap.specs.Facts.{EntryPasses, HasId, HasIn, Entry, ValuesPass, WantsDefault, args_of, groups_of, least_values, parser_of, parser_of_value}
+use Rattle.clap.specs.Facts.{EntryPasses, HasId, HasIn, Entry, ValuesPass, WantsDefault, args_of, groups_of}
+use Rattle.clap.specs.Facts.{least_values, parser_of, parser_of_value}
 use Rattle.clap.specs.Matches.{found_of, matched_of, one_text}
 use Rattle.clap.specs.Values.{Accepts, read_as, reading_of}
 use Rattle.clap.specs.declared.builder.action.ArgAction.TheVariants.{Count, Set}
@@ -26,11 +28,12 @@ use Rattle.clap.proofs.SimpleLemmas.{ready_simple, simple_groups}
 use Rattle.clap.proofs.WalkLemmas.{one_text-rows}
 use Rattle.settings.specs.Options.{callboard}
 use Rattle.settings.specs.OptionTexts.{IsParsed}
-use Rattle.settings.proofs.Places.{alone, named, not_auto, only, only_at, place, stands}
+use Rattle.settings.proofs.Places.{alone, named, not_auto, only, only_at, place, has_own_place}
 
 -- each argument of the command with this id keeps the rules of `a`
 abbrev Keeps : Command → List ℕ → Arg → Type 0
-Keeps c id a = (j : ℕ) (y : Arg) → j < length (args_of c) → slice_index_or (args_of c) j y ≡ y → bytes_eq y.id.now id ≡ true → SameRules a y
+Keeps c id a = (j : ℕ) (y : Arg) → j < length (args_of c) → slice_index_or (args_of c) j y ≡ y
+    → bytes_eq y.id.now id ≡ true → SameRules a y
 
 -- the entry is read by the parser, and its values pass it
 record Holds (q : ValueParser) (x : MatchedArg) : Type 0 where
@@ -40,12 +43,14 @@ record Holds (q : ValueParser) (x : MatchedArg) : Type 0 where
 parser_kept : (a y : Arg) (q : ValueParser) → SameRules a y → a.value_parser ≡ Some q → parser_of y ≡ q
 parser_kept a y q s parser = ap parser_of_value (s.parser q parser)
 
-passes : (a y : Arg) (q : ValueParser) (t : List ℕ) → SameRules a y → a.value_parser ≡ Some q → a.ignore_case ≡ false → Accepts y.ignore_case (parser_of y) t → Accepts false q t
+passes : (a y : Arg) (q : ValueParser) (t : List ℕ) → SameRules a y → a.value_parser ≡ Some q → a.ignore_case ≡ false
+    → Accepts y.ignore_case (parser_of y) t → Accepts false q t
 passes a y q t s parser case read =
     let by_q = subst (λ (w : ValueParser). Accepts y.ignore_case w t) (parser_kept a y q s parser) read in
     subst (λ (b : Bool). Accepts b q t) (s.ignore_case ∙ case) by_q
 
-no_group : (c : Command) (id : List ℕ) (e : Entry) → groups_of c ≡ [] → (id ≡ [] → ⊥) → e.0.now ≡ id → EntryPasses c e → e.1.is_group ≡ true → ⊥
+no_group : (c : Command) (id : List ℕ) (e : Entry) → groups_of c ≡ [] → (id ≡ [] → ⊥) → e.0.now ≡ id → EntryPasses c e
+    → e.1.is_group ≡ true → ⊥
 no_group c id e none named key pass g = elim (pass.3 g) [
   | inl empty ↦ named (sym key ∙ empty)
   | inr lots ↦
@@ -53,14 +58,17 @@ no_group c id e none named key pass g = elim (pass.3 g) [
       absurd (omega arith)
 ]
 
-held_reading : (c : Command) (id : List ℕ) (a : Arg) (q : ValueParser) (e : Entry) → (e.1.is_group ≡ true → ⊥) → Keeps c id a → a.value_parser ≡ Some q
+held_reading : (c : Command) (id : List ℕ) (a : Arg) (q : ValueParser) (e : Entry) → (e.1.is_group ≡ true → ⊥)
+    → Keeps c id a → a.value_parser ≡ Some q
     → e.0.now ≡ id → EntryPasses c e → e.1.reading ≡ reading_of q
 held_reading c id a q e plain keeps parser key pass = elim pass.4 [
   | inl g ↦ absurd (plain g)
-  | inr any ↦ sym any.4.1 ∙ ap reading_of (parser_kept a any.1 q (keeps any.0 any.1 any.2 any.3 (rw key at any.4.0)) parser)
+  | inr any ↦
+      sym any.4.1 ∙ ap reading_of (parser_kept a any.1 q (keeps any.0 any.1 any.2 any.3 (rw key at any.4.0)) parser)
 ]
 
-held_values : (c : Command) (id : List ℕ) (a : Arg) (q : ValueParser) (e : Entry) → (e.1.is_group ≡ true → ⊥) → Keeps c id a → a.value_parser ≡ Some q → a.ignore_case ≡ false
+held_values : (c : Command) (id : List ℕ) (a : Arg) (q : ValueParser) (e : Entry) → (e.1.is_group ≡ true → ⊥)
+    → Keeps c id a → a.value_parser ≡ Some q → a.ignore_case ≡ false
     → e.0.now ≡ id → EntryPasses c e → All (λ v. Accepts false q v.now) e.1.vals.items
 held_values c id a q e plain keeps parser case key pass = elim pass.0 [
   | inl g ↦ absurd (plain g)
@@ -70,7 +78,8 @@ held_values c id a q e plain keeps parser case key pass = elim pass.0 [
 ]
 
 -- an option that takes a value has one
-filled_entry : (c : Command) (id : List ℕ) (a : Arg) (e : Entry) → (e.1.is_group ≡ true → ⊥) → Keeps c id a → a.action ≡ Some Set → a.val_delim ≡ None → 1 ≤ least_values a
+filled_entry : (c : Command) (id : List ℕ) (a : Arg) (e : Entry) → (e.1.is_group ≡ true → ⊥) → Keeps c id a
+    → a.action ≡ Some Set → a.val_delim ≡ None → 1 ≤ least_values a
     → e.0.now ≡ id → EntryPasses c e → 0 < length e.1.vals.items
 filled_entry c id a e plain keeps set delim least key pass = elim pass.1 [
   | inl h ↦ absurd (plain h.0)
@@ -109,8 +118,9 @@ record TakesOne (a : Arg) : Type 0 where
   pub delimiter : a.val_delim ≡ None
   pub least : 1 ≤ least_values a
 
-held : (c : Command) (f : Found) (id : List ℕ) (a : Arg) (q : ValueParser) (x : MatchedArg) → Known c id a q → ValuesPass c f → matched_of f id ≡ Some x → Holds q x
-held c f id a q x known values found =
+matched-holds : (c : Command) (f : Found) (id : List ℕ) (a : Arg) (q : ValueParser) (x : MatchedArg) → Known c id a q
+    → ValuesPass c f → matched_of f id ≡ Some x → Holds q x
+matched-holds c f id a q x known values found =
     let got = entry_by_id (EntryPasses c) f.entries.items id x values found in
     let key : got.0.0.now ≡ id = (bytes_eq-Decides got.0.0.now id).0 got.2 in
     let plain : got.0.1.is_group ≡ true → ⊥ = no_group c id got.0 known.groups known.named key got.3 in
@@ -119,26 +129,30 @@ held c f id a q x known values found =
       values = held_values c id a q got.0 plain known.keeps known.parser known.case key got.3;
     })
 
-filled : (c : Command) (f : Found) (id : List ℕ) (a : Arg) (q : ValueParser) (x : MatchedArg) → Known c id a q → TakesOne a → ValuesPass c f → matched_of f id ≡ Some x
+matched-is_filled : (c : Command) (f : Found) (id : List ℕ) (a : Arg) (q : ValueParser) (x : MatchedArg)
+    → Known c id a q → TakesOne a → ValuesPass c f → matched_of f id ≡ Some x
     → 0 < length x.vals.items
-filled c f id a q x known one values found =
+matched-is_filled c f id a q x known one values found =
     let got = entry_by_id (EntryPasses c) f.entries.items id x values found in
     let key : got.0.0.now ≡ id = (bytes_eq-Decides got.0.0.now id).0 got.2 in
     let plain : got.0.1.is_group ≡ true → ⊥ = no_group c id got.0 known.groups known.named key got.3 in
-    subst (λ (y : MatchedArg). 0 < length y.vals.items) got.1 (filled_entry c id a got.0 plain known.keeps one.set one.delimiter one.least key got.3)
+    subst (λ (y : MatchedArg). 0 < length y.vals.items) got.1
+    (filled_entry c id a got.0 plain known.keeps one.set one.delimiter one.least key got.3)
 
 -- the text was read from a value that passed the parser
 abbrev pub IsReadBy : ValueParser → List ℕ → Type 0
 IsReadBy q t = (v : List ℕ) × (t ≡ read_as (reading_of q) v) × Accepts false q v
 
-first_text : (q : ValueParser) (how : Reading) (vs : List (Bor (List ℕ))) (t : List ℕ) → how ≡ reading_of q → All (λ v. Accepts false q v.now) vs
+first_text : (q : ValueParser) (how : Reading) (vs : List (Bor (List ℕ))) (t : List ℕ) → how ≡ reading_of q
+    → All (λ v. Accepts false q v.now) vs
     → option_map (λ s. read_as how s.now) (slice_get vs 0) ≡ Some t → IsReadBy q t
 first_text q how [] t is all h = cc
 first_text q how (v ∷ vs) t is all h =
     let same : read_as how v.now ≡ t = ap (λ (o : Option (List ℕ)). unwrap_or o t) h in
     (v.now, sym same ∙ ap (λ (w : Reading). read_as w v.now) is, all 0 v (omega arith))
 
-text_read : (c : Command) (f : Found) (id : List ℕ) (a : Arg) (q : ValueParser) (t : List ℕ) → Known c id a q → ValuesPass c f → one_text f id ≡ Some t → IsReadBy q t
+text_read : (c : Command) (f : Found) (id : List ℕ) (a : Arg) (q : ValueParser) (t : List ℕ) → Known c id a q
+    → ValuesPass c f → one_text f id ≡ Some t → IsReadBy q t
 text_read c f id a q t known values h = go (matched_of f id) refl
   where
     go : (o : Option MatchedArg) → matched_of f id ≡ o → IsReadBy q t
@@ -146,33 +160,38 @@ text_read c f id a q t known values h = go (matched_of f id) refl
         let bad : None ≡ Some t = rw e at h in
         cc
     go (Some x) e =
-        let holds = held c f id a q x known values e in
+        let holds = matched-holds c f id a q x known values e in
         first_text q x.reading x.vals.items t holds.reading holds.values (rw e at h)
 
-found_at : (xs : List Entry) (id : List ℕ) (i : ℕ) (d : Entry) → i < length xs → bytes_eq (slice_index_or xs i d).0.now id ≡ true
+found_at : (xs : List Entry) (id : List ℕ) (i : ℕ) (d : Entry) → i < length xs
+    → bytes_eq (slice_index_or xs i d).0.now id ≡ true
     → (x : MatchedArg) × (option_map (λ e. e.1) (find (λ e. bytes_eq e.0.now id) xs) ≡ Some x)
 found_at [] id i d lt h = absurd (omega arith)
 found_at (y ∷ ys) id zero d lt h = (y.1, rw h refl)
 found_at (y ∷ ys) id (suc i) d lt h = go (bytes_eq y.0.now id) refl (found_at ys id i d (omega arith) h)
   where
-    go : (b : Bool) → bytes_eq y.0.now id ≡ b → (x : MatchedArg) × (option_map (λ e. e.1) (find (λ e. bytes_eq e.0.now id) ys) ≡ Some x)
+    go : (b : Bool) → bytes_eq y.0.now id ≡ b
+        → (x : MatchedArg) × (option_map (λ e. e.1) (find (λ e. bytes_eq e.0.now id) ys) ≡ Some x)
         → (x : MatchedArg) × (option_map (λ e. e.1) (find (λ e. bytes_eq e.0.now id) (y ∷ ys)) ≡ Some x)
     go true b rest = (y.1, rw b refl)
     go false b rest = (rest.0, rw b rest.1)
 
-found_in : (xs : List Entry) (id : List ℕ) → HasIn xs id → (x : MatchedArg) × (option_map (λ e. e.1) (find (λ e. bytes_eq e.0.now id) xs) ≡ Some x)
+found_in : (xs : List Entry) (id : List ℕ) → HasIn xs id
+    → (x : MatchedArg) × (option_map (λ e. e.1) (find (λ e. bytes_eq e.0.now id) xs) ≡ Some x)
 found_in [] id h = absurd (omega (arith, h.1))
 found_in (y ∷ ys) id h = found_at (y ∷ ys) id h.0 y h.1 (h.2 y)
 
-some_text : (how : Reading) (vs : List (Bor (List ℕ))) → 0 < length vs → (t : List ℕ) × (option_map (λ s. read_as how s.now) (slice_get vs 0) ≡ Some t)
+some_text : (how : Reading) (vs : List (Bor (List ℕ))) → 0 < length vs
+    → (t : List ℕ) × (option_map (λ s. read_as how s.now) (slice_get vs 0) ≡ Some t)
 some_text how [] lt = absurd (omega arith)
 some_text how (v ∷ vs) lt = (read_as how v.now, refl)
 
-text_there : (c : Command) (f : Found) (id : List ℕ) (a : Arg) (q : ValueParser) → Known c id a q → TakesOne a → ValuesPass c f → HasId f id
+text_there : (c : Command) (f : Found) (id : List ℕ) (a : Arg) (q : ValueParser) → Known c id a q → TakesOne a
+    → ValuesPass c f → HasId f id
     → (t : List ℕ) × (one_text f id ≡ Some t)
 text_there c f id a q known one values has =
     let x = found_in f.entries.items id has in
-    let text = some_text x.0.reading x.0.vals.items (filled c f id a q x.0 known one values x.1) in
+    let text = some_text x.0.reading x.0.vals.items (matched-is_filled c f id a q x.0 known one values x.1) in
     (text.0, rw x.1 text.1)
 
 -- ---- the options of the command
@@ -180,7 +199,7 @@ text_there c f id a q known one values has =
 -- the option r stands at k, and q parses it
 pub record IsOption (k : ℕ) (r : Rule) (q : ValueParser) : Type 0 where
   pub at : slice_get callboard.top.rules k ≡ Some r
-  pub alone : stands k r callboard.top.rules ≡ true
+  pub alone : has_own_place k r callboard.top.rules ≡ true
   pub parser : r.parser ≡ Some q
   pub case : r.ignore_case ≡ false
 
@@ -192,7 +211,8 @@ pub record HasDefault (r : Rule) : Type 0 where
 
 is_simple_command : (c : Command) → app_of c ≡ callboard → IsSimple c
 unfolding callboard
-is_simple_command c same = ready_simple c (ap (λ (a : App). is_ready a.top) same) (ap (λ (a : App). list_all is_ready_leaf a.subs) same)
+is_simple_command c same =
+    ready_simple c (ap (λ (a : App). is_ready a.top) same) (ap (λ (a : App). list_all is_ready_leaf a.subs) same)
 
 without_groups : (c : Command) → app_of c ≡ callboard → NamesNoGroup c
 unfolding callboard
@@ -206,7 +226,8 @@ record Argument (c : Command) (m : ArgMatches) (p : IsParsedFrom c m) (r : Rule)
   pub simple : IsSimpleArg a
   pub default : WantsDefault a → HasId (found_of m) a.id.now
 
-argument : (c : Command) (m : ArgMatches) (p : IsParsedFrom c m) (k : ℕ) (r : Rule) (q : ValueParser) → app_of c ≡ callboard → IsOption k r q → Argument c m p r q
+argument : (c : Command) (m : ArgMatches) (p : IsParsedFrom c m) (k : ℕ) (r : Rule) (q : ValueParser)
+    → app_of c ≡ callboard → IsOption k r q → Argument c m p r q
 argument c m p k r q same option =
     let rules : map rule_of (args_of c) ≡ callboard.top.rules = ap (λ (a : App). a.top.rules) same in
     let got = place (args_of c) k r (ap (λ (rs : List Rule). slice_get rs k) rules ∙ option.at) in
@@ -231,11 +252,13 @@ argument c m p k r q same option =
       default = default_present c m p simple.globals k d got.1;
     }
 
-values_pass : (c : Command) (m : ArgMatches) (p : IsParsedFrom c m) → app_of c ≡ callboard → ValuesPass p.built (found_of m)
+values_pass : (c : Command) (m : ArgMatches) (p : IsParsedFrom c m) → app_of c ≡ callboard
+    → ValuesPass p.built (found_of m)
 values_pass c m p same = (p.parsed (p.from.globals ∙ (is_simple_command c same).globals)).values
 
 -- the text that an option has passed its parser
-pub option_text : (m : ArgMatches) (k : ℕ) (r : Rule) (q : ValueParser) → IsParsed m → IsOption k r q → (t : List ℕ) → one_of r.id (rows_of (found_of m)) ≡ Some t → IsReadBy q t
+pub option_text : (m : ArgMatches) (k : ℕ) (r : Rule) (q : ValueParser) → IsParsed m → IsOption k r q → (t : List ℕ)
+    → one_of r.id (rows_of (found_of m)) ≡ Some t → IsReadBy q t
 option_text m k r q parsed option t h =
     let p = parsed.2 in
     let x = argument parsed.0 m p k r q parsed.1 option in
@@ -244,7 +267,8 @@ option_text m k r q parsed option t h =
     (one_text-rows (found_of m) x.a.id.now ∙ ap (λ (w : List ℕ). one_of w (rows_of (found_of m))) id ∙ h)
 
 -- an option with a default has a text
-pub option_there : (m : ArgMatches) (k : ℕ) (r : Rule) (q : ValueParser) → IsParsed m → IsOption k r q → HasDefault r → (t : List ℕ) × (one_of r.id (rows_of (found_of m)) ≡ Some t)
+pub option_there : (m : ArgMatches) (k : ℕ) (r : Rule) (q : ValueParser) → IsParsed m → IsOption k r q → HasDefault r
+    → (t : List ℕ) × (one_of r.id (rows_of (found_of m)) ≡ Some t)
 option_there m k r q parsed option has =
     let p = parsed.2 in
     let x = argument parsed.0 m p k r q parsed.1 option in
@@ -255,7 +279,14 @@ option_there m k r q parsed option has =
       delimiter = x.simple.delimiter;
       least = rw (range, least_values) (omega arith);
     } in
-    let texts_are : length (texts (items_of x.a.default_vals)) ≡ length r.defaults = ap (λ (y : Rule). length y.defaults) x.is in
-    let some_default : 0 < length (items_of x.a.default_vals) = simp length-map at (subst (λ (n : ℕ). 0 < n) (sym texts_are) has.default) in
-    let got = text_there p.built (found_of m) x.a.id.now x.a q x.known one (values_pass parsed.0 m p parsed.1) (x.default (x.simple.default_ifs, some_default)) in
-    (got.0, ap (λ (w : List ℕ). one_of w (rows_of (found_of m))) (sym id) ∙ sym (one_text-rows (found_of m) x.a.id.now) ∙ got.1)
+    let texts_are : length (texts (items_of x.a.default_vals)) ≡ length r.defaults =
+    ap (λ (y : Rule). length y.defaults) x.is in
+    let some_default : 0 < length (items_of x.a.default_vals) =
+    simp length-map at (subst (λ (n : ℕ). 0 < n) (sym texts_are) has.default) in
+    let got =
+    text_there p.built (found_of m) x.a.id.now x.a q x.known one (values_pass parsed.0 m p parsed.1)
+    (x.default (x.simple.default_ifs, some_default)) in (
+      got.0,
+      ap (λ (w : List ℕ). one_of w (rows_of (found_of m))) (sym id) ∙ sym (one_text-rows (found_of m) x.a.id.now)
+          ∙ got.1,
+    )

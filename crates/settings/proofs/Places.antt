@@ -1,5 +1,6 @@
 -- Where an option stands among the arguments.
-use Rattle.std.proofs.Common.{◌≡◌, ◌∙◌, ◌<◌, ◌&&◌, ap, sym, ℕ, Bool, true, false, not, zero, suc, refl, arith, List, [], ◌∷◌, map, length, Some, codes, inl, inr}
+use Rattle.std.proofs.Common.{◌≡◌, ◌∙◌, ◌<◌, ◌&&◌, ap, sym, ℕ, Bool, true, false, not, zero, suc, refl, arith, List, []}
+use Rattle.std.proofs.Common.{◌∷◌, map, length, Some, codes, inl, inr}
 use Rattle.std.specs.List.{slice_index_or}
 use Rattle.std.specs.Prelude.{slice_get}
 use Rattle.std.specs.Str.{bytes_eq}
@@ -20,20 +21,24 @@ only_at zero id (r ∷ rest) = lacks id rest
 only_at (suc k) id (r ∷ rest) = not (bytes_eq r.id id) && only_at k id rest
 
 -- the option stands at k alone, and is none that building adds
-abbrev pub stands : ℕ → Rule → List Rule → Bool
-stands k r rules = only_at k r.id rules && (not (is_empty r.id) && (not (bytes_eq r.id (codes "help")) && not (bytes_eq r.id (codes "version"))))
+abbrev pub has_own_place : ℕ → Rule → List Rule → Bool
+has_own_place k r rules =
+    only_at k r.id rules
+    && (not (is_empty r.id) && (not (bytes_eq r.id (codes "help")) && not (bytes_eq r.id (codes "version"))))
 
 other_id : (x : Rule) (id : Text) (rest : Bool) → (not (bytes_eq x.id id) && rest) ≡ true → bytes_eq x.id id ≡ true → ⊥
 other_id x id rest t same =
     let differs = is_false (bytes_eq x.id id) (both (not (bytes_eq x.id id)) rest t).0 in
     cc
 
-lacked : (xs : List Arg) (id : Text) → lacks id (map rule_of xs) ≡ true → (j : ℕ) (e : Arg) → j < length xs → bytes_eq (slice_index_or xs j e).id.now id ≡ true → ⊥
+lacked : (xs : List Arg) (id : Text) → lacks id (map rule_of xs) ≡ true → (j : ℕ) (e : Arg) → j < length xs
+    → bytes_eq (slice_index_or xs j e).id.now id ≡ true → ⊥
 lacked [] id t j e lt same = absurd (omega arith)
 lacked (x ∷ xs) id t zero e lt same = other_id (rule_of x) id _ t same
 lacked (x ∷ xs) id t (suc j) e lt same = lacked xs id (both _ _ t).1 j e (omega arith) same
 
-pub only : (xs : List Arg) (k : ℕ) (id : Text) → only_at k id (map rule_of xs) ≡ true → (j : ℕ) (e : Arg) → j < length xs
+pub only : (xs : List Arg) (k : ℕ) (id : Text) → only_at k id (map rule_of xs) ≡ true → (j : ℕ) (e : Arg)
+    → j < length xs
     → bytes_eq (slice_index_or xs j e).id.now id ≡ true → j ≡ k
 only [] k id t j e lt same = absurd (omega arith)
 only (x ∷ xs) zero id t zero e lt same = refl
@@ -49,23 +54,27 @@ place (x ∷ xs) zero r h = (x, omega arith, cc)
 place (x ∷ xs) (suc k) r h = let got = place xs k r h in (got.0, omega arith, got.2)
 
 -- the three tests of an id
-own_id : (id : Text) (x : Bool) → (x && (not (is_empty id) && (not (bytes_eq id (codes "help")) && not (bytes_eq id (codes "version"))))) ≡ true
-    → (not (is_empty id) ≡ true) × (not (bytes_eq id (codes "help")) ≡ true) × (not (bytes_eq id (codes "version")) ≡ true)
+own_id : (id : Text) (x : Bool)
+    → (x && (not (is_empty id) && (not (bytes_eq id (codes "help")) && not (bytes_eq id (codes "version"))))) ≡ true
+    → (not (is_empty id) ≡ true) × (not (bytes_eq id (codes "help")) ≡ true)
+    × (not (bytes_eq id (codes "version")) ≡ true)
 own_id id x t =
-    let p = (both x (not (is_empty id) && (not (bytes_eq id (codes "help")) && not (bytes_eq id (codes "version")))) t).1 in
+    let p =
+    (both x (not (is_empty id) && (not (bytes_eq id (codes "help")) && not (bytes_eq id (codes "version")))) t).1 in
     let q = both (not (is_empty id)) (not (bytes_eq id (codes "help")) && not (bytes_eq id (codes "version"))) p in
     let r = both (not (bytes_eq id (codes "help"))) (not (bytes_eq id (codes "version"))) q.1 in
     (q.0, r.0, r.1)
 
-pub alone : (k : ℕ) (r : Rule) (rules : List Rule) → stands k r rules ≡ true → only_at k r.id rules ≡ true
+pub alone : (k : ℕ) (r : Rule) (rules : List Rule) → has_own_place k r rules ≡ true → only_at k r.id rules ≡ true
 alone k r rules t = (both (only_at k r.id rules) _ t).0
 
-pub named : (k : ℕ) (r : Rule) (rules : List Rule) → stands k r rules ≡ true → r.id ≡ [] → ⊥
+pub named : (k : ℕ) (r : Rule) (rules : List Rule) → has_own_place k r rules ≡ true → r.id ≡ [] → ⊥
 named k r rules t e =
     let bad : false ≡ true = rw e at (own_id r.id (only_at k r.id rules) t).0 in
     cc
 
-pub not_auto : (k : ℕ) (a : Arg) (r : Rule) (rules : List Rule) → rule_of a ≡ r → stands k r rules ≡ true → IsAuto a → ⊥
+pub not_auto : (k : ℕ) (a : Arg) (r : Rule) (rules : List Rule) → rule_of a ≡ r → has_own_place k r rules ≡ true
+    → IsAuto a → ⊥
 not_auto k a r rules is t (inl e) =
     let id : r.id ≡ codes "help" = ap (λ (x : Rule). x.id) (sym is) ∙ e in
     let bad : false ≡ true = rw id at (own_id r.id (only_at k r.id rules) t).1 in

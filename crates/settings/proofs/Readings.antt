@@ -1,5 +1,6 @@
 -- What the getters read of the options.
-use Rattle.std.proofs.Common.{◌≡◌, ◌∙◌, ◌⊎◌, ◌≤◌, ◌||◌, ap, ℕ, Bool, true, false, refl, sym, subst, arith, List, [], Option, Some, None, Result, codes, inl, inr}
+use Rattle.std.proofs.Common.{◌≡◌, ◌∙◌, ◌⊎◌, ◌≤◌, ◌||◌, ap, ℕ, Bool, true, false, refl, sym, subst, arith, List, []}
+use Rattle.std.proofs.Common.{Option, Some, None, Result, codes, inl, inr}
 use Rattle.std.specs.Prelude.{IfSome, IsSomeAnd, option_map, pos, slice_get, unwrap_or}
 use Rattle.std.specs.Str.{bytes_eq}
 use Rattle.std.specs.Str.Parse.{ParsesUnsigned}
@@ -20,36 +21,50 @@ use Rattle.settings.specs.CommandLine.{number_at, number_in}
 use Rattle.settings.specs.Tasks.{is_given, is_yes}
 use Rattle.settings.proofs.Numbers.{number_read, passed_text}
 use Rattle.settings.proofs.Parsed.{IsOption, IsReadBy, option_text, option_there}
-use Rattle.settings.proofs.Places.{stands}
+use Rattle.settings.proofs.Places.{has_own_place}
 
 -- ---- the getters
 
 -- `get_one` of an option that has a number
-pub number_got : (E : Type 0) (G : List ℕ → Result ℕ E → Type 0) (f : Found) (id : Text) (r : Option ℕ) → HasNumber 0 4294967295 id (rows_of f)
-    → ((t : Text) → one_text f id ≡ Some t → ReadsOne G t r) → ((t : Text) (x : Result ℕ E) → G t x → ParsesUnsigned 32 10 t x)
+pub number_got : (E : Type 0) (G : List ℕ → Result ℕ E → Type 0) (f : Found) (id : Text) (r : Option ℕ)
+    → HasNumber 0 4294967295 id (rows_of f)
+    → ((t : Text) → one_text f id ≡ Some t → ReadsOne G t r)
+    → ((t : Text) (x : Result ℕ E) → G t x → ParsesUnsigned 32 10 t x)
     → (n : ℕ) × (r ≡ Some n) × (number_at id (rows_of f) ≡ Some n)
 number_got E G f id r has read parses = go (one_of id (rows_of f)) refl has
   where
-    go : (o : Option Text) → one_of id (rows_of f) ≡ o → IsSomeAnd o (IsNumberIn 0 4294967295) → (n : ℕ) × (r ≡ Some n) × (number_at id (rows_of f) ≡ Some n)
+    go : (o : Option Text) → one_of id (rows_of f) ≡ o → IsSomeAnd o (IsNumberIn 0 4294967295) → (n : ℕ) × (r ≡ Some n)
+        × (number_at id (rows_of f) ≡ Some n)
     go None e is = absurd is
-    go (Some t) e is = (number_in t, number_read E G 0 4294967295 t r (read t (one_text-rows f id ∙ e)) (parses t) (omega arith) is, ap (option_map number_in) e)
+    go (Some t) e is = (
+      number_in t,
+      number_read E G 0 4294967295 t r (read t (one_text-rows f id ∙ e)) (parses t) (omega arith) is,
+      ap (option_map number_in) e,
+    )
 
 -- and of one that may be left out
-pub number_or_none : (E : Type 0) (G : List ℕ → Result ℕ E → Type 0) (f : Found) (id : Text) (r : Option ℕ) → MayHaveNumber 0 4294967295 id (rows_of f)
-    → (one_text f id ≡ None → r ≡ None) → ((t : Text) → one_text f id ≡ Some t → ReadsOne G t r) → ((t : Text) (x : Result ℕ E) → G t x → ParsesUnsigned 32 10 t x)
+pub number_or_none : (E : Type 0) (G : List ℕ → Result ℕ E → Type 0) (f : Found) (id : Text) (r : Option ℕ)
+    → MayHaveNumber 0 4294967295 id (rows_of f)
+    → (one_text f id ≡ None → r ≡ None) → ((t : Text) → one_text f id ≡ Some t → ReadsOne G t r)
+    → ((t : Text) (x : Result ℕ E) → G t x → ParsesUnsigned 32 10 t x)
     → number_at id (rows_of f) ≡ r
 number_or_none E G f id r has none read parses = go (one_of id (rows_of f)) refl has
   where
-    go : (o : Option Text) → one_of id (rows_of f) ≡ o → IfSome o (IsNumberIn 0 4294967295) → number_at id (rows_of f) ≡ r
+    go : (o : Option Text) → one_of id (rows_of f) ≡ o → IfSome o (IsNumberIn 0 4294967295)
+        → number_at id (rows_of f) ≡ r
     go None e is = ap (option_map number_in) e ∙ sym (none (one_text-rows f id ∙ e))
-    go (Some t) e is = ap (option_map number_in) e ∙ sym (number_read E G 0 4294967295 t r (read t (one_text-rows f id ∙ e)) (parses t) (omega arith) is)
+    go (Some t) e is =
+        ap (option_map number_in) e
+        ∙ sym (number_read E G 0 4294967295 t r (read t (one_text-rows f id ∙ e)) (parses t) (omega arith) is)
 
 -- `get_flag`
-pub flag_got : (f : Found) (id : Text) (r : Bool) → HasFlag id (rows_of f) → (one_text f id ≡ None → r ≡ false) → (one_text f id ≡ Some (codes "true") → r ≡ true)
+pub flag_got : (f : Found) (id : Text) (r : Bool) → HasFlag id (rows_of f) → (one_text f id ≡ None → r ≡ false)
+    → (one_text f id ≡ Some (codes "true") → r ≡ true)
     → (one_text f id ≡ Some (codes "false") → r ≡ false) → is_given id (rows_of f) ≡ r
 flag_got f id r has none yes_flag no_flag = go (one_of id (rows_of f)) refl has
   where
-    go : (o : Option Text) → one_of id (rows_of f) ≡ o → IfSome o (λ text. (text ≡ codes "true") ⊎ (text ≡ codes "false")) → is_given id (rows_of f) ≡ r
+    go : (o : Option Text) → one_of id (rows_of f) ≡ o
+        → IfSome o (λ text. (text ≡ codes "true") ⊎ (text ≡ codes "false")) → is_given id (rows_of f) ≡ r
     go None e is = ap is_yes e ∙ sym (none (one_text-rows f id ∙ e))
     go (Some t) e (inl is) =
         let text : one_of id (rows_of f) ≡ Some (codes "true") = e ∙ ap (λ (x : Text). Some x) is in
@@ -60,25 +75,35 @@ flag_got f id r has none yes_flag no_flag = go (one_of id (rows_of f)) refl has
 
 -- ---- the options
 
-passed_number : (least most : ℕ) (t : Text) → IsReadBy (parser.Signed (pos least) (pos most)) t → IsNumberIn least most t
+passed_number : (least most : ℕ) (t : Text) → IsReadBy (parser.Signed (pos least) (pos most)) t
+    → IsNumberIn least most t
 passed_number least most t read = subst (IsNumberIn least most) (sym read.1) (passed_text least most read.0 read.2)
 
-a_number : (m : ArgMatches) (k : ℕ) (name : Text) (least most : ℕ) (default : Text) → IsParsed m → slice_get callboard.top.rules k ≡ Some (number name least most (Some default))
-    → stands k (number name least most (Some default)) callboard.top.rules ≡ true → HasNumber least most name (rows_of (found_of m))
+a_number : (m : ArgMatches) (k : ℕ) (name : Text) (least most : ℕ) (default : Text) → IsParsed m
+    → slice_get callboard.top.rules k ≡ Some (number name least most (Some default))
+    → has_own_place k (number name least most (Some default)) callboard.top.rules ≡ true
+    → HasNumber least most name (rows_of (found_of m))
 a_number m k name least most default parsed at alone =
-    let option : IsOption k (number name least most (Some default)) (parser.Signed (pos least) (pos most)) = record { at = at; alone = alone; parser = refl; case = refl } in
+    let option : IsOption k (number name least most (Some default)) (parser.Signed (pos least) (pos most)) =
+    record { at = at; alone = alone; parser = refl; case = refl } in
     let got = option_there m k _ _ parsed option (record { set = refl; range = refl; default = omega arith }) in
-    subst (λ (o : Option Text). IsSomeAnd o (IsNumberIn least most)) (sym got.1) (passed_number least most got.0 (option_text m k _ _ parsed option got.0 got.1))
+    subst (λ (o : Option Text). IsSomeAnd o (IsNumberIn least most)) (sym got.1)
+    (passed_number least most got.0 (option_text m k _ _ parsed option got.0 got.1))
 
-maybe_number : (m : ArgMatches) (k : ℕ) (name : Text) (least most : ℕ) → IsParsed m → slice_get callboard.top.rules k ≡ Some (number name least most None)
-    → stands k (number name least most None) callboard.top.rules ≡ true → MayHaveNumber least most name (rows_of (found_of m))
+maybe_number : (m : ArgMatches) (k : ℕ) (name : Text) (least most : ℕ) → IsParsed m
+    → slice_get callboard.top.rules k ≡ Some (number name least most None)
+    → has_own_place k (number name least most None) callboard.top.rules ≡ true
+    → MayHaveNumber least most name (rows_of (found_of m))
 maybe_number m k name least most parsed at alone = go (one_of name (rows_of (found_of m))) refl
   where
     go : (o : Option Text) → one_of name (rows_of (found_of m)) ≡ o → IfSome o (IsNumberIn least most)
     go None e = tt
-    go (Some t) e = passed_number least most t (option_text m k (number name least most None) (parser.Signed (pos least) (pos most)) parsed (record { at = at; alone = alone; parser = refl; case = refl }) t e)
+    go (Some t) e =
+        passed_number least most t (option_text m k (number name least most None) (parser.Signed (pos least) (pos most))
+        parsed (record { at = at; alone = alone; parser = refl; case = refl }) t e)
 
-true_or_false : (t : Text) → (bytes_eq t (codes "true") || bytes_eq t (codes "false")) ≡ true → (t ≡ codes "true") ⊎ (t ≡ codes "false")
+true_or_false : (t : Text) → (bytes_eq t (codes "true") || bytes_eq t (codes "false")) ≡ true → (t ≡ codes "true")
+    ⊎ (t ≡ codes "false")
 true_or_false t h = go (bytes_eq t (codes "true")) refl
   where
     go : (b : Bool) → bytes_eq t (codes "true") ≡ b → (t ≡ codes "true") ⊎ (t ≡ codes "false")
@@ -88,14 +113,22 @@ true_or_false t h = go (bytes_eq t (codes "true")) refl
         inr ((bytes_eq-Decides t (codes "false")).0 other)
 
 a_flag : (m : ArgMatches) (k : ℕ) (name : Text) → IsParsed m → slice_get callboard.top.rules k ≡ Some (flag name)
-    → stands k (flag name) callboard.top.rules ≡ true → HasFlag name (rows_of (found_of m))
+    → has_own_place k (flag name) callboard.top.rules ≡ true → HasFlag name (rows_of (found_of m))
 a_flag m k name parsed at alone = go (one_of name (rows_of (found_of m))) refl
   where
-    go : (o : Option Text) → one_of name (rows_of (found_of m)) ≡ o → IfSome o (λ text. (text ≡ codes "true") ⊎ (text ≡ codes "false"))
+    go : (o : Option Text) → one_of name (rows_of (found_of m)) ≡ o
+        → IfSome o (λ text. (text ≡ codes "true") ⊎ (text ≡ codes "false"))
     go None e = tt
     go (Some t) e =
-        let read = option_text m k (flag name) parser.Bool parsed (record { at = at; alone = alone; parser = refl; case = refl }) t e in
-        true_or_false t (subst (λ (w : Text). (bytes_eq w (codes "true") || bytes_eq w (codes "false")) ≡ true) (sym read.1) read.2)
+        let read = option_text m k (flag name) parser.Bool parsed (record {
+          at = at;
+          alone = alone;
+          parser =
+              refl;
+          case = refl;
+        }) t e in
+        true_or_false t (subst (λ (w : Text). (bytes_eq w (codes "true") || bytes_eq w (codes "false")) ≡ true)
+        (sym read.1) read.2)
 
 pub record HasOptions (rows : List Row) : Type 0 where
   pub low : HasNumber 1 MAX_TICK (codes "low") rows
@@ -108,6 +141,7 @@ pub record HasOptions (rows : List Row) : Type 0 where
   pub floor : HasFlag (codes "floor") rows
   pub history : HasFlag (codes "history") rows
   pub audit : HasFlag (codes "audit") rows
+  pub results : HasFlag (codes "results") rows
   pub live : HasFlag (codes "live") rows
 
 pub has_options : (m : ArgMatches) → IsParsed m → HasOptions (rows_of (found_of m))
@@ -123,36 +157,43 @@ has_options m parsed = record {
   floor = a_flag m 7 (codes "floor") parsed refl refl;
   history = a_flag m 8 (codes "history") parsed refl refl;
   audit = a_flag m 10 (codes "audit") parsed refl refl;
-  live = a_flag m 11 (codes "live") parsed refl refl;
+  results = a_flag m 11 (codes "results") parsed refl refl;
+  live = a_flag m 12 (codes "live") parsed refl refl;
 }
 
 -- ---- their ranges
 
-pub wider : (least most : ℕ) (name : Text) (rows : List Row) → most ≤ 4294967295 → HasNumber least most name rows → HasNumber 0 4294967295 name rows
+pub wider : (least most : ℕ) (name : Text) (rows : List Row) → most ≤ 4294967295 → HasNumber least most name rows
+    → HasNumber 0 4294967295 name rows
 wider least most name rows le has = go (one_of name rows) has
   where
     go : (o : Option Text) → IsSomeAnd o (IsNumberIn least most) → IsSomeAnd o (IsNumberIn 0 4294967295)
     go None is = is
     go (Some t) is = (is.0, omega arith, omega arith)
 
-pub wider_or_none : (least most : ℕ) (name : Text) (rows : List Row) → most ≤ 4294967295 → MayHaveNumber least most name rows → MayHaveNumber 0 4294967295 name rows
+pub wider_or_none : (least most : ℕ) (name : Text) (rows : List Row) → most ≤ 4294967295
+    → MayHaveNumber least most name rows → MayHaveNumber 0 4294967295 name rows
 wider_or_none least most name rows le has = go (one_of name rows) has
   where
     go : (o : Option Text) → IfSome o (IsNumberIn least most) → IfSome o (IsNumberIn 0 4294967295)
     go None is = is
     go (Some t) is = (is.0, omega arith, omega arith)
 
-pub between : (least most : ℕ) (name : Text) (rows : List Row) (n : ℕ) → HasNumber least most name rows → number_at name rows ≡ Some n → (least ≤ n) × (n ≤ most)
+pub between : (least most : ℕ) (name : Text) (rows : List Row) (n : ℕ) → HasNumber least most name rows
+    → number_at name rows ≡ Some n → (least ≤ n) × (n ≤ most)
 between least most name rows n has at = go (one_of name rows) has at
   where
-    go : (o : Option Text) → IsSomeAnd o (IsNumberIn least most) → option_map number_in o ≡ Some n → (least ≤ n) × (n ≤ most)
+    go : (o : Option Text) → IsSomeAnd o (IsNumberIn least most) → option_map number_in o ≡ Some n
+        → (least ≤ n) × (n ≤ most)
     go None is e = absurd is
     go (Some t) is e =
         let same : number_in t ≡ n = ap (λ (o : Option ℕ). unwrap_or o n) e in
         subst (λ (x : ℕ). (least ≤ x) × (x ≤ most)) same (is.1, is.2)
 
-pub at_most_if_some : (least most : ℕ) (name : Text) (rows : List Row) (r : Option ℕ) → MayHaveNumber least most name rows → number_at name rows ≡ r → IfSome r (λ n. n ≤ most)
-at_most_if_some least most name rows r has at = subst (λ (o : Option ℕ). IfSome o (λ n. n ≤ most)) at (go (one_of name rows) has)
+pub at_most_if_some : (least most : ℕ) (name : Text) (rows : List Row) (r : Option ℕ)
+    → MayHaveNumber least most name rows → number_at name rows ≡ r → IfSome r (λ n. n ≤ most)
+at_most_if_some least most name rows r has at =
+    subst (λ (o : Option ℕ). IfSome o (λ n. n ≤ most)) at (go (one_of name rows) has)
   where
     go : (o : Option Text) → IfSome o (IsNumberIn least most) → IfSome (option_map number_in o) (λ n. n ≤ most)
     go None is = tt
@@ -164,10 +205,12 @@ pub free_command : (c : Command) → app_of c ≡ callboard → is_simple_and_fr
 unfolding callboard
 free_command c same = ap is_simple_and_free same
 
-pub no_fault : (c : Command) (words : List Text) → app_of c ≡ callboard → (is_simple_and_free (app_of c) ≡ true → fault_of (app_of c) words ≡ []) → fault_of callboard words ≡ []
+pub no_fault : (c : Command) (words : List Text) → app_of c ≡ callboard
+    → (is_simple_and_free (app_of c) ≡ true → fault_of (app_of c) words ≡ []) → fault_of callboard words ≡ []
 no_fault c words same kinds = ap (λ (a : App). fault_of a words) (sym same) ∙ kinds (free_command c same)
 
 -- the rows of the matches are those that the words give
-pub rows_are : (c : Command) (m : ArgMatches) (words : List Text) → app_of c ≡ callboard → HasMatchesOf (app_of c) words m → rows_of (found_of m) ≡ matches_of callboard words
+pub rows_are : (c : Command) (m : ArgMatches) (words : List Text) → app_of c ≡ callboard
+    → HasMatchesOf (app_of c) words m → rows_of (found_of m) ≡ matches_of callboard words
 unfolding callboard
 rows_are c m words same has = (has (ap is_simple same)).0 ∙ ap (λ (a : App). matches_of a words) same

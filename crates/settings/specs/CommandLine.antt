@@ -6,9 +6,10 @@ use Rattle.clap.specs.Kinds.{HasKind, Kinds, or_else}
 use Rattle.clap.specs.Simple.{matches_of}
 use Rattle.clap.specs.Walk.{Row, Text, one_of}
 use Rattle.settings.specs.Options.{callboard}
-use Rattle.settings.specs.Tasks.{form_kinds, is_live_mixed, is_mixed, task_at, word_in}
+use Rattle.settings.specs.Tasks.{form_kinds, is_live_mixed, is_audit_mixed, is_results_alone, task_at, word_in}
 use Rattle.settings.specs.declared.fault.WordsFault.{WordsFault}
 use Rattle.settings.specs.declared.fault.WordsFault.TheVariants.{Parse, AuditNotAlone, LiveNotAlone}
+use Rattle.settings.specs.declared.fault.WordsFault.TheVariants.{ResultsWithoutAudit}
 use Rattle.settings.specs.declared.types.Settings.{Settings}
 
 -- the number that a text is read as
@@ -20,7 +21,7 @@ abbrev pub number_at : Text → List Row → Option ℕ
 number_at name rows = option_map number_in (one_of name rows)
 
 -- each setting is what its option says
-pub record Says (rows : List Row) (s : Settings) : Type 0 where
+pub record MatchesOptions (rows : List Row) (s : Settings) : Type 0 where
   pub low : number_at (codes "low") rows ≡ Some s.config.low
   pub high : number_at (codes "high") rows ≡ Some s.config.high
   pub reference : number_at (codes "reference") rows ≡ Some s.config.reference
@@ -31,19 +32,23 @@ pub record Says (rows : List Row) (s : Settings) : Type 0 where
   pub task : task_at rows ≡ Some s.task
 
 -- the words, the program's name first, have no fault and say these settings, and an audit stands alone, and so do
--- answers as records come
-abbrev pub Accepts : List Text → Settings → Type 0
-Accepts words s = (fault_of callboard words ≡ []) × Says (matches_of callboard words) s
-    × (is_mixed (matches_of callboard words) ≡ false) × (is_live_mixed (matches_of callboard words) ≡ false)
+-- answers as records come; results go with an audit
+abbrev pub AcceptsWords : List Text → Settings → Type 0
+AcceptsWords words s = (fault_of callboard words ≡ []) × MatchesOptions (matches_of callboard words) s
+    × (is_audit_mixed (matches_of callboard words) ≡ false) × (is_live_mixed (matches_of callboard words) ≡ false)
+    × (is_results_alone (matches_of callboard words) ≡ false)
 
 -- the kinds of fault of the words: those of the parse, and where it has none, of the form
 abbrev pub words_kinds : List Text → Kinds
 words_kinds words = or_else (fault_of callboard words) (form_kinds (word_in (matches_of callboard words)))
 
 -- Why words are refused: a fault of theirs, want of memory aside; where they have none, an audit that doesn't stand
--- alone; and where it does, answers as records come that don't.
-abbrev pub Refuses : List Text → WordsFault → Type 0
-Refuses words (Parse error) = HasKind (words_kinds words) error
-Refuses words AuditNotAlone = (words_kinds words ≡ []) × (is_mixed (matches_of callboard words) ≡ true)
-Refuses words LiveNotAlone = (words_kinds words ≡ []) × (is_mixed (matches_of callboard words) ≡ false)
+-- alone; where it does, answers as records come that don't; and where they do, results without an audit.
+abbrev pub RefusesWords : List Text → WordsFault → Type 0
+RefusesWords words (Parse error) = HasKind (words_kinds words) error
+RefusesWords words AuditNotAlone = (words_kinds words ≡ []) × (is_audit_mixed (matches_of callboard words) ≡ true)
+RefusesWords words LiveNotAlone = (words_kinds words ≡ []) × (is_audit_mixed (matches_of callboard words) ≡ false)
     × (is_live_mixed (matches_of callboard words) ≡ true)
+RefusesWords words ResultsWithoutAudit =
+    (words_kinds words ≡ []) × (is_audit_mixed (matches_of callboard words) ≡ false)
+    × (is_live_mixed (matches_of callboard words) ≡ false) × (is_results_alone (matches_of callboard words) ≡ true)

@@ -47,6 +47,7 @@ options = number (codes "low") 1 MAX_TICK (Some (codes "1"))
     ∷ flag (codes "history")
     ∷ word (codes "print")
     ∷ flag (codes "audit")
+    ∷ flag (codes "results")
     ∷ flag (codes "live")
     ∷ []
 

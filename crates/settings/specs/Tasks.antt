@@ -1,6 +1,6 @@
 -- What the words ask to be done with the input.
 use Rattle.std.specs.Prelude.{◌≡◌, ◌||◌, ◌&&◌, Bool, true, false, List, [], ◌∷◌, Option, Some, None, codes, is_some}
-use Rattle.std.specs.Prelude.{if◌then◌else◌, option_map}
+use Rattle.std.specs.Prelude.{if◌then◌else◌, not, option_map}
 use Rattle.std.specs.Option.{option_map_or}
 use Rattle.std.specs.Str.{bytes_eq}
 use Rattle.clap.specs.Kinds.{HasKind, Kinds}
@@ -8,11 +8,14 @@ use Rattle.clap.specs.Walk.{Row, Text, first_of, one_of}
 use Rattle.clap.specs.declared.error.kind.ErrorKind.TheVariants.{InvalidValue}
 use Rattle.settings.specs.declared.fault.WordsFault.{WordsFault}
 use Rattle.settings.specs.declared.fault.WordsFault.TheVariants.{Parse, AuditNotAlone, LiveNotAlone}
+use Rattle.settings.specs.declared.fault.WordsFault.TheVariants.{ResultsWithoutAudit}
+use Rattle.settings.specs.declared.types.FloorForm.{FloorForm}
+use Rattle.settings.specs.declared.types.FloorForm.TheVariants as floor
 use Rattle.settings.specs.declared.types.Form.{Form}
 use Rattle.settings.specs.declared.types.Form.TheVariants.{Lines, Listing}
 use Rattle.settings.specs.declared.types.Listing.TheVariants.{Journal, Trades, Book}
 use Rattle.settings.specs.declared.types.Task.{Task}
-use Rattle.settings.specs.declared.types.Task.TheVariants.{Run, Audit, Live}
+use Rattle.settings.specs.declared.types.Task.TheVariants.{Run, Floor, Audit, Live}
 
 -- the text of a flag, if it has one, says that it was given
 abbrev pub is_yes : Option Text → Bool
@@ -36,23 +39,35 @@ abbrev pub word_in : List Row → Option Text
 word_in rows = first_of (codes "print") rows
 
 -- the form that is asked for: the lines where none is
-abbrev pub form_asked : Option Text → Option Form
-form_asked word = option_map_or form_of word (Some Lines)
+abbrev pub wanted_form : Option Text → Option Form
+wanted_form word = option_map_or form_of word (Some Lines)
 
 -- a word that names no form is an invalid value
 abbrev pub form_kinds : Option Text → Kinds
-form_kinds word = if is_some (form_asked word) then [] else InvalidValue ∷ []
+form_kinds word = if is_some (wanted_form word) then [] else InvalidValue ∷ []
+
+-- what is printed of a board's day: a listing in place of its tally, which its history follows where that is wanted
+abbrev pub floor_form : Bool → Form → FloorForm
+floor_form history (Listing listing) = floor.Listing listing
+floor_form true Lines = floor.History
+floor_form false Lines = floor.Tally
+
+-- commands are called on a board, or applied to an auction
+abbrev pub run_of : Bool → Bool → Form → Task
+run_of true history form = Floor (floor_form history form)
+run_of false history form = Run form
 
 -- what is to be done: the answers as records come or an audit, where they are asked for, and else a run
 abbrev pub task_at : List Row → Option Task
 task_at rows =
     if is_given (codes "live") rows then Some Live
-    else if is_given (codes "audit") rows then Some Audit
-    else option_map (Run (is_given (codes "floor") rows) (is_given (codes "history") rows)) (form_asked (word_in rows))
+    else if is_given (codes "audit") rows then Some (Audit (is_given (codes "results") rows))
+    else option_map (run_of (is_given (codes "floor") rows) (is_given (codes "history") rows))
+    (wanted_form (word_in rows))
 
 -- an audit was asked for beside something that only a run has
-abbrev pub is_mixed : List Row → Bool
-is_mixed rows = is_given (codes "audit") rows
+abbrev pub is_audit_mixed : List Row → Bool
+is_audit_mixed rows = is_given (codes "audit") rows
     && (is_given (codes "floor") rows || (is_given (codes "history") rows || is_some (word_in rows)))
 
 abbrev pub is_listing : Form → Bool
@@ -60,17 +75,24 @@ is_listing Lines = false
 is_listing (Listing listing) = true
 
 -- a listing was asked for in place of the lines
-abbrev pub asks_listing : List Row → Bool
-asks_listing rows = option_map_or is_listing (form_asked (word_in rows)) false
+abbrev pub wants_listing : List Row → Bool
+wants_listing rows = option_map_or is_listing (wanted_form (word_in rows)) false
 
 -- answers as records come were asked for beside something that goes without them
 abbrev pub is_live_mixed : List Row → Bool
 is_live_mixed rows = is_given (codes "live") rows && (is_given (codes "audit") rows
-    || (is_given (codes "floor") rows || (is_given (codes "history") rows || asks_listing rows)))
+    || (is_given (codes "floor") rows || (is_given (codes "history") rows || wants_listing rows)))
 
--- Why options that have no fault of their own say no task. The form comes first, then what stands beside an audit.
+-- the results of a day were asked for without an audit
+abbrev pub is_results_alone : List Row → Bool
+is_results_alone rows = is_given (codes "results") rows && not (is_given (codes "audit") rows)
+
+-- Why options that have no fault of their own say no task. The form comes first, then what stands beside an audit, then
+-- what stands beside answers as records come.
 abbrev pub RefusesTask : List Row → WordsFault → Type 0
 RefusesTask rows (Parse error) = HasKind (form_kinds (word_in rows)) error
-RefusesTask rows AuditNotAlone = (form_kinds (word_in rows) ≡ []) × (is_mixed rows ≡ true)
+RefusesTask rows AuditNotAlone = (form_kinds (word_in rows) ≡ []) × (is_audit_mixed rows ≡ true)
 RefusesTask rows LiveNotAlone =
-    (form_kinds (word_in rows) ≡ []) × (is_mixed rows ≡ false) × (is_live_mixed rows ≡ true)
+    (form_kinds (word_in rows) ≡ []) × (is_audit_mixed rows ≡ false) × (is_live_mixed rows ≡ true)
+RefusesTask rows ResultsWithoutAudit = (form_kinds (word_in rows) ≡ []) × (is_audit_mixed rows ≡ false)
+    × (is_live_mixed rows ≡ false) × (is_results_alone rows ≡ true)

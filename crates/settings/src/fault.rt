@@ -1,6 +1,7 @@
 //! Why words say no settings.
 
 ghost use Rattle.std.specs.Prelude.{◌≡◌};
+ghost use Rattle.settings.specs.WordsLine.{words_fault_line};
 ghost use Rattle.settings.specs.declared.fault.WordsFault.TheVariants.{Parse};
 
 use clap::Error;
@@ -18,6 +19,8 @@ pub enum WordsFault {
     /// `--live` was given beside `--floor`, `--history`, `--audit` or a form of `--print` other than the lines. The
     /// text is one line.
     LiveNotAlone,
+    /// `--results` was given without `--audit`. The text is one line.
+    ResultsWithoutAudit,
 }
 
 impl From<Error> for WordsFault {
@@ -29,6 +32,8 @@ impl From<Error> for WordsFault {
 }
 
 impl Display for WordsFault {
+    ghost output = { words_fault_line };
+
     fn fmt<W: fmt::Write>(&self, f: &mut Formatter<W>) -> fmt::Result {
         match self {
             WordsFault::Parse(error) => error.fmt(f),
@@ -38,6 +43,7 @@ impl Display for WordsFault {
             WordsFault::LiveNotAlone => {
                 f.write_str("--live prints lines, without --floor, --history or --audit")
             }
+            WordsFault::ResultsWithoutAudit => f.write_str("--results goes with --audit"),
         }
     }
 }

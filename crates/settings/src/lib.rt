@@ -3,9 +3,9 @@
 
 ghost use Rattle.std.specs.Prelude.{◌≡◌, IfErr, IfOk, Some, codes};
 ghost use Rattle.clap.specs.Walk.{texts};
-ghost use Rattle.settings.specs.Ranges.{InRange};
+ghost use Rattle.settings.specs.Ranges.{IsInRange};
 ghost use Rattle.settings.specs.OptionTexts.{HasU32, IsParsed, MayHaveU32, rows_in};
-ghost use Rattle.settings.specs.CommandLine.{Accepts, Refuses, Says, number_at};
+ghost use Rattle.settings.specs.CommandLine.{AcceptsWords, RefusesWords, MatchesOptions, number_at};
 ghost use Rattle.settings.specs.Tasks.{task_at};
 
 mod fault;
@@ -18,7 +18,7 @@ use clap::ArgMatches;
 pub use fault::WordsFault;
 use std::alloc::Global;
 use task::task_of;
-pub use types::{Form, Listing, Settings, Task};
+pub use types::{FloorForm, Form, Listing, Settings, Task};
 
 /// The number of an option that has a default.
 fn number_of(matches: &ArgMatches<'_>, name: &str) -> u32
@@ -40,8 +40,8 @@ fn range_of(matches: &ArgMatches<'_>) -> Option<u32>
 fn settings_of(matches: &ArgMatches<'_>, task: Task) -> Settings
     requires parsed { IsParsed matches.now }
     requires task { task_at (rows_in matches.now) ≡ Some task }
-    ensures words { Says (rows_in matches.now) result }
-    ensures ranges { InRange result }
+    ensures words { MatchesOptions (rows_in matches.now) result }
+    ensures ranges { IsInRange result }
 {
     let low = number_of(matches, "low");
     let high = number_of(matches, "high");
@@ -72,9 +72,9 @@ fn settings_of(matches: &ArgMatches<'_>, task: Task) -> Settings
 /// number out of its range or a form that there is not, and for want of memory. Where none of these
 /// is so, it is that `--audit` doesn't stand alone, and where that does, that `--live` doesn't.
 pub fn settings<'a>(alloc: Global, words: &'a [&'a str]) -> Result<Settings, WordsFault>
-    ensures refused { IfErr result (Refuses (texts words.now)) }
-    ensures words { IfOk result (Accepts (texts words.now)) }
-    ensures ranges { IfOk result InRange }
+    ensures refused { IfErr result (RefusesWords (texts words.now)) }
+    ensures words { IfOk result (AcceptsWords (texts words.now)) }
+    ensures ranges { IfOk result IsInRange }
 {
     let command = options::callboard(alloc)?;
     let matches = command.try_get_matches_from(words)?;

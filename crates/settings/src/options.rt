@@ -168,8 +168,8 @@ fn with_numbers<'a>(
 }
 
 /// The command with all its options: the numbers in ticks, orders, calls and members, each with its range, the two
-/// flags of the members' floor, what is printed, the audit, and the answers as records come. The error is want of
-/// memory.
+/// flags of the members' floor, what is printed, the audit and its results, and the answers as records come. The error
+/// is want of memory.
 pub fn callboard<'a>(alloc: Global) -> Result<Command<'a>, Error>
     ensures options { IfOk result (λ c. app_of c ≡ callboard) }
     ensures memory { IfErr result (λ e. kind_of e ≡ ErrorKind.OutOfMemory) }
@@ -195,6 +195,11 @@ pub fn callboard<'a>(alloc: Global) -> Result<Command<'a>, Error>
         "audit",
         "Reads a journal, and tells which recorded replies aren't the lawful ones",
     );
+    let results = flag_option(
+        alloc,
+        "results",
+        "With --audit, prints the lawful results too: each uncross, and where the day stands",
+    );
     let live = flag_option(
         alloc,
         "live",
@@ -206,6 +211,7 @@ pub fn callboard<'a>(alloc: Global) -> Result<Command<'a>, Error>
             .arg(history)?
             .arg(print)?
             .arg(audit)?
+            .arg(results)?
             .arg(live)?,
     )
 }

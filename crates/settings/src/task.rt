@@ -5,12 +5,13 @@ ghost use Rattle.clap.specs.Kinds.{FailsBy};
 ghost use Rattle.clap.specs.Values.{kind_of};
 ghost use Rattle.clap.specs.declared.error.kind.ErrorKind.TheVariants.{InvalidValue, OutOfMemory};
 ghost use Rattle.settings.specs.OptionTexts.{HasFlag, IsParsed, rows_in};
-ghost use Rattle.settings.specs.Tasks.{RefusesTask, form_asked, form_kinds, form_of, is_given, is_live_mixed, is_mixed};
-ghost use Rattle.settings.specs.Tasks.{task_at, word_in};
+ghost use Rattle.settings.specs.Tasks.{RefusesTask, floor_form, wanted_form, form_kinds, form_of, is_given};
+ghost use Rattle.settings.specs.Tasks.{is_live_mixed, is_audit_mixed};
+ghost use Rattle.settings.specs.Tasks.{is_results_alone, task_at, word_in};
 
 use crate::fault::WordsFault;
 use crate::options;
-use crate::types::{Form, Listing, Task};
+use crate::types::{FloorForm, Form, Listing, Task};
 use clap::error::ErrorKind;
 use clap::{ArgMatches, Error};
 use std::alloc::Global;
@@ -52,9 +53,9 @@ fn unknown_form(alloc: Global, word: &str) -> Result<Error, Error>
 }
 
 /// The form that is asked for: the lines where none is.
-fn form_asked(alloc: Global, word: Option<&str>) -> Result<Form, Error>
+fn wanted_form(alloc: Global, word: Option<&str>) -> Result<Form, Error>
     ensures refused { FailsBy (form_kinds (option_map (λ w. w.now) word.entry)) result }
-    ensures form { IfOk result (λ form. form_asked (option_map (λ w. w.now) word.entry) ≡ Some form) }
+    ensures form { IfOk result (λ form. wanted_form (option_map (λ w. w.now) word.entry) ≡ Some form) }
 {
     let Some(word) = word else {
         return Ok(Form::Lines);
@@ -73,9 +74,9 @@ fn has_form(matches: &ArgMatches<'_>) -> bool
 }
 
 /// Whether an audit was asked for beside something that only a run has.
-fn is_mixed(matches: &ArgMatches<'_>) -> bool
+fn is_audit_mixed(matches: &ArgMatches<'_>) -> bool
     requires { IsParsed matches.now }
-    ensures { is_mixed (rows_in matches.now) ≡ result }
+    ensures { is_audit_mixed (rows_in matches.now) ≡ result }
 {
     let audit = flag_of(matches, "audit");
     let floor = flag_of(matches, "floor");
@@ -87,7 +88,7 @@ fn is_mixed(matches: &ArgMatches<'_>) -> bool
 /// Whether answers as records come were asked for beside something that goes without them.
 fn is_live_mixed(matches: &ArgMatches<'_>, form: Form) -> bool
     requires parsed { IsParsed matches.now }
-    requires form { form_asked (word_in (rows_in matches.now)) ≡ Some form }
+    requires form { wanted_form (word_in (rows_in matches.now)) ≡ Some form }
     ensures { is_live_mixed (rows_in matches.now) ≡ result }
 {
     let live = flag_of(matches, "live");
@@ -98,34 +99,60 @@ fn is_live_mixed(matches: &ArgMatches<'_>, form: Form) -> bool
     live && (audit || floor || history || listing)
 }
 
-/// What the matches of a parse ask for. An audit stands alone, and so do answers as records come.
+/// Whether the results of a day were asked for without an audit.
+fn is_results_alone(matches: &ArgMatches<'_>) -> bool
+    requires { IsParsed matches.now }
+    ensures { is_results_alone (rows_in matches.now) ≡ result }
+{
+    let results = flag_of(matches, "results");
+    let audit = flag_of(matches, "audit");
+    results && !audit
+}
+
+/// What is printed of a board's day in this form, and with its history where that is asked for. A listing has it.
+fn floor_form(form: Form, history: bool) -> FloorForm
+    ensures { result ≡ floor_form history form }
+{
+    match form {
+        Form::Listing(listing) => FloorForm::Listing(listing),
+        Form::Lines if history => FloorForm::History,
+        Form::Lines => FloorForm::Tally,
+    }
+}
+
+/// What the matches of a parse ask for. An audit stands alone, and so do answers as records come; the results of a day
+/// go with an audit.
 pub fn task_of(alloc: Global, matches: &ArgMatches<'_>) -> Result<Task, WordsFault>
     requires { IsParsed matches.now }
     ensures refused { IfErr result (RefusesTask (rows_in matches.now)) }
     ensures task { IfOk result (λ task. task_at (rows_in matches.now) ≡ Some task) }
-    ensures alone { IfOk result (λ _. is_mixed (rows_in matches.now) ≡ false) }
+    ensures alone { IfOk result (λ _. is_audit_mixed (rows_in matches.now) ≡ false) }
     ensures live_alone { IfOk result (λ _. is_live_mixed (rows_in matches.now) ≡ false) }
+    ensures results { IfOk result (λ _. is_results_alone (rows_in matches.now) ≡ false) }
 {
-    let form = form_asked(alloc, matches.get_str("print"))?;
-    if is_mixed(matches) {
+    let form = wanted_form(alloc, matches.get_str("print"))?;
+    if is_audit_mixed(matches) {
         return Err(WordsFault::AuditNotAlone);
     }
     if is_live_mixed(matches, form) {
         return Err(WordsFault::LiveNotAlone);
     }
+    if is_results_alone(matches) {
+        return Err(WordsFault::ResultsWithoutAudit);
+    }
     let live = flag_of(matches, "live");
     let audit = flag_of(matches, "audit");
+    let results = flag_of(matches, "results");
     let floor = flag_of(matches, "floor");
     let history = flag_of(matches, "history");
     if live {
         return Ok(Task::Live);
     }
     if audit {
-        return Ok(Task::Audit);
+        return Ok(Task::Audit { results });
     }
-    Ok(Task::Run {
-        floor,
-        history,
-        form,
-    })
+    if floor {
+        return Ok(Task::Floor(floor_form(form, history)));
+    }
+    Ok(Task::Run(form))
 }

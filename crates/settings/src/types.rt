@@ -13,11 +13,22 @@ pub enum Listing {
     Book,
 }
 
-/// What is printed of the commands that are run.
+/// What is printed of commands that are applied to an auction.
 #[derive(Clone, Copy, Debug, PartialEq, Eq)]
 pub enum Form {
-    /// A line for each reply; of a board its tally.
+    /// A line for each reply.
     Lines,
+    /// A listing of the day in their place.
+    Listing(Listing),
+}
+
+/// What is printed of commands that members call on a board.
+#[derive(Clone, Copy, Debug, PartialEq, Eq)]
+pub enum FloorForm {
+    /// The day's tally: how many calls each member made.
+    Tally,
+    /// The tally, and then the board's history.
+    History,
     /// A listing of the day in their place.
     Listing(Listing),
 }
@@ -25,16 +36,15 @@ pub enum Form {
 /// What is done with the input.
 #[derive(Clone, Copy, Debug, PartialEq, Eq)]
 pub enum Task {
-    /// Its commands are run.
-    Run {
-        /// Whether the members run at once on a board.
-        floor: bool,
-        /// Whether the board's history is printed after its tally.
-        history: bool,
-        form: Form,
-    },
+    /// Its commands are applied to an auction, one after the other.
+    Run(Form),
+    /// Its commands are called on a board, by all members at once.
+    Floor(FloorForm),
     /// It is a journal, and its replies are compared with the lawful ones.
-    Audit,
+    Audit {
+        /// The lawful results of the day are printed too.
+        results: bool,
+    },
     /// Each of its records is answered as it comes.
     Live,
 }

@@ -1,5 +1,6 @@
 -- What a part of a list tells of the list.
-use Rattle.std.proofs.Common.{◌≡◌, ℕ, zero, suc, ◌+◌, ◌-◌, ◌≤◌, ◌<◌, List, length, drop, get_or, sum, refl, ap, ◌∙◌, arith}
+use Rattle.std.proofs.Common.{◌≡◌, ℕ, zero, suc, ◌+◌, ◌-◌, ◌≤◌, ◌<◌, List, length, drop, get_or, sum, refl, ap, ◌∙◌}
+use Rattle.std.proofs.Common.{arith}
 use Rattle.std.specs.Simd.Lanes.{chunk}
 use Rattle.std.proofs.Math.Seq.{take-add}
 use Rattle.std.proofs.lemmas.List.{take-take, get_or-take, get_or-drop}
@@ -42,18 +43,22 @@ module _ (xs : List ℕ) (s e : ℕ) (order : s ≤ e) (room : e ≤ length xs) 
   long = length-chunk s (e - s) xs (omega arith)
 
   ends : before (chunk s (e - s) xs) (e - s) + before xs s ≡ before xs e
-  ends = let back : s + (e - s) ≡ e = omega arith in before_chunk xs s (e - s) (e - s) (omega arith) ∙ ap (before xs) back
+  ends = let back : s + (e - s) ≡ e =
+      omega arith in before_chunk xs s (e - s) (e - s) (omega arith) ∙ ap (before xs) back
 
   pub none_is : NoneIn (chunk s (e - s) xs) 0 (length (chunk s (e - s) xs)) → IsBlank xs s e
   none_is none =
-      let blank = blank_of (chunk s (e - s) xs) 0 (e - s) (omega arith) (λ k from to. none k from (omega (arith, long))) in
+      let blank =
+      blank_of (chunk s (e - s) xs) 0 (e - s) (omega arith) (λ k from to. none k from (omega (arith, long))) in
       let start : before (chunk s (e - s) xs) 0 ≡ 0 = refl in
       omega (arith, ends)
 
   pub last_is : (p : ℕ) → IsLastPositive (chunk s (e - s) xs) p → IsLastIn xs s e (s + p)
   last_is p last =
       let inside : p < e - s = omega (arith, long, last.within) in
-      let blank = blank_of (chunk s (e - s) xs) (p + 1) (e - s) (omega arith) (λ k from to. last.after k from (omega (arith, long))) in
+      let blank =
+      blank_of (chunk s (e - s) xs) (p + 1) (e - s) (omega arith)
+      (λ k from to. last.after k from (omega (arith, long))) in
       let here = before_chunk xs s (e - s) (p + 1) (omega arith) in
       let next : s + (p + 1) ≡ s + p + 1 = omega arith in
       record {
@@ -82,5 +87,6 @@ module _ (xs : List ℕ) (s e : ℕ) (order : s ≤ e) (room : e ≤ length xs) 
 abbrev crossing_at : ℕ → Meeting → Crossing
 crossing_at s m = record { place = s + m.place; demand = m.high; below = m.low }
 
-pub crossing_is : (b a : List ℕ) (s e d l : ℕ) (m : Meeting) → s < e → e ≤ length b → length a ≡ length b → IsMeeting d (chunk s (e - s) b) l (chunk s (e - s) a) m → IsCrossing b a s e d l (crossing_at s m)
+pub crossing_is : (b a : List ℕ) (s e d l : ℕ) (m : Meeting) → s < e → e ≤ length b → length a ≡ length b
+    → IsMeeting d (chunk s (e - s) b) l (chunk s (e - s) a) m → IsCrossing b a s e d l (crossing_at s m)
 crossing_is b a s e d l m order room same met = grind (arith, common_steps, long, length-chunk, before_chunk)

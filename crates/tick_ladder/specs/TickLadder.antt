@@ -4,7 +4,7 @@ use Rattle.std.specs.Prelude.{replicate, if◌then◌else◌}
 use Rattle.std.specs.Simd.Lanes.{zip2}
 use Rattle.auction_terms.specs.declared.limits.TheConstants.{MAX_TICK, MAX_TICKS, MAX_TOTAL}
 use Rattle.auction_terms.specs.declared.Side.{Side}
-use Rattle.auction_terms.specs.declared.Side.TheVariants.{Buy, Sell}
+use Rattle.auction_terms.specs.declared.Side.TheVariants.{Bid, Ask}
 use Rattle.auction_terms.specs.declared.Limit.{Limit}
 use Rattle.auction_terms.specs.declared.Order.{Order}
 use Rattle.auction_terms.specs.Book.{limits, is_bid, is_ask}
@@ -24,8 +24,8 @@ view_of a = record {
 }
 
 -- all quantities
-abbrev pub all_standing : LadderView → ℕ
-all_standing view = view.market_bids + view.market_asks + sum view.bids + sum view.asks
+abbrev pub total_quantity : LadderView → ℕ
+total_quantity view = view.market_bids + view.market_asks + sum view.bids + sum view.asks
 
 -- what holds of every ladder
 pub record IsLadder (view : LadderView) : Type 0 where
@@ -34,7 +34,7 @@ pub record IsLadder (view : LadderView) : Type 0 where
   pub few : length view.bids ≤ MAX_TICKS
   pub last : view.low + length view.bids ≤ MAX_TICK + 1
   pub flags : view.present ≡ zip2 flag_of view.bids view.asks
-  pub all : all_standing view ≤ MAX_TOTAL
+  pub all : total_quantity view ≤ MAX_TOTAL
 
 -- the ladder of no order
 abbrev pub empty_ladder : ℕ → ℕ → LadderView
@@ -48,8 +48,8 @@ empty_ladder low high = record {
 }
 
 -- the ladder with the same ticks, and no order
-abbrev pub emptied : LadderView → LadderView
-emptied view = record {
+abbrev pub without_orders : LadderView → LadderView
+without_orders view = record {
   low = view.low;
   bids = replicate (length view.bids) 0;
   asks = replicate (length view.bids) 0;
@@ -78,10 +78,10 @@ positive_ticks low (x ∷ xs) = if nat_lt 0 x then low ∷ positive_ticks (low +
 
 -- the highest tick where bids stand, the lowest where asks stand
 abbrev pub best_tick : LadderView → Side → Option ℕ
-best_tick view Buy = highest (positive_ticks view.low view.bids)
-best_tick view Sell = lowest (positive_ticks view.low view.asks)
+best_tick view Bid = highest (positive_ticks view.low view.bids)
+best_tick view Ask = lowest (positive_ticks view.low view.asks)
 
 -- the highest limit of a bid, the lowest of an ask
 abbrev pub best_limit : List Order → Side → Option ℕ
-best_limit book Buy = highest (limits (filter is_bid book))
-best_limit book Sell = lowest (limits (filter is_ask book))
+best_limit book Bid = highest (limits (filter is_bid book))
+best_limit book Ask = lowest (limits (filter is_ask book))

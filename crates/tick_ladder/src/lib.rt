@@ -4,10 +4,11 @@
 ghost use Rattle.std.specs.Prelude.{◌≡◌, ◌+◌, ◌-◌, ◌<◌, ◌≤◌, length, sum, slice_set, slice_index};
 ghost use Rattle.std.specs.Prelude.{List, option_map, IfOk, IfSome};
 ghost use Rattle.auction_terms.specs.declared.limits.TheConstants.{MAX_TICK, MAX_TICKS, MAX_TOTAL};
-ghost use Rattle.auction_terms.specs.Ladder.{flag_of, standing_at, with_bids, with_asks, with_standing, added, taken};
+ghost use Rattle.auction_terms.specs.Ladder.{flag_of, quantity_in, with_bids, with_asks, with_quantity_at};
+ghost use Rattle.auction_terms.specs.Ladder.{with_added, with_removed};
 ghost use Rattle.auction_terms.specs.Ladder.{AreOpen};
 ghost use Rattle.auction_terms.specs.declared.Order.{Order};
-ghost use Rattle.tick_ladder.specs.TickLadder.{all_standing, best_tick, best_limit, empty_ladder};
+ghost use Rattle.tick_ladder.specs.TickLadder.{total_quantity, best_tick, best_limit, empty_ladder};
 ghost use Rattle.tick_ladder.specs.TickLadder.{IsInBounds, IsLadder, IsLadderOf};
 ghost use Rattle.tick_ladder.specs.OccupiedPlaces.{IsLastBefore, IsFirstFrom, IsCrossingOf};
 
@@ -135,11 +136,11 @@ impl Ladder {
 
     /// The shares of the market orders of a side.
     pub fn market(&self, side: Side) -> u64
-        ensures { result ≡ standing_at self.now side Limit.Market }
+        ensures { result ≡ quantity_in self.now side Limit.Market }
     {
         match side {
-            Side::Buy => self.market_bids,
-            Side::Sell => self.market_asks,
+            Side::Bid => self.market_bids,
+            Side::Ask => self.market_asks,
         }
     }
 
@@ -150,8 +151,8 @@ impl Ladder {
         ensures book { (book : List Order) → AreOpen book → IsLadderOf self.now book → result ≡ best_limit book side }
     {
         match side {
-            Side::Buy => tick_at(self.low, self.bids.last_before(self.bids.places().len())),
-            Side::Sell => tick_at(self.low, self.asks.first_from(0)),
+            Side::Bid => tick_at(self.low, self.bids.last_before(self.bids.places().len())),
+            Side::Ask => tick_at(self.low, self.asks.first_from(0)),
         }
     }
 
@@ -201,55 +202,55 @@ impl Ladder {
     /// Adds the shares of an order at its side and limit.
     pub fn add(&mut self, side: Side, limit: Limit, quantity: u64)
         requires in_bounds { IsInBounds self.old limit }
-        requires fits { all_standing self.old + quantity ≤ MAX_TOTAL }
-        ensures { self.new ≡ added self.old side limit quantity }
+        requires fits { total_quantity self.old + quantity ≤ MAX_TOTAL }
+        ensures { self.new ≡ with_added self.old side limit quantity }
     {
-        let standing = self.standing(side, limit);
-        self.put(side, limit, standing + quantity);
+        let quantity_at = self.quantity_at(side, limit);
+        self.put(side, limit, quantity_at + quantity);
     }
 
     /// Takes shares away that stand at a side and limit.
     pub fn take(&mut self, side: Side, limit: Limit, quantity: u64)
         requires in_bounds { IsInBounds self.old limit }
-        requires stands { quantity ≤ standing_at self.old side limit }
-        ensures { self.new ≡ taken self.old side limit quantity }
+        requires stands { quantity ≤ quantity_in self.old side limit }
+        ensures { self.new ≡ with_removed self.old side limit quantity }
     {
-        let standing = self.standing(side, limit);
-        self.put(side, limit, standing - quantity);
+        let quantity_at = self.quantity_at(side, limit);
+        self.put(side, limit, quantity_at - quantity);
     }
 
     /// The shares that stand at a side and limit.
-    fn standing(&self, side: Side, limit: Limit) -> u64
+    fn quantity_at(&self, side: Side, limit: Limit) -> u64
         requires { IsInBounds self.now limit }
-        ensures value { result ≡ standing_at self.now side limit }
-        ensures part { result ≤ all_standing self.now }
+        ensures value { result ≡ quantity_in self.now side limit }
+        ensures part { result ≤ total_quantity self.now }
         ensures sound { IsLadder self.now }
     {
         match (limit, side) {
             (Limit::Market, side) => self.market(side),
-            (Limit::At(tick), Side::Buy) => self.bids.at((tick - self.low) as usize),
-            (Limit::At(tick), Side::Sell) => self.asks.at((tick - self.low) as usize),
+            (Limit::At(tick), Side::Bid) => self.bids.at((tick - self.low) as usize),
+            (Limit::At(tick), Side::Ask) => self.asks.at((tick - self.low) as usize),
         }
     }
 
     /// Makes so many shares stand at a side and limit.
     fn put(&mut self, side: Side, limit: Limit, quantity: u64)
         requires in_bounds { IsInBounds self.old limit }
-        requires fits { all_standing self.old + quantity ≤ MAX_TOTAL + standing_at self.old side limit }
-        ensures { self.new ≡ with_standing self.old side limit quantity }
+        requires fits { total_quantity self.old + quantity ≤ MAX_TOTAL + quantity_in self.old side limit }
+        ensures { self.new ≡ with_quantity_at self.old side limit quantity }
     {
         match (limit, side) {
-            (Limit::Market, Side::Buy) => self.market_bids = quantity,
-            (Limit::Market, Side::Sell) => self.market_asks = quantity,
-            (Limit::At(tick), Side::Buy) => self.put_bids((tick - self.low) as usize, quantity),
-            (Limit::At(tick), Side::Sell) => self.put_asks((tick - self.low) as usize, quantity),
+            (Limit::Market, Side::Bid) => self.market_bids = quantity,
+            (Limit::Market, Side::Ask) => self.market_asks = quantity,
+            (Limit::At(tick), Side::Bid) => self.put_bids((tick - self.low) as usize, quantity),
+            (Limit::At(tick), Side::Ask) => self.put_asks((tick - self.low) as usize, quantity),
         }
     }
 
     /// Puts other bids at a place.
     fn put_bids(&mut self, place: usize, bids: u64)
         requires in_bounds { place < length self.old.bids }
-        requires fits { all_standing self.old + bids ≤ MAX_TOTAL + slice_index self.old.bids place }
+        requires fits { total_quantity self.old + bids ≤ MAX_TOTAL + slice_index self.old.bids place }
         ensures { self.new ≡ with_bids self.old (slice_set self.old.bids place bids) }
     {
         self.bids.put(place, bids);
@@ -259,7 +260,7 @@ impl Ladder {
     /// Puts other asks at a place.
     fn put_asks(&mut self, place: usize, asks: u64)
         requires in_bounds { place < length self.old.bids }
-        requires fits { all_standing self.old + asks ≤ MAX_TOTAL + slice_index self.old.asks place }
+        requires fits { total_quantity self.old + asks ≤ MAX_TOTAL + slice_index self.old.asks place }
         ensures { self.new ≡ with_asks self.old (slice_set self.old.asks place asks) }
     {
         self.asks.put(place, asks);

@@ -1,15 +1,18 @@
 """The command line of a market: `python3 -m callauction.market audit DIR`; --help has the rest."""
 import argparse
+import io
+import logging
 import pathlib
 import sys
 
-from callauction.market.command import BAD_WORDS, examine, split_table
+from callauction.market.command import examine, split_table
 from callauction.market.forms import FORMS
-from callauction.market.rows import SUFFIX
+from callauction.market.names import SUFFIX
 
-EPILOG = """statuses: 0 all is well; 4 a reply is unlawful; 1 a file or a table is bad, whether or
-not a reply is unlawful; 2 the words are wrong; 3 there is no program, no scheduler or no worker, or
-a result can't be written; 130 broken off"""
+EPILOG = """statuses: 0 all is lawful and was compared; 4 a reply is unlawful; 5 nothing is
+unlawful, but a reply was not recorded or a day is not over; 1 a file or a table is bad, whether or
+not a reply is unlawful; 2 the words are wrong, or another run writes the result; 3 there is no
+program, no scheduler or no worker, or a result can't be written; 130 broken off"""
 
 
 def positive(text: str) -> int:
@@ -22,12 +25,25 @@ def positive(text: str) -> int:
 def add_run_options(verb: argparse.ArgumentParser) -> None:
     """The options of what runs the program."""
     verb.add_argument("paths", nargs="+", metavar="DIR", help=f"a folder of {SUFFIX} files, or one")
-    where = verb.add_mutually_exclusive_group()
-    where.add_argument("--scheduler", metavar="tcp://HOST:PORT", help="that of a Dask cluster")
-    where.add_argument("--workers", type=positive, metavar="N", help="on this machine (its cores)")
+    verb.add_argument("--expect", metavar="LIST", help="the instruments, a line each")
     verb.add_argument("-o", "--output", type=pathlib.Path, metavar="FILE", help="the result, CSV")
     verb.add_argument("--resume", action="store_true", help="go on where a run to FILE stopped")
-    verb.add_argument("--memory", type=positive, metavar="MIB", help="the most for a run on a file")
+    verb.add_argument(
+        "--memory", type=positive, metavar="MIB", help="of a run on a file (64, and 8 times it)"
+    )
+    verb.add_argument(
+        "--seconds", type=positive, metavar="N", help="of a run on a file (60, and 60 for 4 MiB)"
+    )
+    where = verb.add_mutually_exclusive_group()
+    where.add_argument("--workers", type=positive, metavar="N", help="on this machine (its cores)")
+    where.add_argument("--scheduler", metavar="tls://HOST:PORT", help="that of a Dask cluster")
+    for name in ("ca", "cert", "key"):
+        verb.add_argument(f"--tls-{name}", metavar="FILE", help=f"the {name} for it, PEM")
+    verb.add_argument(
+        "--insecure",
+        action="store_true",
+        help="take a scheduler tcp://HOST:PORT: whoever reaches its port can run code as its user",
+    )
 
 
 def arguments() -> argparse.ArgumentParser:
@@ -39,7 +55,6 @@ def arguments() -> argparse.ArgumentParser:
     )
     verbs = parser.add_subparsers(dest="verb", required=True, metavar="{audit,run,split}")
     audit = verbs.add_parser("audit", help="the unlawful replies of journals, and the prices")
-    audit.add_argument("--no-prices", action="store_true", help="ask for the verdict alone")
     run = verbs.add_parser("run", help="what the program prints of files, in some forms")
     run.add_argument("--print", action="append", required=True, choices=list(FORMS), dest="forms")
     run.add_argument("--into", metavar="FOLDER", help="keep what is printed in this folder")
@@ -49,19 +64,20 @@ def arguments() -> argparse.ArgumentParser:
     table.add_argument("table", nargs="+", metavar="TABLE", help="CSV or Parquet files, in order")
     table.add_argument("--by", default="instrument", metavar="COLUMN", help="(instrument)")
     table.add_argument("--days", metavar="TABLE", help="the day of each instrument")
+    table.add_argument(
+        "--ignore", action="append", default=[], metavar="COLUMN", help="pass a column over"
+    )
     table.add_argument("--into", default=".", metavar="FOLDER", help="where the journals go (.)")
     return parser
 
 
 def main() -> int:
-    parser = arguments()
-    asked = parser.parse_args()
-    if asked.verb == "split":
-        return split_table(asked)
-    if asked.resume and not asked.output:
-        print("market: --resume goes on with a result: -o FILE", file=sys.stderr)
-        return BAD_WORDS
-    return examine(asked)
+    asked = arguments().parse_args()
+    logging.disable(logging.CRITICAL)  # Dask tells of lost workers there, and rows do here
+    for stream in (sys.stdout, sys.stderr):
+        if isinstance(stream, io.TextIOWrapper):
+            stream.reconfigure(errors="backslashreplace")
+    return split_table(asked) if asked.verb == "split" else examine(asked)
 
 
 if __name__ == "__main__":

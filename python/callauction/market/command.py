@@ -3,44 +3,45 @@ import argparse
 import contextlib
 import os
 import pathlib
+import re
 import sys
 import time
 from collections.abc import Iterable, Iterator
-from typing import Any
+from typing import TYPE_CHECKING, Any
 
-from distributed import Client
 from tqdm import tqdm
 
 from callauction import finder
+from callauction.market.expected import compared_with, read_list
+from callauction.market.files import InUse, locked, with_end
 from callauction.market.log import Log
-from callauction.market.rows import SUFFIX, Found, Row, instrument_of, write_rows
-from callauction.market.runs import (
-    AUDIT,
-    MarketError,
-    common_digest,
-    files_of,
-    local_client,
-    results,
-)
+from callauction.market.names import SUFFIX, line_of
+from callauction.market.rows import Row, write_rows
+from callauction.market.runs import AUDIT, files_of
 from callauction.market.splitting import TableError, split
-from callauction.market.task import Request
+from callauction.market.summary import Summary
+from callauction.market.task import MIB, Request
+from callauction.market.workers import MarketError, Threads, Workers, connected
 
-GOOD, BAD_FILE, BAD_WORDS, NO_RUN, UNLAWFUL, BROKEN_OFF = 0, 1, 2, 3, 4, 130
-MIB = 1 << 20
-MOST_TOLD = 20
-"""How many unlawful or bad files are told by name."""
-CONNECT_SECONDS = 10
-"""How long a scheduler and its first worker are waited for."""
+if TYPE_CHECKING:
+    from distributed import Security
+
+BAD_FILE, BAD_WORDS, NO_RUN, BROKEN_OFF = 1, 2, 3, 130
+SECURE, PLAIN = "tls://", "tcp://"
+ADDRESS = re.compile(r"t(?:ls|cp)://[^/\s]+:\d{1,5}")
 
 
 def tell(fault: object) -> None:
     """A line on standard error."""
-    print(f"market: {fault}", file=sys.stderr)
+    print(f"market: {line_of(str(fault))}", file=sys.stderr)
 
 
-def journals(paths: Iterable[str]) -> list[str]:
-    """The files that are meant: those named, and those in folders that are named. Raises
-    MarketError where there is none, or two of an instrument.
+# ---- what is asked for
+
+
+def journals(paths: Iterable[str]) -> dict[str, str]:
+    """The files that are meant by their instruments: those named, and those in folders that are
+    named. Raises MarketError where there is none, or two of an instrument.
     """
     found: list[str] = []
     for path in map(pathlib.Path, paths):
@@ -51,126 +52,154 @@ def journals(paths: Iterable[str]) -> list[str]:
     return files_of(found)
 
 
-def checked_output(path: pathlib.Path | None) -> None:
-    """Raises MarketError where a result can't take the place of what is there."""
-    if path and (not path.parent.is_dir() or (path.exists() and not path.is_file())):
+def checked_output(path: pathlib.Path, asked: argparse.Namespace, files: Iterable[str]) -> None:
+    """Raises MarketError where a result can't take the place of what is there, or would be a file
+    of the next run.
+    """
+    for each in (path, log_path(path)):
+        if each.is_symlink() or (each.exists() and not each.is_file()):
+            raise MarketError(f"no result can be written to {each}")
+    if not path.parent.is_dir():
         raise MarketError(f"no result can be written to {path}")
+    place = path.parent.resolve() / path.name
+    if str(place) in {os.path.realpath(each) for each in files}:
+        raise MarketError(f"{path} would be the result and is a file of the market")
+    folders = [os.path.realpath(each) for each in asked.paths if os.path.isdir(each)]
+    if str(place.parent) in folders:
+        raise MarketError(f"the result {path} would lie among the files of the market")
+
+
+def checked_folder(into: str, files: Iterable[str]) -> None:
+    """Raises MarketError where what is kept in this folder would be a file of the next run."""
+    if os.path.realpath(into) in {os.path.realpath(os.path.dirname(each)) for each in files}:
+        raise MarketError(f"what --into keeps in {into} would lie among the files of the market")
+
+
+def security_of(asked: argparse.Namespace) -> "Security | None":
+    """The keys for the scheduler that is asked for; None on this machine, and without any. Raises
+    MarketError where the words don't go together, or a file can't be read.
+    """
+    keys = {name: getattr(asked, f"tls_{name}") for name in ("ca", "cert", "key")}
+    scheduler = asked.scheduler or ""
+    if not scheduler and not asked.insecure and not any(keys.values()):
+        return None
+    if not ADDRESS.fullmatch(scheduler):
+        raise MarketError("a scheduler is named by --scheduler tls://HOST:PORT")
+    if scheduler.startswith(PLAIN):
+        if asked.insecure and not any(keys.values()):
+            return None
+        raise MarketError("whoever reaches a tcp:// port can run code there: tls://, or --insecure")
+    for name, path in keys.items():
+        if not path:
+            raise MarketError(f"{SECURE} needs --tls-ca, --tls-cert and --tls-key: no --tls-{name}")
+        try:
+            open(path, "rb").close()
+        except OSError as fault:
+            raise MarketError(f"--tls-{name} {path}: {fault.strerror}") from fault
+    from distributed import Security
+
+    return Security(
+        tls_ca_file=keys["ca"],
+        tls_client_cert=keys["cert"],
+        tls_client_key=keys["key"],
+        require_encryption=True,
+    )
 
 
 @contextlib.contextmanager
-def client_of(asked: argparse.Namespace) -> Iterator[Client]:
-    """The client that is asked for, with a worker. Raises OSError where there is none."""
+def workers_of(asked: argparse.Namespace) -> Iterator[Workers]:
+    """The workers that are asked for. Raises MarketError, and OSError where there are none."""
+    security = security_of(asked)
     if not asked.scheduler:
-        with local_client(asked.workers) as client:
-            yield client
+        yield Threads(asked.workers)
         return
-    with Client(asked.scheduler, timeout=CONNECT_SECONDS) as client:
-        client.wait_for_workers(1, timeout=CONNECT_SECONDS)
-        yield client
+    with connected(asked.scheduler, security) as cluster:
+        yield cluster
 
 
 def request_of(asked: argparse.Namespace) -> Request:
     """What is asked of each file. Raises FileNotFoundError where this machine has no program and is
     to run it, and OSError where the folder for the outputs can't be made.
     """
-    if asked.verb == "audit":
-        forms, into = AUDIT[: 1 if asked.no_prices else None], None
-    else:
+    forms: tuple[str, ...] = AUDIT
+    into = None
+    if asked.verb == "run":
         forms, into = tuple(dict.fromkeys(asked.forms)), asked.into and os.path.abspath(asked.into)
     if into:
         os.makedirs(into, exist_ok=True)
     path = None if asked.scheduler else finder.program()
-    return Request(forms, path, asked.memory and asked.memory * MIB, into)
+    memory = asked.memory and asked.memory * MIB
+    return Request(forms, path, memory, asked.seconds, into, bool(asked.output))
 
 
-def show(files: list[str], taken: list[Found]) -> Any:
+# ---- the run
+
+
+def show(files: dict[str, str], taken: int) -> Any:
     """A progress bar on standard error, if that is a terminal."""
     is_shown = sys.stderr.isatty()
-    return tqdm(
-        total=len(files), initial=len(taken), unit=" instruments", disable=not is_shown
-    )
-
-
-def run_market(asked: argparse.Namespace, files: list[str]) -> tuple[list[Row], list[Row], float]:
-    """Runs the program on all files, or on those that an earlier run left: the rows of that run,
-    those of this one, and its seconds without those of starting workers. Raises MarketError, and
-    OSError where there is no program or no scheduler, or a result can't be written.
-    """
-    request = request_of(asked)
-    with contextlib.ExitStack() as stack:
-        client = stack.enter_context(client_of(asked))
-        begin = time.perf_counter()
-        digest = common_digest(client, request.program)
-        log = Log(log_path(asked.output), request, digest) if asked.output else None
-        taken = log.taken(files) if log and asked.resume else []
-        if log:
-            stack.enter_context(log.begun(taken))
-        bar = stack.enter_context(show(files, taken))
-        done = {each.row.instrument for each in taken}
-        left = [path for path in files if instrument_of(path) not in done]
-        rows: list[Row] = []
-        for found in results(client, left, request):
-            if log:
-                log.add(found)
-            rows += (each.row for each in found)
-            bar.update(len(found))
-        seconds = time.perf_counter() - begin
-    earlier = [each.row for each in taken]
-    if asked.output:
-        write_rows(earlier + rows, asked.output)
-    return earlier, rows, seconds
+    return tqdm(total=len(files), initial=taken, unit=" instruments", disable=not is_shown)
 
 
 def log_path(output: pathlib.Path) -> pathlib.Path:
     """Where the rows of a result are kept as they come."""
-    return output.with_name(f"{output.name}.log")
+    return with_end(output, ".log")
 
 
-def named(rows: list[Row]) -> list[str]:
-    """A line for each row with a fault or with something unlawful, by the instruments."""
-    lines = []
-    for row in sorted(rows, key=lambda row: row.instrument):
-        if row.fault:
-            lines.append(f"{row.instrument}: fault: {row.fault}")
-        elif row.unlawful:
-            lines.append(
-                f"{row.instrument}: unlawful {row.unlawful} of {row.compared}, the first at entry "
-                f"{row.first_unlawful}"
-            )
-    return lines
-
-
-def tell_result(earlier: list[Row], rows: list[Row], seconds: float) -> int:
-    """Prints what is unlawful or bad, and the closing line: the status."""
-    both = earlier + rows
-    lines = named(both)
-    print("".join(f"{line}\n" for line in lines[:MOST_TOLD]), end="")
-    if len(lines) > MOST_TOLD:
-        print(f"and {len(lines) - MOST_TOLD} more")
-    entries, unlawful = (
-        sum(getattr(row, name) or 0 for row in both) for name in ("entries", "unlawful")
-    )
-    places = sum(1 for row in both if row.unlawful)
-    faults = sum(1 for row in both if row.fault)
-    rate = sum(row.entries or 0 for row in rows) / seconds
-    print(
-        f"instruments {len(both)}, entries {entries}, unlawful {unlawful} in {places}, "
-        f"faults {faults}, seconds {seconds:.1f}, entries a second {rate:.0f}"
-        + (f", taken over {len(earlier)}" if earlier else "")
-    )
-    return BAD_FILE if faults else UNLAWFUL if unlawful else GOOD
+def run_market(asked: argparse.Namespace, files: dict[str, str], rows: list[Row]) -> Summary:
+    """Runs the program on all files, or on those that an earlier run left, and writes the result:
+    what is said of these rows and theirs. Raises MarketError and InUse, and OSError where there is
+    no program or no scheduler, or a result can't be written.
+    """
+    request = request_of(asked)
+    summary = Summary(rows, asked.verb == "audit")
+    with contextlib.ExitStack() as stack:
+        for result in filter(None, (asked.output, request.into)):
+            stack.enter_context(locked(pathlib.Path(result)))
+        crew = stack.enter_context(workers_of(asked))
+        begin = time.perf_counter()
+        digest = crew.digest(request.program)
+        log = Log(log_path(asked.output), request, digest) if asked.output else None
+        taken = log.taken(files) if log and asked.resume else []
+        summary.take_over(each.row for each in taken)
+        if log:
+            stack.enter_context(log.begun(taken))
+            for fault in log.faults:
+                tell(f"{log.path}: {fault}")
+        bar = stack.enter_context(show(files, len(taken)))
+        done = {each.row.instrument for each in taken}
+        left = [path for instrument, path in files.items() if instrument not in done]
+        for found in crew.results(left, request):
+            if log:
+                log.add(found)
+            summary.add(each.row for each in found)
+            bar.update(len(found))
+        summary.seconds = time.perf_counter() - begin
+        if asked.output:
+            write_rows(summary.rows, asked.output)
+    return summary
 
 
 def examine(asked: argparse.Namespace) -> int:
-    """Runs the program on files, writes the result, and tells it: the status."""
+    """Runs the program on files, writes the result, and prints what was found: the status."""
     try:
         files = journals(asked.paths)
-        checked_output(asked.output)
-    except MarketError as fault:
+        if asked.resume and not asked.output:
+            raise MarketError("--resume goes on with a result: -o FILE")
+        if asked.output:
+            checked_output(asked.output, asked, files.values())
+        if asked.verb == "run" and asked.into:
+            checked_folder(asked.into, files.values())
+        expected = read_list(asked.expect) if asked.expect else None
+        security_of(asked)
+    except (MarketError, OSError) as fault:
         tell(fault)
         return BAD_WORDS
     try:
-        return tell_result(*run_market(asked, files))
+        summary = run_market(asked, *compared_with(files, expected))
+    except InUse as fault:
+        tell(fault)
+        return BAD_WORDS
     except (MarketError, OSError) as fault:
         tell(fault)
         return NO_RUN
@@ -178,17 +207,24 @@ def examine(asked: argparse.Namespace) -> int:
         kept = f": {log_path(asked.output)} has what was found; --resume" if asked.output else ""
         tell(f"broken off{kept}")
         return BROKEN_OFF
+    print("\n".join(summary.lines()))
+    return summary.status()
 
 
 def split_table(asked: argparse.Namespace) -> int:
-    """Writes a journal for each instrument of a table, and tells how many: the status."""
+    """Writes a journal for each instrument of a table, and prints how many: the status."""
     try:
-        paths = split(asked.table, asked.by, days=asked.days, folder=asked.into)
+        paths = split(
+            asked.table, asked.by, days=asked.days, ignore=asked.ignore, folder=asked.into
+        )
     except TableError as fault:
         tell(fault)
         return BAD_FILE
+    except InUse as fault:
+        tell(fault)
+        return BAD_WORDS
     except OSError as fault:
         tell(fault)
         return NO_RUN
     print(f"instruments {len(paths)}")
-    return GOOD
+    return 0

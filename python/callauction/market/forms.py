@@ -2,15 +2,25 @@
 import dataclasses
 import re
 from collections.abc import Callable, Iterator
-from typing import IO, Any
+from typing import Any, Protocol
 
-from callauction.market.rows import AUCTIONS
+from callauction.market.rows import AUCTIONS, OVER
 
 BLOCK = 1 << 18
 """How many bytes of the program's output are looked at together."""
 AUDIT_END = 4
-"""How many lines an audit ends with that tell its counts and the verdict."""
+"""How many lines an audit ends with: its counts and the verdict."""
 AUDIT = re.compile(rb"entries (\d+)\ncompared (\d+)\nunlawful (\d+)\naudit (?:legal|bad \d+)\n")
+RESULTS = re.compile(
+    rb"^(entries \d+\ncompared \d+\nunlawful \d+\naudit (?:legal|bad \d+)\n)"
+    rb"((?:\d+: .*\n)*)(?:day (over)|in (opening|intraday|closing))\n\Z",
+    re.MULTILINE,
+)
+RESULTS_END = AUDIT_END + 2 * len(AUCTIONS) + 1
+"""How many lines there are of the counts and the results: each auction is interrupted once at most,
+and ends once.
+"""
+INTERRUPTED = re.compile(rb"\d+: interrupted ")
 DIFFERENCE = re.compile(rb"(\d+): recorded ")
 NUMBERED = re.compile(rb"(\d+): ")
 UNCROSS = re.compile(
@@ -19,12 +29,18 @@ UNCROSS = re.compile(
     rb"trades (?P<trades>\d+))\n"
 )
 ENDINGS = [f": {auction} ".encode() for auction in AUCTIONS]
-"""What stands in the line of the uncross that ends this auction, and in no other line."""
+"""What the line of the uncross that ends this auction has in it, and no other line."""
 
 Said = dict[str, Any]
 """Some columns of a row."""
 Blocks = Iterator[bytes]
 """The program's output, some whole lines at a time."""
+
+
+class Readable(Protocol):
+    """Where output is read from: some bytes at a time, none at its end."""
+
+    def read(self, size: int, /) -> bytes: ...
 
 
 class OutputFault(Exception):
@@ -33,16 +49,17 @@ class OutputFault(Exception):
 
 @dataclasses.dataclass(frozen=True, slots=True)
 class Form:
-    """A form: the words that ask the program for it, what reads the output, and what the name of a
-    file that keeps the output ends with.
+    """A form: the words that ask the program for it, what reads the output, what the name of a file
+    that keeps the output ends with, and how many shares of memory it needs.
     """
 
     words: tuple[str, ...]
     read: Callable[[Blocks], Said]
     suffix: str
+    shares: int = 1
 
 
-def blocks_of(output: IO[bytes]) -> Blocks:
+def blocks_of(output: Readable) -> Blocks:
     """The output in blocks of whole lines. Where it is cut, the last line lacks its end."""
     rest = b""
     while block := output.read(BLOCK):
@@ -62,19 +79,58 @@ def line_at(block: bytes, place: int) -> bytes:
 
 def read_audit(blocks: Blocks) -> Said:
     """The counts, and the number of the first entry that differs. Raises OutputFault."""
+    first, last = ends_of(blocks, AUDIT_END)
+    return read_counts(last) | read_first(first)
+
+
+def ends_of(blocks: Blocks, count: int) -> tuple[bytes, bytes]:
+    """The first block, and the last lines, this many at most."""
     first = last = b""
     for block in blocks:
         first = first or block
-        last = b"".join((last + block).splitlines(keepends=True)[-AUDIT_END:])
-    counts, difference = AUDIT.fullmatch(last), DIFFERENCE.match(first)
+        last = b"".join((last + block).splitlines(keepends=True)[-count:])
+    return first, last
+
+
+def read_counts(text: bytes) -> Said:
+    """The counts of an audit. Raises OutputFault."""
+    counts = AUDIT.fullmatch(text)
     if not counts:
         raise OutputFault("the program printed no audit")
-    said: Said = dict(zip(("entries", "compared", "unlawful"), map(int, counts.groups())))
-    return said | {"first_unlawful": int(difference[1]) if difference else None}
+    return dict(zip(("entries", "compared", "unlawful"), map(int, counts.groups())))
+
+
+def read_first(block: bytes) -> Said:
+    """The number of the entry that the first line of an audit says to differ, if it does."""
+    difference = DIFFERENCE.match(block)
+    return {"first_unlawful": int(difference[1]) if difference else None}
+
+
+def read_results(blocks: Blocks) -> Said:
+    """What an audit says, what the auctions that ended gave, and which auction the day is in.
+    Raises OutputFault.
+    """
+    first, last = ends_of(blocks, RESULTS_END)
+    found = RESULTS.search(last)
+    if not found:
+        raise OutputFault("the program printed no audit with results")
+    said = read_counts(found[1]) | read_first(first) | {"auctions": 0, "trades": 0}
+    for line in found[2].splitlines(keepends=True):
+        if not INTERRUPTED.match(line):
+            uncross = read_uncross(line)
+            said["auctions"] += 1
+            said["trades"] += uncross.pop("trades")
+            said |= uncross
+    day = (found[3] or found[4]).decode()
+    if day != (*AUCTIONS, OVER)[said["auctions"]]:
+        raise OutputFault("the program printed another day than its results")
+    return said | {"day": day}
 
 
 def read_lines(blocks: Blocks) -> Said:
-    """How many entries there are, and what the auctions that ended gave. Raises OutputFault."""
+    """How many entries there are, what the auctions that ended gave, and which auction the day is
+    in. Raises OutputFault.
+    """
     said: Said = {"auctions": 0, "trades": 0}
     last = b""
     for block in blocks:
@@ -86,7 +142,8 @@ def read_lines(blocks: Blocks) -> Said:
                 said["auctions"] += 1
                 said["trades"] += found.pop("trades")
                 said |= found
-    return said | {"entries": read_number(last) if last else 0}
+    day = (*AUCTIONS, OVER)[said["auctions"]]
+    return said | {"entries": read_number(last) if last else 0, "day": day}
 
 
 def read_uncross(line: bytes) -> Said:
@@ -126,9 +183,10 @@ def read_nothing(blocks: Blocks) -> Said:
 
 FORMS = {
     "audit": Form(("--audit",), read_audit, "audit.txt"),
+    "results": Form(("--audit", "--results"), read_results, "results.txt"),
     "lines": Form((), read_lines, "lines.txt"),
-    "trades": Form(("--print", "trades"), read_trades, "trades.csv"),
-    "book": Form(("--print", "book"), read_nothing, "book.csv"),
-    "journal": Form(("--print", "journal"), read_nothing, "journal.csv"),
+    "trades": Form(("--print", "trades"), read_trades, "trades.csv", 2),
+    "book": Form(("--print", "book"), read_nothing, "book.csv", 2),
+    "journal": Form(("--print", "journal"), read_nothing, "journal.csv", 2),
 }
 """The forms by the names that `what` may have."""

@@ -1,82 +1,136 @@
 """What a run keeps of its rows as they come, so that another run goes on where it stopped."""
+import concurrent.futures
 import contextlib
 import csv
+import hashlib
 import os
 import pathlib
-from collections.abc import Iterable, Iterator
+from collections.abc import Iterable, Iterator, Sequence
 
-from callauction.market.rows import COLUMNS, Found, Row, cells, instrument_of, read_cell
-from callauction.market.task import Request
+from callauction.market.files import OWN, created, digest_of, is_own
+from callauction.market.rows import COLUMNS, Found, Row, cells, read_cell, record_of
+from callauction.market.task import ProgramFault, Request, opened
 
-STAMP = ("worker", "size", "changed")
-HEADER = [*COLUMNS, *STAMP, "asked", "program"]
-"""The columns: a row's, its stamp, the forms that were asked for, and the program's SHA-256."""
+VERSION = "2"
+"""Of the log's form."""
+HEADER = [*COLUMNS, "worker", "size", "sha256", "check"]
+"""The columns: a row's, who made it, the bytes of the file, their SHA-256, and the line's check."""
+
+
+def check_of(before: str, fields: Iterable[object]) -> str:
+    """The check of a line with these fields behind a line with this check."""
+    text = before + record_of(fields)
+    return hashlib.sha256(text.encode()).hexdigest()
 
 
 class Log:
-    """A CSV file with a record for each row as it came: its columns, the worker, the size of the
-    file and when it was changed, and the task.
+    """A CSV file with a record for each row as it came.
 
-    A record is one line, written at once, so of a run that was broken off all are whole but perhaps
-    the last.
+    Its first line says which task it is of: the version, the program's SHA-256, the forms and the
+    limits. Each line ends with a check of itself and of all lines before it. Nobody but its owner
+    may write to it, so a line that has its check was written by a run of this user.
     """
 
     def __init__(self, path: pathlib.Path, request: Request, program: str) -> None:
-        self.path, self.task = path, (" ".join(request.forms), program)
+        limits = [str(limit or "by size") for limit in (request.memory, request.seconds)]
+        self.path = path
+        self.task = ["callauction market", VERSION, program, " ".join(request.forms), *limits]
+        self.faults: list[str] = []
+        """What is wrong with the log of an earlier run, a line each."""
 
     def read(self) -> dict[str, Found]:
-        """The last record of this task of each instrument; lines that are no records say nothing.
-        Raises OSError.
+        """The last record of each instrument, up to the first line that isn't as a run of this task
+        wrote it; nothing of a log that others may write to. Raises OSError.
         """
-        with open(self.path, encoding="utf-8", errors="replace", newline="") as text:
-            whole = (line for line in text if line.endswith("\n"))
-            found = map(self.found_in, csv.reader(whole))
-            return {each.row.instrument: each for each in found if each}
+        flags = os.O_RDONLY | os.O_NOFOLLOW | os.O_NONBLOCK | os.O_CLOEXEC
+        with open(os.open(self.path, flags), encoding="utf-8", errors="replace", newline="") as log:
+            if not is_own(log.fileno()):
+                self.faults.append("others may write to it: all is run again")
+                return {}
+            lines = log.readlines()
+        return {each.row.instrument: each for each in self.founds_in(lines)}
 
-    def found_in(self, record: list[str]) -> Found | None:
-        """What a record says, if it is of this task."""
-        told = dict(zip(HEADER, record))
-        if len(record) != len(HEADER) or (told["asked"], told["program"]) != self.task:
-            return None
-        try:
-            row = Row(**{name: read_cell(name, told[name]) for name in COLUMNS})
-            size, changed = (int(told[name]) if told[name] else None for name in STAMP[1:])
-        except ValueError:
-            return None
-        return Found(row, told["worker"], size, changed)
+    def founds_in(self, lines: list[str]) -> Iterator[Found]:
+        """What the lines of a log say, up to the first that is not as it was written."""
+        before = ""
+        for place, line in enumerate(lines, 1):
+            *fields, check = fields_in(line)
+            if check != check_of(before, fields) or not line.endswith("\n"):
+                word = "isn't as it was written" if line.endswith("\n") else "was cut"
+                self.faults.append(f"line {place} {word}: it and what follows is run again")
+                return
+            if place == 1 and fields != self.task:
+                self.faults.append("it is of another program or of other options: all is run again")
+                return
+            before = check
+            if place > 2:
+                yield found_in(fields)
 
-    def taken(self, files: Iterable[str]) -> list[Found]:
+    def taken(self, files: dict[str, str]) -> list[Found]:
         """What an earlier run found of files that needn't be run again: those without a fault that
-        weren't changed since. Raises OSError where the log can't be read.
+        are the same byte for byte. Raises OSError where the log can't be read.
         """
         known = self.read() if self.path.exists() else {}
-        found = ((path, known.get(instrument_of(path))) for path in files)
-        return [each for path, each in found if each and is_current(path, each)]
+        told = [(path, known[name]) for name, path in files.items() if name in known]
+        with concurrent.futures.ThreadPoolExecutor() as pool:
+            current = pool.map(lambda it: is_current(*it), told)
+            return [found for (_, found), is_same in zip(told, current) if is_same]
 
     @contextlib.contextmanager
     def begun(self, taken: Iterable[Found]) -> Iterator[None]:
         """The log, begun anew with these records, and open for more. Raises OSError."""
-        fresh = self.path.with_name(f"{self.path.name}.new")
-        with open(fresh, "w", encoding="utf-8", newline="") as self.out:
-            self.records = csv.writer(self.out, lineterminator="\n")
-            self.records.writerow(HEADER)
-            self.add(taken)
-            os.replace(fresh, self.path)
+        begun, self.out = created(self.path.parent, OWN)
+        with self.out:
+            try:
+                self.check = ""
+                self.out.write(self.line(self.task) + self.line(HEADER[:-1]))
+                self.add(taken)
+                os.replace(begun, self.path)
+            finally:
+                begun.unlink(missing_ok=True)
             yield
+
+    def line(self, fields: Sequence[object]) -> bytes:
+        """The next line, with these fields."""
+        self.check = check_of(self.check, fields)
+        return record_of([*fields, self.check]).encode()
 
     def add(self, found: Iterable[Found]) -> None:
         """Writes records to the open log. Raises OSError."""
         for each in found:
-            stamp = (each.worker, each.size, each.changed)
-            told = ["" if value is None else value for value in stamp]
-            self.records.writerow([*cells(each.row, COLUMNS), *told, *self.task])
+            self.out.write(self.line(fields_of(each)))
         self.out.flush()
 
 
-def is_current(path: str, found: Found) -> bool:
-    """Whether a record is without a fault, and of the file as it is now."""
+def fields_in(line: str) -> list[str]:
+    """The fields of a line, at least one."""
     try:
-        told = os.stat(path)
-    except OSError:
+        return next(csv.reader([line]), [""]) or [""]
+    except csv.Error:
+        return [""]
+
+
+def fields_of(found: Found) -> list[object]:
+    """The fields of a record, but for its check."""
+    size = "" if found.size is None else found.size
+    return [*cells(found.row, COLUMNS), found.worker, size, found.digest]
+
+
+def found_in(fields: list[str]) -> Found:
+    """What the fields of a record say that has its check. Raises ValueError."""
+    told = dict(zip(HEADER, fields))
+    row = Row(**{name: read_cell(name, told[name]) for name in COLUMNS})
+    return Found(row, told["worker"], int(told["size"]) if told["size"] else None, told["sha256"])
+
+
+def is_current(path: str, found: Found) -> bool:
+    """Whether a record is without a fault, and of the bytes that the file has now. The size is
+    looked at first.
+    """
+    if found.row.fault or not found.digest:
         return False
-    return not found.row.fault and (told.st_size, told.st_mtime_ns) == (found.size, found.changed)
+    try:
+        with opened(path) as file:
+            return os.fstat(file.fileno()).st_size == found.size and digest_of(file) == found.digest
+    except (OSError, ProgramFault):
+        return False

@@ -1,35 +1,40 @@
 """What is known of an instrument's file: see Row."""
 import csv
 import dataclasses
+import io
 import os
 import pathlib
 import typing
-import urllib.parse
 from collections.abc import Iterable
 from typing import Any
 
+from callauction.market.files import whole
+from callauction.market.names import guarded, unguarded
+
 AUCTIONS = ("opening", "intraday", "closing")
-SUFFIX = ".csv"
-SAFE = "-_ "
-"""What stands as it is in a file's name beside letters and digits."""
+OVER = "over"
+"""The state of a day whose closing auction ended."""
 
 
 @dataclasses.dataclass(frozen=True, slots=True)
 class Row:
-    """What the program says of an instrument's file. None stands where it wasn't asked or said
-    nothing: of an auction that didn't take place, or had no price, and after a fault.
+    """What the program says of an instrument's file. None is what it wasn't asked or didn't say:
+    of an auction that didn't take place, or had no price, and after a fault.
 
     Counts are of entries and of trades, prices are in ticks, volumes and surpluses in shares.
     """
 
     instrument: str
+    """Its name in printable form: see names.printable."""
     entries: int | None = None
     compared: int | None = None
-    """How many entries have a recorded reply."""
+    """How many entries have a recorded reply, which the audit compared with the lawful one."""
     unlawful: int | None = None
     """How many recorded replies differ from the lawful ones."""
     first_unlawful: int | None = None
     """The number, from 1, of the first entry with an unlawful reply."""
+    day: str | None = None
+    """`over`, or the auction that the day is in: `opening`, `intraday` or `closing`."""
     auctions: int | None = None
     """How many auctions of the day ended, with or without a price."""
     opening_price: int | None = None
@@ -52,6 +57,10 @@ class Row:
     fault: str | None = None
     """Why the rest is missing: what the program says of the file, or why it couldn't run."""
 
+    def is_complete(self) -> bool:
+        """Whether each reply was compared, and the day is over."""
+        return not self.fault and self.compared == self.entries and self.day == OVER
+
 
 @dataclasses.dataclass(frozen=True, slots=True)
 class Found:
@@ -59,11 +68,11 @@ class Found:
 
     row: Row
     worker: str = ""
-    """The address of the worker that ran the program."""
+    """The worker that ran the program."""
     size: int | None = None
     """The bytes of the file."""
-    changed: int | None = None
-    """When the file was last changed, in nanoseconds since 1970."""
+    digest: str = ""
+    """The SHA-256 of the file, empty where it wasn't asked for."""
 
 
 COLUMNS = {field.name: field.type for field in dataclasses.fields(Row)}
@@ -72,50 +81,62 @@ WRITTEN = [name for name in COLUMNS if name != "seconds"]
 """The columns of a result's file: all that a second run gives the same."""
 
 
-def file_of(instrument: str) -> str:
-    """The name of the file of an instrument: letters and digits of ASCII, hyphens, underscores and
-    spaces stand as they are, the bytes of all else in UTF-8 as %XX.
-
-    Raises ValueError for an empty name, and for one that no file can have.
-    """
-    name = urllib.parse.quote(instrument, safe=SAFE).replace(".", "%2E").replace("~", "%7E")
-    if not instrument or len(name) + len(SUFFIX) > 255:
-        raise ValueError(f"no file can be named for the instrument {instrument!r}")
-    return name + SUFFIX
-
-
-def instrument_of(path: str) -> str:
-    """The instrument whose file this is: the name that file_of was given, else the file's own."""
-    return urllib.parse.unquote(pathlib.PurePath(path).stem)
-
-
 def cells(row: Row, names: Iterable[str]) -> list[object]:
-    """The fields of a record with these columns of a row; what is None is empty."""
+    """The fields of a record with these columns of a row: what is None is empty, and no spreadsheet
+    runs a text.
+    """
     values = (getattr(row, name) for name in names)
-    return ["" if value is None else value for value in values]
+    return [cell_of(value) for value in values]
 
 
-def read_cell(name: str, text: str) -> Any:
+def cell_of(value: object) -> object:
+    """The field of a record with this value."""
+    if isinstance(value, str):
+        return guarded(value)
+    return "" if value is None else value
+
+
+def read_cell(name: str, cell: str) -> Any:
     """What a field of a record says of this column. Raises ValueError for a bad number."""
-    if text == "" and name != "instrument":
+    if cell == "" and name != "instrument":
         return None
     kinds = typing.get_args(COLUMNS[name]) or (COLUMNS[name],)
-    return kinds[0](text)
+    return unguarded(cell) if kinds[0] is str else kinds[0](cell)
+
+
+def record_of(fields: Iterable[object]) -> str:
+    """A CSV record with these fields, and its line end."""
+    out = io.StringIO()
+    csv.writer(out, lineterminator="\n").writerow(fields)
+    return out.getvalue()
 
 
 def write_rows(rows: Iterable[Row], path: pathlib.Path) -> None:
-    """Writes rows to a CSV file, in the order of their instruments, under another name that takes
-    the file's place once it is whole. Raises OSError.
+    """Writes rows to a CSV file, in the order of their instruments; it takes the path's place when
+    it is whole. Raises OSError.
     """
-    whole = path.with_name(path.name + ".new")
-    with open(whole, "w", encoding="utf-8", newline="") as out:
-        records = csv.writer(out, lineterminator="\n")
-        records.writerow(WRITTEN)
+    with whole(path) as out:
+        out.write(record_of(WRITTEN).encode())
         for row in sorted(rows, key=lambda row: row.instrument):
-            records.writerow(cells(row, WRITTEN))
+            out.write(record_of(cells(row, WRITTEN)).encode())
         out.flush()
         os.fsync(out.fileno())
-    os.replace(whole, path)
+
+
+def read_rows(path: str | pathlib.Path) -> list[Row]:
+    """The rows of a file that write_rows made, each text as it was. Raises OSError, ValueError."""
+    with open(path, encoding="utf-8", newline="") as text:
+        records = csv.reader(text)
+        if next(records, None) != WRITTEN:
+            raise ValueError(f"{path} is no result of a market")
+        return [row_of(record) for record in records]
+
+
+def row_of(record: list[str]) -> Row:
+    """The row of a record of WRITTEN. Raises ValueError."""
+    if len(record) != len(WRITTEN):
+        raise ValueError(f"a record of {len(record)} fields in place of {len(WRITTEN)}")
+    return Row(**{name: read_cell(name, cell) for name, cell in zip(WRITTEN, record)})
 
 
 def frame(rows: Iterable[Row]) -> Any:

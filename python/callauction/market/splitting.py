@@ -1,16 +1,21 @@
 """A table of a whole market, split into a journal for each instrument. See split."""
+import bz2
 import collections
 import csv
+import gzip
 import io
+import itertools
+import lzma
 import os
 import pathlib
 import shutil
 import tempfile
-from collections.abc import Iterable, Iterator
+from collections.abc import Collection, Iterable, Iterator
 from operator import itemgetter
-from typing import Any
+from typing import IO, Any
 
-from callauction.market.rows import file_of
+from callauction.market.files import locked
+from callauction.market.names import file_of
 
 DAY = {
     "low": "1",
@@ -39,6 +44,8 @@ NEEDED = ("member", "command")
 MARKET = "market"
 SPECIAL = ',"\r\n'
 """What a field is quoted for."""
+OPENERS: dict[str, Any] = {".gz": gzip.open, ".bz2": bz2.open, ".xz": lzma.open}
+"""What opens a file with this end of its name."""
 ROWS = 100_000
 """How many rows are read and written together, where the table doesn't come in partitions."""
 
@@ -89,18 +96,64 @@ def frames_of(path: pathlib.Path) -> Iterator[Any]:
     """The frames of a file: of Parquet by its row groups, else of CSV with a header. Raises
     OSError, and TableError where the file is bad or Parquet can't be read here.
     """
-    import pandas
-
     try:
         if path.suffix in (".parquet", ".pq"):
             import dask.dataframe
 
             yield from partitions_of(dask.dataframe.read_parquet(path, split_row_groups=True))
         else:
-            with pandas.read_csv(path, dtype=str, na_filter=False, chunksize=ROWS) as reader:
-                yield from reader
-    except (ImportError, RuntimeError, ValueError) as fault:
+            yield from frames_of_csv(path)
+    except (ImportError, RuntimeError, ValueError, EOFError, csv.Error, lzma.LZMAError) as fault:
         raise TableError(f"{path}: {' '.join(str(fault).split())}") from fault
+
+
+def frames_of_csv(path: pathlib.Path) -> Iterator[Any]:
+    """The frames of a CSV file, whose cells are texts. A byte order mark, blank lines, and commas
+    behind a row say nothing. Raises OSError, ValueError, csv.Error, and TableError for a row that
+    is longer than the header.
+    """
+    import pandas
+
+    with OPENERS.get(path.suffix, open)(path, "rt", encoding="utf-8-sig", newline="") as text:
+        records = filter(None, csv.reader(text, strict=True))
+        names: list[str] = next(records, [])
+        checked_names(names or [""], str(path))
+        begin = 1
+        while some := list(itertools.islice(records, ROWS)):
+            for place, record in enumerate(some):
+                if any(record[len(names) :]):
+                    raise TableError(f"{path}: row {begin + place} is longer than the header")
+            columns = itertools.zip_longest(*some, fillvalue="")
+            yield pandas.DataFrame(dict(zip(names, columns)), columns=names, dtype=object)
+            begin += len(some)
+
+
+def checked_names(names: list[Any], where: str) -> None:
+    """Raises TableError where a column has no name, or two have the same."""
+    for place, name in enumerate(names):
+        if not name:
+            raise TableError(f"{where}: column {place + 1} has no name")
+        if name in names[:place]:
+            raise TableError(f"{where}: the column {name!r} is there twice")
+
+
+def checked_columns(
+    frame: Any, needed: Collection[str], known: Collection[str], ignore: Collection[str], what: str
+) -> None:
+    """Raises TableError where a frame lacks a column, has one twice, or has one that says nothing
+    here and isn't to be ignored.
+    """
+    from callauction.verdict.columns import ColumnError, refuse_unknown
+
+    names = frame.columns.tolist()
+    checked_names(names, what)
+    for name in needed:
+        if name not in names:
+            raise TableError(f"{what}: there is no column {name!r}")
+    try:
+        refuse_unknown(names, [*dict.fromkeys((*needed, *known))], ignore)
+    except ColumnError as fault:
+        raise TableError(f"{what}: {fault}") from fault
 
 
 def texts(column: Any) -> list[str]:
@@ -143,12 +196,7 @@ def quoted(text: str) -> str:
 
 
 def records_of(frame: Any, by: str) -> Iterator[tuple[str, str]]:
-    """The instrument of each row, and its entry in the shortest form. Raises TableError where the
-    frame lacks a column.
-    """
-    for name in (by, *NEEDED):
-        if name not in frame:
-            raise TableError(f"there is no column {name!r}")
+    """The instrument of each row, and its entry in the shortest form."""
     rows = zip(*(fields(frame, name) for name in CELLS))
     for instrument, row in zip(texts(frame[by]), rows):
         pick = FIELDS.get(row[1], NONE)
@@ -157,12 +205,11 @@ def records_of(frame: Any, by: str) -> Iterator[tuple[str, str]]:
         yield instrument, ",".join(pick(row)) + "\n"
 
 
-def days_of(days: Any, by: str) -> dict[str, str]:
+def days_of(days: Any, by: str, ignore: Collection[str]) -> dict[str, str]:
     """The day record of each instrument that has a row in this table. Raises TableError."""
     found: dict[str, str] = {}
     for frame in partitions_of(days):
-        if by not in frame:
-            raise TableError(f"the days have no column {by!r}")
+        checked_columns(frame, (by,), DAY, ignore, "the days")
         columns = [texts(frame[name]) if name in frame else [""] * len(frame) for name in DAY]
         for instrument, *row in zip(texts(frame[by]), *columns):
             if instrument in found:
@@ -183,10 +230,13 @@ def day_record(numbers: Iterable[str]) -> str:
 class Journals:
     """The journals that are written, in a folder of their own until they are whole."""
 
-    def __init__(self, begun: pathlib.Path, days: dict[str, str] | None) -> None:
-        self.begun, self.days = begun, days
+    def __init__(
+        self, begun: pathlib.Path, days: dict[str, str] | None, by: str, ignore: Collection[str]
+    ) -> None:
+        self.begun, self.days, self.by, self.ignore = begun, days, by, ignore
         self.files: dict[str, str] = {}
         """The name of each instrument's file."""
+        self.rows = 0
 
     def begin(self, instrument: str) -> None:
         """Begins an instrument's journal. Raises TableError where it has no day, or no file can be
@@ -199,18 +249,33 @@ class Journals:
         except ValueError as fault:
             raise TableError(str(fault)) from fault
         day = day_record(DAY.values()) if self.days is None else self.days[instrument]
-        (self.begun / name).write_text(day, encoding="utf-8")
+        with self.opened(name) as out:
+            out.write(day)
         self.files[instrument] = name
 
-    def add(self, frame: Any, by: str) -> None:
+    def opened(self, name: str) -> IO[str]:
+        """A journal, open at its end. Raises OSError."""
+        return open(self.begun / name, "a", encoding="utf-8", errors="surrogateescape")
+
+    def check(self, frame: Any) -> None:
+        """Raises TableError where a frame has other columns, or a second header."""
+        checked_columns(frame, (self.by, *NEEDED), CELLS, self.ignore, "the table")
+        members = texts(frame["member"])
+        if "member" in members:
+            row = self.rows + members.index("member") + 1
+            raise TableError(f"the table: row {row} has 'member' as member, as a header")
+        self.rows += len(members)
+
+    def add(self, frame: Any) -> None:
         """Adds the entries of a frame. Raises TableError, OSError."""
+        self.check(frame)
         entries: dict[str, list[str]] = collections.defaultdict(list)
-        for instrument, entry in records_of(frame, by):
+        for instrument, entry in records_of(frame, self.by):
             entries[instrument].append(entry)
         for instrument, those in entries.items():
             if instrument not in self.files:
                 self.begin(instrument)
-            with open(self.begun / self.files[instrument], "a", encoding="utf-8") as out:
+            with self.opened(self.files[instrument]) as out:
                 out.writelines(those)
 
     def finish(self, folder: pathlib.Path) -> list[str]:
@@ -226,6 +291,7 @@ def split(
     by: str = "instrument",
     *,
     days: Any = None,
+    ignore: Collection[str] = (),
     folder: str | os.PathLike[str] = ".",
 ) -> list[str]:
     """Writes a journal for each instrument of a table, and gives their paths in the order of the
@@ -233,24 +299,26 @@ def split(
 
     The table has a row for each entry, those of an instrument in the order in which the board took
     them: a pandas or Dask frame, the path of a CSV or Parquet file, or several of these. Its
-    columns are `by`, `member`, `command`, and those of CELLS that its commands have. It is read
-    partition by partition, of which one is in memory at a time.
+    columns are `by`, `member`, `command`, those of CELLS that its commands have, and those to
+    `ignore`. It is read partition by partition, of which one is in memory at a time.
 
     `days` is a table with a row for each instrument: `by` and the columns of DAY. Numbers that it
     doesn't have, and without it all, are the program's defaults.
 
     The journals take their places in `folder`, and those of files with the same names, when all
     are whole; at an error nothing is left of them. What a field says is no matter here: the program
-    tells what is bad. Raises TableError, and OSError where something can't be read or written.
+    tells what is bad. Raises TableError, InUse where another split or run writes to the folder, and
+    OSError where something can't be read or written.
     """
     place = pathlib.Path(folder)
     place.mkdir(parents=True, exist_ok=True)
-    told = None if days is None else days_of(days, by)
-    begun = pathlib.Path(tempfile.mkdtemp(prefix=".split-", dir=place))
-    try:
-        journals = Journals(begun, told)
-        for frame in partitions_of(table):
-            journals.add(frame, by)
-        return journals.finish(place)
-    finally:
-        shutil.rmtree(begun)
+    with locked(place):
+        told = None if days is None else days_of(days, by, ignore)
+        begun = pathlib.Path(tempfile.mkdtemp(prefix=".callauction-", dir=place))
+        try:
+            journals = Journals(begun, told, by, ignore)
+            for frame in partitions_of(table):
+                journals.add(frame)
+            return journals.finish(place)
+        finally:
+            shutil.rmtree(begun)

@@ -3,16 +3,19 @@ import contextlib
 import dataclasses
 import os
 import pathlib
+import select
 import signal
+import socket
 import stat
 import subprocess
 import tempfile
+import threading
 import time
-import uuid
 from collections.abc import Iterator
 from typing import IO
 
 from callauction.finder import program
+from callauction.market.files import digest_of, whole
 from callauction.market.forms import (
     BLOCK,
     FORMS,
@@ -23,10 +26,22 @@ from callauction.market.forms import (
     blocks_of,
     read_nothing,
 )
-from callauction.market.rows import Found, Row, instrument_of
+from callauction.market.names import instrument_of, line_of
+from callauction.market.rows import Found, Row
 
+MIB = 1 << 20
 GOOD = {0, 4}
 """The statuses of the program that go with a good file: all is lawful, or something isn't."""
+NO_MEMORY = "out of memory"
+"""What the program says where it gets no memory."""
+LEAST_MEMORY, MEMORY_OF_BYTE = 64 * MIB, 8
+"""The address space that a run may have: so many bytes, and so many for each byte of its file, and
+as many times that as its form has shares.
+"""
+LEAST_SECONDS, BYTES_OF_MINUTE = 60, 4 * MIB
+"""How long a run may take: so many seconds, and a minute for each so many bytes of its file, which
+are some 100,000 entries.
+"""
 
 
 @dataclasses.dataclass(frozen=True, slots=True)
@@ -38,32 +53,125 @@ class Request:
     program: str | None = None
     """The path of the program; None for the one that the worker finds."""
     memory: int | None = None
-    """The most bytes of address space for a run of the program; None for any number."""
+    """The most bytes of address space for a run of the program; None goes by the file's size."""
+    seconds: int | None = None
+    """The most seconds for a run of the program; None goes by the file's size."""
     into: str | None = None
     """A folder that keeps the output of each run; None for none."""
+    is_logged: bool = False
+    """Whether the file's SHA-256 is asked for."""
+
+    def for_size(self, size: int, form: Form) -> "Request":
+        """The request with the limits for a run in this form on a file of so many bytes."""
+        memory = self.memory or form.shares * (LEAST_MEMORY + MEMORY_OF_BYTE * size)
+        seconds = self.seconds or LEAST_SECONDS + 60 * (size // BYTES_OF_MINUTE)
+        return dataclasses.replace(self, memory=memory, seconds=seconds)
 
 
 class ProgramFault(Exception):
     """The program refused a file, or couldn't be run to its end: the text of a row's fault."""
 
 
-def fault_of(status: int, errors: bytes) -> str:
+class Children:
+    """The runs of the program in this process, which can be ended together."""
+
+    def __init__(self) -> None:
+        self.lock = threading.Lock()
+        self.running: set[subprocess.Popen[bytes]] = set()
+        self.is_over = False
+
+    @contextlib.contextmanager
+    def started(
+        self, words: list[str], file: IO[bytes], errors: IO[bytes]
+    ) -> Iterator[subprocess.Popen[bytes]]:
+        """The program on an open file. It is killed where the block is left before it ends. Raises
+        ProgramFault where it can't be started.
+        """
+        try:
+            child = subprocess.Popen(
+                words, stdin=file, stdout=subprocess.PIPE, stderr=errors, bufsize=0
+            )
+        except OSError as fault:
+            raise ProgramFault(f"the program can't be started: {fault.strerror}") from fault
+        with child:
+            try:
+                with self.lock:
+                    self.running.add(child)
+                    if self.is_over:
+                        child.kill()
+                yield child
+            finally:
+                child.kill()  # says nothing to one that has ended and was waited for
+                with self.lock:
+                    self.running.discard(child)
+
+    def end(self) -> None:
+        """Ends those that run, and those that are still to be started."""
+        with self.lock:
+            self.is_over = True
+            for child in self.running:
+                child.kill()
+
+
+class Output:
+    """What a run of the program prints, read until some moment."""
+
+    def __init__(self, child: subprocess.Popen[bytes], seconds: int) -> None:
+        assert child.stdout is not None
+        self.child, self.seconds = child, seconds
+        self.file = child.stdout.fileno()
+        self.deadline = time.monotonic() + seconds
+        self.poll = select.poll()
+        self.poll.register(self.file, select.POLLIN)
+
+    def left(self) -> float:
+        """The seconds that are left. Raises ProgramFault where there are none."""
+        left = self.deadline - time.monotonic()
+        if left <= 0:
+            raise self.fault()
+        return left
+
+    def fault(self) -> ProgramFault:
+        """That the time is over."""
+        return ProgramFault(f"not done in {self.seconds} seconds")
+
+    def read(self, size: int, /) -> bytes:
+        """Some bytes of what is printed, none at its end. Raises ProgramFault."""
+        if not self.poll.poll(1_000 * self.left()):
+            raise self.fault()
+        return os.read(self.file, size)
+
+    def wait(self) -> int:
+        """The status with which the program ends. Raises ProgramFault."""
+        try:
+            return self.child.wait(self.left())
+        except subprocess.TimeoutExpired:
+            raise self.fault() from None
+
+
+def fault_of(status: int, errors: bytes, request: Request) -> str:
     """What is said of a run that ended badly: by the first line of its standard error."""
     if status < 0:
         return f"the program was ended by {signal.Signals(-status).name}"
     lines = errors.decode("utf-8", "replace").splitlines()
-    return lines[0] if lines else f"the program ended with status {status}"
+    if not lines:
+        return f"the program ended with status {status}"
+    if lines[0] == NO_MEMORY and request.memory:
+        return f"{NO_MEMORY}: it may have {request.memory // MIB} MiB"
+    return line_of(lines[0])
 
 
-def read_run(child: subprocess.Popen[bytes], form: Form, keep: IO[bytes] | None) -> Said:
-    """What a run's output says. Raises OSError where it can't be kept, OutputFault."""
-    assert child.stdout is not None
-    blocks = blocks_of(child.stdout)
+def read_run(output: Output, form: Form, keep: IO[bytes] | None) -> tuple[Said | OutputFault, int]:
+    """What a run's output says, or how it is wrong, and the run's status. Raises OSError where it
+    can't be kept, ProgramFault where it takes too long.
+    """
+    blocks = blocks_of(output)
     try:
-        return form.read(written(blocks, keep) if keep else blocks)
-    except OutputFault:
+        said: Said | OutputFault = form.read(written(blocks, keep) if keep else blocks)
+    except OutputFault as fault:
+        said = fault
         read_nothing(blocks)  # so that it ends with its own status
-        raise
+    return said, output.wait()
 
 
 def written(blocks: Blocks, out: IO[bytes]) -> Blocks:
@@ -73,33 +181,26 @@ def written(blocks: Blocks, out: IO[bytes]) -> Blocks:
         yield block
 
 
-def started(words: list[str], file: IO[bytes], errors: IO[bytes]) -> subprocess.Popen[bytes]:
-    """The program on an open file. Raises ProgramFault where it can't be started."""
-    try:
-        return subprocess.Popen(
-            words, stdin=file, stdout=subprocess.PIPE, stderr=errors, bufsize=0
-        )
-    except OSError as fault:
-        raise ProgramFault(f"the program can't be started: {fault.strerror}") from fault
+def words_of(form: Form, request: Request) -> list[str]:
+    """The command that runs the program in this form within the request's memory."""
+    limits = [] if request.memory is None else ["prlimit", f"--as={request.memory}", "--core=0"]
+    return [*limits, request.program or program(), *form.words]
 
 
-def run_form(form: Form, file: IO[bytes], keep: IO[bytes] | None, request: Request) -> Said:
+def run_form(
+    form: Form, file: IO[bytes], keep: IO[bytes] | None, request: Request, children: Children
+) -> Said:
     """Runs the program on an open file: what its output says. Raises ProgramFault, OutputFault,
     and OSError where its output can't be kept.
     """
     file.seek(0)
-    limit = [] if request.memory is None else ["prlimit", f"--as={request.memory}"]
-    words = [*limit, request.program or program(), *form.words]
-    said: Said | OutputFault
     with tempfile.TemporaryFile() as errors:
-        with started(words, file, errors) as child:
-            try:
-                said = read_run(child, form, keep)
-            except OutputFault as fault:
-                said = fault
-        if child.returncode not in GOOD:
+        with children.started(words_of(form, request), file, errors) as child:
+            output = Output(child, request.seconds or LEAST_SECONDS)
+            said, status = read_run(output, form, keep)
+        if status not in GOOD:
             errors.seek(0)
-            raise ProgramFault(fault_of(child.returncode, errors.read(BLOCK)))
+            raise ProgramFault(fault_of(status, errors.read(BLOCK), request))
     if isinstance(said, OutputFault):
         raise said
     return said
@@ -108,19 +209,14 @@ def run_form(form: Form, file: IO[bytes], keep: IO[bytes] | None, request: Reque
 @contextlib.contextmanager
 def keeper(path: str, form: Form, request: Request) -> Iterator[IO[bytes] | None]:
     """Where the output of a run on this path's file is kept, if it is: a file that gets its name
-    when the run has ended well, and is removed if not. Raises OSError.
+    when the run has ended well. Raises OSError.
     """
     if request.into is None:
         yield None
         return
     name = f"{pathlib.PurePath(path).stem}.{form.suffix}"
-    begun = pathlib.Path(request.into, f".{uuid.uuid4().hex}.{name}")
-    try:
-        with open(begun, "xb") as out:
-            yield out
-        os.replace(begun, begun.with_name(name))
-    finally:
-        begun.unlink(missing_ok=True)
+    with whole(pathlib.Path(request.into, name)) as out:
+        yield out
 
 
 def opened(path: str) -> IO[bytes]:
@@ -134,53 +230,56 @@ def opened(path: str) -> IO[bytes]:
     raise ProgramFault("not a regular file")
 
 
-def stamp(file: IO[bytes]) -> tuple[int, int]:
-    """The size in bytes of an open file, and when it was last changed, in nanoseconds."""
-    told = os.fstat(file.fileno())
-    return told.st_size, told.st_mtime_ns
+def stamp(file: IO[bytes]) -> tuple[int, int, int]:
+    """The size in bytes of an open file, and when its content and its node were last changed, in
+    nanoseconds.
+    """
+    found = os.fstat(file.fileno())
+    return found.st_size, found.st_mtime_ns, found.st_ctime_ns
 
 
-def examine_file(path: str, request: Request, worker: str) -> Found:
+def examine_file(path: str, request: Request, worker: str, children: Children) -> Found:
     """What the program says of a file. Raises OSError, OutputFault, ProgramFault."""
     with opened(path) as file:
-        size, changed = stamp(file)
+        before = stamp(file)
+        size = before[0]
+        digest = digest_of(file) if request.is_logged else ""
         said: Said = {}
         begin = time.perf_counter()
         for name in request.forms:
-            with keeper(path, FORMS[name], request) as keep:
-                found = run_form(FORMS[name], file, keep, request)
+            form = FORMS[name]
+            limited = request.for_size(size, form)
+            with keeper(path, form, request) as keep:
+                found = run_form(form, file, keep, limited, children)
             if any(said.get(column, value) != value for column, value in found.items()):
                 raise OutputFault("the program's forms don't agree")
             said |= found
         seconds = time.perf_counter() - begin
-        if stamp(file) != (size, changed):
+        if stamp(file) != before:
             raise ProgramFault("the file was changed meanwhile")
-    return Found(Row(instrument_of(path), seconds=seconds, **said), worker, size, changed)
+    return Found(Row(instrument_of(path), seconds=seconds, **said), worker, size, digest)
 
 
-def examine(paths: list[str], request: Request) -> list[Found]:
+def examine(
+    paths: list[str], request: Request, children: Children | None = None
+) -> list[Found]:
     """What the program says of each of these files, in their order: a bad one gives a row with its
     fault. Raises FileNotFoundError where this machine has no program.
     """
-    worker = address()
     request = dataclasses.replace(request, program=request.program or program())
+    worker = name_of_worker()
     found = []
     for path in paths:
         try:
-            found.append(examine_file(path, request, worker))
+            found.append(examine_file(path, request, worker, children or Children()))
         except (ProgramFault, OutputFault) as fault:
             found.append(Found(Row(instrument_of(path), fault=str(fault)), worker))
         except OSError as fault:
-            told = fault.strerror or str(fault)
+            told = fault.strerror or line_of(str(fault))
             found.append(Found(Row(instrument_of(path), fault=told), worker))
     return found
 
 
-def address() -> str:
-    """The address of the worker whose task this is, empty outside of one."""
-    from distributed import get_worker
-
-    try:
-        return str(get_worker().address)
-    except ValueError:
-        return ""
+def name_of_worker() -> str:
+    """The machine, the process and the thread that run this."""
+    return f"{socket.gethostname()}:{os.getpid()}:{threading.get_native_id()}"

@@ -3,12 +3,12 @@ ghost use Rattle.std.specs.Prelude.{◌≡◌};
 
 use super::{BEST_BID, BID, bid_entered};
 use auction::OpenFault;
-use auction_terms::{Command, Config, Display, Entry, Kind, Refused, Reply};
-use call_board::{
-    Board, CallFault, CloseFault, Closing, Day, Fresh, Member, Receipt, Shown, Update, Version,
-    close,
-};
+use auction_terms::{AuctionKind, Command, Config, Display, Entry, Refusal, Reply};
 use left_right::Absorb;
+use member_board::{
+    Board, BoardIdentity, CallFault, CloseFault, Closing, Fresh, Member, Receipt, Shown, Update,
+    Version, close,
+};
 use std::alloc::Global;
 use std::marker::Brand;
 use std::sync::Wait;
@@ -29,7 +29,7 @@ fn check(is: bool, words: &'static str) -> Result<(), Fail> {
     if is { Ok(()) } else { Err(words)? }
 }
 
-fn told(answer: Result<Receipt, CallFault>, number: u32, reply: Reply) -> bool {
+fn is_receipt(answer: Result<Receipt, CallFault>, number: u32, reply: Reply) -> bool {
     answer == Ok(Receipt { number, reply })
 }
 
@@ -39,13 +39,13 @@ fn shows(shown: Shown, calls: u32, display: Display) -> bool {
 
 // The members of a board of two, and the room that they came in.
 #[derive(Drop)]
-struct Pair<K: Day> {
+struct Pair<K: BoardIdentity> {
     operator: Member<K>,
     second: Member<K>,
     room: Vec<Member<K>>,
 }
 
-fn pair_of<K: Day>(members: Vec<Member<K>>) -> Option<Pair<K>> {
+fn pair_of<K: BoardIdentity>(members: Vec<Member<K>>) -> Option<Pair<K>> {
     let mut room = members;
     let second = room.pop()?;
     let operator = room.pop()?;
@@ -56,7 +56,7 @@ fn pair_of<K: Day>(members: Vec<Member<K>>) -> Option<Pair<K>> {
     })
 }
 
-fn closed<K: Day, R: Wait>(rt: &R, board: Board<K>, two: Pair<K>) -> Result<Closing, Fail>
+fn closed<K: BoardIdentity, R: Wait>(rt: &R, board: Board<K>, two: Pair<K>) -> Result<Closing, Fail>
 where
     Version<K>: Absorb<Update<K>, State = ()>,
 {
@@ -80,7 +80,12 @@ enum Scene {
 
 impl Scene {
     // Whether all of it is answered as it should be.
-    fn goes_well<K: Day, R: Wait>(self, rt: &R, board: &Board<K>, two: &mut Pair<K>) -> bool
+    fn goes_well<K: BoardIdentity, R: Wait>(
+        self,
+        rt: &R,
+        board: &Board<K>,
+        two: &mut Pair<K>,
+    ) -> bool
     where
         Version<K>: Absorb<Update<K>, State = ()>,
     {
@@ -93,7 +98,7 @@ impl Scene {
 }
 
 // The day that K names. It has no bound but K's, so that its caller can name the day.
-fn day<K: Day, R: Wait>(rt: &R, fresh: Fresh, scene: Scene) -> Result<Closing, Fail>
+fn day<K: BoardIdentity, R: Wait>(rt: &R, fresh: Fresh, scene: Scene) -> Result<Closing, Fail>
     requires names { (K.config ≡ fresh.config) × (K.parts ≡ fresh.members)
         × (K.name ≡ fresh.ledger) × (K.story ≡ fresh.story) }
 {
@@ -114,21 +119,21 @@ fn closing_of<R: Wait>(
 }
 
 // The operator uncrosses an auction with one bid, and member 1 may not.
-fn three_calls<K: Day, R: Wait>(rt: &R, board: &Board<K>, two: &mut Pair<K>) -> bool
+fn three_calls<K: BoardIdentity, R: Wait>(rt: &R, board: &Board<K>, two: &mut Pair<K>) -> bool
 where
     Version<K>: Absorb<Update<K>, State = ()>,
 {
     let no_price = Reply::Uncrossed {
-        kind: Kind::Opening,
+        kind: AuctionKind::Opening,
         price: None,
         trades: 0,
     };
-    told(two.second.call(board, rt, BID), 1, Reply::Entered { id: 1 })
-        && told(two.operator.call(board, rt, Command::Uncross), 2, no_price)
-        && told(
+    is_receipt(two.second.call(board, rt, BID), 1, Reply::Entered { id: 1 })
+        && is_receipt(two.operator.call(board, rt, Command::Uncross), 2, no_price)
+        && is_receipt(
             two.second.call(board, rt, Command::Uncross),
             3,
-            Reply::Refused(Refused::NotOperator),
+            Reply::Refused(Refusal::NotOperator),
         )
 }
 
@@ -142,7 +147,7 @@ fn the_closing_has_each_call_with_its_reply(rt: HostRuntime) -> Result<(), Fail>
             member: 0,
             command: Command::Uncross,
             reply: Reply::Uncrossed {
-                kind: Kind::Opening,
+                kind: AuctionKind::Opening,
                 price: None,
                 trades: 0,
             },
@@ -150,7 +155,7 @@ fn the_closing_has_each_call_with_its_reply(rt: HostRuntime) -> Result<(), Fail>
         Entry {
             member: 1,
             command: Command::Uncross,
-            reply: Reply::Refused(Refused::NotOperator),
+            reply: Reply::Refused(Refusal::NotOperator),
         },
     ];
     assert_eq!(rt; closing.history.as_slice(), entries.as_slice());
@@ -160,8 +165,8 @@ fn the_closing_has_each_call_with_its_reply(rt: HostRuntime) -> Result<(), Fail>
 #[test]
 fn boards_that_cannot_be_opened(rt: HostRuntime) {
     let rows = [
-        (1, 200, 0, OpenFault::BadLimits),
-        (1, 200, 65, OpenFault::BadLimits),
+        (1, 200, 0, OpenFault::BadCapacity),
+        (1, 200, 65, OpenFault::BadCapacity),
         (1001, 200, 65, OpenFault::BadBounds),
         (1, 1001, 65, OpenFault::BadReference),
     ];
@@ -176,16 +181,16 @@ fn boards_that_cannot_be_opened(rt: HostRuntime) {
 }
 
 // A member sees its own bid, and another the same.
-fn a_bid_is_seen<K: Day, R: Wait>(rt: &R, board: &Board<K>, two: &mut Pair<K>) -> bool
+fn a_bid_is_seen<K: BoardIdentity, R: Wait>(rt: &R, board: &Board<K>, two: &mut Pair<K>) -> bool
 where
     Version<K>: Absorb<Update<K>, State = ()>,
 {
     let empty = Display::Unpriced {
-        best_buy: None,
-        best_sell: None,
+        best_bid: None,
+        best_ask: None,
     };
     shows(two.operator.look(), 0, empty)
-        && told(two.second.call(board, rt, BID), 1, Reply::Entered { id: 1 })
+        && is_receipt(two.second.call(board, rt, BID), 1, Reply::Entered { id: 1 })
         && shows(two.second.look(), 1, BEST_BID)
         && shows(two.operator.look(), 1, BEST_BID)
         && two.second.number() == 1
@@ -201,22 +206,22 @@ fn a_look_shows_finished_calls(rt: HostRuntime) -> Result<(), Fail> {
 }
 
 // The third call finds the history full; its member has then seen all of it.
-fn too_many_calls<K: Day, R: Wait>(rt: &R, board: &Board<K>, two: &mut Pair<K>) -> bool
+fn too_many_calls<K: BoardIdentity, R: Wait>(rt: &R, board: &Board<K>, two: &mut Pair<K>) -> bool
 where
     Version<K>: Absorb<Update<K>, State = ()>,
 {
     let full = Err(CallFault::HistoryFull);
-    told(two.second.call(board, rt, BID), 1, Reply::Entered { id: 1 })
-        && told(
-            two.second.call(board, rt, Command::Ask),
+    is_receipt(two.second.call(board, rt, BID), 1, Reply::Entered { id: 1 })
+        && is_receipt(
+            two.second.call(board, rt, Command::Indicate),
             2,
             Reply::Indicated(BEST_BID),
         )
-        && two.operator.call(board, rt, Command::Ask) == full
+        && two.operator.call(board, rt, Command::Indicate) == full
         && board
             .floor()
             .lock(rt)
-            .record(&mut two.operator, rt, Command::Ask)
+            .record(&mut two.operator, rt, Command::Indicate)
             == full
         && shows(two.operator.look(), 2, BEST_BID)
 }
@@ -234,7 +239,7 @@ fn a_full_history(rt: HostRuntime) -> Result<(), Fail> {
 }
 
 // Three of four members, and then a board that is given up.
-fn one_is_missing<K: Day, R: Wait>(rt: &R, fresh: Fresh) -> Option<Closing>
+fn one_is_missing<K: BoardIdentity, R: Wait>(rt: &R, fresh: Fresh) -> Option<Closing>
     requires names { (K.config ≡ fresh.config) × (K.parts ≡ fresh.members)
         × (K.name ≡ fresh.ledger) × (K.story ≡ fresh.story) }
 {
@@ -248,7 +253,9 @@ fn one_is_missing<K: Day, R: Wait>(rt: &R, fresh: Fresh) -> Option<Closing>
     close(board, members, rt).ok()
 }
 
-fn missing<K: Day>(answer: Result<Closing, CloseFault<K>>) -> Option<(Board<K>, Vec<Member<K>>)>
+fn missing<K: BoardIdentity>(
+    answer: Result<Closing, CloseFault<K>>,
+) -> Option<(Board<K>, Vec<Member<K>>)>
 where
     Version<K>: Absorb<Update<K>, State = ()>,
 {

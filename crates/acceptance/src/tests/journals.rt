@@ -4,10 +4,12 @@ ghost use Rattle.std.specs.Prelude.{◌≡◌, ◌<◌};
 
 use super::DAY;
 use auction::OpenFault;
-use auction_terms::{Call, Command, Config, Entry, Kind, Limit, Only, Refused, Reply, Side};
+use auction_terms::{
+    AuctionKind, Call, Command, Config, Entry, Limit, Refusal, Reply, Restriction, Side,
+};
 use byte_streams::{Failures, FromMemory, ToMemory};
 use day_audit::{AuditFault, Counts, audit_journal};
-use journal::{Day, Given, Journal, print_journal, read_given, read_journal};
+use journal::{DayHeader, Journal, RunInput, print_journal, read_journal, read_run_input};
 use order_file::FileFault;
 use printed_lines::Printer;
 use std::alloc::Global;
@@ -21,13 +23,13 @@ fn journal_in(alloc: Global, text: &[u8]) -> Result<Journal, FileFault> {
     read_journal(alloc, &mut source)
 }
 
-fn given_by(alloc: Global, text: &[u8]) -> Result<Given, FileFault> {
+fn given_by(alloc: Global, text: &[u8]) -> Result<RunInput, FileFault> {
     let mut source = FromMemory { rest: text };
-    let day = Day {
+    let day = DayHeader {
         config: DAY,
         members: 4,
     };
-    read_given(alloc, &mut source, day)
+    read_run_input(alloc, &mut source, day)
 }
 
 fn fault_of(alloc: Global, text: &[u8]) -> Option<FileFault> {
@@ -48,7 +50,7 @@ fn journals_are_read(rt: HostRuntime) -> Result<(), Fail> {
     let calls = [
         Call {
             member: 2,
-            command: Command::Ask,
+            command: Command::Indicate,
         },
         Call {
             member: 0,
@@ -228,7 +230,7 @@ fn memory<L: Ledger>(alloc: Global, blank: Blank) -> ToMemory<L>
     }
 }
 
-fn printed<L: Ledger>(alloc: Global, blank: Blank, day: Day, entries: &[Entry]) -> Vec<u8>
+fn printed<L: Ledger>(alloc: Global, blank: Blank, day: DayHeader, entries: &[Entry]) -> Vec<u8>
     requires name { blank.name ≡ L.name }
     requires parts { blank.parts ≡ L.parts }
     requires backed { 0 < L.parts }
@@ -240,7 +242,7 @@ fn printed<L: Ledger>(alloc: Global, blank: Blank, day: Day, entries: &[Entry]) 
     sink.bytes
 }
 
-fn journal_of(alloc: Global, day: Day, entries: &[Entry]) -> Vec<u8> {
+fn journal_of(alloc: Global, day: DayHeader, entries: &[Entry]) -> Vec<u8> {
     printed::<Brand>(alloc, Blank::new(1), day, entries)
 }
 
@@ -252,10 +254,16 @@ fn entry(member: u8, command: Command, reply: Reply) -> Entry {
     }
 }
 
-fn enter(side: Side, only: Only, limit: Limit, quantity: u64, peak: Option<u64>) -> Command {
+fn enter(
+    side: Side,
+    restriction: Restriction,
+    limit: Limit,
+    quantity: u64,
+    peak: Option<u64>,
+) -> Command {
     Command::Enter {
         side,
-        only,
+        restriction,
         limit,
         quantity,
         peak,
@@ -264,7 +272,7 @@ fn enter(side: Side, only: Only, limit: Limit, quantity: u64, peak: Option<u64>)
 
 #[test]
 fn enters_are_written(rt: HostRuntime) -> Result<(), Fail> {
-    let day = Day {
+    let day = DayHeader {
         config: DAY,
         members: 4,
     };
@@ -272,23 +280,23 @@ fn enters_are_written(rt: HostRuntime) -> Result<(), Fail> {
     let entries = [
         entry(
             1,
-            enter(Side::Buy, Only::Any, at, 200, None),
+            enter(Side::Bid, Restriction::Unrestricted, at, 200, None),
             Reply::Entered { id: 1 },
         ),
         entry(
             2,
-            enter(Side::Sell, Only::Any, at, 200, Some(50)),
+            enter(Side::Ask, Restriction::Unrestricted, at, 200, Some(50)),
             Reply::Entered { id: 2 },
         ),
         entry(
             3,
-            enter(Side::Sell, Only::Opening, Limit::Market, 7, None),
+            enter(Side::Ask, Restriction::OpeningOnly, Limit::Market, 7, None),
             Reply::Entered { id: 3 },
         ),
         entry(
             0,
-            enter(Side::Buy, Only::Closing, at, 7, Some(6)),
-            Reply::Refused(Refused::BadLimit),
+            enter(Side::Bid, Restriction::ClosingOnly, at, 7, Some(6)),
+            Reply::Refused(Refusal::BadLimit),
         ),
     ];
     let wanted = "\
@@ -308,7 +316,7 @@ day,1,1000,200,4,4096,65536,
 
 #[test]
 fn other_commands_are_written(rt: HostRuntime) {
-    let day = Day {
+    let day = DayHeader {
         config: Config {
             range: Some(5),
             ..DAY
@@ -325,19 +333,19 @@ fn other_commands_are_written(rt: HostRuntime) {
         entry(0, Command::Delete { id: 1 }, Reply::Deleted),
         entry(
             0,
-            Command::Status { id: 12 },
-            Reply::Refused(Refused::UnknownOrder),
+            Command::OrderStatus { id: 12 },
+            Reply::Refused(Refusal::UnknownOrder),
         ),
         entry(
             0,
-            Command::Trade { number: 4 },
-            Reply::Refused(Refused::NoSuchTrade),
+            Command::ReadTrade { number: 4 },
+            Reply::Refused(Refusal::NoSuchTrade),
         ),
         entry(
             0,
             Command::Uncross,
             Reply::Uncrossed {
-                kind: Kind::Opening,
+                kind: AuctionKind::Opening,
                 trades: 0,
                 price: None,
             },
@@ -360,6 +368,7 @@ fn audited<L: Ledger>(
     alloc: Global,
     blank: Blank,
     text: &[u8],
+    results: bool,
 ) -> (Result<Counts, AuditFault>, Vec<u8>)
     requires name { blank.name ≡ L.name }
     requires parts { blank.parts ≡ L.parts }
@@ -367,12 +376,17 @@ fn audited<L: Ledger>(
 {
     let mut source = FromMemory { rest: text };
     let mut sink = memory::<L>(alloc, blank);
-    let found = audit_journal(alloc, &mut source, &mut sink);
+    let found = audit_journal(alloc, &mut source, &mut sink, results);
     (found, sink.bytes)
 }
 
 fn audit_of(alloc: Global, text: &str) -> (Result<Counts, AuditFault>, Vec<u8>) {
-    audited::<Brand>(alloc, Blank::new(1), text.as_bytes())
+    audited::<Brand>(alloc, Blank::new(1), text.as_bytes(), false)
+}
+
+/// The same with the results of the day.
+fn results_of(alloc: Global, text: &str) -> (Result<Counts, AuditFault>, Vec<u8>) {
+    audited::<Brand>(alloc, Blank::new(1), text.as_bytes(), true)
 }
 
 #[test]
@@ -422,6 +436,60 @@ fn a_legal_day_is_told(rt: HostRuntime) {
     let (found, written) = audit_of(rt.alloc(), text);
     assert!(rt; found == Ok(counts));
     assert!(rt; counts.status() == 0);
+    assert!(rt; from_utf8(written.as_slice()) == Ok(wanted));
+}
+
+#[test]
+fn the_results_of_a_whole_day(rt: HostRuntime) {
+    let text = "\
+day,1,1000,200,3,4096,65536,5
+0,enter,bid,100,206,entered 1
+1,enter,ask,50,206,
+0,uncross,
+0,uncross,
+2,uncross,refused 6 NotOperator
+0,uncross,
+0,uncross,
+0,uncross,refused 7 DayOver
+";
+    let wanted = "\
+entries 8
+compared 3
+unlawful 0
+audit legal
+3: interrupted price 206 volume 50 surplus 50 bid
+4: opening price 206 volume 50 surplus 50 bid trades 1
+6: intraday no price
+7: closing no price
+day over
+";
+    let (found, written) = results_of(rt.alloc(), text);
+    assert!(rt; found.is_ok());
+    assert!(rt; from_utf8(written.as_slice()) == Ok(wanted));
+}
+
+#[test]
+fn the_results_of_a_day_that_goes_on(rt: HostRuntime) {
+    let text = "\
+day,1,1000,200,3,4096,65536,
+0,enter,bid,100,200,entered 1
+1,enter,ask,50,200,entered 2
+0,uncross,opening price 200 volume 50 surplus 50 bid trades 2
+0,uncross,
+";
+    let wanted = "\
+3: recorded \"opening price 200 volume 50 surplus 50 bid trades 2\", \
+lawful \"opening price 200 volume 50 surplus 50 bid trades 1\"
+entries 4
+compared 3
+unlawful 1
+audit bad 2
+3: opening price 200 volume 50 surplus 50 bid trades 1
+4: intraday no price
+in closing
+";
+    let (found, written) = results_of(rt.alloc(), text);
+    assert!(rt; found.is_ok());
     assert!(rt; from_utf8(written.as_slice()) == Ok(wanted));
 }
 

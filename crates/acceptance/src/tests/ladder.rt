@@ -10,17 +10,17 @@ fn last_order_leaves(rt: HostRuntime) -> Result<(), Fail> {
     let mut ladder = Ladder::open(rt.alloc(), 5, 12)?;
     assert_eq!(rt; ladder.bids().len(), 8);
     assert_eq!(rt; (ladder.low(), ladder.high()), (5, 12));
-    ladder.add(Side::Buy, Limit::At(12), 50);
-    ladder.add(Side::Sell, Limit::At(12), 30);
+    ladder.add(Side::Bid, Limit::At(12), 50);
+    ladder.add(Side::Ask, Limit::At(12), 30);
     assert_eq!(rt; ladder.present().last(), Some(&1));
-    assert_eq!(rt; ladder.best(Side::Buy), Some(12));
-    ladder.take(Side::Buy, Limit::At(12), 50);
+    assert_eq!(rt; ladder.best(Side::Bid), Some(12));
+    ladder.take(Side::Bid, Limit::At(12), 50);
     assert_eq!(rt; ladder.present().last(), Some(&1));
     assert_eq!(rt;
-        (ladder.best(Side::Buy), ladder.best(Side::Sell)),
+        (ladder.best(Side::Bid), ladder.best(Side::Ask)),
         (None, Some(12))
     );
-    ladder.take(Side::Sell, Limit::At(12), 30);
+    ladder.take(Side::Ask, Limit::At(12), 30);
     assert_eq!(rt; ladder.present().last(), Some(&0));
     assert_eq!(rt; (ladder.last_before(8), ladder.first_from(0)), (None, None));
     Ok(())
@@ -30,18 +30,18 @@ fn last_order_leaves(rt: HostRuntime) -> Result<(), Fail> {
 #[test]
 fn both_sides(rt: HostRuntime) -> Result<(), Fail> {
     let mut ladder = Ladder::open(rt.alloc(), 5, 12)?;
-    ladder.add(Side::Buy, Limit::At(7), 30);
-    ladder.add(Side::Buy, Limit::At(9), 20);
-    ladder.add(Side::Sell, Limit::At(8), 10);
-    ladder.add(Side::Sell, Limit::At(10), 40);
-    ladder.add(Side::Buy, Limit::Market, 5);
-    ladder.add(Side::Sell, Limit::Market, 3);
+    ladder.add(Side::Bid, Limit::At(7), 30);
+    ladder.add(Side::Bid, Limit::At(9), 20);
+    ladder.add(Side::Ask, Limit::At(8), 10);
+    ladder.add(Side::Ask, Limit::At(10), 40);
+    ladder.add(Side::Bid, Limit::Market, 5);
+    ladder.add(Side::Ask, Limit::Market, 3);
     assert_eq!(rt;
-        (ladder.best(Side::Buy), ladder.best(Side::Sell)),
+        (ladder.best(Side::Bid), ladder.best(Side::Ask)),
         (Some(9), Some(8))
     );
     assert_eq!(rt;
-        (ladder.market(Side::Buy), ladder.market(Side::Sell)),
+        (ladder.market(Side::Bid), ladder.market(Side::Ask)),
         (5, 3)
     );
     assert_eq!(rt; (ladder.bids_at(2), ladder.asks_at(5)), (30, 40));

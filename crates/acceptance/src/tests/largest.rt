@@ -2,7 +2,7 @@
 
 use super::{BEST_BID, even, order, reply_to};
 use auction::Auction;
-use auction_terms::{Command, Config, Display, Kind, Price, Refused, Reply, Side, Trade};
+use auction_terms::{AuctionKind, Command, Config, Display, Price, Refusal, Reply, Side, Trade};
 use std::test::Fail;
 
 /// The most orders that may be open, and half of them.
@@ -25,17 +25,17 @@ fn enters(auction: &mut Auction, side: Side, quantity: u64, tick: u32, id: u32) 
 }
 
 /// Whether the day's trade with this number is this one, of one share.
-fn traded(auction: &mut Auction, number: u32, buy: u32, sell: u32, tick: u32) -> bool {
+fn traded(auction: &mut Auction, number: u32, bid: u32, ask: u32, tick: u32) -> bool {
     let trade = Trade {
-        buy,
-        sell,
+        bid,
+        ask,
         tick,
         quantity: 1,
     };
-    reply_to(auction, 2, Command::Trade { number }) == Some(Reply::Traded(trade))
+    reply_to(auction, 2, Command::ReadTrade { number }) == Some(Reply::Traded(trade))
 }
 
-fn uncrosses(auction: &mut Auction, kind: Kind, price: Price, trades: u32) -> bool {
+fn uncrosses(auction: &mut Auction, kind: AuctionKind, price: Price, trades: u32) -> bool {
     let wanted = Reply::Uncrossed {
         kind,
         price: Some(price),
@@ -50,10 +50,14 @@ fn uncrosses(auction: &mut Auction, kind: Kind, price: Price, trades: u32) -> bo
 fn as_many_trades_as_a_day_may_have(rt: HostRuntime) -> Result<(), Fail> {
     let mut auction = Auction::open(rt.alloc(), WIDEST)?;
     let mut first = 1u32;
-    for kind in [Kind::Opening, Kind::Intraday, Kind::Closing] {
-        assert!(rt; enters(&mut auction, Side::Buy, 65_535, 200, first));
+    for kind in [
+        AuctionKind::Opening,
+        AuctionKind::Intraday,
+        AuctionKind::Closing,
+    ] {
+        assert!(rt; enters(&mut auction, Side::Bid, 65_535, 200, first));
         for next in 1..OPEN {
-            assert!(rt; enters(&mut auction, Side::Sell, 1, 200, first.saturating_add(next)));
+            assert!(rt; enters(&mut auction, Side::Ask, 1, 200, first.saturating_add(next)));
         }
         assert!(rt; uncrosses(&mut auction, kind, even(200, 65_535), 65_535));
         first = first.saturating_add(OPEN);
@@ -66,8 +70,8 @@ fn as_many_trades_as_a_day_may_have(rt: HostRuntime) -> Result<(), Fail> {
         }
     }
     assert_eq!(rt; number, 196_605);
-    let reply = reply_to(&mut auction, 2, Command::Trade { number: 196_606 });
-    assert!(rt; reply == Some(Reply::Refused(Refused::NoSuchTrade)));
+    let reply = reply_to(&mut auction, 2, Command::ReadTrade { number: 196_606 });
+    assert!(rt; reply == Some(Reply::Refused(Refusal::NoSuchTrade)));
     Ok(())
 }
 
@@ -78,12 +82,12 @@ fn as_many_trades_as_a_day_may_have(rt: HostRuntime) -> Result<(), Fail> {
 fn an_order_at_every_tick(rt: HostRuntime) -> Result<(), Fail> {
     let mut auction = Auction::open(rt.alloc(), WIDEST)?;
     for tick in 1..=OPEN {
-        let side = if tick <= HALF { Side::Sell } else { Side::Buy };
+        let side = if tick <= HALF { Side::Ask } else { Side::Bid };
         assert!(rt; enters(&mut auction, side, 1, tick, tick));
     }
     let price = even(HALF, 32_768);
     assert!(rt; auction.display() == Display::Priced(price));
-    assert!(rt; uncrosses(&mut auction, Kind::Opening, price, HALF));
+    assert!(rt; uncrosses(&mut auction, AuctionKind::Opening, price, HALF));
     for ask in 1..=HALF {
         let bid = 65_537u32.saturating_sub(ask);
         assert!(rt; traded(&mut auction, ask, bid, ask, HALF));
@@ -97,25 +101,25 @@ fn an_order_at_every_tick(rt: HostRuntime) -> Result<(), Fail> {
 fn as_many_orders_and_calls_as_may_be(rt: HostRuntime) -> Result<(), Fail> {
     let mut auction = Auction::open(rt.alloc(), WIDEST)?;
     for id in 1..=OPEN {
-        assert!(rt; enters(&mut auction, Side::Buy, 1_000_000_000, 200, id));
+        assert!(rt; enters(&mut auction, Side::Bid, 1_000_000_000, 200, id));
     }
     let bids = auction.ladder().bids().get(199).copied();
     assert_eq!(rt; bids, Some(65_536_000_000_000));
     assert!(rt; auction.display() == BEST_BID);
     for _ in OPEN..1_048_574 {
-        let refused = reply_to(&mut auction, 1, order(Side::Buy, 1, 200));
-        assert!(rt; refused == Some(Reply::Refused(Refused::BookFull)));
+        let refused = reply_to(&mut auction, 1, order(Side::Bid, 1, 200));
+        assert!(rt; refused == Some(Reply::Refused(Refusal::BookFull)));
     }
     let deleted = reply_to(&mut auction, 1, Command::Delete { id: OPEN });
     assert!(rt; deleted == Some(Reply::Deleted));
     assert!(rt; auction.calls() == 1_048_575 && !auction.is_full());
-    assert!(rt; enters(&mut auction, Side::Sell, 1_000_000_000, 200, 65_537));
+    assert!(rt; enters(&mut auction, Side::Ask, 1_000_000_000, 200, 65_537));
     assert!(rt; auction.calls() == 1_048_576 && auction.is_full());
     let price = Price {
         tick: 200,
         volume: 1_000_000_000,
         surplus: 65_534_000_000_000,
-        side: Some(Side::Buy),
+        side: Some(Side::Bid),
     };
     assert!(rt; auction.display() == Display::Priced(price));
     Ok(())

@@ -2,7 +2,7 @@
 
 use super::{order, reply_to};
 use auction::{Auction, OpenFault, Verdict, audit};
-use auction_terms::{Command, Config, Limit, Only, Refused, Reply, Side};
+use auction_terms::{Command, Config, Limit, Refusal, Reply, Restriction, Side};
 use std::test::Fail;
 
 const DAY: Config = Config {
@@ -58,7 +58,7 @@ fn configs_with_bounds_and_reference(rt: HostRuntime) {
 
 #[test]
 fn configs_with_limits(rt: HostRuntime) {
-    let limits = Some(OpenFault::BadLimits);
+    let limits = Some(OpenFault::BadCapacity);
     let rows = [
         (0, 64, limits),
         (1, 64, None),
@@ -104,11 +104,11 @@ fn configs_with_limits(rt: HostRuntime) {
 
 fn entering(limit: Limit, quantity: u64, peak: Option<u64>) -> Command {
     Command::Enter {
-        side: Side::Buy,
+        side: Side::Bid,
         limit,
         quantity,
         peak,
-        only: Only::Any,
+        restriction: Restriction::Unrestricted,
     }
 }
 
@@ -132,52 +132,56 @@ fn numbers_that_no_file_has(rt: HostRuntime) -> Result<(), Fail> {
         (
             1,
             entering(at, past + 5, None),
-            refused(Refused::BadQuantity),
+            refused(Refusal::BadQuantity),
         ),
         (
             1,
             entering(at, u64::MAX, None),
-            refused(Refused::BadQuantity),
+            refused(Refusal::BadQuantity),
         ),
         (
             1,
             entering(at, 5, Some(past + 5)),
-            refused(Refused::BadPeak),
+            refused(Refusal::BadPeak),
         ),
-        (1, entering(at, 5, Some(past)), refused(Refused::BadPeak)),
+        (1, entering(at, 5, Some(past)), refused(Refusal::BadPeak)),
         (
             1,
             entering(at, 5, Some(u64::MAX)),
-            refused(Refused::BadPeak),
+            refused(Refusal::BadPeak),
         ),
         (
             1,
             entering(Limit::At(0), 5, None),
-            refused(Refused::BadLimit),
+            refused(Refusal::BadLimit),
         ),
-        (1, entering(far, 5, None), refused(Refused::BadLimit)),
-        (1, changing(1, at, past + 5), refused(Refused::BadQuantity)),
-        (1, changing(1, far, 5), refused(Refused::BadLimit)),
-        (1, changing(u32::MAX, at, 5), refused(Refused::UnknownOrder)),
+        (1, entering(far, 5, None), refused(Refusal::BadLimit)),
+        (1, changing(1, at, past + 5), refused(Refusal::BadQuantity)),
+        (1, changing(1, far, 5), refused(Refusal::BadLimit)),
+        (1, changing(u32::MAX, at, 5), refused(Refusal::UnknownOrder)),
         (
             1,
             Command::Delete { id: u32::MAX },
-            refused(Refused::UnknownOrder),
+            refused(Refusal::UnknownOrder),
         ),
-        (1, Command::Status { id: 0 }, refused(Refused::UnknownOrder)),
         (
             1,
-            Command::Trade { number: u32::MAX },
-            refused(Refused::NoSuchTrade),
+            Command::OrderStatus { id: 0 },
+            refused(Refusal::UnknownOrder),
+        ),
+        (
+            1,
+            Command::ReadTrade { number: u32::MAX },
+            refused(Refusal::NoSuchTrade),
         ),
         // Any member may call, the last number of all too, but only member 0 may uncross.
-        (255, order(Side::Buy, 5, 15), Reply::Entered { id: 2 }),
+        (255, order(Side::Bid, 5, 15), Reply::Entered { id: 2 }),
         (
             255,
             Command::Delete { id: 1 },
-            refused(Refused::UnknownOrder),
+            refused(Refusal::UnknownOrder),
         ),
-        (255, Command::Uncross, refused(Refused::NotOperator)),
+        (255, Command::Uncross, refused(Refusal::NotOperator)),
         (255, Command::Delete { id: 2 }, Reply::Deleted),
     ];
     let mut auction = Auction::open(rt.alloc(), DAY)?;

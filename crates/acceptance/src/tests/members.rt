@@ -1,13 +1,13 @@
 //! Scripts played at once: what no clause says, and each public call once.
 ghost use Rattle.std.specs.Prelude.{◌≡◌, ◌≤◌, length, IfOk};
-ghost use Rattle.member_floor.specs.Plays.{Fits};
+ghost use Rattle.member_floor.specs.PlaysScript.{FitsMembers};
 
 use super::closed;
 use auction::{Verdict, audit};
 use auction_terms::{Command, Config, MAX_CALLS};
-use call_board::{Board, CallFault, Closing, Day, Fresh, Member, Update, Version};
 use left_right::Absorb;
-use member_floor::{Gate, OpenGate, Outcome, Played, RunFault, Script, run};
+use member_board::{Board, BoardIdentity, CallFault, Closing, Fresh, Member, Update, Version};
+use member_floor::{Gate, OpenGate, Outcome, RunFault, Script, ScriptRun, run};
 use std::alloc::{AllocError, Global};
 use std::marker::Brand;
 use std::sync::Wait;
@@ -83,17 +83,17 @@ impl Gate for Meeting {
 fn asks(alloc: Global, times: usize) -> Result<Vec<Command>, AllocError>
     ensures { IfOk result (λ commands. length commands.items ≡ times) }
 {
-    Vec::from_elem(alloc, Command::Ask, times)
+    Vec::from_elem(alloc, Command::Indicate, times)
 }
 
 // A script of so many questions for each member.
-fn scripts<K: Day>(
+fn scripts<K: BoardIdentity>(
     alloc: Global,
     members: &[Member<K>],
     times: usize,
 ) -> Result<Vec<Script>, AllocError>
     requires few { times ≤ MAX_CALLS }
-    ensures { IfOk result (λ scripts. Fits members.now scripts.items) }
+    ensures { IfOk result (λ scripts. FitsMembers members.now scripts.items) }
 {
     let mut scripts = Vec::new(alloc);
     for member in members.iter() {
@@ -106,32 +106,29 @@ fn scripts<K: Day>(
     Ok(scripts)
 }
 
-// The members whose scripts were played to their ends, or until a call was refused, and whether one was for want of
-// memory.
-fn back<K: Day>(
-    played: Vec<Played<K>>,
+// The members whose scripts were played to their ends, or until a call was refused.
+fn back<K: BoardIdentity>(
+    played: Vec<ScriptRun<K>>,
     room: Vec<Member<K>>,
     times: usize,
-) -> (Vec<Member<K>>, bool) {
+) -> Vec<Member<K>> {
     let mut members = room;
-    let mut is_refused = false;
     for one in played {
-        let Played {
+        let ScriptRun {
             member,
             receipts,
             fault,
         } = one;
-        is_refused = is_refused || fault == Some(CallFault::NoMemory);
         let is_cut = receipts.len() < times && !matches!(fault, Some(CallFault::Behind { .. }));
         if (fault.is_none() && receipts.len() == times) || (fault.is_some() && is_cut) {
             let _ = members.push(member);
         }
     }
-    (members, is_refused)
+    members
 }
 
 // No closing stands for scripts that weren't played as told.
-fn played_and_closed<K: Day + Send + Sync, G: Gate + Sync, R: Wait + Threads + Sync>(
+fn played_and_closed<K: BoardIdentity + Send + Sync, G: Gate + Sync, R: Wait + Threads + Sync>(
     rt: &R,
     alloc: Global,
     gate: &G,
@@ -152,9 +149,9 @@ where
         unplayed,
         fault,
     } = run(alloc, &board, members, scripts, gate, rt);
-    let (members, is_refused) = back(played, unplayed, times);
+    let members = back(played, unplayed, times);
     let closing = closed(rt, board, members);
-    let is_short = (is_refused || fault.is_some()) && closing.is_some();
+    let is_short = fault.is_some() && closing.is_some();
     if is_short || fault == Some(RunFault::NoThread) {
         return Err(AllocError);
     }
@@ -162,7 +159,7 @@ where
 }
 
 // The day that K names. It has no bound but K's, so that its caller can name the day.
-fn day<K: Day + Send + Sync, G: Gate + Sync, R: Wait + Threads + Sync>(
+fn day<K: BoardIdentity + Send + Sync, G: Gate + Sync, R: Wait + Threads + Sync>(
     rt: &R,
     alloc: Global,
     gate: &G,
@@ -178,7 +175,7 @@ fn day<K: Day + Send + Sync, G: Gate + Sync, R: Wait + Threads + Sync>(
 }
 
 // The closing of a day on which each of two members asks so often under the gate.
-pub(super) fn asked<G: Gate + Sync, R: Wait + Threads + Sync>(
+pub(super) fn closing_under<G: Gate + Sync, R: Wait + Threads + Sync>(
     rt: &R,
     alloc: Global,
     gate: &G,
@@ -195,7 +192,7 @@ pub(super) fn asked<G: Gate + Sync, R: Wait + Threads + Sync>(
 fn two_members_meet_or_wait(rt: HostRuntime) -> Result<(), Fail> {
     for (waits, first) in [(None, None), (Some(0), Some(1)), (Some(1), Some(0))] {
         let gate = Meeting::new(waits);
-        let closing = asked(&rt, rt.alloc(), &gate, 1)?.ok_or("not closed")?;
+        let closing = closing_under(&rt, rt.alloc(), &gate, 1)?.ok_or("not closed")?;
         assert_eq!(rt; closing.history.len(), 2);
         let member = closing.history.first().map(|entry| entry.member);
         assert!(rt; first.is_none() || member == first);
@@ -206,7 +203,7 @@ fn two_members_meet_or_wait(rt: HostRuntime) -> Result<(), Fail> {
 
 #[test]
 fn scripts_that_fill_the_history(rt: HostRuntime) -> Result<(), Fail> {
-    let closing = asked(&rt, rt.alloc(), &OpenGate, 10)?.ok_or("not closed")?;
+    let closing = closing_under(&rt, rt.alloc(), &OpenGate, 10)?.ok_or("not closed")?;
     assert_eq!(rt; closing.history.len(), 10);
     let verdict = audit(rt.alloc(), TEN_CALLS, closing.history.as_slice())?;
     assert!(rt; verdict == Verdict::Legal);

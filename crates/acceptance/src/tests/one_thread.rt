@@ -2,23 +2,23 @@
 
 use super::{BEST_BID, DAY, bid_entered, order, reply_to};
 use auction::{Auction, OpenFault, Verdict, audit};
-use auction_terms::{Command, Config, Display, Entry, Kind, Price, Reply, Side, Trade};
+use auction_terms::{AuctionKind, Command, Config, Display, Entry, Price, Reply, Side, Trade};
 
 // Three bids and three asks: 500 shares are executed at 200, and 200 are left on the bid side.
 fn enter_six(auction: &mut Auction) {
-    reply_to(auction, 1, order(Side::Buy, 200, 202));
-    reply_to(auction, 1, order(Side::Buy, 200, 201));
-    reply_to(auction, 1, order(Side::Buy, 300, 200));
-    reply_to(auction, 2, order(Side::Sell, 100, 200));
-    reply_to(auction, 2, order(Side::Sell, 200, 199));
-    reply_to(auction, 2, order(Side::Sell, 200, 198));
+    reply_to(auction, 1, order(Side::Bid, 200, 202));
+    reply_to(auction, 1, order(Side::Bid, 200, 201));
+    reply_to(auction, 1, order(Side::Bid, 300, 200));
+    reply_to(auction, 2, order(Side::Ask, 100, 200));
+    reply_to(auction, 2, order(Side::Ask, 200, 199));
+    reply_to(auction, 2, order(Side::Ask, 200, 198));
 }
 
 const SIX: Price = Price {
     tick: 200,
     volume: 500,
     surplus: 200,
-    side: Some(Side::Buy),
+    side: Some(Side::Bid),
 };
 
 #[test]
@@ -31,19 +31,19 @@ fn opening_auction(rt: HostRuntime) -> Result<(), OpenFault> {
     assert_eq!(rt; ladder.asks().get(199).copied(), Some(100));
     assert_eq!(rt; ladder.asks().get(198).copied(), Some(200));
     let uncrossed = Reply::Uncrossed {
-        kind: Kind::Opening,
+        kind: AuctionKind::Opening,
         price: Some(SIX),
         trades: 3,
     };
     assert!(rt; reply_to(&mut auction, 0, Command::Uncross) == Some(uncrossed));
-    for (number, buy, sell, quantity) in [(1, 1, 6, 200), (2, 2, 5, 200), (3, 3, 4, 100)] {
+    for (number, bid, ask, quantity) in [(1, 1, 6, 200), (2, 2, 5, 200), (3, 3, 4, 100)] {
         let trade = Trade {
-            buy,
-            sell,
+            bid,
+            ask,
             tick: 200,
             quantity,
         };
-        let reply = reply_to(&mut auction, 3, Command::Trade { number });
+        let reply = reply_to(&mut auction, 3, Command::ReadTrade { number });
         assert!(rt; reply == Some(Reply::Traded(trade)));
     }
     assert_eq!(rt; auction.calls(), 10);
@@ -57,9 +57,9 @@ fn audits(rt: HostRuntime) -> Result<(), OpenFault> {
         max_calls: 1,
         ..DAY
     };
-    let asked = Entry {
+    let closing_under = Entry {
         member: 1,
-        command: Command::Ask,
+        command: Command::Indicate,
         reply: Reply::Indicated(BEST_BID),
     };
     let rows = [
@@ -68,7 +68,7 @@ fn audits(rt: HostRuntime) -> Result<(), OpenFault> {
         (short, 1, Verdict::BadAt(1)),
     ];
     for (config, id, verdict) in rows {
-        let history = [bid_entered(id), asked];
+        let history = [bid_entered(id), closing_under];
         assert!(rt; audit(rt.alloc(), config, history.as_slice())? == verdict);
     }
     Ok(())

@@ -3,7 +3,7 @@
 use super::DAY;
 use auction_terms::Config;
 use clap::error::ErrorKind;
-use settings::{Form, Listing, Settings, Task, WordsFault, settings};
+use settings::{FloorForm, Form, Listing, Settings, Task, WordsFault, settings};
 use std::test::Fail;
 
 #[test]
@@ -11,11 +11,7 @@ fn without_words_each_option_has_its_default(rt: HostRuntime) -> Result<(), Fail
     let wanted = Settings {
         config: DAY,
         members: 4,
-        task: Task::Run {
-            floor: false,
-            history: false,
-            form: Form::Lines,
-        },
+        task: Task::Run(Form::Lines),
     };
     assert_eq!(rt; settings(rt.alloc(), &["callboard"])?, wanted);
     Ok(())
@@ -50,11 +46,7 @@ fn each_option_is_read(rt: HostRuntime) -> Result<(), Fail> {
             range: Some(0),
         },
         members: 64,
-        task: Task::Run {
-            floor: true,
-            history: true,
-            form: Form::Listing(Listing::Journal),
-        },
+        task: Task::Floor(FloorForm::Listing(Listing::Journal)),
     };
     assert_eq!(rt; settings(rt.alloc(), words.as_slice())?, wanted);
     Ok(())
@@ -95,12 +87,35 @@ fn an_audit_stands_alone(rt: HostRuntime) -> Result<(), Fail> {
     let wanted = Settings {
         config: DAY,
         members: 4,
-        task: Task::Audit,
+        task: Task::Audit { results: false },
     };
     assert_eq!(rt; settings(rt.alloc(), &["callboard", "--audit"])?, wanted);
     for other in ["--floor", "--history", "--print=lines"] {
         let Err(WordsFault::AuditNotAlone) = settings(rt.alloc(), &["callboard", "--audit", other])
         else {
+            assert!(rt; false);
+            return Ok(());
+        };
+    }
+    Ok(())
+}
+
+#[test]
+fn results_go_with_an_audit(rt: HostRuntime) -> Result<(), Fail> {
+    let wanted = Settings {
+        config: DAY,
+        members: 4,
+        task: Task::Audit { results: true },
+    };
+    assert_eq!(rt;
+        settings(rt.alloc(), &["callboard", "--audit", "--results"])?,
+        wanted
+    );
+    for other in ["--floor", "--history", "--live", "--print=lines"] {
+        let Err(WordsFault::ResultsWithoutAudit) = settings(
+            rt.alloc(),
+            &["callboard", "--results", other],
+        ) else {
             assert!(rt; false);
             return Ok(());
         };

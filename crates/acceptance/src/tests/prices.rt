@@ -1,23 +1,23 @@
 //! The price of books that are the worked cases of its rules.
 
 ghost use Rattle.std.specs.Prelude.{◌≡◌, ◌≤◌, length};
-ghost use Rattle.tick_ladder.specs.TickLadder.{all_standing};
+ghost use Rattle.tick_ladder.specs.TickLadder.{total_quantity};
 
 use auction_terms::{Limit, Price, Side};
-use price_rules::determine;
+use price_rules::decide;
 use std::alloc::{AllocError, Global};
 use std::test::Fail;
 use tick_ladder::Ladder;
 
-const BID: Side = Side::Buy;
+const BID: Side = Side::Bid;
 
-const ASK: Side = Side::Sell;
+const ASK: Side = Side::Ask;
 
 /// Adds an order if it fits, and returns what the quantities come to at most.
-#[tactic(auto, using(tick_ladder::proofs::AllStandingLaws::added_more))]
+#[tactic(auto, using(tick_ladder::proofs::TotalQuantityLaws::added_more))]
 fn add(ladder: &mut Ladder, total: u64, side: Side, limit: Limit, quantity: u64) -> u64
-    requires { all_standing ladder.old ≤ total }
-    ensures total { all_standing ladder.new ≤ result }
+    requires { total_quantity ladder.old ≤ total }
+    ensures total { total_quantity ladder.new ≤ result }
     ensures low { ladder.new.low ≡ ladder.old.low }
     ensures len { length ladder.new.bids ≡ length ladder.old.bids }
 {
@@ -39,8 +39,8 @@ fn add(ladder: &mut Ladder, total: u64, side: Side, limit: Limit, quantity: u64)
 
 /// Adds orders of a side, each with its limit.
 fn add_all(ladder: &mut Ladder, total: u64, side: Side, orders: &[(u64, Limit)]) -> u64
-    requires { all_standing ladder.old ≤ total }
-    ensures total { all_standing ladder.new ≤ result }
+    requires { total_quantity ladder.old ≤ total }
+    ensures total { total_quantity ladder.new ≤ result }
     ensures low { ladder.new.low ≡ ladder.old.low }
     ensures len { length ladder.new.bids ≡ length ladder.old.bids }
 {
@@ -67,7 +67,7 @@ fn price_of_orders(
     let mut ladder = Ladder::open(alloc, 1, 1000)?;
     let total = add_all(&mut ladder, 0, BID, bids);
     add_all(&mut ladder, total, ASK, asks);
-    Ok(determine(&ladder, reference))
+    Ok(decide(&ladder, reference).price)
 }
 
 fn price(tick: u32, volume: u64, surplus: u64, side: Option<Side>) -> Option<Price> {

@@ -5,7 +5,7 @@ ghost use Rattle.std.specs.Prelude.{◌≡◌, ◌<◌};
 use super::{BEST_BID, bid_entered};
 use auction_terms::{Command, Entry, Reply};
 use byte_streams::{Failures, ToMemory};
-use printed_lines::{Printer, print_line, print_story, print_tally};
+use printed_lines::{Printer, print_history, print_line, print_tally};
 use std::alloc::Global;
 use std::marker::Brand;
 use std::str::from_utf8;
@@ -38,7 +38,7 @@ fn floor_text<L: Ledger>(
     let mut sink = memory::<L>(alloc, blank);
     let mut printer = Printer::new(&mut sink);
     let _ = print_tally(&mut printer, entries.len() as u64, calls, first_bad);
-    let _ = print_story(&mut printer, entries);
+    let _ = print_history(&mut printer, entries);
     let _ = printer.flush();
     sink.bytes
 }
@@ -50,9 +50,9 @@ fn text_of(alloc: Global, entries: &[Entry], calls: &[u32], first_bad: Option<u6
 
 #[test]
 fn floors_are_printed(rt: HostRuntime) {
-    let asked = Entry {
+    let closing_under = Entry {
         member: 1,
-        command: Command::Ask,
+        command: Command::Indicate,
         reply: Reply::Indicated(BEST_BID),
     };
     let deleted = Entry {
@@ -62,7 +62,7 @@ fn floors_are_printed(rt: HostRuntime) {
     };
     let text = text_of(
         rt.alloc(),
-        &[bid_entered(1), asked, deleted],
+        &[bid_entered(1), closing_under, deleted],
         &[0, 3, 0, 0],
         None,
     );

@@ -1,10 +1,21 @@
 //! The order file: what its records say, and its ends.
 
-use auction_terms::{Call, Command, Limit, Only, Side};
+use auction_terms::{Call, Command, Limit, Restriction, Side};
 use byte_streams::{FromMemory, Source, SourceFailed};
-use order_file::{FileFault, read_orders};
+use order_file::{FileFault, MAX_BYTES, bytes_of, calls_of};
 use std::alloc::Global;
 use std::test::Fail;
+
+/// The calls of a source that is read to its end.
+pub(super) fn read_orders<R: Source>(
+    alloc: Global,
+    source: &mut R,
+    members: u8,
+    max_calls: u32,
+) -> Result<Vec<Call>, FileFault> {
+    let bytes = bytes_of(alloc, source, MAX_BYTES)?;
+    calls_of(alloc, bytes.as_slice(), members, max_calls)
+}
 
 fn read(alloc: Global, text: &[u8]) -> Result<Vec<Call>, FileFault> {
     let mut source = FromMemory { rest: text };
@@ -15,13 +26,19 @@ fn call(member: u8, command: Command) -> Call {
     Call { member, command }
 }
 
-fn entered(side: Side, limit: Limit, quantity: u64, peak: Option<u64>, only: Only) -> Command {
+fn entered(
+    side: Side,
+    limit: Limit,
+    quantity: u64,
+    peak: Option<u64>,
+    restriction: Restriction,
+) -> Command {
     Command::Enter {
         side,
         limit,
         quantity,
         peak,
-        only,
+        restriction,
     }
 }
 
@@ -31,27 +48,33 @@ fn orders_are_entered(rt: HostRuntime) -> Result<(), Fail> {
     let rows = [
         (
             "1,enter,bid,200,202",
-            entered(Side::Buy, at, 200, None, Only::Any),
+            entered(Side::Bid, at, 200, None, Restriction::Unrestricted),
         ),
         (
             "1,enter,ask,200,202,",
-            entered(Side::Sell, at, 200, None, Only::Any),
+            entered(Side::Ask, at, 200, None, Restriction::Unrestricted),
         ),
         (
             "1,enter,bid,0007,market,5",
-            entered(Side::Buy, Limit::Market, 7, Some(5), Only::Any),
+            entered(
+                Side::Bid,
+                Limit::Market,
+                7,
+                Some(5),
+                Restriction::Unrestricted,
+            ),
         ),
         (
             "1,enter,bid,7,202,,",
-            entered(Side::Buy, at, 7, None, Only::Any),
+            entered(Side::Bid, at, 7, None, Restriction::Unrestricted),
         ),
         (
             "1,enter,bid,7,202,,opening",
-            entered(Side::Buy, at, 7, None, Only::Opening),
+            entered(Side::Bid, at, 7, None, Restriction::OpeningOnly),
         ),
         (
             "1,enter,\"bid\",7,202,6,closing",
-            entered(Side::Buy, at, 7, Some(6), Only::Closing),
+            entered(Side::Bid, at, 7, Some(6), Restriction::ClosingOnly),
         ),
     ];
     for (record, command) in rows {
@@ -73,9 +96,9 @@ fn each_command_is_read(rt: HostRuntime) -> Result<(), Fail> {
     let wanted = [
         call(0, change),
         call(1, Command::Delete { id: 9 }),
-        call(1, Command::Status { id: 9 }),
-        call(2, Command::Trade { number: 0 }),
-        call(3, Command::Ask),
+        call(1, Command::OrderStatus { id: 9 }),
+        call(2, Command::ReadTrade { number: 0 }),
+        call(3, Command::Indicate),
         call(0, Command::Uncross),
     ];
     assert!(rt; calls.as_slice() == wanted.as_slice());

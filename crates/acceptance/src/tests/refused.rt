@@ -5,6 +5,7 @@
 //! There each of them returns the fault that its call documents, or fails; in the run that meets no refusal, as here,
 //! it looks at the right answer.
 
+use super::reading::read_orders;
 use super::{DAY, bid_entered};
 use allocation::Desk;
 use auction::{Auction, OpenFault, Verdict, audit};
@@ -12,7 +13,7 @@ use auction_terms::{Call, Command, Side};
 use byte_streams::FromMemory;
 use clap::error::ErrorKind;
 use order_book::Orders;
-use order_file::{FileFault, read_orders};
+use order_file::FileFault;
 use settings::{WordsFault, settings};
 use std::alloc::AllocError;
 use tick_ladder::Ladder;
@@ -23,7 +24,7 @@ mod board;
 fn the_parts_of_an_auction_are_opened(rt: HostRuntime) -> Result<(), AllocError> {
     let ladder = Ladder::open(rt.alloc(), 1, 1000)?;
     assert_eq!(rt; ladder.bids().len(), 1000);
-    assert_eq!(rt; ladder.best(Side::Buy), None);
+    assert_eq!(rt; ladder.best(Side::Bid), None);
     let orders = Orders::open(rt.alloc(), 8, 16)?;
     assert!(rt; !orders.full() && orders.get(1) == None);
     let desk = Desk::open(rt.alloc(), 8)?;
@@ -51,7 +52,7 @@ fn an_order_file_is_read(rt: HostRuntime) -> Result<(), FileFault> {
         rest: b"1,ask\n0,uncross\n",
     };
     let calls = read_orders(rt.alloc(), &mut source, 4, 8)?;
-    let wanted = [(1, Command::Ask), (0, Command::Uncross)].map(|(member, command)| Call {
+    let wanted = [(1, Command::Indicate), (0, Command::Uncross)].map(|(member, command)| Call {
         member,
         command,
     });
@@ -70,7 +71,9 @@ fn the_words_are_read(rt: HostRuntime) -> Result<(), AllocError> {
             assert!(rt; error.kind() == ErrorKind::OutOfMemory);
             Err(AllocError)
         }
-        Err(WordsFault::AuditNotAlone | WordsFault::LiveNotAlone) => {
+        Err(
+            WordsFault::AuditNotAlone | WordsFault::LiveNotAlone | WordsFault::ResultsWithoutAudit,
+        ) => {
             assert!(rt; false);
             Ok(())
         }

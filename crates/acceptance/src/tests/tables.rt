@@ -5,7 +5,7 @@ ghost use Rattle.auction_terms.specs.Day.{IsLegal};
 
 use super::{DAY, order, reply_to};
 use auction::{Auction, Verdict, audit};
-use auction_terms::{Command, Config, Entry, Limit, Only, Side};
+use auction_terms::{Command, Config, Entry, Limit, Restriction, Side};
 use byte_streams::{Failures, ToMemory};
 use day_tables::{print_book, print_trades};
 use printed_lines::Printer;
@@ -88,20 +88,20 @@ fn market_order(side: Side, quantity: u64) -> Command {
         limit: Limit::Market,
         quantity,
         peak: None,
-        only: Only::Any,
+        restriction: Restriction::Unrestricted,
     }
 }
 
 #[test]
 fn one_limit_is_best(rt: HostRuntime) {
     let calls = [
-        (1, order(Side::Buy, 200, 202)),
-        (1, order(Side::Buy, 200, 201)),
-        (1, order(Side::Buy, 300, 200)),
-        (2, order(Side::Sell, 100, 200)),
-        (2, order(Side::Sell, 200, 199)),
-        (2, order(Side::Sell, 200, 198)),
-        (1, Command::Ask),
+        (1, order(Side::Bid, 200, 202)),
+        (1, order(Side::Bid, 200, 201)),
+        (1, order(Side::Bid, 300, 200)),
+        (2, order(Side::Ask, 100, 200)),
+        (2, order(Side::Ask, 200, 199)),
+        (2, order(Side::Ask, 200, 198)),
+        (1, Command::Indicate),
         (0, Command::Uncross),
     ];
     let trades = "\
@@ -130,11 +130,11 @@ command,auction,limit,bid,ask,demand,supply,volume,surplus,side,best,price
 #[test]
 fn the_highest_decides(rt: HostRuntime) {
     let calls = [
-        (1, order(Side::Buy, 400, 202)),
-        (1, order(Side::Buy, 200, 201)),
-        (2, order(Side::Sell, 300, 199)),
-        (2, order(Side::Sell, 200, 198)),
-        (0, Command::Ask),
+        (1, order(Side::Bid, 400, 202)),
+        (1, order(Side::Bid, 200, 201)),
+        (2, order(Side::Ask, 300, 199)),
+        (2, order(Side::Ask, 200, 198)),
+        (0, Command::Indicate),
     ];
     let book = "\
 command,auction,limit,bid,ask,demand,supply,volume,surplus,side,best,price
@@ -151,11 +151,11 @@ command,auction,limit,bid,ask,demand,supply,volume,surplus,side,best,price
 #[test]
 fn the_lowest_decides(rt: HostRuntime) {
     let calls = [
-        (1, order(Side::Buy, 200, 202)),
-        (1, order(Side::Buy, 300, 201)),
-        (2, order(Side::Sell, 200, 199)),
-        (2, order(Side::Sell, 400, 198)),
-        (0, Command::Ask),
+        (1, order(Side::Bid, 200, 202)),
+        (1, order(Side::Bid, 300, 201)),
+        (2, order(Side::Ask, 200, 199)),
+        (2, order(Side::Ask, 400, 198)),
+        (0, Command::Indicate),
     ];
     let book = "\
 command,auction,limit,bid,ask,demand,supply,volume,surplus,side,best,price
@@ -172,11 +172,11 @@ command,auction,limit,bid,ask,demand,supply,volume,surplus,side,best,price
 #[test]
 fn the_reference_decides(rt: HostRuntime) {
     let calls = [
-        (1, market_order(Side::Buy, 100)),
-        (2, market_order(Side::Sell, 100)),
-        (1, order(Side::Buy, 50, 190)),
-        (2, order(Side::Sell, 50, 210)),
-        (0, Command::Ask),
+        (1, market_order(Side::Bid, 100)),
+        (2, market_order(Side::Ask, 100)),
+        (1, order(Side::Bid, 50, 190)),
+        (2, order(Side::Ask, 50, 210)),
+        (0, Command::Indicate),
     ];
     let book = "\
 command,auction,limit,bid,ask,demand,supply,volume,surplus,side,best,price
@@ -192,12 +192,12 @@ command,auction,limit,bid,ask,demand,supply,volume,surplus,side,best,price
 #[test]
 fn market_orders_alone(rt: HostRuntime) {
     let calls = [
-        (1, market_order(Side::Buy, 900)),
-        (2, market_order(Side::Sell, 800)),
-        (0, Command::Ask),
+        (1, market_order(Side::Bid, 900)),
+        (2, market_order(Side::Ask, 800)),
+        (0, Command::Indicate),
         (0, Command::Uncross),
-        (1, Command::Trade { number: 1 }),
-        (1, Command::Status { id: 1 }),
+        (1, Command::ReadTrade { number: 1 }),
+        (1, Command::OrderStatus { id: 1 }),
     ];
     let trades = "\
 trade,auction,bid,bid_member,ask,ask_member,quantity,tick

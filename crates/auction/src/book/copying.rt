@@ -1,6 +1,6 @@
 //! The book and its desk emptied, and copied.
 ghost use Rattle.std.specs.Prelude.{◌≡◌, ◌≤◌, IfOk};
-ghost use Rattle.auction.specs.OpenOrders.{emptied};
+ghost use Rattle.auction.specs.OpenOrders.{without_orders};
 
 use super::Book;
 use allocation::Desk;
@@ -9,7 +9,7 @@ use std::alloc::{AllocError, Global};
 impl Book {
     /// Removes all orders, as if none had been entered, and goes back to the opening auction. It takes no memory.
     pub(crate) fn reset(&mut self)
-        ensures { self.new ≡ emptied self.old }
+        ensures { self.new ≡ without_orders self.old }
     {
         self.known = None;
         self.counted.reset();

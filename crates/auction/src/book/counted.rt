@@ -1,15 +1,15 @@
 //! The open orders with the ladder of those that count.
 ghost use Rattle.std.specs.Prelude.{◌≡◌, ◌+◌, ◌<◌, ◌≤◌, length, false, None, IfSome, IfOk, nat_le};
-ghost use Rattle.auction_terms.specs.Book.{entered_as};
+ghost use Rattle.auction_terms.specs.Book.{order_of_new};
 ghost use Rattle.auction_terms.specs.Edits.{order_with, keeps_place, with_terms};
 ghost use Rattle.auction_terms.specs.Ladder.{ladder_of};
 ghost use Rattle.auction_terms.specs.Day.{is_bad_quantity};
 ghost use Rattle.tick_ladder.specs.TickLadder.{IsLadderOf};
 ghost use Rattle.auction.specs.ConfigFault.{open_fault};
-ghost use Rattle.auction.specs.OpenOrders.{no_orders, counting, IsTickIn, IsLimitIn, IsOpenIn};
+ghost use Rattle.auction.specs.OpenOrders.{no_orders, current_orders, IsTickIn, IsLimitIn, IsOpenIn};
 ghost use Rattle.auction.specs.OpenOrders.{with_order, with_change, without_order};
-ghost use Rattle.auction.specs.CountedBook.{IsWalk, StandsStill, IsGone};
-ghost use Rattle.auction.specs.KnownPrice.{IsKnownOf, IsPriceAt, KeepsKnown, forgets, forgets_both};
+ghost use Rattle.auction.specs.LadderBook.{HasAllOrders, AddsNoOrder, HasNoOrderWith};
+ghost use Rattle.auction.specs.KnownPrice.{IsKnownOf, IsPriceAt, KeepsKnown, known_after, known_after_both};
 
 mod copying;
 mod counting;
@@ -17,7 +17,7 @@ mod ending;
 mod executing;
 
 use super::known::{KnownPrice, find};
-use auction_terms::{Config, Kind, Limit, NewOrder, Order};
+use auction_terms::{AuctionKind, Config, Limit, NewOrder, Order};
 use counting::{add, take};
 use order_book::Orders;
 use std::alloc::{AllocError, Global};
@@ -29,38 +29,38 @@ use tick_ladder::Ladder;
 /// An order for another auction alone waits: it is open, but not in the ladder. Each call changes the ladder for the
 /// order concerned alone, and only `open` takes memory.
 #[derive(Drop)]
-pub(super) struct CountedBook {
+pub(super) struct LadderBook {
     orders: Orders,
     ladder: Ladder,
     // The auction whose orders the ladder has.
-    kind: Kind,
+    kind: AuctionKind,
 }
 
-impl Model for CountedBook {
-    ghost use Rattle.auction.specs.CountedBook.{Counted, counted_book, IsCounted};
+impl Model for LadderBook {
+    ghost use Rattle.auction.specs.LadderBook.{LadderBookView, ladder_book_view, IsLadderBook};
 
-    ghost Value = { Counted };
+    ghost Value = { LadderBookView };
 
-    ghost view = { λ b. counted_book b.orders b.ladder b.kind };
+    ghost view = { λ b. ladder_book_view b.orders b.ladder b.kind };
 
-    ghost invariant = { λ b. IsCounted b.orders b.ladder b.kind };
+    ghost invariant = { λ b. IsLadderBook b.orders b.ladder b.kind };
 }
 
-impl CountedBook {
+impl LadderBook {
     /// No orders, with room for all that the config allows, in the opening auction. Only want of memory makes it fail.
-    pub(super) fn open(alloc: Global, config: Config) -> Result<CountedBook, AllocError>
+    pub(super) fn open(alloc: Global, config: Config) -> Result<LadderBook, AllocError>
         requires { open_fault config ≡ None }
         ensures { IfOk result (λ b. b.book ≡ no_orders config) }
     {
-        Ok(CountedBook {
+        Ok(LadderBook {
             orders: Orders::open(alloc, config.max_open, config.max_calls)?,
             ladder: Ladder::open(alloc, config.low, config.high)?,
-            kind: Kind::Opening,
+            kind: AuctionKind::Opening,
         })
     }
 
     /// The auction whose orders count.
-    pub(super) fn kind(&self) -> Kind
+    pub(super) fn kind(&self) -> AuctionKind
         ensures { result ≡ self.now.book.kind }
     {
         self.kind
@@ -82,8 +82,8 @@ impl CountedBook {
 
     /// The ladder of the orders that count.
     pub(super) fn ladder(&self) -> &Ladder
-        ensures value { result.now ≡ ladder_of self.now.book.low self.now.book.ticks (counting self.now.book) }
-        ensures book { IsLadderOf result.now (counting self.now.book) }
+        ensures value { result.now ≡ ladder_of self.now.book.low self.now.book.ticks (current_orders self.now.book) }
+        ensures book { IsLadderOf result.now (current_orders self.now.book) }
     {
         &self.ladder
     }
@@ -93,7 +93,7 @@ impl CountedBook {
         requires tick { IsTickIn self.now.book reference }
         requires known { IfSome known.now (IsKnownOf self.now.book) }
         ensures known { IsKnownOf self.now.book result }
-        ensures price { IsPriceAt reference (counting self.now.book) result }
+        ensures price { IsPriceAt reference (current_orders self.now.book) result }
         ensures within { IfSome result.price (λ price. IsTickIn self.now.book price.tick) }
     {
         match known {
@@ -108,9 +108,9 @@ impl CountedBook {
         requires stamps { self.old.book.stamps < self.old.book.max_calls }
         requires quantity { is_bad_quantity new.quantity ≡ false }
         requires limit { IsLimitIn self.old.book new.limit }
-        ensures order { result ≡ entered_as (self.old.book.entered + 1) new }
+        ensures order { result ≡ order_of_new (self.old.book.entered + 1) new }
         ensures book { self.new.book ≡ with_order result self.old.book }
-        ensures known { KeepsKnown (forgets result) self.old.book self.new.book }
+        ensures known { KeepsKnown (known_after result) self.old.book self.new.book }
     {
         let order = self.orders.append(new);
         add(&mut self.ladder, self.kind, order);
@@ -126,7 +126,8 @@ impl CountedBook {
         requires limit { IsLimitIn self.old.book limit }
         ensures kept { result ≡ keeps_place order limit quantity }
         ensures book { self.new.book ≡ with_change order limit quantity self.old.book }
-        ensures known { KeepsKnown (forgets_both order (with_terms limit quantity order)) self.old.book self.new.book }
+        ensures known { KeepsKnown (known_after_both order
+            (with_terms limit quantity order)) self.old.book self.new.book }
     {
         let kept = self.orders.change(order.id, limit, quantity);
         take(&mut self.ladder, self.kind, order, order.quantity);
@@ -143,10 +144,10 @@ impl CountedBook {
     pub(super) fn remove(&mut self, order: Order)
         requires { IsOpenIn self.old.book.orders order }
         ensures book { self.new.book ≡ without_order order self.old.book }
-        ensures known { KeepsKnown (forgets order) self.old.book self.new.book }
-        ensures walk { IsWalk self.new }
-        ensures still { StandsStill self.old self.new }
-        ensures gone { IsGone order.id self.new }
+        ensures known { KeepsKnown (known_after order) self.old.book self.new.book }
+        ensures walk { HasAllOrders self.new }
+        ensures still { AddsNoOrder self.old self.new }
+        ensures gone { HasNoOrderWith order.id self.new }
     {
         self.orders.delete(order.id);
         take(&mut self.ladder, self.kind, order, order.quantity);

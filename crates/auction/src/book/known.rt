@@ -4,7 +4,7 @@ ghost use Rattle.auction_terms.specs.declared.Limit.TheVariants.{At};
 ghost use Rattle.tick_ladder.specs.TickLadder.{IsInBounds};
 ghost use Rattle.auction.specs.KnownPrice.{is_beyond as beyond, still_known, shown, IsKnownIn};
 
-use auction_terms::{Display, Kind, Limit, Order, Price, Side};
+use auction_terms::{AuctionKind, Display, Limit, Order, Price, Side};
 use price_rules::decide;
 use tick_ladder::Ladder;
 
@@ -15,21 +15,21 @@ pub(super) struct KnownPrice {
     pub reference: u32,
     pub lowest: u32,
     pub highest: u32,
-    pub best_buy: Option<u32>,
-    pub best_sell: Option<u32>,
+    pub best_bid: Option<u32>,
+    pub best_ask: Option<u32>,
     pub price: Option<Price>,
 }
 
 impl KnownPrice {
     /// What is shown: the price, or the best limits where there is none.
     pub(super) fn display(&self) -> Display
-        ensures { result ≡ shown self.now.price self.now.best_buy self.now.best_sell }
+        ensures { result ≡ shown self.now.price self.now.best_bid self.now.best_ask }
     {
         match self.price {
             Some(price) => Display::Priced(price),
             None => Display::Unpriced {
-                best_buy: self.best_buy,
-                best_sell: self.best_sell,
+                best_bid: self.best_bid,
+                best_ask: self.best_ask,
             },
         }
     }
@@ -40,20 +40,20 @@ impl KnownPrice {
     {
         match (side, limit) {
             (_, Limit::Market) => false,
-            (Side::Buy, Limit::At(tick)) => tick < self.lowest,
-            (Side::Sell, Limit::At(tick)) => tick > self.highest,
+            (Side::Bid, Limit::At(tick)) => tick < self.lowest,
+            (Side::Ask, Limit::At(tick)) => tick > self.highest,
         }
     }
 }
 
 /// Forgets the price where an order came or went that counts in the auction and decides it.
-pub(super) fn forget(known: &mut Option<KnownPrice>, kind: Kind, order: Order)
+pub(super) fn forget(known: &mut Option<KnownPrice>, kind: AuctionKind, order: Order)
     ensures { known.new ≡ still_known known.old kind order }
 {
     let Some(price) = known else {
         return;
     };
-    if order.counts(kind) && !price.is_beyond(order.side, order.limit) {
+    if order.participates_in(kind) && !price.is_beyond(order.side, order.limit) {
         *known = None;
     }
 }
@@ -91,20 +91,20 @@ pub(super) fn find(ladder: &Ladder, reference: u32) -> KnownPrice
             reference,
             lowest: decision.lowest,
             highest: decision.highest,
-            best_buy: None,
-            best_sell: None,
+            best_bid: None,
+            best_ask: None,
             price: Some(price),
         },
         None => {
-            let best_buy = ladder.best(Side::Buy);
-            let best_sell = ladder.best(Side::Sell);
+            let best_bid = ladder.best(Side::Bid);
+            let best_ask = ladder.best(Side::Ask);
             let last = ladder.low() + (ladder.bids().len() - 1) as u32;
             KnownPrice {
                 reference,
-                lowest: lowest_unpriced(best_buy, decision.lowest),
-                highest: highest_unpriced(best_sell, decision.highest, last),
-                best_buy,
-                best_sell,
+                lowest: lowest_unpriced(best_bid, decision.lowest),
+                highest: highest_unpriced(best_ask, decision.highest, last),
+                best_bid,
+                best_ask,
                 price: None,
             }
         }

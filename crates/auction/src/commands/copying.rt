@@ -2,8 +2,8 @@
 ghost use Rattle.std.specs.Prelude.{◌≡◌, ◌≤◌, vec_capacity, IfOk};
 ghost use Rattle.auction.specs.AuctionState.{opening, IsBoundedBy};
 
-use super::Day;
-use auction_terms::{Kind, Trade};
+use super::DayState;
+use auction_terms::{AuctionKind, Trade};
 use std::alloc::{AllocError, Global};
 
 // The same trades, with room for `room` of them.
@@ -16,7 +16,7 @@ fn copied_tape(alloc: Global, trades: &[Trade], room: usize) -> Result<Vec<Trade
     Ok(copy)
 }
 
-impl Day {
+impl DayState {
     /// Goes back to the opening: no orders, no trades, the reference of the config. It takes no memory.
     pub(crate) fn reset(&mut self)
         requires { IsBoundedBy self.old.config self.old.config.reference }
@@ -25,16 +25,16 @@ impl Day {
         self.book.reset();
         self.tape.clear();
         self.reference = self.config.reference;
-        self.auction = Some(Kind::Opening);
+        self.auction = Some(AuctionKind::Opening);
         self.extended = false;
     }
 
     /// The same day, with orders and trades of its own. Only want of memory makes it fail.
-    pub(crate) fn copied(&self, alloc: Global) -> Result<Day, AllocError>
+    pub(crate) fn copied(&self, alloc: Global) -> Result<DayState, AllocError>
         ensures { IfOk result (λ d. d ≡ self.now) }
     {
         let room = 3 * self.config.max_open as usize;
-        Ok(Day {
+        Ok(DayState {
             config: self.config,
             book: self.book.copied(alloc, self.config.max_open)?,
             tape: copied_tape(alloc, &self.tape, room)?,

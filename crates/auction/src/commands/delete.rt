@@ -3,13 +3,13 @@ ghost use Rattle.std.specs.Prelude.{◌≡◌, OnErr};
 ghost use Rattle.auction_terms.specs.Day as day;
 ghost use Rattle.auction.specs.AuctionState.{outcome, IsOneCommand};
 
-use super::Day;
-use auction_terms::{Refused, Reply};
+use super::DayState;
+use auction_terms::{Refusal, Reply};
 
-impl Day {
+impl DayState {
     /// The member's own order leaves the book.
     #[tactic(auto, unfolding(auction_terms::specs::Day::delete))]
-    pub(super) fn delete(&mut self, member: u8, id: u32) -> Result<Reply, Refused>
+    pub(super) fn delete(&mut self, member: u8, id: u32) -> Result<Reply, Refusal>
         ensures outcome { outcome self.new result ≡ day.delete self.old.state member id }
         ensures refused { OnErr result (self.new ≡ self.old) }
         ensures one { IsOneCommand self.old self.new }

@@ -2,10 +2,10 @@
 ghost use Rattle.std.specs.Prelude.{◌≡◌, Some, true, IfSome, OnErr};
 ghost use Rattle.auction_terms.specs.Day as day;
 ghost use Rattle.auction_terms.specs.AuctionPrice.{price as auction_price};
-ghost use Rattle.auction.specs.AuctionState.{counting, outcome, with_state, IsOneCommand, IsBoundedBy};
+ghost use Rattle.auction.specs.AuctionState.{current_orders, outcome, with_state, IsOneCommand, IsBoundedBy};
 
-use super::{Day, refuse_if};
-use auction_terms::{Kind, Price, Refused, Reply};
+use super::{DayState, refuse_if};
+use auction_terms::{AuctionKind, Price, Refusal, Reply};
 
 // Whether a tick lies more than the range away from the reference.
 fn is_outside(range: Option<u32>, reference: u32, tick: u32) -> bool
@@ -17,21 +17,21 @@ fn is_outside(range: Option<u32>, reference: u32, tick: u32) -> bool
     }
 }
 
-fn next_auction(kind: Kind) -> Option<Kind>
+fn next_auction(kind: AuctionKind) -> Option<AuctionKind>
     ensures { result ≡ day.next_auction kind }
 {
     match kind {
-        Kind::Opening => Some(Kind::Intraday),
-        Kind::Intraday => Some(Kind::Closing),
-        Kind::Closing => None,
+        AuctionKind::Opening => Some(AuctionKind::Intraday),
+        AuctionKind::Intraday => Some(AuctionKind::Closing),
+        AuctionKind::Closing => None,
     }
 }
 
-impl Day {
+impl DayState {
     // The price of the orders that count, if they have one.
     fn price(&mut self) -> Option<Price>
         ensures state { self.new ≡ self.old }
-        ensures price { result ≡ auction_price (counting self.old.state) self.old.state.reference }
+        ensures price { result ≡ auction_price (current_orders self.old.state) self.old.state.reference }
         ensures within { IfSome result (λ price. IsBoundedBy self.old.config price.tick) }
     {
         self.book.price(self.reference)
@@ -54,10 +54,10 @@ impl Day {
     }
 
     // The auction ends without a price.
-    fn end(&mut self, kind: Kind) -> Reply
+    fn end(&mut self, kind: AuctionKind) -> Reply
         requires { self.old.state.auction ≡ Some kind }
-        ensures state { self.new ≡ with_state self.old (day.ended self.old.state kind).0 }
-        ensures reply { result ≡ (day.ended self.old.state kind).1 }
+        ensures state { self.new ≡ with_state self.old (day.end_without_price self.old.state kind).0 }
+        ensures reply { result ≡ (day.end_without_price self.old.state kind).1 }
     {
         self.book.end_auction();
         self.auction = next_auction(kind);
@@ -70,11 +70,11 @@ impl Day {
     }
 
     // The auction ends at this price, which is the new reference.
-    fn execute(&mut self, kind: Kind, price: Price) -> Reply
+    fn execute(&mut self, kind: AuctionKind, price: Price) -> Reply
         requires current { self.old.state.auction ≡ Some kind }
         requires within { IsBoundedBy self.old.config price.tick }
-        ensures state { self.new ≡ with_state self.old (day.executed self.old.state kind price).0 }
-        ensures reply { result ≡ (day.executed self.old.state kind price).1 }
+        ensures state { self.new ≡ with_state self.old (day.end_at_price self.old.state kind price).0 }
+        ensures reply { result ≡ (day.end_at_price self.old.state kind price).1 }
     {
         let trades = self.book.uncross(price.tick, &mut self.tape);
         self.book.end_auction();
@@ -89,11 +89,12 @@ impl Day {
     }
 
     // The end of the call phase, with this price or none.
-    fn end_at(&mut self, kind: Kind, price: Option<Price>) -> Reply
+    fn end_at(&mut self, kind: AuctionKind, price: Option<Price>) -> Reply
         requires current { self.old.state.auction ≡ Some kind }
         requires within { IfSome price (λ price. IsBoundedBy self.old.config price.tick) }
-        ensures state { self.new ≡ with_state self.old (day.uncrossed self.old.config self.old.state kind price).0 }
-        ensures reply { result ≡ (day.uncrossed self.old.config self.old.state kind price).1 }
+        ensures state { self.new ≡ with_state self.old
+            (day.end_call_phase self.old.config self.old.state kind price).0 }
+        ensures reply { result ≡ (day.end_call_phase self.old.config self.old.state kind price).1 }
     {
         match price {
             None => self.end(kind),
@@ -104,13 +105,13 @@ impl Day {
 
     /// The operator ends the call phase.
     #[tactic(auto, unfolding(auction_terms::specs::Day::uncross))]
-    pub(super) fn uncross(&mut self, member: u8) -> Result<Reply, Refused>
+    pub(super) fn uncross(&mut self, member: u8) -> Result<Reply, Refusal>
         ensures outcome { outcome self.new result ≡ day.uncross self.old.config self.old.state member }
         ensures refused { OnErr result (self.new ≡ self.old) }
         ensures one { IsOneCommand self.old self.new }
     {
         let kind = self.current()?;
-        refuse_if(member != 0, Refused::NotOperator)?;
+        refuse_if(member != 0, Refusal::NotOperator)?;
         let price = self.price();
         Ok(self.end_at(kind, price))
     }

@@ -1,3 +1,4 @@
+-- Invariants of the loops of `lend` (src/main.rt); rt looks here.
 use Rattle.std.proofs.Common.{◌≡◌, map, string_bytes, take}
 use Rattle.clap.specs.Walk.{texts}
 use Rattle.callboard.proofs.lend.Given as goal

@@ -1,3 +1,4 @@
+-- Invariants of the loops of `main` (src/main.rt); rt looks here.
 use Rattle.callboard.proofs.main.Given as goal
 
 -- each end counts its failures in the ledger of its blank

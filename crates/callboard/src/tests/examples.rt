@@ -3,7 +3,7 @@
 use super::{Example, each_gives_its_lines};
 use std::test::Fail;
 
-static EXAMPLES: [Example; 24] = [
+static EXAMPLES: [Example; 25] = [
     Example {
         name: "opening",
         words: &["callboard"],
@@ -135,6 +135,20 @@ static EXAMPLES: [Example; 24] = [
 0,uncross -> opening price 150 volume 60 surplus 80 bid trades 1
 1,trade,1 -> trade 1 2 60 at 150
 1,status,1 -> order bid 40 market visible 40
+",
+    },
+    Example {
+        name: "far_limit",
+        words: &["callboard"],
+        text: "\
+1,enter,bid,900,market -> entered 1
+2,enter,ask,800,market -> entered 2
+1,enter,bid,1,1 -> entered 3
+0,ask -> price 1 volume 800 surplus 101 bid
+0,uncross -> opening price 1 volume 800 surplus 101 bid trades 1
+1,trade,1 -> trade 1 2 800 at 1
+1,status,1 -> order bid 100 market visible 100
+1,status,3 -> order bid 1 at 1 visible 1
 ",
     },
     Example {

@@ -129,7 +129,7 @@ fn each_fault_has_its_line(rt: HostRuntime) {
         ),
         (Fault::File(FileFault::ReadFailed), "read failed", 3),
         (Fault::File(FileFault::NoMemory), "out of memory", 3),
-        (Fault::Open(OpenFault::BadLimits), "bad limits", 2),
+        (Fault::Open(OpenFault::BadCapacity), "bad limits", 2),
         (Fault::Open(OpenFault::NoMemory), "out of memory", 3),
         (Fault::NoMemory, "out of memory", 3),
         (Fault::NotClosed, "floor not closed", 3),

@@ -147,7 +147,7 @@ fn each_call_passes_the_gate(rt: HostRuntime) {
         ..CONFIG
     };
     let many = Fault::File(FileFault::TooManyCommands { number: 4 });
-    let bad = Fault::Open(OpenFault::BadLimits);
+    let bad = Fault::Open(OpenFault::BadCapacity);
     let rows = [
         (CONFIG, ASKS, 4, Ok(Finish::Lawful), 4, TALLY),
         (few, ASKS, 4, Err(many), 0, ""),

@@ -251,7 +251,9 @@ fn forms_and_journals(rt: HostRuntime) {
 
 const AUDIT: &[&str] = &["callboard", "--audit"];
 
-static AUDITS: [Row; 8] = [
+const RESULTS: &[&str] = &["callboard", "--audit", "--results"];
+
+static AUDITS: [Row; 11] = [
     (
         AUDIT,
         b"day,10,20,15,2,3,4,\n",
@@ -298,6 +300,31 @@ audit bad 1
     ),
     (AUDIT, b"day,10,20,25,2,3,4,\n", "", "bad reference\n", 2),
     (AUDIT, b"day,20,10,15,2,3,4,\n", "", "bad bounds\n", 2),
+    (
+        RESULTS,
+        b"day,10,20,15,2,3,4,\n",
+        "entries 0\ncompared 0\nunlawful 0\naudit legal\nin opening\n",
+        "",
+        0,
+    ),
+    // The results are the lawful ones, whatever was recorded; a refused uncross is none.
+    (
+        RESULTS,
+        b"day,10,20,15,2,3,4,\n0,uncross,opening no price\n1,uncross,\n0,uncross,closing no price\n",
+        "\
+3: recorded \"closing no price\", lawful \"intraday no price\"
+entries 3
+compared 2
+unlawful 1
+audit bad 2
+1: opening no price
+3: intraday no price
+in closing
+",
+        "",
+        4,
+    ),
+    (RESULTS, b"", "", "record 1: not a day record\n", 1),
 ];
 
 #[test]
@@ -330,6 +357,20 @@ static BESIDE: [&[&str]; 4] = [
     &["callboard", "--audit", "--print", "lines"],
     &["callboard", "--print=journal", "--audit", "--floor"],
 ];
+
+#[test]
+fn results_go_with_an_audit(rt: HostRuntime) {
+    for words in [
+        ["callboard", "--results", "--open=5"],
+        ["callboard", "--results", "--live"],
+    ] {
+        let printed = run(&rt, words.as_slice(), ORDERS_JOURNAL.as_bytes());
+        assert_eq!(rt; printed.status, 2);
+        assert!(rt; printed.out.is_empty());
+        let text = from_utf8(printed.err.as_slice()).unwrap_or("?");
+        assert_eq!(rt; text, "--results goes with --audit\n");
+    }
+}
 
 #[test]
 fn an_audit_stands_alone(rt: HostRuntime) {

@@ -6,7 +6,7 @@
 //! its call documents, or fails; in the run that meets no refusal, as here, it looks at the right answer.
 
 use super::live::LIVE;
-use super::{PLAIN, Ran, run, run_under};
+use super::{PLAIN, RunResult, run, run_under};
 use crate::Fault;
 use auction_terms::Config;
 use member_floor::OpenGate;
@@ -37,7 +37,7 @@ audit legal
 ";
 
 /// The run wrote this text, or nothing where it had a fault.
-fn wrote<T: Abort>(rt: &T, ran: &Ran, text: &str) -> Result<(), Fault> {
+fn wrote<T: Abort>(rt: &T, ran: &RunResult, text: &str) -> Result<(), Fault> {
     let is_right = ran.text() == if ran.answer.is_ok() { text } else { "" };
     assert!(rt; is_right);
     ran.answer.map(|_| ())

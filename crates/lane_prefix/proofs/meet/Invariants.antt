@@ -1,3 +1,4 @@
+-- Invariants of the loops of `meet` (src/lib.rt); rt looks here.
 use Rattle.std.proofs.Common.{◌≡◌, ◌≤◌, ◌<◌, ◌+◌, ◌-◌, ◌⊎◌, ℕ, List, length}
 use Rattle.lane_prefix.specs.Meeting.{before}
 use Rattle.lane_prefix.proofs.meet.Given as goal

@@ -1,3 +1,4 @@
+-- Invariants of the loops of `total` (src/lib.rt); rt looks here.
 use Rattle.std.proofs.Common.{◌≡◌, ◌≤◌, ◌-◌, length}
 use Rattle.lane_prefix.specs.Meeting.{before}
 use Rattle.lane_prefix.proofs.total.Given as goal

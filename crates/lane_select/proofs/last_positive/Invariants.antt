@@ -1,3 +1,4 @@
+-- Invariants of the loops of `last_positive` (src/lib.rt); rt looks here.
 use Rattle.std.proofs.Common.{◌≤◌, length}
 use Rattle.lane_select.specs.Positive.{NoneIn}
 use Rattle.lane_select.proofs.last_positive.Given as goal

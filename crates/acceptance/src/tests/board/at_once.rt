@@ -3,9 +3,9 @@ ghost use Rattle.std.specs.Prelude.{◌≡◌};
 
 use super::{CONFIG, check, shows};
 use auction::{Verdict, audit};
-use auction_terms::{Command, Display, Entry, Limit, Only, Price, Side};
-use call_board::{Board, Closing, Day, Fresh, Member, Receipt, Update, Version, close};
+use auction_terms::{Command, Display, Entry, Limit, Price, Restriction, Side};
 use left_right::Absorb;
+use member_board::{Board, BoardIdentity, Closing, Fresh, Member, Receipt, Update, Version, close};
 use std::alloc::{AllocError, Global};
 use std::marker::Brand;
 use std::sync::Wait;
@@ -15,7 +15,7 @@ use std::thread::Threads;
 
 // A member with the receipts of its calls, and what went wrong.
 #[derive(Drop)]
-struct Told<K: Day> {
+struct MemberLog<K: BoardIdentity> {
     member: Member<K>,
     receipts: Vec<Receipt>,
     fault: Option<&'static str>,
@@ -24,65 +24,65 @@ struct Told<K: Day> {
 // A member's k-th command: each other one is an order, a bid by members 0 and 2 and an ask by members 1 and 3.
 fn command(member: u8, k: u32) -> Command {
     if k % 2 == 1 {
-        return Command::Ask;
+        return Command::Indicate;
     }
     Command::Enter {
         side: if member % 2 == 0 {
-            Side::Buy
+            Side::Bid
         } else {
-            Side::Sell
+            Side::Ask
         },
         limit: Limit::At(200),
         quantity: 1,
         peak: None,
-        only: Only::Any,
+        restriction: Restriction::Unrestricted,
     }
 }
 
 // One call, and a look that shows it and all that was shown before.
-fn call_and_look<K: Day, R: Wait>(
+fn call_and_look<K: BoardIdentity, R: Wait>(
     rt: &R,
     board: &Board<K>,
-    told: &mut Told<K>,
+    log: &mut MemberLog<K>,
     k: u32,
     before: u32,
 ) -> u32
 where
     Version<K>: Absorb<Update<K>, State = ()>,
 {
-    let number = told.member.number();
-    let Ok(receipt) = told.member.call(board, rt, command(number, k)) else {
-        told.fault = Some("a call was refused");
+    let number = log.member.number();
+    let Ok(receipt) = log.member.call(board, rt, command(number, k)) else {
+        log.fault = Some("a call was refused");
         return before;
     };
-    let calls = told.member.look().calls;
+    let calls = log.member.look().calls;
     if calls < receipt.number || calls < before {
-        told.fault = Some("a look went back");
+        log.fault = Some("a look went back");
     }
-    if told.receipts.push(receipt).is_err() {
-        told.fault = Some("no memory");
+    if log.receipts.push(receipt).is_err() {
+        log.fault = Some("no memory");
     }
     calls
 }
 
-fn play<K: Day, R: Wait>(rt: &R, board: &Board<K>, told: Told<K>) -> Told<K>
+fn play<K: BoardIdentity, R: Wait>(rt: &R, board: &Board<K>, log: MemberLog<K>) -> MemberLog<K>
 where
     Version<K>: Absorb<Update<K>, State = ()>,
 {
-    let mut told = told;
+    let mut log = log;
     let mut seen = 0;
     for k in 0..250 {
-        seen = call_and_look(rt, board, &mut told, k, seen);
+        seen = call_and_look(rt, board, &mut log, k, seen);
     }
-    told
+    log
 }
 
-fn all_at_once<K: Day + Send + Sync, R: Wait + Threads + Sync>(
+fn all_at_once<K: BoardIdentity + Send + Sync, R: Wait + Threads + Sync>(
     rt: &R,
     alloc: Global,
     board: &Board<K>,
     members: Vec<Member<K>>,
-) -> Result<Vec<Told<K>>, AllocError>
+) -> Result<Vec<MemberLog<K>>, AllocError>
 where
     Version<K>: Absorb<Update<K>, State = ()> + Send + Sync,
 {
@@ -90,12 +90,12 @@ where
         let mut running = Vec::new(alloc);
         let mut back = Vec::new(alloc);
         for member in members {
-            let told = Told {
+            let log = MemberLog {
                 member,
                 receipts: Vec::new(alloc),
                 fault: None,
             };
-            if let Ok(handle) = scope.spawn(move || play(rt, board, told)) {
+            if let Ok(handle) = scope.spawn(move || play(rt, board, log)) {
                 running.push(handle)?;
             }
         }
@@ -128,12 +128,12 @@ fn accounts(history: &[Entry], number: u8, receipts: &[Receipt]) -> bool {
 }
 
 // What a member brings back, once all have called.
-fn taken<K: Day>(told: Told<K>) -> Result<(Member<K>, Vec<Receipt>), Fail> {
-    let Told {
+fn taken<K: BoardIdentity>(log: MemberLog<K>) -> Result<(Member<K>, Vec<Receipt>), Fail> {
+    let MemberLog {
         mut member,
         receipts,
         fault,
-    } = told;
+    } = log;
     if let Some(words) = fault {
         return Err(words)?;
     }
@@ -150,7 +150,7 @@ fn taken<K: Day>(told: Told<K>) -> Result<(Member<K>, Vec<Receipt>), Fail> {
     Ok((member, receipts))
 }
 
-fn four_members<K: Day + Send + Sync, R: Wait + Threads + Sync>(
+fn four_members<K: BoardIdentity + Send + Sync, R: Wait + Threads + Sync>(
     rt: &R,
     alloc: Global,
     board: Board<K>,
@@ -161,8 +161,8 @@ where
 {
     let mut back = Vec::new(alloc);
     let mut receipts = Vec::new(alloc);
-    for told in all_at_once(rt, alloc, &board, members)? {
-        let (member, own) = taken(told)?;
+    for log in all_at_once(rt, alloc, &board, members)? {
+        let (member, own) = taken(log)?;
         back.push(member)?;
         receipts.push(own)?;
     }
@@ -171,7 +171,7 @@ where
 }
 
 // The day that K names. It has no bound but K's, so that its caller can name the day.
-fn day<K: Day + Send + Sync, R: Wait + Threads + Sync>(
+fn day<K: BoardIdentity + Send + Sync, R: Wait + Threads + Sync>(
     rt: &R,
     alloc: Global,
     fresh: Fresh,

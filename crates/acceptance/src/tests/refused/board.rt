@@ -4,46 +4,24 @@
 
 ghost use Rattle.std.specs.Prelude.{◌≡◌};
 
-use crate::tests::members::asked;
+use crate::tests::members::closing_under;
 use crate::tests::{BID, DAY, bid_entered, closed};
 use auction_terms::Reply;
-use call_board::{Board, CallFault, Closing, Day, Fresh, Member, Receipt, Update, Version};
 use left_right::Absorb;
+use member_board::{Board, BoardIdentity, Closing, Fresh, Member, Receipt, Update, Version};
 use member_floor::OpenGate;
 use std::alloc::{AllocError, Global};
 use std::marker::Brand;
 use std::sync::Wait;
 
-/// Bids, and once more where memory was refused. A refusal changes nothing.
-fn bid<K: Day, R: Wait>(
-    rt: &R,
-    board: &Board<K>,
-    member: &mut Member<K>,
-) -> Result<Receipt, CallFault>
-where
-    Version<K>: Absorb<Update<K>, State = ()>,
-{
-    let calls = member.calls();
-    let shown = member.look();
-    let answer = member.call(board, rt, BID);
-    if answer != Err(CallFault::NoMemory)
-        || member.calls() != calls
-        || member.look() != shown
-        || board.floor().lock(rt).shown() != shown
-    {
-        return answer;
-    }
-    member.call(board, rt, BID)
-}
-
 /// Whether the first two calls on the board are this member's bids.
-fn bids_twice<K: Day, R: Wait>(rt: &R, board: &Board<K>, member: &mut Member<K>) -> bool
+fn bids_twice<K: BoardIdentity, R: Wait>(rt: &R, board: &Board<K>, member: &mut Member<K>) -> bool
 where
     Version<K>: Absorb<Update<K>, State = ()>,
 {
     for number in 1..3 {
         let reply = Reply::Entered { id: number };
-        if bid(rt, board, member) != Ok(Receipt { number, reply }) {
+        if member.call(board, rt, BID) != Ok(Receipt { number, reply }) {
             return false;
         }
     }
@@ -51,7 +29,10 @@ where
 }
 
 /// The closing of the day that `K` names, on which member 1 bids twice, where its bids are answered so.
-fn day_of_bids<K: Day, R: Wait>(rt: &R, fresh: Fresh) -> Result<Option<Closing>, AllocError>
+fn day_of_bids<K: BoardIdentity, R: Wait>(
+    rt: &R,
+    fresh: Fresh,
+) -> Result<Option<Closing>, AllocError>
     requires names { (K.config ≡ fresh.config) × (K.parts ≡ fresh.members)
         × (K.name ≡ fresh.ledger) × (K.story ≡ fresh.story) }
 {
@@ -71,7 +52,7 @@ fn bids<R: Wait>(rt: &R, alloc: Global) -> Result<Option<Closing>, AllocError> {
 }
 
 #[test]
-fn a_refused_call_is_made_again(rt: HostRuntime) -> Result<(), AllocError> {
+fn calls_are_recorded(rt: HostRuntime) -> Result<(), AllocError> {
     let closing = bids(&rt, rt.alloc())?;
     assert!(rt;
         closing.is_some_and(|closing| closing.calls.as_slice() == [0, 2].as_slice()
@@ -82,7 +63,7 @@ fn a_refused_call_is_made_again(rt: HostRuntime) -> Result<(), AllocError> {
 
 #[test]
 fn scripts_are_played(rt: HostRuntime) -> Result<(), AllocError> {
-    let closing = asked(&rt, rt.alloc(), &OpenGate, 2)?;
+    let closing = closing_under(&rt, rt.alloc(), &OpenGate, 2)?;
     assert!(rt; closing.is_some_and(|closing| closing.calls.as_slice() == [2, 2].as_slice()));
     Ok(())
 }

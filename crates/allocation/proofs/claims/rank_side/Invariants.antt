@@ -1,3 +1,4 @@
+-- Invariants of the loops of `rank_side` (src/claims.rt); rt looks here.
 use Rattle.std.proofs.Common.{◌≡◌, ◌≤◌, take, length, vec_len, vec_capacity}
 use Rattle.order_book.specs.Orders.{present}
 use Rattle.allocation.specs.Claim.{claims_of, AreNarrow}

@@ -1,3 +1,4 @@
+-- Answers of `pair_off` (src/pairing.rt): what the prover left open; rt looks here.
 use Rattle.std.proofs.Common.{rules, arith, ◌≡◌, ◌<◌, length, min, Some, slice_get, sym, ap, ◌∙◌}
 use Rattle.allocation.proofs.PairOffLaws.{no_asks_left, no_bids_left, paired_more, fewer_left, nonempty}
 use Rattle.allocation.proofs.pairing.pair_off.Goals as goal
@@ -20,14 +21,20 @@ loop-bid-preserved c =
     record {
       items =
           rw (c.take.ensures, c.take-in-Some-Some.ensures)
-          (paired_more c.args.tick k c.loop-bid.trades.items c.push_reserved.new.self.items _ bid ask c.loop-bid.bids c.loop-bid.asks first_bid first_ask least (omega arith) c.loop-bid.invariant.items c.push_reserved.ensures.items);
+          (paired_more c.args.tick k c.loop-bid.trades.items c.push_reserved.new.self.items _ bid ask c.loop-bid.bids
+          c.loop-bid.asks first_bid first_ask least (omega arith) c.loop-bid.invariant.items
+          c.push_reserved.ensures.items);
       few = omega arith;
       fewer = λ none. omega arith;
       capacity = search rules;
     }
 
 pub returns-in_default-clause-items : goal.returns-in_default-clause-items
-returns-in_default-clause-items c = no_asks_left c.args.tick c.loop-bid.trades.items _ _ c.loop-bid.bids c.loop-bid.asks (sym c.in_default.is-1 ∙ c.front-in-loop-bid.ensures.first) c.loop-bid.invariant.items
+returns-in_default-clause-items c =
+    no_asks_left c.args.tick c.loop-bid.trades.items _ _ c.loop-bid.bids c.loop-bid.asks (sym c.in_default.is-1
+    ∙ c.front-in-loop-bid.ensures.first) c.loop-bid.invariant.items
 
 pub returns-in_default-2-clause-items : goal.returns-in_default-2-clause-items
-returns-in_default-2-clause-items c = no_bids_left c.args.tick c.loop-bid.trades.items _ _ c.loop-bid.bids c.loop-bid.asks (sym c.in_default.is-0 ∙ c.front.ensures.first) c.loop-bid.invariant.items
+returns-in_default-2-clause-items c =
+    no_bids_left c.args.tick c.loop-bid.trades.items _ _ c.loop-bid.bids c.loop-bid.asks (sym c.in_default.is-0
+    ∙ c.front.ensures.first) c.loop-bid.invariant.items

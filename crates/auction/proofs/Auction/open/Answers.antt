@@ -1,3 +1,4 @@
+-- Answers of `Auction::open` (src/lib.rt): what the prover left open; rt looks here.
 -- No call was had.
 use Rattle.std.proofs.Common.{sym, ap, ◌∙◌, arith}
 use Rattle.auction.specs.AuctionState.{AuctionState}
@@ -14,7 +15,17 @@ invariant_of-result c =
         few = omega (arith, within.calls, ap (λ (a : AuctionState). a.config.max_calls) new);
       },
       (
-        omega (arith, within.low, ap (λ (a : AuctionState). a.config.low) new, ap (λ (a : AuctionState). a.config.reference) new),
-        omega (arith, within.high, ap (λ (a : AuctionState). a.config.reference) new, ap (λ (a : AuctionState). a.config.high) new),
+        omega (
+          arith,
+          within.low,
+          ap (λ (a : AuctionState). a.config.low) new,
+          ap (λ (a : AuctionState). a.config.reference) new,
+        ),
+        omega (
+          arith,
+          within.high,
+          ap (λ (a : AuctionState). a.config.reference) new,
+          ap (λ (a : AuctionState). a.config.high) new,
+        ),
       ),
     )

@@ -1,3 +1,4 @@
+-- Invariants of the loops of `append` (src/book.rt); rt looks here.
 use Rattle.std.proofs.Common.{◌≡◌, ◌++◌, take, vec_len, vec_capacity, ◌+◌}
 use Rattle.auction.proofs.book.append.Given as goal
 

@@ -1,3 +1,4 @@
+-- Invariants of the loops of `audit` (src/history.rt); rt looks here.
 use Rattle.std.proofs.Common.{take}
 use Rattle.auction.proofs.AuditLaws.{IsAudited}
 use Rattle.auction.proofs.history.audit.Given as goal

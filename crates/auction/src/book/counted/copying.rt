@@ -1,26 +1,26 @@
 //! The book emptied, and the book copied.
 ghost use Rattle.std.specs.Prelude.{◌≡◌, IfOk};
-ghost use Rattle.auction.specs.OpenOrders.{emptied};
+ghost use Rattle.auction.specs.OpenOrders.{without_orders};
 
-use super::CountedBook;
-use auction_terms::Kind;
+use super::LadderBook;
+use auction_terms::AuctionKind;
 use std::alloc::{AllocError, Global};
 
-impl CountedBook {
+impl LadderBook {
     /// Removes all orders, as if none had been entered, and goes back to the opening auction. It takes no memory.
     pub(in crate::book) fn reset(&mut self)
-        ensures { self.new.book ≡ emptied self.old.book }
+        ensures { self.new.book ≡ without_orders self.old.book }
     {
         self.orders.reset();
         self.ladder.reset();
-        self.kind = Kind::Opening;
+        self.kind = AuctionKind::Opening;
     }
 
     /// The same orders, in a book of its own with as much room. Only want of memory makes it fail.
-    pub(in crate::book) fn copied(&self, alloc: Global) -> Result<CountedBook, AllocError>
+    pub(in crate::book) fn copied(&self, alloc: Global) -> Result<LadderBook, AllocError>
         ensures { IfOk result (λ b. b.book ≡ self.now.book) }
     {
-        Ok(CountedBook {
+        Ok(LadderBook {
             orders: self.orders.copied(alloc)?,
             ladder: self.ladder.copied(alloc)?,
             kind: self.kind,

@@ -1,20 +1,21 @@
 //! The execution of orders.
 ghost use Rattle.std.specs.Prelude.{◌≡◌, ◌≤◌, length};
 ghost use Rattle.auction_terms.specs.declared.limits.TheConstants.{MAX_OPEN_ORDERS};
-ghost use Rattle.auction_terms.specs.Devices.OrderLists.{reduced, reduced_by, IsNext, AreExecutable};
+ghost use Rattle.auction_terms.specs.Auxiliary.OrderLists.{book_after_fill, book_after_fills, IsExecutable};
+ghost use Rattle.auction_terms.specs.Auxiliary.OrderLists.{AreExecutable};
 ghost use Rattle.auction_terms.specs.Allotment.{trades};
-ghost use Rattle.auction.specs.OpenOrders.{counting, executed_at};
+ghost use Rattle.auction.specs.OpenOrders.{current_orders, with_execution_at};
 
-use super::CountedBook;
+use super::LadderBook;
 use super::counting::take;
 use allocation::Desk;
 use auction_terms::Fill;
 
-impl CountedBook {
+impl LadderBook {
     // Executes one fill.
     fn execute_one(&mut self, fill: Fill)
-        requires { IsNext fill self.old.book.orders }
-        ensures { self.new.book ≡ record self.old.book { orders = reduced fill self.old.book.orders } }
+        requires { IsExecutable fill self.old.book.orders }
+        ensures { self.new.book ≡ record self.old.book { orders = book_after_fill fill self.old.book.orders } }
     {
         let order = self.orders.get(fill.id).unwrap();
         self.orders.reduce(fill.id, fill.quantity);
@@ -24,7 +25,7 @@ impl CountedBook {
     // Executes fills, one after the other.
     fn execute(&mut self, fills: &[Fill])
         requires { AreExecutable fills.now self.old.book.orders }
-        ensures { self.new.book ≡ record self.old.book { orders = reduced_by fills.now self.old.book.orders } }
+        ensures { self.new.book ≡ record self.old.book { orders = book_after_fills fills.now self.old.book.orders } }
     {
         for fill in fills {
             self.execute_one(*fill);
@@ -35,8 +36,8 @@ impl CountedBook {
     /// order stays open, in its place.
     pub(in crate::book) fn uncross(&mut self, price: u32, desk: &mut Desk)
         requires { self.old.book.max_open ≤ desk.old.room }
-        ensures book { self.new.book ≡ executed_at price self.old.book }
-        ensures trades { desk.new.trades ≡ trades (counting self.old.book) price }
+        ensures book { self.new.book ≡ with_execution_at price self.old.book }
+        ensures trades { desk.new.trades ≡ trades (current_orders self.old.book) price }
         ensures few { length desk.new.trades ≤ length self.old.book.orders }
         ensures bounded { length desk.new.trades ≤ MAX_OPEN_ORDERS }
         ensures room { desk.new.room ≡ desk.old.room }

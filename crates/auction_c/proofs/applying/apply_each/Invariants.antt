@@ -1,3 +1,4 @@
+-- Invariants of the loops of `apply_each` (src/applying.rt); rt looks here.
 use Rattle.std.proofs.Common.{◌≡◌, length}
 use Rattle.auction_c.proofs.ManyLaws.{IsApplied}
 use Rattle.auction_c.proofs.applying.apply_each.Given as goal

@@ -1,3 +1,4 @@
+-- Answers of `close_after` (src/day.rt): what the prover left open; rt looks here.
 use Rattle.callboard.proofs.day.close_after.Goals as goal
 
 pub returns-clause-accounts : goal.returns-clause-accounts

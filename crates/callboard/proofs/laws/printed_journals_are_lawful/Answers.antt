@@ -1,4 +1,5 @@
-use Rattle.callboard.proofs.PassedOnLaws.{auction-passes, board-passes, settings-fit}
+-- Answers of `printed_journals_are_lawful` (src/laws.rt): what the prover left open; rt looks here.
+use Rattle.callboard.proofs.PrintedJournalLaws.{auction-passes, board-passes, settings-fit}
 use Rattle.callboard.proofs.laws.printed_journals_are_lawful.Goals as goal
 
 pub returns-clause-auction : goal.returns-clause-auction

@@ -1,3 +1,4 @@
+-- Invariants of the loops of `split` (src/scripts.rt); rt looks here.
 use Rattle.std.proofs.Common.{◌≡◌, ◌≤◌, vec_capacity}
 use Rattle.callboard.specs.BoardRun.{IsSplit}
 use Rattle.callboard.proofs.scripts.split.Given as goal

@@ -1,3 +1,4 @@
+-- Invariants of the loops of `run` (src/tests.rt); rt looks here.
 use Rattle.callboard.proofs.tests.run.Given as goal
 
 -- the output counts its failures in the ledger of its blank

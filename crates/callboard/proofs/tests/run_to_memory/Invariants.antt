@@ -1,3 +1,4 @@
+-- Invariants of the loops of `run_to_memory` (src/tests.rt); rt looks here.
 use Rattle.callboard.proofs.tests.run_to_memory.Given as goal
 
 -- the error counts its failures in the ledger of its blank

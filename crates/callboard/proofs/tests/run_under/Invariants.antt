@@ -1,3 +1,4 @@
+-- Invariants of the loops of `run_under` (src/tests.rt); rt looks here.
 use Rattle.callboard.proofs.tests.run_under.Given as goal
 
 -- the writer counts its failures in the ledger of its blank

@@ -1,3 +1,4 @@
+-- Invariants of the loops of `fill` (src/price.rt); rt looks here.
 use Rattle.std.proofs.Common.{◌-◌}
 use Rattle.clock.specs.Filling.{IsFilled}
 use Rattle.clock.proofs.price.fill.Given as goal

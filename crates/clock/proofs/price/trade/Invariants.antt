@@ -1,3 +1,4 @@
+-- Invariants of the loops of `trade` (src/price.rt); rt looks here.
 use Rattle.std.proofs.Common.{◌-◌}
 use Rattle.clock.specs.Filling.{IsFilled}
 use Rattle.clock.proofs.price.trade.Given as goal

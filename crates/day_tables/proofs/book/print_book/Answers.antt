@@ -1,3 +1,4 @@
+-- Answers of `print_book` (src/book.rt): what the prover left open; rt looks here.
 use Rattle.day_tables.specs.BookTable.{book_text}
 use Rattle.day_tables.proofs.book.print_book.Goals as goal
 

@@ -1,3 +1,4 @@
+-- Answers of `print_book_tables` (src/book.rt): what the prover left open; rt looks here.
 use Rattle.printed_lines.proofs.PrinterLaws.{prints_begun, prints_more}
 use Rattle.day_tables.proofs.book.print_book_tables.Goals as goal
 

@@ -1,7 +1,8 @@
+-- Answers of `print_ladder` (src/book.rt): what the prover left open; rt looks here.
 use Rattle.std.proofs.Common.{refl}
-use Rattle.auction_terms.specs.Devices.Running.{Running}
-use Rattle.auction.specs.AuctionState.{counting}
-use Rattle.day_tables.proofs.BookTableLaws.{places_drawn, table_told, own_room, own_curves}
+use Rattle.auction_terms.specs.Auxiliary.RunningAuction.{RunningAuction}
+use Rattle.auction.specs.AuctionState.{current_orders}
+use Rattle.day_tables.proofs.BookTableLaws.{places_drawn, table-printed, own_room, own_curves}
 use Rattle.day_tables.proofs.book.print_ladder.Goals as goal
 
 pub rule-rule-requires : goal.rule-rule-requires
@@ -23,9 +24,9 @@ print_rows-requires g c =
 pub returns-clause-printed : goal.returns-clause-printed
 returns-clause-printed g c = λ config state is.
     let v = c.args.ladder.now in
-    let auction : Running = record { config = config; state = state; calls = 0 } in
-    let curves = c.follow.ensures.curves (counting state) is.book in
-    rw (← table_told auction c.args.heading.command c.args.heading.kind v _ is.told.auction is.over is.book
+    let auction : RunningAuction = record { config = config; state = state; calls = 0 } in
+    let curves = c.follow.ensures.curves (current_orders state) is.book in
+    rw (← table-printed auction c.args.heading.command c.args.heading.kind v _ is.told.auction is.over is.book
     (record {
       low = c.low.ensures.value;
       market_bids = c.market.ensures;
@@ -35,4 +36,4 @@ returns-clause-printed g c = λ config state is.
       present = c.present.ensures.value;
     })
     refl refl curves is.told.price
-    (c.rule-rule.ensures v.low (counting state) (own_curves _ _ _ _ curves))) c.print_rows.ensures
+    (c.rule-rule.ensures v.low (current_orders state) (own_curves _ _ _ _ curves))) c.print_rows.ensures

@@ -1,3 +1,4 @@
+-- Answers of `print_place` (src/book.rt): what the prover left open; rt looks here.
 use Rattle.printed_lines.proofs.PrinterLaws.{prints_none}
 use Rattle.day_tables.proofs.book.print_place.Goals as goal
 

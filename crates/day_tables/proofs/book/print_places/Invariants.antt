@@ -1,3 +1,4 @@
+-- Invariants of the loops of `print_places` (src/book.rt); rt looks here.
 use Rattle.std.proofs.Common.{◌≡◌, ◌≤◌, List, ℕ, ◌++◌, Ok, length}
 use Rattle.printed_lines.specs.Printing.{Prints}
 use Rattle.day_tables.specs.TableRows.{rows_below, HasHead}

@@ -1,3 +1,4 @@
+-- Answers of `print_table` (src/book.rt): what the prover left open; rt looks here.
 use Rattle.printed_lines.proofs.PrinterLaws.{prints_none}
 use Rattle.day_tables.specs.BookTable.{table_before}
 use Rattle.day_tables.proofs.BookTableLaws.{room_of, room_back}

@@ -1,3 +1,4 @@
+-- Invariants of the loops of `print_tables` (src/book.rt); rt looks here.
 use Rattle.std.proofs.Common.{◌≡◌, ◌≤◌, ◌+◌, ◌-◌, List, ℕ, ◌++◌, drop, length, Ok}
 use Rattle.printed_lines.specs.Printing.{Prints}
 use Rattle.day_tables.specs.BookTable.{tables_after}
@@ -11,5 +12,6 @@ invariant-loop-before g l = (l.auction.config ≡ l.fn.auction.config)
     × (l.before ≤ length l.entries)
     × HasRoom (l.fn.auction.config.high + 1 - l.fn.auction.config.low) l.curves
     × (front : List ℕ)
-    × (front ++ tables_after l.fn.auction.config l.before l.auction.state (drop l.before l.entries) ≡ tables_after l.fn.auction.config 0 l.fn.auction.state l.entries)
+    × (front ++ tables_after l.fn.auction.config l.before l.auction.state (drop l.before l.entries)
+    ≡ tables_after l.fn.auction.config 0 l.fn.auction.state l.entries)
     × Prints g.S.Sink l.fn.printer l.printer (Ok tt) front

@@ -1,3 +1,4 @@
+-- Answers of `put_market` (src/book.rt): what the prover left open; rt looks here.
 use Rattle.std.proofs.Common.{codes, decimal}
 use Rattle.day_tables.specs.TableRows.{market_row}
 use Rattle.day_tables.proofs.RecordLaws.{field-more}

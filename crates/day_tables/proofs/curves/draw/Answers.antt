@@ -1,3 +1,4 @@
+-- Answers of `draw` (src/curves.rt): what the prover left open; rt looks here.
 use Rattle.std.proofs.Common.{length, sym, ap, ◌∙◌}
 use Rattle.day_tables.proofs.TickTableLaws.{long_present}
 use Rattle.day_tables.proofs.curves.draw.Goals as goal

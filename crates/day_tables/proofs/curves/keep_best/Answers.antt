@@ -1,3 +1,4 @@
+-- Answers of `keep_best` (src/curves.rt): what the prover left open; rt looks here.
 use Rattle.std.proofs.Common.{◌≡◌, length, arith, rules}
 use Rattle.std.specs.Int.{abs_diff}
 use Rattle.std.proofs.Common.{min}
@@ -60,4 +61,5 @@ returns c ticks book cand marked =
     let same : length c.keep_equal.new.flags ≡ length flags = omega arith in
     best_left ticks ds ss flags c.args.volumes.now book even cand marked c.requires.volumes
     c.in-Some.most c.in-Some-least_where.least c.keep_equal.new.flags c.args.surpluses.now c.keep_equal-2.new.flags
-    (omega arith) c.in-Some.ensures c.keep_equal.ensures same c.requires.surpluses c.in-Some-least_where.ensures c.keep_equal-2.ensures
+    (omega arith) c.in-Some.ensures c.keep_equal.ensures same c.requires.surpluses c.in-Some-least_where.ensures
+    c.keep_equal-2.ensures

@@ -1,3 +1,4 @@
+-- Invariants of the loops of `print_tables` (src/keeping.rt); rt looks here.
 use Rattle.std.proofs.Common.{◌≡◌, ◌++◌, ℕ, List, drop, Ok}
 use Rattle.auction_terms.specs.declared.Config.{Config}
 use Rattle.printed_lines.specs.Printing.{Prints}

@@ -1,3 +1,4 @@
+-- Answers of `entering_members` (src/trades.rt): what the prover left open; rt looks here.
 use Rattle.day_tables.proofs.TradeTableLaws.{members-next, members-all}
 use Rattle.day_tables.proofs.trades.entering_members.Goals as goal
 

@@ -1,3 +1,4 @@
+-- Answers of `print_trade_table` (src/trades.rt): what the prover left open; rt looks here.
 use Rattle.printed_lines.proofs.PrinterLaws.{prints_begun, prints_more}
 use Rattle.day_tables.proofs.trades.print_trade_table.Goals as goal
 

@@ -1,3 +1,4 @@
+-- Answers of `replay` (src/trades.rt): what the prover left open; rt looks here.
 use Rattle.std.proofs.Common.{arith}
 use Rattle.day_tables.proofs.TradeTableLaws.{replayed-more, replayed-end}
 use Rattle.day_tables.proofs.trades.replay.Goals as goal

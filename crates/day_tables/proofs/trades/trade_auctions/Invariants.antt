@@ -1,3 +1,4 @@
+-- Invariants of the loops of `trade_auctions` (src/trades.rt); rt looks here.
 use Rattle.std.proofs.Common.{◌≡◌, take}
 use Rattle.day_tables.specs.TradeTable.{trade_auctions}
 use Rattle.day_tables.proofs.trades.trade_auctions.Given as goal

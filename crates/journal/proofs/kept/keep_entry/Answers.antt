@@ -1,3 +1,4 @@
+-- Answers of `keep_entry` (src/kept.rt): what the prover left open; rt looks here.
 use Rattle.std.proofs.Common.{◌∙◌, ◌++◌, ℕ, List, ap, append_assoc, sym}
 use Rattle.journal.specs.PrintedJournal.{call_line}
 use Rattle.journal.proofs.KeptLineLaws.{holds-more}

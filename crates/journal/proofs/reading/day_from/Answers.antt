@@ -1,3 +1,4 @@
+-- Answers of `day_from` (src/reading.rt): what the prover left open; rt looks here.
 use Rattle.std.proofs.Common.{◌≡◌, rules, false, true}
 use Rattle.csv.specs.Records.{fields_of}
 use Rattle.journal.specs.DayRecord.{is_day_row}

@@ -1,3 +1,4 @@
+-- Answers of `entries_from` (src/reading.rt): what the prover left open; rt looks here.
 use Rattle.std.proofs.Common.{◌≡◌, ◌+◌, ◌++◌, ◌∷◌, ◌∙◌, [], ap, arith, length-append, rules, sym, true}
 use Rattle.std.proofs.lemmas.Result.{err_from_is_err_and}
 use Rattle.std.specs.Result.{is_ok}
@@ -5,19 +6,31 @@ use Rattle.std.proofs.lemmas.List.Elements.{All-push}
 use Rattle.csv.specs.Records.{fields_of}
 use Rattle.order_file.specs.File.{IsBelow}
 use Rattle.journal.specs.EntryRecord.{IsReplyText, reply_of_fields}
-use Rattle.journal.proofs.EntryLaws.{behind-none, calls-more, entries-end, entries-fault, entries-full, entries-more, fails-alike, texts-more}
+use Rattle.journal.proofs.EntryLaws.{behind-none, calls-more, entries-end, entries-fault, entries-full, entries-more}
+use Rattle.journal.proofs.EntryLaws.{fails-alike, texts-more}
 use Rattle.journal.proofs.reading.entries_from.Goals as goal
 
 pub loop-before-init : goal.loop-before-init
-loop-before-init c = (c.requires, search rules, search rules, search rules, search rules, search rules, [], search rules, search rules, behind-none _)
+loop-before-init c = (
+  c.requires,
+  search rules,
+  search rules,
+  search rules,
+  search rules,
+  search rules,
+  [],
+  search rules,
+  search rules,
+  behind-none _,
+)
 
-pub returns-then-not-branch-clause-said : goal.returns-then-not-branch-clause-said
-returns-then-not-branch-clause-said c =
+pub returns-then-not-branch-clause-recording : goal.returns-then-not-branch-clause-recording
+returns-then-not-branch-clause-recording c =
     let (stands, part, count, below, even, fine, front, calls, texts, same) = c.loop-before.invariant in
     entries-end _ _ _ _ _ _ _ same (rw c.if-not-branch.true at c.in_ok-next_row.ensures.row) calls texts
 
-pub returns-in_err-call-clause-said : goal.returns-in_err-call-clause-said
-returns-in_err-call-clause-said c =
+pub returns-in_err-call-clause-recording : goal.returns-in_err-call-clause-recording
+returns-in_err-call-clause-recording c =
     let (stands, part, count, below, even, fine, front, calls, texts, same) = c.loop-before.invariant in
     let found = rw c.if-not-branch.false at c.in_ok-next_row.ensures.row in
     let bad = rw c.from.ensures at c.in_err-call.ensures.call in
@@ -48,14 +61,14 @@ loop-before-preserved c =
       entries-more c.args.day _ front _ _ _ _ _ same found.0 c.loop-before-test.true call,
     )
 
-pub returns-then-branch-clause-said : goal.returns-then-branch-clause-said
-returns-then-branch-clause-said c =
+pub returns-then-branch-clause-recording : goal.returns-then-branch-clause-recording
+returns-then-branch-clause-recording c =
     let (stands, part, count, below, even, fine, front, calls, texts, same) = c.loop-before.invariant in
     let found = rw c.if-branch.true at c.in_ok-next_row-2.ensures.row in
     let last : c.from-then-branch.result ≡ c.loop-before.before = omega arith in
     rw last (entries-full _ _ _ _ _ _ _ same found.0 c.loop-before-test.false)
 
-pub returns-clause-said : goal.returns-clause-said
-returns-clause-said c =
+pub returns-clause-recording : goal.returns-clause-recording
+returns-clause-recording c =
     let (stands, part, count, below, even, fine, front, calls, texts, same) = c.loop-before.invariant in
     entries-end _ _ _ _ _ _ _ same (rw c.if-branch.false at c.in_ok-next_row-2.ensures.row) calls texts

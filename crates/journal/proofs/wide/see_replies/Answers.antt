@@ -1,3 +1,4 @@
+-- Answers of `see_replies` (src/wide.rt): what the prover left open; rt looks here.
 use Rattle.journal.proofs.WideReplyLaws.{wide-end, wide-next}
 use Rattle.journal.proofs.wide.see_replies.Goals as goal
 

@@ -1,3 +1,4 @@
+-- Invariants of the loops of `see_replies` (src/wide.rt); rt looks here.
 use Rattle.std.proofs.Common.{drop}
 use Rattle.journal.specs.WideReplies.{AreWide}
 use Rattle.journal.proofs.wide.see_replies.Given as goal

@@ -1,6 +1,7 @@
+-- Answers of `join_all` (src/threads.rt): what the prover left open; rt looks here.
 use Rattle.std.proofs.Common.{rules, arith, ap, ◌≡◌, ◌∷◌, length}
 use Rattle.std.specs.Vec.Iter.{into_iter_items}
-use Rattle.member_floor.proofs.PlayingLaws.{plays-next, plays-end}
+use Rattle.member_floor.proofs.PlayingLaws.{PlaysScript-next, PlaysScript-end}
 use Rattle.member_floor.proofs.threads.join_all.Goals as goal
 
 pub loop-preserved : goal.loop-preserved
@@ -13,10 +14,14 @@ loop-preserved g c =
       count = search rules;
       left = omega (arith, was.left, ap length step);
       room = search rules;
-      plays = plays-next (λ h. h.promise.part.value) g.K.Day.config was.plays.0 _ h (into_iter_items c.loop.handles) rest c.loop.played.items c.push_reserved.new.self.items c.join.result step was.plays.1 c.push_reserved.ensures.items was.plays.2 c.join.ensures;
+      plays =
+          PlaysScript-next (λ h. h.promise.task.value) g.K.BoardIdentity.config was.plays.0 _ h
+          (into_iter_items c.loop.handles) rest c.loop.played.items c.push_reserved.new.self.items c.join.result step
+          was.plays.1 c.push_reserved.ensures.items was.plays.2 c.join.ensures;
     }
 
 pub returns : goal.returns
 returns g c =
     let was = c.loop.invariant in
-    plays-end (λ h. h.promise.part.value) g.K.Day.config was.plays.0 _ (into_iter_items c.loop.handles) c.loop.played.items (omega (arith, was.left, c.loop-test.false)) was.plays.1 was.plays.2
+    PlaysScript-end (λ h. h.promise.task.value) g.K.BoardIdentity.config was.plays.0 _ (into_iter_items c.loop.handles)
+    c.loop.played.items (omega (arith, was.left, c.loop-test.false)) was.plays.1 was.plays.2

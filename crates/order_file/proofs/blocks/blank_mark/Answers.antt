@@ -1,3 +1,4 @@
+-- Answers of `blank_mark` (src/blocks.rt): what the prover left open; rt looks here.
 use Rattle.std.proofs.Common.{arith}
 use Rattle.std.proofs.lemmas.Grind.{common_steps}
 use Rattle.order_file.specs.Blocks.{without_mark}

@@ -1,3 +1,4 @@
+-- Answers of `next_row` (src/reading.rt): what the prover left open; rt looks here.
 use Rattle.order_file.proofs.RowLaws.{row-found}
 use Rattle.order_file.proofs.reading.next_row.Goals as goal
 

@@ -1,3 +1,4 @@
+-- Answers of `reader_of` (src/reading.rt): what the prover left open; rt looks here.
 use Rattle.std.proofs.Common.{rules}
 use Rattle.order_file.proofs.RowLaws.{with-headers}
 use Rattle.order_file.proofs.reading.reader_of.Goals as goal
@@ -6,5 +7,12 @@ pub returns-clause-reader : goal.returns-clause-reader
 returns-clause-reader c =
     let made = c.from_reader-reader.ensures in
     with-headers c.from_reader-reader.result c.set_byte_headers.new.self _
-    (record { names = search rules; trim = search rules; config = search rules; state = made.state; known = made.source })
+    (record {
+      names = search rules;
+      trim = search rules;
+      config = search rules;
+      state = made.state;
+      known =
+          made.source;
+    })
     c.in-Ok.ensures.same c.in-Ok.ensures.set

@@ -1,3 +1,4 @@
+-- Answers of `lower_of` (src/choice.rt): what the prover left open; rt looks here.
 use Rattle.std.proofs.Common.{◌≡◌, ◌∙◌, length, arith}
 use Rattle.std.proofs.lemmas.Bool.{ne_eqb}
 use Rattle.lane_select.specs.Selection.{kept_if_above}
@@ -9,7 +10,10 @@ pub returns-then-surplus-eq0 : goal.returns-then-surplus-eq0
 returns-then-surplus-eq0 c book best cand within marked =
     let lanes = c.args.lanes.now in
     let even : AreEven lanes = record { demands = omega arith; supplies = omega arith } in
-    rw c.if-surplus-eq0.true (c.tick_in.ensures ∙ lowest_at lanes.ticks c.args.flags best marked (rising_within book lanes even cand c.args.flags within) c.first.result c.first.ensures)
+    rw c.if-surplus-eq0.true
+    (c.tick_in.ensures
+    ∙ lowest_at lanes.ticks c.args.flags best marked (rising_within book lanes even cand c.args.flags within)
+    c.first.result c.first.ensures)
 
 pub returns : goal.returns
 returns c book best cand within marked =
@@ -17,4 +21,7 @@ returns c book best cand within marked =
     let even : AreEven lanes = record { demands = omega arith; supplies = omega arith } in
     let same : length c.args.flags ≡ length lanes.flags = omega arith in
     let flags = kept_if_above lanes.demands lanes.supplies c.args.flags in
-    rw (ne_eqb c.args.surplus 0 c.if-surplus-eq0.false) (c.tick_in-2.ensures ∙ highest_at lanes.ticks flags _ (bids_marked book lanes even cand c.args.flags best same within marked) (rising_bids book lanes even cand c.args.flags same within) c.last.result (rw c.keep_above.ensures at c.last.ensures))
+    rw (ne_eqb c.args.surplus 0 c.if-surplus-eq0.false) (c.tick_in-2.ensures
+    ∙ highest_at lanes.ticks flags _ (bids_marked book lanes even cand c.args.flags best same within marked)
+    (rising_bids book lanes even cand c.args.flags same within) c.last.result
+    (rw c.keep_above.ensures at c.last.ensures))

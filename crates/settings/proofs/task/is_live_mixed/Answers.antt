@@ -1,3 +1,4 @@
+-- Answers of `is_live_mixed` (src/task.rt): what the prover left open; rt looks here.
 use Rattle.settings.proofs.Readings.{has_options}
 use Rattle.settings.proofs.task.is_live_mixed.Goals as goal
 

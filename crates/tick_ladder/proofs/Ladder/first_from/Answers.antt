@@ -1,3 +1,4 @@
+-- Answers of `Ladder::first_from` (src/lib.rt): what the prover left open; rt looks here.
 use Rattle.std.proofs.Common.{arith}
 use Rattle.std.proofs.lemmas.Grind.{common_steps}
 use Rattle.tick_ladder.proofs.PresenceLaws.{length-flags, first_found}

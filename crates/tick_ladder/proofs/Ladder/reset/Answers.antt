@@ -1,3 +1,4 @@
+-- Answers of `Ladder::reset` (src/copying.rt): what the prover left open; rt looks here.
 use Rattle.std.proofs.Common.{arith}
 use Rattle.std.proofs.lemmas.Simd.{length-replicate}
 use Rattle.std.proofs.lemmas.List.Folds.{sum_by-replicate}

@@ -1,3 +1,4 @@
+-- Invariants of the loops of `audit_of` (src/tests/journals.rt); rt looks here.
 use Rattle.acceptance.proofs.tests.journals.audit_of.Given as goal
 
 -- the sink counts its failures in the ledger of the blank

@@ -1,3 +1,4 @@
+-- Answers of `scripts` (src/tests/members.rt): what the prover left open; rt looks here.
 use Rattle.std.proofs.Common.{rules, ◌≡◌, ◌≤◌, ◌∷◌, [], ◌++◌, length, get_or}
 use Rattle.auction_terms.specs.declared.limits.TheConstants.{MAX_CALLS}
 use Rattle.member_floor.specs.declared.script.Script.{Script}
@@ -12,4 +13,5 @@ loop-member-preserved g c =
     let number : (get_or ms i c.member-item.result).number ≡ c.number.result = search rules in
     let few : length c.in_ok-commands.commands.items ≤ MAX_CALLS = search rules in
     let more : c.push.new.self.items ≡ c.loop-member.scripts.items ++ s ∷ [] = search rules in
-    fits_next ms c.loop-member.scripts.items c.push.new.self.items i c.member-item.result s c.loop-member-test.true c.loop-member.invariant number few more
+    fits_next ms c.loop-member.scripts.items c.push.new.self.items i c.member-item.result s c.loop-member-test.true
+    c.loop-member.invariant number few more

@@ -1,3 +1,4 @@
+-- Invariants of the loops of `many_lines_go_through_one_page` (src/tests/printing.rt); rt looks here.
 use Rattle.acceptance.proofs.tests.printing.many_lines_go_through_one_page.Given as goal
 
 -- the sink counts its failures in the ledger of the blank

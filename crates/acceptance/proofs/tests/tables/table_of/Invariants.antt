@@ -1,3 +1,4 @@
+-- Invariants of the loops of `table_of` (src/tests/tables.rt); rt looks here.
 use Rattle.acceptance.proofs.tests.tables.table_of.Given as goal
 
 -- the sink counts its failures in the ledger of the blank

@@ -1,3 +1,4 @@
+-- Answers of `Book::enter` (src/book.rt): what the prover left open; rt looks here.
 use Rattle.std.proofs.Common.{IfSome, sym, ap, subst, ◌∙◌, arith}
 use Rattle.auction.specs.OpenOrders.{OpenOrders}
 use Rattle.auction.specs.KnownPrice.{still_known, IsKnownOf}
@@ -7,6 +8,7 @@ pub invariant_of-self : goal.invariant_of-self
 invariant_of-self c =
     let kind = c.kind.ensures ∙ ap (λ (b : OpenOrders). b.kind) c.enter-order.ensures.book in (
       omega (arith, ap (λ (b : OpenOrders). b.max_open) c.enter-order.ensures.book, c.self.invariant.0),
-      subst (λ known. IfSome known (IsKnownOf c.enter-order.new.self.book)) (sym (c.forget.ensures ∙ ap (λ k. still_known c.self.inside.known k c.enter-order.result) kind))
+      subst (λ known. IfSome known (IsKnownOf c.enter-order.new.self.book))
+          (sym (c.forget.ensures ∙ ap (λ k. still_known c.self.inside.known k c.enter-order.result) kind))
           (c.enter-order.ensures.known c.self.inside.known c.self.invariant.1),
     )

@@ -1,7 +1,9 @@
+-- Answers of `Kept::open` (src/kept.rt): what the prover left open; rt looks here.
 use Rattle.std.proofs.Common.{[], ℕ, List, subst, sym}
-use Rattle.journal.specs.KeptLines.{HoldsLines}
+use Rattle.journal.specs.KeptLines.{HasEntryLines}
 use Rattle.journal.proofs.KeptLineLaws.{holds-none}
 use Rattle.callboard.proofs.kept.Kept.open.Goals as goal
 
 pub returns-in-Listing-Journal-clause-none : goal.returns-in-Listing-Journal-clause-none
-returns-in-Listing-Journal-clause-none c = λ fresh. subst (λ (text : List ℕ). HoldsLines text []) (sym c.new-in-Listing-Journal.ensures) holds-none
+returns-in-Listing-Journal-clause-none c =
+    λ fresh. subst (λ (text : List ℕ). HasEntryLines text []) (sym c.new-in-Listing-Journal.ensures) holds-none

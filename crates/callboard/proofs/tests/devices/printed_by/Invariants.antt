@@ -1,3 +1,4 @@
+-- Invariants of the loops of `printed_by` (src/tests/devices.rt); rt looks here.
 use Rattle.callboard.proofs.tests.devices.printed_by.Given as goal
 
 -- the error counts its failures in the ledger of its blank

@@ -1,3 +1,4 @@
+-- Invariants of the loops of `run_devices` (src/tests/devices.rt); rt looks here.
 use Rattle.callboard.proofs.tests.devices.run_devices.Given as goal
 
 -- each end counts its failures in the ledger of its blank

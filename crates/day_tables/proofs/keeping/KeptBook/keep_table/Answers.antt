@@ -1,3 +1,4 @@
+-- Answers of `KeptBook::keep_table` (src/keeping.rt): what the prover left open; rt looks here.
 use Rattle.std.proofs.Common.{◌≡◌, ◌∙◌, ◌+◌, refl, arith}
 use Rattle.day_tables.specs.BookTable.{table_before}
 use Rattle.day_tables.specs.ShownTable.{IsShownIn}
@@ -12,7 +13,8 @@ pub returns-clause-tables : goal.returns-clause-tables
 returns-clause-tables c = λ front are.
     let auction = c.args.auction.now in
     let told = c.in-Some.ensures.heading in
-    let number : c.in-Some.heading.command ≡ auction.calls + 1 = grind (arith, told.number, c.from-command.ensures, c.calls.ensures.value) in
+    let number : c.in-Some.heading.command ≡ auction.calls + 1 =
+    grind (arith, told.number, c.from-command.ensures, c.calls.ensures.value) in
     let shown : IsShownIn auction.config auction.state c.in-Some.heading c.in_ok-ladder.ladder = record {
       told = record { number = refl; auction = told.auction; price = told.price };
       over = c.in_ok-ladder.ensures ∙ (rw c.in-Some.ensures.auction at c.ladder.ensures.value);

@@ -1,3 +1,4 @@
+-- Answers of `KeptBook::open` (src/keeping.rt): what the prover left open; rt looks here.
 use Rattle.std.proofs.Common.{refl, sym, subst, length, []}
 use Rattle.day_tables.specs.KeptBook.{AreTables}
 use Rattle.day_tables.specs.TableCurves.{HasRoom}

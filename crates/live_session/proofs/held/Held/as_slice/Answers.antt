@@ -1,3 +1,4 @@
+-- Answers of `Held::as_slice` (src/held.rt): what the prover left open; rt looks here.
 use Rattle.live_session.proofs.HeldLaws.{held-rows}
 use Rattle.live_session.proofs.held.Held.as_slice.Goals as goal
 

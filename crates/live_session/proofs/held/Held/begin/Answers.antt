@@ -1,3 +1,4 @@
+-- Answers of `Held::begin` (src/held.rt): what the prover left open; rt looks here.
 use Rattle.std.proofs.Common.{◌≡◌, ◌++◌, ◌∷◌, ℕ, List, drop, length, arith, ap, refl, sym, length-drop, ◌∙◌}
 use Rattle.csv.specs.Reading.{strip_bom}
 use Rattle.live_session.specs.Arrival.{Place}
@@ -8,7 +9,8 @@ use Rattle.live_session.proofs.held.Held.begin.Goals as goal
 pub returns-then-is_mark_begun : goal.returns-then-is_mark_begun
 returns-then-is_mark_begun c =
     first-waits c.args.self.now c.requires
-    (ap is_mark_begun (sym (behind-first _ c.args.self.now.bytes.items c.deref.ensures.value)) ∙ sym c.is_mark_begun.ensures ∙ c.if-is_mark_begun.true)
+    (ap is_mark_begun (sym (behind-first _ c.args.self.now.bytes.items c.deref.ensures.value))
+    ∙ sym c.is_mark_begun.ensures ∙ c.if-is_mark_begun.true)
 
 pub overflow_add-result : goal.overflow_add-result
 overflow_add-result c =
@@ -25,7 +27,10 @@ overflow_sub-result c =
 pub returns : goal.returns
 returns c =
     let heard = drop 1 c.args.self.now.bytes.items in
-    let items : c.drop_mark.new.bytes.items ≡ 10 ∷ strip_bom heard = c.drop_mark.ensures ∙ ap (λ (front : List ℕ). front ++ strip_bom heard) c.requires.first in
+    let items : c.drop_mark.new.bytes.items ≡ 10 ∷ strip_bom heard =
+    c.drop_mark.ensures ∙ ap (λ (front : List ℕ). front ++ strip_bom heard) c.requires.first in
     first-taken _ heard c.take_from-taken.result _ items refl
-    (ap is_mark_begun (sym (behind-first _ c.args.self.now.bytes.items c.deref.ensures.value)) ∙ sym c.is_mark_begun.ensures ∙ c.if-is_mark_begun.false)
-    refl (behind-first _ c.drop_mark.new.bytes.items c.deref-2.ensures.value ∙ ap (drop 1) items) (rw c.start.ensures at c.take_from-taken.ensures)
+    (ap is_mark_begun (sym (behind-first _ c.args.self.now.bytes.items c.deref.ensures.value))
+    ∙ sym c.is_mark_begun.ensures ∙ c.if-is_mark_begun.false)
+    refl (behind-first _ c.drop_mark.new.bytes.items c.deref-2.ensures.value ∙ ap (drop 1) items)
+    (rw c.start.ensures at c.take_from-taken.ensures)

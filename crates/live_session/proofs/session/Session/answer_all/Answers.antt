@@ -1,3 +1,4 @@
+-- Answers of `Session::answer_all` (src/session.rt): what the prover left open; rt looks here.
 use Rattle.std.proofs.Common.{refl}
 use Rattle.live_session.proofs.SpeakingLaws.{stopped}
 use Rattle.live_session.proofs.session.Session.answer_all.Goals as goal

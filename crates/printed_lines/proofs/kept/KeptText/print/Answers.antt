@@ -1,3 +1,4 @@
+-- Answers of `KeptText::print` (src/kept.rt): what the prover left open; rt looks here.
 use Rattle.printed_lines.proofs.PrinterLaws.{prints_begun, prints_more}
 use Rattle.printed_lines.proofs.kept.KeptText.print.Goals as goal
 
@@ -7,4 +8,5 @@ returns-in_err-print_whole g c =
 
 pub returns : goal.returns
 returns g c =
-    rw (← c.as_slice.ensures.value, ← c.as_slice-2.ensures) (prints_more c.in_ok-print_whole.ensures c.print_whole-2.ensures)
+    rw (← c.as_slice.ensures.value, ← c.as_slice-2.ensures)
+    (prints_more c.in_ok-print_whole.ensures c.print_whole-2.ensures)

@@ -1,3 +1,4 @@
+-- Answers of `Tally::put` (src/tally.rt): what the prover left open; rt looks here.
 use Rattle.std.proofs.Common.{arith}
 use Rattle.std.proofs.lemmas.List.{length-set}
 use Rattle.std.proofs.lemmas.Grind.{common_steps, get_or_default_zero}

@@ -1,7 +1,8 @@
+-- Invariants of the loops of `one_day` (src/tests/board/at_once.rt); rt looks here.
 use Rattle.acceptance.proofs.tests.board.at_once.one_day.Given as goal
 
-abbrev pub ghosts-day-K-Day : goal.ghosts-day-K-Day
-ghosts-day-K-Day g a = record { config = a.fresh.config; story = a.fresh.story }
+abbrev pub ghosts-day-K-BoardIdentity : goal.ghosts-day-K-BoardIdentity
+ghosts-day-K-BoardIdentity g a = record { config = a.fresh.config; story = a.fresh.story }
 
 abbrev pub ghosts-day-K-Ledger : goal.ghosts-day-K-Ledger
 ghosts-day-K-Ledger g a = record { name = a.fresh.ledger; parts = a.fresh.members }

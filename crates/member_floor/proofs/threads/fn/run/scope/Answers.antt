@@ -1,31 +1,42 @@
+-- Answers of `run` (src/threads.rt): what the prover left open; rt looks here.
 use Rattle.std.proofs.Common.{rules, arith, sym, ap, ◌≡◌, ◌∙◌, ◌∷◌, ◌++◌, List, map, length}
 use Rattle.std.specs.Vec.Iter.{into_iter_items}
-use Rattle.member_floor.specs.Plays.{Task}
+use Rattle.member_floor.specs.PlaysScript.{Task}
 use Rattle.member_floor.proofs.PlayingLaws.{some_play, whole_play, none_left}
 use Rattle.member_floor.proofs.threads.fn.run.scope.Goals.{else-loop-test, then-loop-test+in_default}
 use Rattle.member_floor.proofs.threads.fn.run.scope.Goals as goal
 
 pub returns : goal.returns
 returns g c =
-    let xs : List Task = map (λ h. h.promise.part.value) c.loop.handles.items in
-    let rest : List Task = into_iter_items c.loop.parts in
-    let is : xs ++ rest ≡ c.captures.stage.parts.items = c.loop.invariant.tasks ∙ c.into_iter-parts.ensures.rest in
+    let xs : List Task = map (λ h. h.promise.task.value) c.loop.handles.items in
+    let rest : List Task = into_iter_items c.loop.tasks in
+    let is : xs ++ rest ≡ c.captures.run_room.tasks.items = c.loop.invariant.tasks ∙ c.into_iter-tasks.ensures.rest in
     elim c.loop-test.branch [
       | else-loop-test w ↦
           let none_left_over : length rest ≡ 0 = omega (arith, c.loop.invariant.left, w.loop-test.false) in
-          let left : c.stand_up.result.items ≡ map (λ (t : Task). t.member) rest = c.stand_up.ensures ∙ ap (λ p. map (λ (t : Task). t.member) (into_iter_items p)) w.parts-is in
+          let left : c.members_left.result.items ≡ map (λ (t : Task). t.member) rest =
+          c.members_left.ensures ∙ ap (λ p. map (λ (t : Task). t.member) (into_iter_items p)) w.tasks-is in
           record {
-            all = λ none. (none_left rest c.stand_up.result.items none_left_over left, whole_play g.K.Day.config xs rest c.captures.stage.parts.items c.join_all.result.items none_left_over is c.join_all.ensures);
+            all =
+                λ none. (
+                  none_left rest c.members_left.result.items none_left_over left,
+                  whole_play g.K.BoardIdentity.config xs rest c.captures.run_room.tasks.items c.join_all.result.items
+                      none_left_over is c.join_all.ensures,
+                );
             room = λ e. absurd (cc (w.fault-is, c.loop.invariant.no_fault, e));
             thread = λ e. absurd (cc (w.fault-is, c.loop.invariant.no_fault, e));
           }
       | then-loop-test+in_default w ↦
           let after : List Task = into_iter_items w.next.new.self in
-          let step : rest ≡ w.unwrap-part.result ∷ after = search rules in
-          let left : c.stand_up.result.items ≡ map (λ (t : Task). t.member) after = c.stand_up.ensures ∙ ap (λ p. map (λ (t : Task). t.member) (into_iter_items p)) w.parts-is in
+          let step : rest ≡ w.unwrap-task.result ∷ after = search rules in
+          let left : c.members_left.result.items ≡ map (λ (t : Task). t.member) after =
+          c.members_left.ensures ∙ ap (λ p. map (λ (t : Task). t.member) (into_iter_items p)) w.tasks-is in
           record {
             all = λ none. absurd (cc (w.fault-is, none));
             room = λ e. absurd (cc (w.fault-is, e));
-            thread = λ e. some_play g.K.Day.config xs after c.captures.stage.parts.items w.unwrap-part.result c.join_all.result.items c.stand_up.result.items (ap (λ ts. xs ++ ts) (sym step) ∙ is) c.join_all.ensures left;
+            thread =
+                λ e. some_play g.K.BoardIdentity.config xs after c.captures.run_room.tasks.items w.unwrap-task.result
+                c.join_all.result.items c.members_left.result.items (ap (λ ts. xs ++ ts) (sym step) ∙ is)
+                c.join_all.ensures left;
           }
     ]

@@ -1,0 +1,34 @@
+"""What the calls of the library for C take beside the same commands on an auction inside.
+
+Runs bench/library.c and `clock board` of crates/clock in turns: nanoseconds, the best and the
+middle one of the runs. `apply-display` is an `apply` with a `display` after it, which a call on a
+board makes too; `board-call-of-4` has four members at once on threads of their own, a call on the
+wall. Needs cc.
+"""
+import argparse
+import tempfile
+
+import measuring
+from measuring import Figures, head, row
+
+INSIDE = "apply-alone"
+ORDER = [INSIDE, "apply", "apply-many", "clone", "close", "reset"]
+ORDER += ["apply-display", "board-call", "board-call-of-4", "board-look"]
+CALLS = ["apply", "apply-many", "apply-display", "board-call", "board-call-of-4"]
+
+
+def measure(asked: argparse.Namespace) -> bool:
+    library, clock = measuring.our_library(asked.library), measuring.our_clock(asked.clock)
+    found: Figures = {}
+    with tempfile.TemporaryDirectory() as folder:
+        program = measuring.compiled("library.c", library, folder)
+        for _ in range(asked.runs):
+            measuring.printed([program], found)
+            measuring.printed([clock, "board"], found)
+    head("call", "best, ns", "middle, ns", "best : inside", "middle : inside")
+    inside = min(found[INSIDE]), measuring.middle(found[INSIDE])
+    for name in ORDER:
+        taken = min(found[name]), measuring.middle(found[name])
+        ratios = [f"{it / of:.2f}" if name in CALLS else "" for it, of in zip(taken, inside)]
+        row(name, *[f"{it:,.1f}" for it in taken], *ratios)
+    return True

@@ -1,0 +1,236 @@
+"""Sessions with `--live`: what is sent, and what has to be answered."""
+import dataclasses
+import random
+from collections.abc import Iterator
+
+from checks import built
+from checks.generators import orders
+from checks.model.answers import DEFAULTS, printed
+from checks.parts.sessions import Talk, Turn
+
+EXAMPLES = built.TOP / "examples"
+LONGEST_RECORD = 1_048_576
+
+BAD_RECORDS = [
+    (b"1000,ask", "bad member"),
+    (b"day,1,1000,200,4,4096,65536,", "bad member"),
+    (b"0,sell", "bad command"),
+    (b"0", "bad command"),
+    (b"0,ask,1", "wrong number of fields"),
+    (b"0,enter,buy,1,1", "bad field 3"),
+    (b"0,enter,bid,many,1", "bad field 4"),
+    (b'0,enter,bid,1,"1\n"', "bad field 5"),
+]
+"""Records that are no commands, each with its fault."""
+
+
+def example_talks() -> Iterator[Talk]:
+    """The order files of examples/, record by record. Raises OSError."""
+    for file in sorted(EXAMPLES.glob("*.csv")):
+        options = file.with_suffix(".args")
+        words = options.read_text().split() if options.exists() else []
+        records = file.read_bytes().splitlines(keepends=True)
+        lines = file.with_suffix(".txt").read_text().splitlines(keepends=True)
+        turns = [Turn(record, line) for record, line in zip(records, lines, strict=True)]
+        yield Talk(file.stem, words, turns)
+
+
+def byte_by_byte(record: bytes, answer: str, err: str = "") -> list[Turn]:
+    """The turns of a record whose bytes come one by one; its last byte completes it."""
+    *first, last = [record[place : place + 1] for place in range(len(record))]
+    return [*[Turn(byte) for byte in first], Turn(last, answer, err)]
+
+
+NO_PRICE = "no price bid - ask -\n"
+
+
+def spelled_talks() -> Iterator[Talk]:
+    """Records in other spellings, and in pieces."""
+    yield Talk("byte by byte", [], byte_by_byte(b"1,ask\n", f"1: {NO_PRICE}"))
+    yield Talk("a byte order mark", [], byte_by_byte(b"\xef\xbb\xbf1,ask\n", f"1: {NO_PRICE}"))
+    yield Talk(
+        "a byte order mark in the second record",
+        [],
+        [
+            Turn(b"1,ask\n", f"1: {NO_PRICE}"),
+            Turn(b"\xef\xbb\xbf1,ask\n", "", bad(2, "bad member")),
+        ],
+        status=1,
+    )
+    yield Talk(
+        "CR LF",
+        [],
+        [
+            *byte_by_byte(b"1,ask\r", f"1: {NO_PRICE}"),
+            Turn(b"\n"),
+            *byte_by_byte(b"2,ask\r", f"2: {NO_PRICE}"),
+            Turn(b"\n\r\n\n"),
+        ],
+    )
+    yield Talk(
+        "quotes over lines", [], byte_by_byte(b'1,"as\nk"\n', "", bad(1, "bad command")), status=1
+    )
+    yield Talk("a quoted word", [], byte_by_byte(b'"1","ask"\n', f"1: {NO_PRICE}"))
+    yield Talk(
+        "no line end at the end",
+        [],
+        [Turn(b"1,ask\n2,ask", f"1: {NO_PRICE}")],
+        Turn(b"", f"2: {NO_PRICE}"),
+    )
+    yield Talk("an open quote at the end", [], [Turn(b'1,"ask')], Turn(b"", f"1: {NO_PRICE}"))
+    yield Talk(
+        "half a byte order mark", [], [Turn(b"\xef\xbb")], Turn(b"", "", bad(1, "bad member")), 1
+    )
+    yield Talk("no bytes", [], [])
+    yield Talk("line ends alone", [], [Turn(b"\n\r\n\r\r\n\n")])
+    yield Talk(
+        "two records at once, and a half",
+        [],
+        [
+            Turn(b"1,ask\n1,ask\n1,a", f"1: {NO_PRICE}2: {NO_PRICE}"),
+            Turn(b"sk\n", f"3: {NO_PRICE}"),
+        ],
+    )
+
+
+def bad(number: int, fault: str) -> str:
+    """The line of a bad record's fault."""
+    return f"record {number}: {fault}\n"
+
+
+def bad_talks() -> Iterator[Talk]:
+    """Bad records, and what comes after them."""
+    for record, fault in BAD_RECORDS:
+        turns = [
+            Turn(b"1,ask\n", f"1: {NO_PRICE}"),
+            Turn(record + b"\n", "", bad(2, fault)),
+            Turn(b"1,ask\n", f"3: {NO_PRICE}"),
+        ]
+        yield Talk(f"a bad record, {record!r}", [], turns, status=1)
+    yield Talk(
+        "commands behind the last that may come",
+        ["--calls", "2"],
+        [
+            Turn(b"1,ask\n", f"1: {NO_PRICE}"),
+            Turn(b"1,sell\n", "", bad(2, "bad command")),
+            Turn(b"1,ask\n", f"3: {NO_PRICE}"),
+            Turn(b"1,ask\n", "", bad(4, "too many commands")),
+            Turn(b"1,sell\n", "", bad(5, "too many commands")),
+        ],
+        status=1,
+    )
+    journal = (EXAMPLES / "forms/opening.journal.csv").read_bytes().splitlines(keepends=True)
+    yield Talk(
+        "a journal",
+        [],
+        [Turn(journal[0], "", bad(1, "bad member")), Turn(journal[1], "", bad(2, "bad field 6"))],
+        status=1,
+    )
+
+
+def long_talks() -> Iterator[Talk]:
+    """Records as long as they may be, and longer."""
+    first = Turn(b"1,ask\n", f"1: {NO_PRICE}")
+    longest = b"1," + b"x" * (LONGEST_RECORD - 2)
+    yield Talk(
+        "the longest record",
+        [],
+        [
+            first,
+            Turn(longest + b"\n", "", bad(2, "bad command")),
+            Turn(b"1,ask\n", f"3: {NO_PRICE}"),
+        ],
+        status=1,
+    )
+    for more in (b"x", b'"', b","):
+        yield Talk(
+            f"a record that is too long by {more!r}",
+            [],
+            [first, Turn(longest + more, "", bad(2, "record too long"))],
+            status=1,
+            ends_itself=True,
+        )
+    yield Talk(
+        "a good record before one that is too long, at once",
+        [],
+        [Turn(b"1,ask\n" + longest + b"xx\n1,ask\n", f"1: {NO_PRICE}", bad(2, "record too long"))],
+        status=1,
+        ends_itself=True,
+    )
+
+
+@dataclasses.dataclass(frozen=True)
+class Random:
+    """A random order file with bad records among its own: each record with its answer."""
+
+    words: list[str]
+    turns: list[Turn]
+
+    @property
+    def status(self) -> int:
+        """1 where a record is bad."""
+        return int(any(turn.err for turn in self.turns))
+
+
+def random_session(seed: int) -> Random:
+    """The random order file of this seed, with bad records among its own."""
+    dice = random.Random(seed)
+    options, text = orders.order_file("short", seed)
+    options = DEFAULTS | options
+    records, calls = text.splitlines(), options["calls"]
+    first = "".join(f"{record}\n" for record in records[:calls])
+    lines = printed(first, options).splitlines(keepends=True)
+    turns: list[Turn] = []
+
+    def refuse(record: bytes, fault: str, is_full: bool) -> None:
+        told = "too many commands" if is_full else fault
+        end = dice.choice([b"\n", b"\r", b"\n\n"])
+        turns.append(Turn(record + end, "", bad(len(turns) + 1, told)))
+
+    for place, record in enumerate(records):
+        while dice.random() < 0.2:
+            refuse(*dice.choice(BAD_RECORDS), place >= calls)
+        if place >= calls:
+            refuse(record.encode("latin-1"), "", True)
+            continue
+        answer = lines[place].split(": ", 1)[1]
+        end = dice.choice([b"\n", b"\r", b"\n\n"])
+        turns.append(Turn(record.encode("latin-1") + end, f"{len(turns) + 1}: {answer}"))
+    return Random(orders.option_words(options), turns)
+
+
+def at_once(turns: list[Turn]) -> Turn:
+    """These turns, sent at once."""
+    out, err = ("".join(it) for it in ((turn.out for turn in turns), (turn.err for turn in turns)))
+    return Turn(b"".join(turn.sent for turn in turns), out, err)
+
+
+Run = tuple[str, list[str], str, int, str, str]
+"""A name, the program's words, the redirections of a shell, and the status, the output and the
+error that are wanted.
+"""
+
+
+def run_table() -> Iterator[Run]:
+    """Devices that fail, and options that don't go together."""
+    alone = "--live prints lines, without --floor, --history or --audit\n"
+    yield "a folder for input", ["--live"], "< /", 3, "", "read failed\n"
+    yield "no input", ["--live"], "<&-", 3, "", "read failed\n"
+    yield "a full disk", ["--live"], "< examples/opening.csv > /dev/full", 3, "", "write failed\n"
+    for words in (
+        ["--floor"],
+        ["--history"],
+        ["--audit"],
+        ["--print", "journal"],
+        ["--print=book"],
+    ):
+        yield f"--live {words[0]}", ["--live", *words], "< /dev/null", 2, "", alone
+    yield "a form that there isn't", ["--live", "--print", "x"], "< /dev/null", 2, "", "*"
+    yield "bounds", ["--live", "--low", "9", "--high", "8"], "< /", 2, "", "bad bounds\n"
+    yield "a reference", ["--live", "--high", "100"], "< /", 2, "", "bad reference\n"
+    lines = (EXAMPLES / "opening.txt").read_text()
+    yield "the lines by their name", [
+        "--live",
+        "--print",
+        "lines",
+    ], "< examples/opening.csv", 0, lines, ""

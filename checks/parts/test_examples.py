@@ -1,0 +1,132 @@
+"""The program on each file of examples/: what it prints is compared with the files beside it.
+
+An order file is run for its lines, also record by record (--live), and for its journal, trades and
+book, which examples/forms has; its journal is run for the same and audited. The journals of
+examples/audits are audited. `rt ci` runs copies of the order files: the examples of
+crates/callboard/src/tests/examples.rt, one for each file and with its name. They are compared with
+the files, and the journals with the records and the lines that they have in them. The program's own
+stored run, crates/callboard/args, stdin and stdout, is no copy of a file, and is run here too.
+"""
+import pathlib
+import re
+import subprocess
+from collections.abc import Iterator
+
+import pytest
+
+from checks import built
+
+EXAMPLES = built.TOP / "examples"
+FORMS = ["journal", "trades", "book"]
+UNLAWFUL = 4  # the status of an audit that finds a reply unlawful
+DAY = {
+    "--low": "1",
+    "--high": "1000",
+    "--reference": "200",
+    "--members": "4",
+    "--open": "4096",
+    "--calls": "65536",
+    "--range": "",
+}
+"""The options of a day record in its order, with the defaults."""
+CRATE = built.FOLDER
+MOST_SECONDS = 60  # of one run of the program
+EXAMPLE = re.compile(
+    r'Example \{\s*name: "(\w+)",'
+    r'\s*words: &\[\s*"callboard"([^\]]*)\],'
+    r'\s*text: "\\\n([^"]*)",\s*\}'
+)
+Example = tuple[list[str], str, str]
+"""The words, the records and the printed lines of an example."""
+Row = tuple[str, list[str], str, int, str]
+"""A name, the words of a run, its input, and the status and the text that are wanted."""
+
+
+def stored(name: str) -> Example:
+    """An example as its files have it. Raises OSError where one is missing."""
+    options = EXAMPLES / f"{name}.args"
+    words = options.read_text().split() if options.exists() else []
+    return words, (EXAMPLES / f"{name}.csv").read_text(), (EXAMPLES / f"{name}.txt").read_text()
+
+
+def run_by_gate() -> Example:
+    """The program's stored run. Raises OSError where a file of it is missing."""
+    words, records, lines = (
+        (CRATE / name).read_text() for name in ("args", "stdin", "stdout")
+    )
+    return words.split(), records, lines
+
+
+def copied() -> dict[str, Example]:
+    """Each example of the tests, by its name. Raises OSError."""
+    found: dict[str, Example] = {}
+    for name, options, text in EXAMPLE.findall((CRATE / "src/tests/examples.rt").read_text()):
+        rows = [line.split(" -> ") for line in text.splitlines()]
+        words = re.findall(r'"([^"]*)"', options)
+        records = "".join(f"{record}\n" for record, _ in rows)
+        lines = "".join(f"{place}: {reply}\n" for place, (_, reply) in enumerate(rows, 1))
+        found[name] = words, records, lines
+    return found
+
+
+def form_of(name: str, form: str) -> str:
+    """What an example prints in this form. Raises OSError where the file is missing."""
+    return (EXAMPLES / "forms" / f"{name}.{form}.csv").read_text()
+
+
+def run_table(examples: dict[str, Example]) -> Iterator[Row]:
+    """The runs of the order files and of their journals, in all forms."""
+    for name, (words, records, lines) in examples.items():
+        journal = form_of(name, "journal")
+        yield name, words, records, 0, lines
+        yield f"{name}, record by record", [*words, "--live"], records, 0, lines
+        yield f"{name}, its journal", [], journal, 0, lines
+        for form in FORMS:
+            printed = form_of(name, form)
+            yield f"{name}, {form}", [*words, "--print", form], records, 0, printed
+            yield f"{name}, {form} of its journal", ["--print", form], journal, 0, printed
+        count = len(records.splitlines())
+        legal = f"entries {count}\ncompared {count}\nunlawful 0\naudit legal\n"
+        yield f"{name}, audit", ["--audit"], journal, 0, legal
+
+
+def audit_table() -> Iterator[Row]:
+    """The audits of journals with replies that are left out or changed."""
+    for file in sorted((EXAMPLES / "audits").glob("*.csv")):
+        text = file.with_suffix(".txt").read_text()
+        status = 0 if text.endswith("audit legal\n") else UNLAWFUL
+        yield f"{file.stem}, audit", ["--audit"], file.read_text(), status, text
+
+
+STORED = {path.stem: stored(path.stem) for path in sorted(EXAMPLES.glob("*.csv"))}
+COPIES = copied()
+OWN_WORDS, OWN_RECORDS, OWN_LINES = run_by_gate()
+ROWS: list[Row] = [
+    ("the stored run", OWN_WORDS, OWN_RECORDS, 0, OWN_LINES),
+    *run_table(STORED),
+    *audit_table(),
+]
+
+
+@pytest.mark.parametrize("name", sorted(STORED.keys() | COPIES.keys()))
+def test_the_copy_is_the_file(name: str) -> None:
+    assert COPIES.get(name) == STORED.get(name)
+
+
+@pytest.mark.parametrize("name", STORED)
+def test_the_journal_has_the_records_and_the_lines(name: str) -> None:
+    """Its first record is the day of the words."""
+    words, records, lines = STORED[name]
+    options = DAY | dict(zip(words[::2], words[1::2]))
+    texts = (line.split(": ", 1)[1] for line in lines.splitlines())
+    entries = (f"{entry},{text}\n" for entry, text in zip(records.splitlines(), texts))
+    assert form_of(name, "journal") == f"day,{','.join(options.values())}\n{''.join(entries)}"
+
+
+@pytest.mark.parametrize("row", ROWS, ids=[row[0] for row in ROWS])
+def test_the_run_prints_what_is_stored(program: str, row: Row) -> None:
+    _, words, text, status, wanted = row
+    run = subprocess.run(
+        [program, *words], input=text, capture_output=True, text=True, timeout=MOST_SECONDS
+    )
+    assert (run.returncode, run.stdout) == (status, wanted), run.stderr

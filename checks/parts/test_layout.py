@@ -1,0 +1,122 @@
+"""The repository's texts as a reader meets them: no rule of checks/texts finds a fault, and each
+rule of documents finds one that is planted.
+"""
+import pathlib
+from collections.abc import Callable, Iterator
+
+import pytest
+
+from checks import built
+from checks.texts import documents, sources
+from checks.texts.tree import Tree
+
+Rule = Callable[[Tree], Iterator[str]]
+OURS = Tree(built.TOP)
+RULES = [*sources.RULES, *documents.RULES]
+GLOSSARY = """# Glossary
+
+| Term | Meaning | In code |
+|---|---|---|
+| side | bids buy, asks sell | `Side` |
+| bid, ask | an order to buy, an order to sell | `Side::Bid`, `Side::Ask` |
+"""
+SOURCE = "pub enum Side {\n    Bid,\n    Ask,\n}\n"
+
+
+@pytest.mark.parametrize("rule", RULES, ids=[rule.__name__ for rule in RULES])
+def test_no_fault(rule: Rule) -> None:
+    faults = [*rule(OURS)]
+    assert not faults, "\n" + "\n".join(faults)
+
+
+def planted(folder: pathlib.Path, **texts: str) -> Tree:
+    """A repository of one crate and a glossary, with other texts or more of them."""
+    files = {"docs/GLOSSARY.md": GLOSSARY, "crates/terms/src/lib.rt": SOURCE} | texts
+    for name, text in files.items():
+        (folder / name).parent.mkdir(parents=True, exist_ok=True)
+        (folder / name).write_text(text, encoding="utf-8")
+    return Tree(folder)
+
+
+def faults_of(rule: Rule, tree: Tree) -> list[str]:
+    return [*rule(tree)]
+
+
+def test_a_good_repository_has_no_fault(tmp_path: pathlib.Path) -> None:
+    tree = planted(tmp_path, **{"README.md": "A `Side` is `Side::Bid` in `docs/GLOSSARY.md`.\n"})
+    for rule in RULES:
+        assert faults_of(rule, tree) == []
+
+
+def test_a_term_with_a_second_meaning(tmp_path: pathlib.Path) -> None:
+    row = "| ask | the question for the price | `Side` |\n"
+    tree = planted(tmp_path, **{"docs/GLOSSARY.md": GLOSSARY + row})
+    assert faults_of(documents.second_meanings, tree) == [
+        "docs/GLOSSARY.md:7: 'ask' has a meaning in line 6 too"
+    ]
+
+
+def test_a_variant_with_a_second_meaning(tmp_path: pathlib.Path) -> None:
+    other = "pub enum Command {\n    Enter(Order),\n    Ask,\n}\n"
+    tree = planted(tmp_path, **{"crates/terms/src/command.rt": other})
+    assert faults_of(documents.second_meanings, tree) == [
+        "docs/GLOSSARY.md:6: Ask is a variant of Command (crates/terms/src/command.rt:3) too"
+    ]
+
+
+def test_a_type_with_a_second_meaning(tmp_path: pathlib.Path) -> None:
+    tree = planted(tmp_path, **{"crates/other/src/lib.rt": "pub struct Side;\n"})
+    where = "crates/other/src/lib.rt:1, crates/terms/src/lib.rt:1"
+    assert faults_of(documents.second_meanings, tree) == [
+        f"docs/GLOSSARY.md:5: Side is declared twice: {where}",
+        f"docs/GLOSSARY.md:6: Side is declared twice: {where}",
+        f"docs/GLOSSARY.md:6: Side is declared twice: {where}",
+    ]
+
+
+@pytest.mark.parametrize("place", ["docs/GLOSSARY.md", "README.md", "docs/MODEL.md"])
+def test_a_dead_name(tmp_path: pathlib.Path, place: str) -> None:
+    rows = GLOSSARY if place == "docs/GLOSSARY.md" else ""
+    tree = planted(tmp_path, **{place: rows + "| gone | a name of before | `shown_at` |\n"})
+    (fault,) = faults_of(documents.dead_names, tree)
+    assert fault.startswith(f"{place}:")
+    assert fault.endswith("`shown_at` is nowhere in the repository")
+
+
+def test_a_dead_path(tmp_path: pathlib.Path) -> None:
+    tree = planted(tmp_path, **{"README.md": "As `docs/NOWHERE.md` and `crates/terms` say.\n"})
+    assert faults_of(documents.dead_names, tree)[0] == "README.md:1: there is no docs/NOWHERE.md"
+
+
+@pytest.mark.parametrize(
+    "text", ["It stands there.", "So many rows.", "That each is one.", "It tells of it."]
+)
+def test_a_forbidden_word(tmp_path: pathlib.Path, text: str) -> None:
+    tree = planted(tmp_path, **{"docs/MODEL.md": f"{text.replace('So many', 'As so many')}\n"})
+    assert len(faults_of(documents.forbidden_words, tree)) == 1
+
+
+def test_documents_that_are_too_long(tmp_path: pathlib.Path) -> None:
+    tree = planted(tmp_path, **{"README.md": "a" * documents.MOST_BYTES})
+    assert len(faults_of(documents.sizes, tree)) == 1
+
+
+def test_another_kit(tmp_path: pathlib.Path) -> None:
+    tree = planted(tmp_path, **{"docs/PROVED.md": "Proved by rattle-kit-1.\n"})
+    assert len(faults_of(documents.kits, tree)) == 1
+
+
+OLD = ["    Side::Buy", "use call_board::Board;", "CALLAUCTION_ASK_SIDE", "best_buy"]
+
+
+@pytest.mark.parametrize("line", OLD)
+def test_a_name_of_before(tmp_path: pathlib.Path, line: str) -> None:
+    tree = planted(tmp_path, **{"crates/terms/src/other.rt": line + "\n"})
+    assert len(faults_of(sources.names_of_before, tree)) == 1
+
+
+def test_a_long_line(tmp_path: pathlib.Path) -> None:
+    long = "-- " + "x" * sources.MOST_COLUMNS + "\n"
+    files = {"crates/terms/specs/Lib.antt": long, "crates/terms/proofs/A.antt": long}
+    tree = planted(tmp_path, **files)
+    assert len(faults_of(sources.long_lines, tree)) == 2

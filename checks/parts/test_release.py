@@ -1,0 +1,425 @@
+"""What others install: by ./install, by the packages of ./release, by pip, by a tarball.
+
+Each is installed, used without the toolchain on the path, and removed without a rest. The packages
+of Debian are installed in a fresh root that mmdebstrap makes, where this runs as root and Debian's
+packages can be fetched; elsewhere they are unpacked to a folder of their own. A table at the end
+says which. Takes the built program (--program) and what library/build wrote (--library).
+"""
+import contextlib
+import os
+import pathlib
+import re
+import shutil
+import subprocess
+import tarfile
+import textwrap
+from collections.abc import Iterator
+
+import pytest
+
+from checks.built import TOP
+
+Ran = subprocess.CompletedProcess[str]
+PATH = "/usr/local/sbin:/usr/local/bin:/usr/sbin:/usr/bin:/sbin:/bin"
+"""A path without the toolchain."""
+ORDERS = "1,enter,bid,500,200\n2,enter,ask,300,200\n0,uncross\n"
+ANSWERS = (
+    "1: entered 1\n2: entered 2\n"
+    "3: opening price 200 volume 300 surplus 200 bid trades 1\n"
+)
+PYTHON = """
+from callauction import Auction, Side
+
+with Auction(low=1, high=1000, reference=200, max_open=4096, max_calls=65536) as auction:
+    auction.enter(1, Side.BID, 500, limit=200)
+    auction.enter(2, Side.ASK, 300)
+    print(auction.indicate(1).volume, auction.uncross().price.tick, len(auction.trades()))
+"""
+PRINTED = "300 200 1\n"
+README = re.compile(r"^(    from callauction import .*\n(?:    .*\n)+)", re.MULTILINE)
+"""README's lines of Python."""
+C = """
+#include <callauction.h>
+#include <stdio.h>
+
+int main(void) {
+    callauction_handle auction = {0};
+    callauction_config config = {.low = 1, .high = 9, .reference = 5, .max_open = 9};
+    config.max_calls = 9;
+    uint32_t opened = callauction_open(&auction, &config);
+    uint32_t closed = callauction_close(&auction);
+    printf("%u %u\\n", (unsigned)opened, (unsigned)closed);
+    return 0;
+}
+"""
+CMAKE = """
+cmake_minimum_required(VERSION 3.20)
+project(user C)
+find_package(callauction 2026 REQUIRED)
+add_executable(shared user.c)
+target_link_libraries(shared callauction::callauction)
+add_executable(static user.c)
+target_link_libraries(static callauction::static)
+"""
+FILES = [
+    "bin/callboard",
+    "include/callauction.h",
+    "include/callauction.hpp",
+    "lib/cmake/callauction/callauctionConfig.cmake",
+    "lib/cmake/callauction/callauctionConfigVersion.cmake",
+    "lib/libcallauction.a",
+    "lib/libcallauction.so",
+    "lib/libcallauction.so.1",
+    "lib/pkgconfig/callauction.pc",
+    "share/bash-completion/completions/callboard",
+    "share/callauction/installed",
+    "share/man/man1/callboard.1",
+]
+
+
+@pytest.fixture(scope="session")
+def built(pytestconfig: pytest.Config, program: str) -> dict[str, str]:
+    """The environment that names the built program and the built library."""
+    library = pytestconfig.option.library
+    assert library, "--library names no folder that library/build wrote"
+    return {"CALLBOARD_PROGRAM": program, "CALLBOARD_LIBRARY": str(pathlib.Path(library).resolve())}
+
+
+def run(
+    *words: object,
+    env: dict[str, str] | None = None,
+    cwd: pathlib.Path | None = None,
+    input: str = "",
+) -> Ran:
+    """A command without the toolchain on the path, and what it prints."""
+    return subprocess.run(
+        list(map(str, words)),
+        env={"PATH": PATH, "HOME": "/nonexistent", "LC_ALL": "C.UTF-8", **(env or {})},
+        cwd=cwd,
+        input=input,
+        capture_output=True,
+        text=True,
+    )
+
+
+def done(
+    *words: object,
+    env: dict[str, str] | None = None,
+    cwd: pathlib.Path | None = None,
+    input: str = "",
+) -> str:
+    """What a command prints that has to end with status 0."""
+    ran = run(*words, env=env, cwd=cwd, input=input)
+    assert ran.returncode == 0, f"{words} ended with {ran.returncode}: {ran.stdout}{ran.stderr}"
+    return ran.stdout
+
+
+def files_below(folder: pathlib.Path) -> list[str]:
+    """The files and links below a folder, by their paths in it, but for those of Python."""
+    found = (it for it in folder.rglob("*") if it.is_symlink() or it.is_file())
+    places = (str(it.relative_to(folder)) for it in found)
+    return sorted(place for place in places if "dist-packages" not in place)
+
+
+# ---- ./install
+
+
+@pytest.mark.parametrize("is_staged", [True, False], ids=["with a stage", "without a stage"])
+def test_installing(built: dict[str, str], tmp_path: pathlib.Path, is_staged: bool) -> None:
+    room = tmp_path / "a room"
+    prefix = "/usr" if is_staged else str(room / "own")
+    env = built | ({"DESTDIR": str(room)} if is_staged else {})
+    place = pathlib.Path(str(room) + prefix) if is_staged else room / "own"
+    done(TOP / "install", prefix, env=env)
+    assert files_below(place) == FILES
+    assert done(place / "bin/callboard", input=ORDERS) == ANSWERS
+    version = done(TOP / "build/version.py").strip()
+    assert f'"callboard {version}"' in (place / "share/man/man1/callboard.1").read_text()
+    done(TOP / "install", prefix, env=env)  # over itself
+    (place / "share/other").write_text("stays\n")
+    done(TOP / "install", "--remove", prefix, env=env)
+    assert [it for it in place.rglob("*") if it.is_file()] == [place / "share/other"]
+    os.remove(place / "share/other")
+    assert [*place.rglob("*")] == [place / "share"]
+
+
+def test_using_what_is_installed(built: dict[str, str], tmp_path: pathlib.Path) -> None:
+    place = tmp_path / "a place"
+    told = run(TOP / "install", place, env=built)
+    assert told.returncode == 0 and f"LD_LIBRARY_PATH={place}/lib" in told.stderr
+    (packages,) = place.glob("lib/python3*/dist-packages")
+    assert f"PYTHONPATH={packages}" in told.stderr
+    assert done("/usr/bin/python3", "-c", PYTHON, env={"PYTHONPATH": str(packages)}) == PRINTED
+    user = tmp_path / "user.c"
+    user.write_text(C)
+    env = {"PKG_CONFIG_PATH": f"{place}/lib/pkgconfig", "LD_LIBRARY_PATH": f"{place}/lib"}
+    compile_it = 'eval cc -o "$1" "$2" $(pkg-config --cflags --libs callauction)'
+    (tmp_path / "with").mkdir()
+    done("bash", "-c", compile_it, "", "with/user", "user.c", env=env, cwd=tmp_path)
+    assert done(tmp_path / "with/user", env=env) == "0 0\n"
+    version = done(TOP / "build/version.py")
+    assert done("pkg-config", "--modversion", "callauction", env=env) == version
+    use_by_cmake(place, tmp_path)
+    done(TOP / "install", "--remove", place, env=built)
+    assert not place.exists()
+
+
+def use_by_cmake(prefix: pathlib.Path, folder: pathlib.Path) -> None:
+    """Builds two programs by CMake with the library below a prefix, and runs them."""
+    (folder / "user.c").write_text(C)
+    (folder / "CMakeLists.txt").write_text(CMAKE)
+    done("cmake", "-S", folder, "-B", folder / "cmake", f"-DCMAKE_PREFIX_PATH={prefix}")
+    done("cmake", "--build", folder / "cmake")
+    for name in ("shared", "static"):
+        assert done(folder / "cmake" / name) == "0 0\n"
+
+
+def snapshot(folder: pathlib.Path) -> dict[str, str]:
+    """What is below a folder: each path with its target or its text."""
+    found = {}
+    for path in folder.rglob("*"):
+        target = os.readlink(path) if path.is_symlink() else ""
+        found[str(path)] = target or (path.read_text() if path.is_file() else "")
+    return found
+
+
+HINDRANCES = {
+    "a link to a folder": ("lib/libcallauction.so", "link"),
+    "a folder": ("bin/callboard", "folder"),
+    "somebody's own file": ("bin/callboard", "file"),
+    "a link in place of a folder": ("include", "link"),
+    "a file in place of a folder": ("share", "file"),
+    "a link in place of the list": ("share/callauction", "link"),
+}
+
+
+@pytest.mark.parametrize("what", HINDRANCES)
+def test_what_is_in_the_way_stays(
+    what: str, built: dict[str, str], tmp_path: pathlib.Path
+) -> None:
+    place, other = tmp_path / "own", tmp_path / "other"
+    other.mkdir()
+    name, kind = HINDRANCES[what]
+    path = place / name
+    path.parent.mkdir(parents=True)
+    if kind == "link":
+        path.symlink_to(other)
+    elif kind == "folder":
+        path.mkdir()
+    else:
+        path.write_text("somebody's\n")
+    before = snapshot(tmp_path)
+    ran = run(TOP / "install", "--without-python", place, env=built)
+    assert ran.returncode == 1 and str(path) in ran.stderr
+    assert snapshot(tmp_path) == before
+    assert run(TOP / "install", "--remove", place, env=built).returncode == 1
+    assert snapshot(tmp_path) == before
+
+
+def test_what_was_changed_stays(built: dict[str, str], tmp_path: pathlib.Path) -> None:
+    done(TOP / "install", "--without-python", tmp_path, env=built)
+    (tmp_path / "include/callauction.h").write_text("mine\n")
+    ran = run(TOP / "install", "--without-python", tmp_path, env=built)
+    assert ran.returncode == 1 and "callauction.h is there and was changed since" in ran.stderr
+    ran = run(TOP / "install", "--remove", tmp_path, env=built)
+    assert ran.returncode == 1 and "callauction.h" in ran.stderr
+    assert files_below(tmp_path) == ["include/callauction.h"]
+
+
+@pytest.mark.parametrize("words", [["here"], [], ["/a", "/b"], ["--other", "/a"]])
+def test_wrong_words(words: list[str]) -> None:
+    assert run(TOP / "install", *words).returncode == 2
+
+
+# ---- pip
+
+
+@pytest.fixture
+def venv(tmp_path: pathlib.Path) -> pathlib.Path:
+    """A fresh environment that sees Debian's packages; nothing is fetched."""
+    folder = tmp_path / "venv"
+    done("/usr/bin/python3", "-m", "venv", "--system-site-packages", folder)
+    return folder
+
+
+def test_pip_from_the_sources(
+    built: dict[str, str], venv: pathlib.Path, tmp_path: pathlib.Path
+) -> None:
+    words = [venv / "bin/pip", "install", "--no-index", "--no-build-isolation", TOP / "python"]
+    ran = run(*words, env={"PKG_CONFIG_PATH": "/none"}, cwd=tmp_path)
+    assert ran.returncode != 0
+    assert "library/build FOLDER" in ran.stdout + ran.stderr
+    done(*words, env={"CALLAUCTION_LIBRARY": built["CALLBOARD_LIBRARY"]}, cwd=tmp_path)
+    assert done(venv / "bin/python", "-c", PYTHON, cwd=tmp_path) == PRINTED
+    done(venv / "bin/pip", "uninstall", "-y", "callauction")
+    assert [*venv.rglob("*callauction*")] == []
+
+
+def test_pip_from_an_installed_library(
+    built: dict[str, str], venv: pathlib.Path, tmp_path: pathlib.Path
+) -> None:
+    place = tmp_path / "a place"
+    done(TOP / "install", "--without-python", place, env=built)
+    words = [venv / "bin/pip", "install", "--no-index", "--no-build-isolation", TOP / "python"]
+    done(*words, env={"PKG_CONFIG_PATH": f"{place}/lib/pkgconfig"}, cwd=tmp_path)
+    assert done(venv / "bin/python", "-c", PYTHON, cwd=tmp_path) == PRINTED
+
+
+# ---- ./release
+
+
+@pytest.fixture(scope="session")
+def release(built: dict[str, str], tmp_path_factory: pytest.TempPathFactory) -> pathlib.Path:
+    """What ./release makes."""
+    folder = tmp_path_factory.mktemp("release") / "made"
+    made(folder, built)
+    return folder
+
+
+def made(folder: pathlib.Path, built: dict[str, str]) -> None:
+    """Makes a release. The gate isn't run for it."""
+    env = {**os.environ, **built}
+    subprocess.run(
+        [TOP / "release", "--without-gate", folder], env=env, check=True, stdout=subprocess.DEVNULL
+    )
+
+
+def test_the_same_commit_gives_the_same_bytes(
+    release: pathlib.Path, built: dict[str, str], tmp_path: pathlib.Path
+) -> None:
+    version = done(TOP / "build/version.py").strip()
+    names = {
+        "PROVED.txt",
+        "SHA256SUMS",
+        f"callauction-{version}-cp311-cp311-linux_x86_64.whl",
+        f"callboard-{version}-linux-x86_64.tar.gz",
+        *(f"{name}_{version}_amd64.deb" for name in DEBIAN),
+    }
+    assert {path.name for path in release.iterdir()} == names
+    done("sha256sum", "--check", "--strict", "SHA256SUMS", cwd=release)
+    made(tmp_path / "again", built)
+    for name in names:
+        assert (tmp_path / "again" / name).read_bytes() == (release / name).read_bytes(), name
+
+
+def test_what_was_proved(release: pathlib.Path) -> None:
+    lines = (release / "PROVED.txt").read_text().splitlines()
+    heads = [line.partition(":")[0] for line in lines]
+    assert heads[:4] == ["version", "commit", "kit", "gate"]
+    assert re.match(r"commit: [0-9a-f]{40}\b", lines[1])
+    assert lines[3] == "gate: the gate was not run on this tree: ./check ci"
+
+
+def test_a_folder_that_is_there(built: dict[str, str], tmp_path: pathlib.Path) -> None:
+    env = {**os.environ, **built}
+    words = [str(TOP / "release"), "--without-gate", str(tmp_path)]
+    ran = subprocess.run(words, env=env, capture_output=True, text=True)
+    assert ran.returncode == 1 and "is there" in ran.stderr
+    assert [*tmp_path.iterdir()] == []
+
+
+def test_the_tarball(release: pathlib.Path, tmp_path: pathlib.Path) -> None:
+    (tarball,) = release.glob("*.tar.gz")
+    with tarfile.open(tarball) as archive:
+        archive.extractall(tmp_path)
+    (program,) = tmp_path.glob("callboard-*/callboard")
+    assert done(program, input=ORDERS) == ANSWERS
+    wanted = done("readelf", "--version-info", program)
+    versions = {tuple(map(int, it.split("."))) for it in re.findall(r"GLIBC_([0-9.]+)", wanted)}
+    assert versions and max(versions) <= (2, 34)
+    assert re.findall(r"NEEDED.*\[(.*)\]", done("readelf", "--dynamic", program)) == ["libc.so.6"]
+
+
+def test_the_wheel(release: pathlib.Path, venv: pathlib.Path, tmp_path: pathlib.Path) -> None:
+    (wheel,) = release.glob("*.whl")
+    done(venv / "bin/pip", "install", "--no-index", "--no-deps", wheel)
+    python = venv / "bin/python"
+    assert done(python, "-c", PYTHON, cwd=tmp_path) == PRINTED
+    lines = README.search((TOP / "README.md").read_text())
+    assert lines
+    told = done(python, "-c", textwrap.dedent(lines[1]), cwd=tmp_path)
+    assert told.startswith("Price(tick=200, volume=300, ")
+    found = done(python, "-c", "import callauction.finder as it; print(it.program())", cwd=tmp_path)
+    assert str(venv) in found and done(found.strip(), input=ORDERS) == ANSWERS
+    words = [python, "-P", "-m", "pytest", "-q", "-x", "-c", TOP / "python/pyproject.toml"]
+    words += [TOP / "python/tests", "-k", "not notebook and not lesson"]
+    env = {"HYPOTHESIS_STORAGE_DIRECTORY": str(tmp_path / "hypothesis"), "MPLBACKEND": "Agg"}
+    env |= {"PYTHONDONTWRITEBYTECODE": "1", "HOME": str(tmp_path)}
+    told = done(*words, env=env, cwd=tmp_path)
+    assert re.search(r"\b\d{2,} passed", told), told
+    done(venv / "bin/pip", "uninstall", "-y", "callauction")
+    assert [*venv.rglob("*callauction*")] == []
+
+
+DEBIAN = ("callboard", "libcallauction1", "libcallauction-dev", "python3-callauction")
+
+
+def test_lintian_has_no_error(release: pathlib.Path) -> None:
+    told = done("lintian", "--allow-root", "--fail-on", "error", *release.glob("*.deb"))
+    assert "E:" not in told
+
+
+def test_the_packages_config_for_cmake(release: pathlib.Path, tmp_path: pathlib.Path) -> None:
+    for name in ("libcallauction1", "libcallauction-dev"):
+        (deb,) = release.glob(f"{name}_*.deb")
+        done("dpkg-deb", "--extract", deb, tmp_path / "a root")
+    use_by_cmake(tmp_path / "a root/usr", tmp_path)
+
+
+@contextlib.contextmanager
+def fresh_root(folder: pathlib.Path, packages: str) -> Iterator[pathlib.Path | None]:
+    """A fresh root of Debian 12 with these packages; None where there can be none."""
+    if os.geteuid() != 0:
+        yield None
+        return
+    root = folder / "root"
+    words = ["mmdebstrap", "--quiet", "--variant=minbase", f"--include={packages}", "bookworm"]
+    ran = run(*words, root, env={"HOME": str(folder), "TMPDIR": str(folder)})
+    yield root if ran.returncode == 0 else None
+    shutil.rmtree(root, ignore_errors=True)
+
+
+def files_of(root: pathlib.Path) -> set[str]:
+    """The files of a root that are told apart: without caches, logs and the lists of packages."""
+    left = ("proc", "sys", "dev", "tmp", "run", "var/cache", "var/log", "etc/ld.so.cache")
+    words = ["find", ".", "-xdev"]
+    for place in left:
+        words += ["-path", f"./{place}", "-prune", "-o"]
+    return set(done(*words, "-print", cwd=root).splitlines())
+
+
+def test_debians_packages(
+    release: pathlib.Path, tables: dict[str, list[str]], tmp_path: pathlib.Path
+) -> None:
+    debs = [path for name in DEBIAN for path in release.glob(f"{name}_*.deb")]
+    wanted = "gcc,libc6-dev,pkgconf,python3,python3-numpy,python3-cffi-backend"
+    with fresh_root(tmp_path, wanted) as root:
+        where = "in a fresh root" if root else "in a folder, as no root could be made"
+        tables["| packages of Debian |"] = [f"| {where} |"]
+        if root is None:
+            unpacked(debs, tmp_path / "unpacked")
+            return
+        in_root = ("chroot", root)
+        before = files_of(root)
+        for deb in debs:
+            shutil.copy(deb, root / "tmp")
+        done(*in_root, "dpkg", "--install", *(f"/tmp/{deb.name}" for deb in debs))
+        assert done(*in_root, "callboard", input=ORDERS) == ANSWERS
+        assert done(*in_root, "python3", "-c", PYTHON) == PRINTED
+        (root / "tmp/user.c").write_text(C)
+        compile_it = "cc -o /tmp/user /tmp/user.c $(pkg-config --cflags --libs callauction)"
+        done(*in_root, "sh", "-c", compile_it)
+        assert done(*in_root, "/tmp/user") == "0 0\n"
+        assert "libcallauction.so.1" in done(*in_root, "ldd", "/tmp/user")
+        assert (root / "usr/share/man/man1").is_dir()
+        done(*in_root, "dpkg", "--purge", *reversed(DEBIAN))
+        assert files_of(root) - before == set()
+
+
+def unpacked(debs: list[pathlib.Path], folder: pathlib.Path) -> None:
+    """Looks at the packages in a folder of their own, where there can be no root."""
+    for deb in debs:
+        done("dpkg-deb", "--extract", deb, folder)
+    assert done(folder / "usr/bin/callboard", input=ORDERS) == ANSWERS
+    packages = folder / "usr/lib/python3/dist-packages"
+    assert done("/usr/bin/python3", "-c", PYTHON, env={"PYTHONPATH": str(packages)}) == PRINTED

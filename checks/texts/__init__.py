@@ -1,0 +1,1 @@
+"""Rules for the texts of the repository, as a reader meets them."""

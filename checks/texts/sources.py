@@ -1,0 +1,143 @@
+"""Rules for the texts of crates: each gives its faults as `FILE:LINE: ..` or `FILE: ..`.
+
+- A line of crates/*/src, crates/*/specs or crates/*/proofs has at most 120 characters.
+- No name of a file is shared by specs or proofs of two crates, but for Lib, Answers, Invariants and
+  Proof, and for the folders of proofs that are named as a module or a function.
+- No file is named `..Lemmas.antt`: we say Laws.
+- No two lemmas have names that differ by hyphens and underscores alone.
+- A limit of the market or of memory (LIMITS) isn't written as a number, where it isn't the value of
+  a constant: in sources, definitions and proofs, but for tests, examples, comments and texts.
+- No name of before comes back (checks/texts/banned.py).
+"""
+import collections
+import pathlib
+import re
+from collections.abc import Iterator
+
+from checks.texts import banned
+from checks.texts.tree import Tree
+
+MOST_COLUMNS = 120
+LIMITS = {
+    1_000_000: "MAX_TICK",
+    65_536: "MAX_TICKS or MAX_OPEN_ORDERS",
+    1_048_576: "MAX_CALLS",
+    1_000_000_000: "MAX_QUANTITY",
+    65_536_000_000_000: "MAX_TOTAL",
+    67_108_864: "the most bytes of a file",
+    67_108_865: "the most bytes of a file, and one",
+    268_435_456: "the most bytes of a journal",
+}
+SHARED = {"Lib", "Answers", "Invariants", "Proof"}
+NUMBER = re.compile(r"(?<![\w.\"])[0-9][0-9_]*(?!\w)")
+CONSTANT = re.compile(r"(pub(\([a-z]+\))? )?(const|static) (?P<name>[A-Z][A-Z0-9_]*) *:")
+TEXT = re.compile(r'"(?:[^"\\]|\\.)*"')
+MODIFIERS = r"(?:(?:pub|abbrev|unfoldable|opaque) +)*"
+LEMMA = re.compile(MODIFIERS + r"(?P<name>[^\s:(){},=]+)(?: *\{[^}]*\})* *: ")
+BLOCK = re.compile(MODIFIERS + r"(?P<word>module|record|data)\b")
+
+
+def long_lines(tree: Tree) -> Iterator[str]:
+    for file in [*tree.sources, *tree.specs, *tree.proofs]:
+        for place, line in enumerate(tree.lines(file), 1):
+            if len(line) > MOST_COLUMNS:
+                yield f"{tree.name(file)}:{place}: {len(line)} columns, {MOST_COLUMNS} at most"
+
+
+def shared_names(tree: Tree) -> Iterator[str]:
+    files: dict[str, list[pathlib.Path]] = collections.defaultdict(list)
+    for file in [*tree.specs, *tree.proofs]:
+        if file.stem not in SHARED and not tree.is_of_function(file):
+            files[file.stem].append(file)
+    for name, those in sorted(files.items()):
+        if len({tree.crate(file) for file in those}) > 1:
+            yield f"{', '.join(map(tree.name, those))}: one name for files of several crates"
+
+
+def lemma_files(tree: Tree) -> Iterator[str]:
+    for file in [*tree.specs, *tree.proofs]:
+        if file.stem.endswith("Lemmas"):
+            yield f"{tree.name(file)}: we say Laws, and not Lemmas"
+
+
+def lemmas_of(lines: list[str]) -> Iterator[tuple[int, str]]:
+    """The places and the names of the lemmas and definitions of a file: at its margin, and in its
+    modules.
+    """
+    block = ""
+    for place, line in enumerate(lines, 1):
+        if line[:1].strip():
+            begun = BLOCK.match(line)
+            block = begun["word"] if begun else ""
+        elif block != "module":
+            continue
+        found = LEMMA.match(line.strip())
+        if found and not BLOCK.match(line.strip()):
+            yield place, found["name"]
+
+
+def near_names(tree: Tree) -> Iterator[str]:
+    places: dict[str, dict[str, str]] = collections.defaultdict(dict)
+    for file in [*tree.specs, *tree.proofs]:
+        if file.stem in SHARED:
+            continue
+        for place, name in lemmas_of(tree.lines(file)):
+            alike = name.replace("-", "_")
+            places[alike].setdefault(name, f"{tree.name(file)}:{place}")
+    for names in places.values():
+        if len(names) > 1:
+            told = ", ".join(f"{name} ({place})" for name, place in sorted(names.items()))
+            yield f"these names differ by a hyphen alone: {told}"
+
+
+def names_of_before(tree: Tree) -> Iterator[str]:
+    for file in tree.code:
+        text = tree.text(file)
+        for found in banned.ANY.finditer(text):
+            place = text.count("\n", 0, found.start()) + 1
+            yield f"{tree.name(file)}:{place}: {found[0]} is {banned.now(found[0])} now"
+
+
+def is_test(tree: Tree, file: pathlib.Path) -> bool:
+    """Whether a file is a test, or an example that runs by computing."""
+    parts = file.relative_to(tree.top).parts
+    return (
+        parts[1] == "acceptance"
+        or "tests" in parts
+        or file.name == "tests.rt"
+        or "Examples" in file.stem
+    )
+
+
+def plain(line: str) -> str:
+    """A line without its comment and its texts."""
+    line = TEXT.sub('""', line)
+    return re.split(r"//|(?:^|\s)--\s", line)[0]
+
+
+def retyped_limits(tree: Tree) -> Iterator[str]:
+    declared: dict[str, str] = {}
+    for file in [*tree.sources, *tree.specs, *tree.proofs]:
+        if is_test(tree, file):
+            continue
+        for place, line in enumerate(tree.lines(file), 1):
+            line = plain(line.strip())
+            numbers = [int(number.replace("_", "")) for number in NUMBER.findall(line)]
+            found = [number for number in numbers if number in LIMITS]
+            constant = CONSTANT.match(line)
+            where = f"{tree.name(file)}:{place}"
+            if found and not constant:
+                yield f"{where}: {found[0]} stands here and not by its name, {LIMITS[found[0]]}"
+            if found and constant and declared.setdefault(constant["name"], where) != where:
+                first = declared[constant["name"]]
+                yield f"{where}: {constant['name']} is declared in {first} too"
+
+
+RULES = [
+    long_lines,
+    shared_names,
+    lemma_files,
+    near_names,
+    retyped_limits,
+    names_of_before,
+]

@@ -1,0 +1,79 @@
+"""The texts of a repository."""
+import functools
+import pathlib
+import subprocess
+
+CODE = {".rt", ".antt", ".edit", ".py", ".c", ".h"}
+OWN = pathlib.PurePath("checks/texts")
+
+
+class Tree:
+    """The files of a repository by what they are, and their texts."""
+
+    def __init__(self, top: pathlib.Path) -> None:
+        self.top = top
+        self.sources = sorted((top / "crates").glob("*/src/**/*.rt"))
+        self.specs = sorted((top / "crates").glob("*/specs/**/*.antt"))
+        self.proofs = sorted((top / "crates").glob("*/proofs/**/*.antt"))
+
+    @functools.cached_property
+    def files(self) -> list[pathlib.Path]:
+        """All files that git has, or would add; all files where this is no repository."""
+        words = ["git", "ls-files", "--cached", "--others", "--exclude-standard"]
+        if (self.top / ".git").exists():
+            listed = subprocess.run(words, cwd=self.top, capture_output=True, text=True, check=True)
+            found = [self.top / name for name in listed.stdout.splitlines()]
+            return [file for file in found if file.is_file()]
+        every = (file for file in self.top.rglob("*") if file.is_file())
+        return sorted(file for file in every if "out" not in file.relative_to(self.top).parts)
+
+    @functools.cached_property
+    def code(self) -> list[pathlib.Path]:
+        """The files of code, definitions and proofs, and what stands for them in wrong bodies; but
+        for the rules of texts, which name what isn't to be named, and their tests.
+        """
+        return [
+            file
+            for file in self.files
+            if (file.suffix in CODE or not file.suffix and self.is_script(file))
+            and OWN not in file.relative_to(self.top).parents
+            and file.name != "test_layout.py"
+        ]
+
+    @functools.cached_property
+    def documents(self) -> list[pathlib.Path]:
+        """The documents that a person wrote."""
+        found = [self.top / "README.md", *sorted((self.top / "docs").glob("*.md"))]
+        found += [self.top / "python/README.md"]
+        return [file for file in found if file.is_file() and file.name != "WRONG_BODIES.md"]
+
+    def is_script(self, file: pathlib.Path) -> bool:
+        """Whether a file begins with a line `#!`."""
+        with open(file, "rb") as begun:
+            return begun.read(2) == b"#!"
+
+    def name(self, file: pathlib.Path) -> str:
+        """The path of a file in the repository."""
+        return str(file.relative_to(self.top))
+
+    @functools.lru_cache(maxsize=None)
+    def text(self, file: pathlib.Path) -> str:
+        """The text of a file; empty where it is none. Raises OSError."""
+        try:
+            return file.read_text(encoding="utf-8")
+        except UnicodeDecodeError:
+            return ""
+
+    def lines(self, file: pathlib.Path) -> list[str]:
+        """The lines of a file. Raises OSError."""
+        return self.text(file).split("\n")
+
+    def crate(self, file: pathlib.Path) -> str:
+        """The crate that a file belongs to."""
+        return file.relative_to(self.top).parts[1]
+
+    def is_of_function(self, file: pathlib.Path) -> bool:
+        """Whether a file is in a folder of proofs/ that is named as a module, a type or a
+        function.
+        """
+        return len(file.relative_to(self.top).parts) > 4 and file in self.proofs

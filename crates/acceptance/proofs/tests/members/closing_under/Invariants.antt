@@ -1,0 +1,8 @@
+-- Invariants of the loops of `closing_under` (src/tests/members.rt); rt looks here.
+use Rattle.acceptance.proofs.tests.members.closing_under.Given as goal
+
+abbrev pub ghosts-day-K-BoardIdentity : goal.ghosts-day-K-BoardIdentity
+ghosts-day-K-BoardIdentity g a = record { config = a.fresh.config; story = a.fresh.story }
+
+abbrev pub ghosts-day-K-Ledger : goal.ghosts-day-K-Ledger
+ghosts-day-K-Ledger g a = record { name = a.fresh.ledger; parts = a.fresh.members }

@@ -1,0 +1,32 @@
+//! `OrderStatus`: an order as it stands.
+ghost use Rattle.std.specs.Prelude.{◌≡◌};
+ghost use Rattle.auction_terms.specs.Day as day;
+ghost use Rattle.auction.specs.AuctionState.{outcome};
+
+use super::DayState;
+use auction_terms::{Order, Refusal, Reply};
+
+// The shares that are visible: the lesser of peak and open quantity.
+fn visible_of(order: Order) -> u64
+    ensures { result ≡ day.visible_of order }
+{
+    order
+        .peak
+        .map_or(order.quantity, |peak| peak.min(order.quantity))
+}
+
+impl DayState {
+    /// What is open of the member's own order, also after the day.
+    #[tactic(auto, unfolding(auction_terms::specs::Day::order_status))]
+    pub(super) fn order_status(&self, member: u8, id: u32) -> Result<Reply, Refusal>
+        ensures { outcome self.now result ≡ day.order_status self.now.state member id }
+    {
+        let order = self.own_order(member, id)?;
+        Ok(Reply::OpenOrder {
+            side: order.side,
+            limit: order.limit,
+            quantity: order.quantity,
+            visible: visible_of(order),
+        })
+    }
+}

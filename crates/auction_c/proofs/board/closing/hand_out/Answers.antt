@@ -1,0 +1,23 @@
+use Rattle.std.proofs.Common.{rules, ◌≡◌, ◌≤◌, ◌∙◌, ap, arith, length, subst, List}
+use Rattle.auction_terms.specs.declared.Entry.{Entry}
+use Rattle.auction_c.specs.Entries.{AreEntries}
+use Rattle.auction_c.proofs.board.closing.hand_out.Goals as goal
+
+pub returns : goal.returns
+returns c =
+    let history = c.into_closing-history.result.history.items in
+    let few : length history ≤ c.args.floor.board.config.max_calls = c.into_closing-history.ensures.closed.legal.few in
+    let all : length c.deref.result.now ≡ length history = ap length c.deref.ensures.value in
+    let written : c.copy_entries.result ≡ length history =
+    omega (arith, c.copy_entries.ensures.count, all, few, c.requires.room) in
+    record {
+      closing = (
+        c.into_closing-history.result,
+        c.into_closing-history.ensures.closed,
+        c.into_closing-history.ensures.history,
+        subst (λ (h : List Entry). AreEntries c.copy_entries.result h c.copy_entries.new.to) c.deref.ensures.value
+            c.copy_entries.ensures.entries,
+        written,
+        search rules,
+      );
+    }

@@ -1,0 +1,10 @@
+use Rattle.std.proofs.Common.{◌≡◌, ◌++◌, Some, length, map, take}
+use Rattle.auction_c.proofs.board.opening.put_in.Given as goal
+
+abbrev pub invariant-loop-member : goal.invariant-loop-member
+invariant-loop-member l = record {
+  at : l.i ≡ length l.yielded;
+  wide : length l.handles ≡ length l.fn.members.items;
+  split : l.yielded ++ l.member-iterator.rest.items ≡ l.fn.members.items;
+  members : map (λ h. h.held.value) (take l.i l.handles) ≡ map (λ b. Some b.value) l.yielded;
+}

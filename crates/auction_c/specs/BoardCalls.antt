@@ -1,0 +1,119 @@
+-- What a call from C does to the board's member that its handle holds, and what it writes.
+use Rattle.std.specs.Prelude.{◌≡◌, ◌<◌, ◌++◌, ℕ, List, length, map, get_or, min, take, drop}
+use Rattle.std.specs.Prelude.{Bool, Option, Some, is_some, IsSomeAnd}
+use Rattle.std.specs.List.{list_any}
+use Rattle.logbook.specs.Pages.{Book}
+use Rattle.auction_terms.specs.Day.{IsLegal, calls_of}
+use Rattle.auction_terms.specs.declared.Config.{Config}
+use Rattle.auction_terms.specs.declared.Command.{Command}
+use Rattle.auction_terms.specs.declared.Entry.{Entry}
+use Rattle.auction_terms.specs.declared.Trade.{Trade}
+use Rattle.board_terms.specs.Closings.{IsAccount}
+use Rattle.board_terms.specs.CallsAndLooks.{CallsOnce, EndsWithCall, IsLook}
+use Rattle.board_terms.specs.declared.calls.Receipt.{Receipt}
+use Rattle.board_terms.specs.declared.calls.Shown.{Shown}
+use Rattle.board_terms.specs.declared.closing.Closing.{Closing}
+use Rattle.shared_board.specs.BoardViews.{OpenedBoard, BoardMember, FloorView, IsClosingOf, SeesStory, floor_view}
+use Rattle.shared_board.specs.BoardViews.{new_board_members, opened_board, ladder_after, tape_after}
+use Rattle.auction_c.specs.declared.member_handle.AuctionMember.{AuctionMember}
+use Rattle.auction_c.specs.declared.structs.AuctionEntry.{AuctionEntry}
+use Rattle.auction_c.specs.declared.structs.AuctionMarket.{AuctionMarket}
+use Rattle.auction_c.specs.declared.structs.AuctionReceipt.{AuctionReceipt}
+use Rattle.auction_c.specs.declared.structs.AuctionShown.{AuctionShown}
+use Rattle.auction_c.specs.declared.structs.AuctionTrade.{AuctionTrade}
+use Rattle.auction_c.specs.Encoding.{display_out, market_out, reply_out, trade_out}
+use Rattle.auction_c.specs.Entries.{AreEntries}
+
+abbrev pub receipt_out : Receipt → AuctionReceipt
+receipt_out r = record { reply = reply_out r.reply; number = r.number }
+
+abbrev pub shown_out : Shown → AuctionShown
+shown_out s = record { display = display_out s.display; calls = s.calls }
+
+-- the member's command was recorded once: its receipt was written
+pub record RecordsCall (command : Command) (out : AuctionReceipt) (old new : BoardMember) : Type 0 where
+  pub receipt : Receipt
+  pub receipt_is : out ≡ receipt_out receipt
+  pub board : new.board ≡ old.board
+  pub call : CallsOnce old.board.config old.view new.view command receipt
+  pub history : List Entry
+  pub by_history : EndsWithCall old.board.config history old.view.number command receipt
+
+-- the member was shown the display after what it has seen now
+pub record ShowsDisplay (out : AuctionShown) (old new : BoardMember) : Type 0 where
+  pub shown : Shown
+  pub shown_is : out ≡ shown_out shown
+  pub board : new.board ≡ old.board
+  pub look : IsLook old.board.config old.view new.view shown
+
+-- the handle held a member and holds it still, as it is after what was done
+pub record HoldsAfter (Done : BoardMember → BoardMember → Type 0) (old new : Option BoardMember) : Type 0 where
+  pub before : BoardMember
+  pub after : BoardMember
+  pub held : old ≡ Some before
+  pub holds : new ≡ Some after
+  pub done : Done before after
+
+-- the member has seen all calls of this legal history, and is else as before
+pub record SeesHistory (old new : BoardMember) (history : List Entry) : Type 0 where
+  pub board : new.board ≡ old.board
+  pub legal : IsLegal old.board.config history
+  pub story : SeesStory (calls_of history) old.view new.view
+
+-- the quantities of the orders that count after all calls that the member has seen now
+pub record ShowsLadder (bids asks : List ℕ) (market : AuctionMarket) (calls : ℕ) (old new : BoardMember)
+    : Type 0 where
+  pub history : List Entry
+  pub sees : SeesHistory old new history
+  pub bids_are : bids ≡ (ladder_after old.board.config (calls_of history)).bids
+  pub asks_are : asks ≡ (ladder_after old.board.config (calls_of history)).asks
+  pub market_is : market ≡ market_out (ladder_after old.board.config (calls_of history))
+  pub calls_are : calls ≡ length history
+
+-- the trades after the first ones, as many as fit, after all calls that the member has seen now
+pub record ShowsTrades (seen : ℕ) (room trades : List AuctionTrade) (copied calls : ℕ) (old new : BoardMember)
+    : Type 0 where
+  pub history : List Entry
+  pub sees : SeesHistory old new history
+  pub copied_is : copied ≡ min (length (drop seen (tape_after old.board.config (calls_of history)))) (length room)
+  pub trades_are : trades
+      ≡ map trade_out (take copied (drop seen (tape_after old.board.config (calls_of history)))) ++ drop copied room
+  pub calls_are : calls ≡ length history
+
+-- the entries of the history after the first ones, as many as fit, of all calls that the member has seen now
+pub record ShowsEntries (seen : ℕ) (room entries : List AuctionEntry) (copied : ℕ) (old new : BoardMember)
+    : Type 0 where
+  pub history : List Entry
+  pub sees : SeesHistory old new history
+  pub copied_is : copied ≡ min (length (drop seen history)) (length room)
+  pub entries_are : AreEntries copied (drop seen history) entries
+
+-- the handle holds the member with this number of this board, whose account is one of this history
+abbrev pub HoldsAccount : FloorView → ℕ → Option BoardMember → Type 0
+HoldsAccount f number h = IsSomeAnd h
+    (λ (m : BoardMember). (m.board ≡ f.board) × (m.view.number ≡ number) × IsAccount (calls_of f.history) m.view)
+
+-- all members of the board, in the order of their numbers, are held, and their accounts are of this history
+pub record HoldAccounts (f : FloorView) (handles : List AuctionMember) : Type 0 where
+  pub all : length handles ≡ f.board.members
+  pub each : (k : ℕ) (d : AuctionMember) → k < length handles → HoldsAccount f k (get_or handles k d).held.value
+
+-- the board's history was written, with the counts of its members: it is a closing of the board of all these handles
+pub record WritesClosing (board : OpenedBoard) (handles : List AuctionMember) (entries : List AuctionEntry)
+    (counts : List ℕ) (written : ℕ) : Type 0 where
+  pub closing : Closing
+  pub closed : IsClosingOf board closing
+  pub accounts : HoldAccounts (floor_view board closing.history.items) handles
+  pub entries_are : AreEntries written closing.history.items entries
+  pub written_is : written ≡ length closing.history.items
+  pub counts_are : counts ≡ closing.calls.items
+
+-- a handle holds a member
+abbrev pub is_in_use : List AuctionMember → Bool
+is_in_use handles = list_any (λ (h : AuctionMember). is_some h.held.value) handles
+
+-- each handle holds the member with its place's number, all of one new board of this config
+pub record HoldsNewMembers (config : Config) (handles : List AuctionMember) : Type 0 where
+  pub book : Book
+  pub held : map (λ (h : AuctionMember). h.held.value) handles
+      ≡ map Some (new_board_members (opened_board config (length handles) book) (length handles))

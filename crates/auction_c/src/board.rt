@@ -1,0 +1,7 @@
+//! The calls of a board's members, for C.
+
+pub(crate) mod calling;
+pub(crate) mod closing;
+pub(crate) mod copying;
+pub(crate) mod opening;
+pub(crate) mod showing;

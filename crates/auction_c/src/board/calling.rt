@@ -1,0 +1,45 @@
+//! A member's call and its look.
+ghost use Rattle.std.specs.Prelude.{◌≡◌, ◌≢◌, ◌<◌};
+ghost use Rattle.auction_c.specs.BoardCalls.{RecordsCall, ShowsDisplay};
+
+use crate::encoding::{display_out, reply_out};
+use crate::errors::{DONE, FULL, board_fault_out};
+use crate::structs::{AuctionReceipt, AuctionShown};
+use auction_terms::Command;
+use board_terms::{Receipt, Shown};
+use shared_board::SharedMember;
+
+/// Calls the command, and writes its receipt.
+pub(crate) fn call_one(
+    member: &mut SharedMember,
+    command: Command,
+    receipt: &mut AuctionReceipt,
+) -> u32
+    ensures done { result ≡ 0 → RecordsCall command receipt.new member.old member.new }
+    ensures fault { 0 < result → receipt.new ≡ receipt.old }
+    ensures same { 0 < result → result ≢ FULL → member.new ≡ member.old }
+    ensures board { member.new.board ≡ member.old.board }
+{
+    match member.call(command) {
+        Ok(answer) => {
+            let Receipt { number, reply } = answer;
+            *receipt = AuctionReceipt {
+                reply: reply_out(reply),
+                number,
+            };
+            DONE
+        }
+        Err(fault) => board_fault_out(fault),
+    }
+}
+
+/// Shows the member how many calls there were, and the display after them.
+pub(crate) fn look_one(member: &mut SharedMember, shown: &mut AuctionShown)
+    ensures { ShowsDisplay shown.new member.old member.new }
+{
+    let Shown { calls, display } = member.look();
+    *shown = AuctionShown {
+        display: display_out(display),
+        calls,
+    };
+}

@@ -1,0 +1,162 @@
+//! The closing, as C gets it.
+ghost use Rattle.std.specs.Prelude.{◌≡◌, ◌≤◌, ◌<◌, All, IfOk, IfErr, IfSome, IsSomeAnd, length};
+ghost use Rattle.auction_terms.specs.Day.{calls_of};
+ghost use Rattle.board_terms.specs.Closings.{IsAccount};
+ghost use Rattle.board_terms.specs.declared.closing.Closing.{Closing};
+ghost use Rattle.shared_board.specs.BoardViews.{IsClosingOf, OpenedBoard};
+ghost use Rattle.auction_c.specs.Entries.{AreEntries};
+ghost use Rattle.auction_c.specs.BoardCalls.{HoldAccounts, HoldsAccount, WritesClosing};
+
+use crate::board::copying::copy_entries;
+use crate::errors::{BAD_LENGTH, BEHIND, DONE, MISSING_MEMBER, NO_MEMBER, board_fault_out};
+use crate::member_handle::AuctionMember;
+use crate::structs::AuctionEntry;
+use board_terms::Closing;
+use shared_board::{SharedMember, TakenFloor};
+
+// `DONE` where the member has this number, and its account is one of this history; else the error.
+fn account_error(member: &mut SharedMember, number: usize, floor: &TakenFloor) -> u32
+    requires board { member.old.board ≡ floor.now.board }
+    ensures same { member.new ≡ member.old }
+    ensures account { result ≡ 0 →
+        (member.old.view.number ≡ number) × IsAccount (calls_of floor.now.history) member.old.view }
+{
+    if usize::from(member.number()) != number {
+        return MISSING_MEMBER;
+    }
+    if !member.is_settled(floor) {
+        return BEHIND;
+    }
+    DONE
+}
+
+// The same of the member that the handle holds.
+fn held_error(handle: &mut AuctionMember, number: usize, floor: &TakenFloor) -> u32
+    requires board { IfSome handle.old.held.value (λ m. m.board ≡ floor.now.board) }
+    ensures same { handle.new ≡ handle.old }
+    ensures account { result ≡ 0 → HoldsAccount floor.now number handle.old.held.value }
+{
+    if !handle.is_open {
+        return NO_MEMBER;
+    }
+    account_error(handle.held.get_mut(), number, floor)
+}
+
+// `DONE` where the handles hold all members, in the order of their numbers, and their accounts are of this history;
+// else the first error.
+fn accounts_error(handles: &mut [AuctionMember], members: usize, floor: &TakenFloor) -> u32
+    requires one_board { All (λ h. IfSome h.held.value (λ m. m.board ≡ floor.now.board)) handles.old }
+    requires members { members ≡ floor.now.board.members }
+    ensures same { handles.new ≡ handles.old }
+    ensures accounts { result ≡ 0 → HoldAccounts floor.now handles.old }
+{
+    if handles.len() != members {
+        return MISSING_MEMBER;
+    }
+    for i in 0..handles.len() {
+        let error = held_error(&mut handles[i], i, floor);
+        if error != DONE {
+            return error;
+        }
+    }
+    DONE
+}
+
+fn hand_out(
+    floor: TakenFloor,
+    entries: &mut [AuctionEntry],
+    counts: &mut [u32],
+    written: &mut usize,
+)
+    requires room { floor.board.config.max_calls ≤ length entries.old }
+    requires counts { length counts.old ≡ floor.board.members }
+    ensures closing { (closing : Closing) × IsClosingOf floor.board closing
+        × (closing.history.items ≡ floor.history)
+        × AreEntries written.new closing.history.items entries.new
+        × (written.new ≡ length closing.history.items) × (counts.new ≡ closing.calls.items) }
+{
+    let Closing { history, calls } = floor.into_closing();
+    *written = copy_entries(&history, entries);
+    counts.copy_from_slice(&calls);
+}
+
+// The floor of the member's board, where the arrays have room for what the closing writes.
+fn take_floor(member: &mut SharedMember, room: usize, counts: usize) -> Result<TakenFloor, u32>
+    ensures same { member.new ≡ member.old }
+    ensures board { IfOk result (λ f. f.board ≡ member.old.board) }
+    ensures room { IfOk result (λ f. (f.board.config.max_calls ≤ room) × (counts ≡ f.board.members)) }
+    ensures error { IfErr result (λ e. 0 < e) }
+{
+    if room < member.max_calls() as usize || counts != usize::from(member.members()) {
+        return Err(BAD_LENGTH);
+    }
+    match member.take_floor() {
+        Ok(floor) => Ok(floor),
+        Err(fault) => Err(board_fault_out(fault)),
+    }
+}
+
+// The same of the first handle's member.
+fn take_first_floor(
+    first: &mut AuctionMember,
+    room: usize,
+    counts: usize,
+) -> Result<TakenFloor, u32>
+    ensures same { first.new ≡ first.old }
+    ensures board { IfOk result (λ f. IsSomeAnd first.old.held.value (λ m. f.board ≡ m.board)) }
+    ensures room { IfOk result (λ f. (f.board.config.max_calls ≤ room) × (counts ≡ f.board.members)) }
+    ensures error { IfErr result (λ e. 0 < e) }
+{
+    if !first.is_open {
+        return Err(NO_MEMBER);
+    }
+    take_floor(first.held.get_mut(), room, counts)
+}
+
+fn give_back(first: &mut AuctionMember, floor: TakenFloor)
+    requires board { IfSome first.old.held.value (λ m. floor.board ≡ m.board) }
+    ensures same { first.new ≡ first.old }
+{
+    if first.is_open {
+        first.held.get_mut().give_floor(floor);
+    }
+}
+
+fn end_board(first: &mut AuctionMember)
+    ensures same { first.new ≡ first.old }
+{
+    if first.is_open {
+        first.held.get_mut().shut();
+    }
+}
+
+/// Closes the board whose members the handles hold.
+pub(crate) fn close_all(
+    handles: &mut [AuctionMember],
+    entries: &mut [AuctionEntry],
+    counts: &mut [u32],
+    written: &mut usize,
+) -> u32
+    requires one_board { (board : OpenedBoard) × All (λ h. IfSome h.held.value (λ m. m.board ≡ board)) handles.old }
+    ensures same { handles.new ≡ handles.old }
+    ensures done { result ≡ 0 →
+        (board : OpenedBoard) × WritesClosing board handles.old entries.new counts.new written.new }
+    ensures error { 0 < result →
+        (entries.new ≡ entries.old) × (counts.new ≡ counts.old) × (written.new ≡ written.old) }
+{
+    if handles.is_empty() {
+        return BAD_LENGTH;
+    }
+    let floor = match take_first_floor(&mut handles[0], entries.len(), counts.len()) {
+        Ok(floor) => floor,
+        Err(error) => return error,
+    };
+    let error = accounts_error(handles, counts.len(), &floor);
+    if error != DONE {
+        give_back(&mut handles[0], floor);
+        return error;
+    }
+    end_board(&mut handles[0]);
+    hand_out(floor, entries, counts, written);
+    DONE
+}

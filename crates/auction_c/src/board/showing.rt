@@ -1,0 +1,106 @@
+//! What a member is shown of the floor: the ladder, the trades, the entries of the history.
+ghost use Rattle.std.specs.Prelude.{◌≡◌, ◌<◌, drop};
+ghost use Rattle.auction_c.specs.BoardCalls.{ShowsEntries, ShowsLadder, ShowsTrades};
+
+use crate::board::copying::copy_entries;
+use crate::copying::{copy_ladder, copy_trades};
+use crate::errors::{BAD_LENGTH, BEHIND, DONE, board_fault_out};
+use crate::structs::{AuctionEntry, AuctionMarket, AuctionTrade};
+use auction_terms::{Entry, Trade};
+use shared_board::SharedMember;
+
+// The trades after the first ones.
+fn trades_after(tape: &[Trade], seen: usize) -> &[Trade]
+    ensures { result.now ≡ drop seen tape.now }
+{
+    &tape[seen.min(tape.len())..]
+}
+
+// The entries after the first ones.
+fn entries_after(history: &[Entry], seen: usize) -> &[Entry]
+    ensures { result.now ≡ drop seen history.now }
+{
+    &history[seen.min(history.len())..]
+}
+
+/// Copies the quantities of the orders that count, once the member has seen all calls.
+pub(crate) fn show_ladder(
+    member: &mut SharedMember,
+    bids: &mut [u64],
+    asks: &mut [u64],
+    market: &mut AuctionMarket,
+    calls: &mut u32,
+) -> u32
+    ensures done { result ≡ 0 → ShowsLadder bids.new asks.new market.new calls.new member.old member.new }
+    ensures member { 0 < result → member.new ≡ member.old }
+    ensures arrays { 0 < result → (bids.new ≡ bids.old) × (asks.new ≡ asks.old) }
+    ensures numbers { 0 < result → (market.new ≡ market.old) × (calls.new ≡ calls.old) }
+{
+    let floor = match member.take_floor() {
+        Ok(floor) => floor,
+        Err(fault) => return board_fault_out(fault),
+    };
+    let ticks = floor.ladder().bids().len();
+    if bids.len() != ticks || asks.len() != ticks {
+        member.give_floor(floor);
+        return BAD_LENGTH;
+    }
+    if !member.see(&floor) {
+        member.give_floor(floor);
+        return BEHIND;
+    }
+    let error = copy_ladder(floor.ladder(), bids, asks, market);
+    *calls = floor.calls();
+    member.give_floor(floor);
+    error
+}
+
+/// Copies the trades after the first ones, once the member has seen all calls.
+pub(crate) fn show_trades(
+    member: &mut SharedMember,
+    seen: usize,
+    trades: &mut [AuctionTrade],
+    copied: &mut usize,
+    calls: &mut u32,
+) -> u32
+    ensures done { result ≡ 0 → ShowsTrades seen trades.old trades.new copied.new calls.new member.old member.new }
+    ensures member { 0 < result → member.new ≡ member.old }
+    ensures same { 0 < result → (trades.new ≡ trades.old) × (copied.new ≡ copied.old) × (calls.new ≡ calls.old) }
+{
+    let floor = match member.take_floor() {
+        Ok(floor) => floor,
+        Err(fault) => return board_fault_out(fault),
+    };
+    if !member.see(&floor) {
+        member.give_floor(floor);
+        return BEHIND;
+    }
+    *copied = copy_trades(trades_after(floor.tape(), seen), trades);
+    *calls = floor.calls();
+    member.give_floor(floor);
+    DONE
+}
+
+/// Copies the entries of the history after the first ones, once the member has seen all calls.
+pub(crate) fn show_entries(
+    member: &mut SharedMember,
+    seen: usize,
+    entries: &mut [AuctionEntry],
+    copied: &mut usize,
+) -> u32
+    ensures done { result ≡ 0 → ShowsEntries seen entries.old entries.new copied.new member.old member.new }
+    ensures member { 0 < result → member.new ≡ member.old }
+    ensures same { 0 < result → (entries.new ≡ entries.old) × (copied.new ≡ copied.old) }
+{
+    let floor = match member.take_floor() {
+        Ok(floor) => floor,
+        Err(fault) => return board_fault_out(fault),
+    };
+    if !member.see(&floor) {
+        member.give_floor(floor);
+        return BEHIND;
+    }
+    *copied = copy_entries(entries_after(floor.history(), seen), entries);
+    member.give_floor(floor);
+    DONE
+}

@@ -1,0 +1,237 @@
+//! The exports of a board's members.
+ghost use Rattle.std.specs.Prelude.{◌≡◌, ◌≢◌, ◌<◌, ◌≤◌, true, false, length};
+ghost use Rattle.std.specs.Prelude.{All, None, IfNone, IfSome, IsNone, IsSomeAnd};
+ghost use Rattle.auction_c.specs.BoardCalls.{HoldsAfter, HoldsNewMembers, RecordsCall, ShowsDisplay, is_in_use};
+ghost use Rattle.auction_c.specs.BoardCalls.{ShowsEntries, ShowsLadder, ShowsTrades, WritesClosing};
+ghost use Rattle.auction_c.specs.Calling.{fault_number};
+ghost use Rattle.auction_c.specs.Decoding as decoded_as;
+ghost use Rattle.auction_c.specs.Encoding as encoded_as;
+ghost use Rattle.board_terms.specs.BoardOpening.{board_fault};
+ghost use Rattle.shared_board.specs.BoardViews.{OpenedBoard};
+
+use crate::board::calling::{call_one, look_one};
+use crate::board::closing::close_all;
+use crate::board::opening::{fill, is_in_use};
+use crate::board::showing::{show_entries, show_ladder, show_trades};
+use crate::decoding::{command_in, config_in};
+use crate::encoding::config_out;
+use crate::errors::{
+    BAD_CAPACITY, DONE, FULL, IN_USE, NO_COMMAND, NO_CONFIG, NO_MEMBER, NO_MEMORY,
+};
+use crate::member_handle::AuctionMember;
+use crate::structs::{
+    AuctionCommand, AuctionConfig, AuctionEntry, AuctionMarket, AuctionReceipt, AuctionShown,
+    AuctionTrade,
+};
+use std::alloc::Global;
+
+/// Opens a board with as many members as there are handles: each handle then holds the member with its place's number,
+/// from 0.
+///
+/// Where a handle holds a member already it answers `IN_USE`. Else it answers `NO_CONFIG` for a struct that stands for
+/// no config, then `BAD_CAPACITY` for more than 255 handles, then `BAD_BOUNDS`, `BAD_REFERENCE` or `BAD_CAPACITY`, the
+/// first that holds, and `NO_MEMORY` only where none does.
+#[unsafe(no_mangle)]
+pub extern "C" fn callauction_board_open(
+    alloc: Global,
+    members: &mut [AuctionMember],
+    config: &AuctionConfig,
+) -> u32
+    ensures done { result ≡ 0 → IsSomeAnd (decoded_as.config_in config.now) (λ c. HoldsNewMembers c members.new) }
+    ensures refused { 0 < result → members.new ≡ members.old }
+    ensures busy { is_in_use members.old ≡ true → result ≡ IN_USE }
+    ensures none { is_in_use members.old ≡ false → IsNone (decoded_as.config_in config.now) → result ≡ NO_CONFIG }
+    ensures many { is_in_use members.old ≡ false → 256 ≤ length members.old →
+        IfSome (decoded_as.config_in config.now) (λ c. result ≡ BAD_CAPACITY) }
+    ensures fault { is_in_use members.old ≡ false → length members.old < 256 →
+        IfSome (decoded_as.config_in config.now) (λ c.
+        IfSome (board_fault c (length members.old)) (λ fault. result ≡ fault_number fault)) }
+    ensures memory { is_in_use members.old ≡ false → length members.old < 256 →
+        IfSome (decoded_as.config_in config.now) (λ c.
+        board_fault c (length members.old) ≡ None → 0 < result → result ≡ NO_MEMORY) }
+{
+    if is_in_use(members) {
+        return IN_USE;
+    }
+    let Some(decoded) = config_in(config) else {
+        return NO_CONFIG;
+    };
+    fill(alloc, members, decoded)
+}
+
+/// Calls a command of the handle's member on its board, and writes its receipt. The struct's `member` isn't read.
+///
+/// It answers `NO_COMMAND` for a struct that stands for no command, `BUSY` where another call had the board at each
+/// try, `CLOSED`, `FULL`, `BEHIND` or `OVERTAKEN`.
+#[unsafe(no_mangle)]
+pub extern "C" fn callauction_board_call(
+    member: &mut AuctionMember,
+    command: &AuctionCommand,
+    receipt: &mut AuctionReceipt,
+) -> u32
+    ensures done { result ≡ 0 → IsSomeAnd (decoded_as.command_in command.now) (λ c.
+        HoldsAfter (RecordsCall c receipt.new) member.old.held.value member.new.held.value) }
+    ensures fault { 0 < result → receipt.new ≡ receipt.old }
+    ensures held { 0 < result → result ≢ FULL → member.new.held.value ≡ member.old.held.value }
+    ensures missing { IfNone member.old.held.value (result ≡ NO_MEMBER) }
+    ensures none { IfSome member.old.held.value (λ m.
+        IfNone (decoded_as.command_in command.now) (result ≡ NO_COMMAND)) }
+{
+    if !member.is_open {
+        return NO_MEMBER;
+    }
+    let Some(decoded) = command_in(command) else {
+        return NO_COMMAND;
+    };
+    call_one(member.held.get_mut(), decoded, receipt)
+}
+
+/// Shows the handle's member how many calls there were, and the display after them. It takes no lock.
+#[unsafe(no_mangle)]
+pub extern "C" fn callauction_board_look(
+    member: &mut AuctionMember,
+    shown: &mut AuctionShown,
+) -> u32
+    ensures done { result ≡ 0 → HoldsAfter (ShowsDisplay shown.new) member.old.held.value member.new.held.value }
+    ensures none { 0 < result → (member.old.held.value ≡ None) × (result ≡ NO_MEMBER) }
+    ensures fault { 0 < result → (member.new.held.value ≡ member.old.held.value) × (shown.new ≡ shown.old) }
+{
+    if !member.is_open {
+        return NO_MEMBER;
+    }
+    look_one(member.held.get_mut(), shown);
+    DONE
+}
+
+/// Copies the shares bid and offered by the orders that count, tick by tick, after as many calls as it writes, all of
+/// which the member has seen then.
+#[unsafe(no_mangle)]
+pub extern "C" fn callauction_board_ladder(
+    member: &mut AuctionMember,
+    bids: &mut [u64],
+    asks: &mut [u64],
+    market: &mut AuctionMarket,
+    calls: &mut u32,
+) -> u32
+    ensures done { result ≡ 0 → HoldsAfter (ShowsLadder bids.new asks.new market.new calls.new)
+        member.old.held.value member.new.held.value }
+    ensures fault { 0 < result → member.new.held.value ≡ member.old.held.value }
+    ensures arrays { 0 < result → (bids.new ≡ bids.old) × (asks.new ≡ asks.old) }
+    ensures numbers { 0 < result → (market.new ≡ market.old) × (calls.new ≡ calls.old) }
+{
+    if !member.is_open {
+        return NO_MEMBER;
+    }
+    show_ladder(member.held.get_mut(), bids, asks, market, calls)
+}
+
+/// Copies the trades of the day after the first `seen` of them, as many as there is room for, after as many calls as it
+/// writes, all of which the member has seen then.
+#[unsafe(no_mangle)]
+pub extern "C" fn callauction_board_trades(
+    member: &mut AuctionMember,
+    seen: usize,
+    trades: &mut [AuctionTrade],
+    copied: &mut usize,
+    calls: &mut u32,
+) -> u32
+    ensures done { result ≡ 0 → HoldsAfter (ShowsTrades seen trades.old trades.new copied.new calls.new)
+        member.old.held.value member.new.held.value }
+    ensures fault { 0 < result → member.new.held.value ≡ member.old.held.value }
+    ensures same { 0 < result → (trades.new ≡ trades.old) × (copied.new ≡ copied.old) × (calls.new ≡ calls.old) }
+{
+    if !member.is_open {
+        return NO_MEMBER;
+    }
+    show_trades(member.held.get_mut(), seen, trades, copied, calls)
+}
+
+/// Copies the entries of the board's history after the first `seen` of them, as many as there is room for. The member
+/// has seen all calls then.
+#[unsafe(no_mangle)]
+pub extern "C" fn callauction_board_history(
+    member: &mut AuctionMember,
+    seen: usize,
+    entries: &mut [AuctionEntry],
+    copied: &mut usize,
+) -> u32
+    ensures done { result ≡ 0 → HoldsAfter (ShowsEntries seen entries.old entries.new copied.new)
+        member.old.held.value member.new.held.value }
+    ensures fault { 0 < result → member.new.held.value ≡ member.old.held.value }
+    ensures same { 0 < result → (entries.new ≡ entries.old) × (copied.new ≡ copied.old) }
+{
+    if !member.is_open {
+        return NO_MEMBER;
+    }
+    show_entries(member.held.get_mut(), seen, entries, copied)
+}
+
+/// Writes how many calls of the handle's member were recorded.
+#[unsafe(no_mangle)]
+pub extern "C" fn callauction_board_calls(member: &mut AuctionMember, calls: &mut u32) -> u32
+    ensures done { result ≡ 0 → IsSomeAnd member.old.held.value (λ m. calls.new ≡ m.view.calls) }
+    ensures none { 0 < result → (member.old.held.value ≡ None) × (result ≡ NO_MEMBER) × (calls.new ≡ calls.old) }
+    ensures held { member.new.held.value ≡ member.old.held.value }
+{
+    if !member.is_open {
+        return NO_MEMBER;
+    }
+    *calls = member.held.get_mut().calls();
+    DONE
+}
+
+/// Writes what the board was opened with.
+#[unsafe(no_mangle)]
+pub extern "C" fn callauction_board_config_of(
+    member: &mut AuctionMember,
+    config: &mut AuctionConfig,
+) -> u32
+    ensures done { result ≡ 0 →
+        IsSomeAnd member.old.held.value (λ m. config.new ≡ encoded_as.config_out m.board.config) }
+    ensures none { 0 < result → (member.old.held.value ≡ None) × (result ≡ NO_MEMBER) × (config.new ≡ config.old) }
+    ensures held { member.new.held.value ≡ member.old.held.value }
+{
+    if !member.is_open {
+        return NO_MEMBER;
+    }
+    *config = config_out(member.held.get_mut().config());
+    DONE
+}
+
+/// Closes a board, of which the handles hold all members in the order of their numbers, and writes the history, how
+/// many entries that has, and each member's count of them. The handles hold their members still; their calls answer
+/// `CLOSED` now.
+///
+/// It answers `BAD_LENGTH` where there is no handle, the history has room for fewer than `max_calls` entries, or the
+/// counts aren't as many as the members; `NO_MEMBER`; `BUSY` where a call has the board; `CLOSED` at a second close;
+/// `MISSING_MEMBER` where the handles don't hold all members in their order; `BEHIND` where a member's account isn't
+/// one of the history.
+#[unsafe(no_mangle)]
+pub extern "C" fn callauction_board_close(
+    members: &mut [AuctionMember],
+    entries: &mut [AuctionEntry],
+    counts: &mut [u32],
+    written: &mut usize,
+) -> u32
+    requires one_board { (board : OpenedBoard) × All (λ h. IfSome h.held.value (λ m. m.board ≡ board)) members.old }
+    ensures same { members.new ≡ members.old }
+    ensures done { result ≡ 0 →
+        (board : OpenedBoard) × WritesClosing board members.old entries.new counts.new written.new }
+    ensures fault { 0 < result →
+        (entries.new ≡ entries.old) × (counts.new ≡ counts.old) × (written.new ≡ written.old) }
+{
+    close_all(members, entries, counts, written)
+}
+
+/// Gives up the handle's member, and the board with the last of its members.
+#[unsafe(no_mangle)]
+pub extern "C" fn callauction_board_leave(alloc: Global, member: &mut AuctionMember) -> u32
+    ensures held { member.new.held.value ≡ None }
+    ensures none { IfNone member.old.held.value (result ≡ NO_MEMBER) }
+    ensures done { IfSome member.old.held.value (λ m. result ≡ DONE) }
+{
+    match member.take(alloc) {
+        Some(_member) => DONE,
+        None => NO_MEMBER,
+    }
+}

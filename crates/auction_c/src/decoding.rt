@@ -1,0 +1,103 @@
+//! What the structs that come from C stand for.
+ghost use Rattle.std.specs.Prelude.{◌≡◌};
+ghost use Rattle.auction_c.specs.Decoding as decoded_as;
+
+use crate::structs::{AuctionCommand, AuctionConfig};
+use auction_terms::{Command, Config, Limit, Restriction, Side};
+
+fn range_in(flag: u32, range: u32) -> Option<Option<u32>>
+    ensures { result ≡ decoded_as.flagged_in flag range }
+{
+    if flag == 1 {
+        Some(Some(range))
+    } else if flag == 0 && range == 0 {
+        Some(None)
+    } else {
+        None
+    }
+}
+
+/// The config that a struct stands for, if it stands for one.
+pub(crate) fn config_in(config: &AuctionConfig) -> Option<Config>
+    ensures { result ≡ decoded_as.config_in config.now }
+{
+    Some(Config {
+        low: config.low,
+        high: config.high,
+        reference: config.reference,
+        max_open: config.max_open,
+        max_calls: config.max_calls,
+        range: range_in(config.has_range, config.range)?,
+    })
+}
+
+fn side_in(side: u8) -> Option<Side>
+    ensures { result ≡ decoded_as.side_in side }
+{
+    match side {
+        1 => Some(Side::Bid),
+        2 => Some(Side::Ask),
+        _ => None,
+    }
+}
+
+fn restriction_in(restriction: u8) -> Option<Restriction>
+    ensures { result ≡ decoded_as.restriction_in restriction }
+{
+    match restriction {
+        0 => Some(Restriction::Unrestricted),
+        1 => Some(Restriction::OpeningOnly),
+        2 => Some(Restriction::ClosingOnly),
+        _ => None,
+    }
+}
+
+fn limit_in(flag: u8, tick: u32) -> Option<Limit>
+    ensures { result ≡ decoded_as.limit_in flag tick }
+{
+    if flag == 1 {
+        Some(Limit::At(tick))
+    } else if flag == 0 && tick == 0 {
+        Some(Limit::Market)
+    } else {
+        None
+    }
+}
+
+fn peak_in(flag: u8, peak: u64) -> Option<Option<u64>>
+    ensures { result ≡ decoded_as.flagged_in flag peak }
+{
+    if flag == 1 {
+        Some(Some(peak))
+    } else if flag == 0 && peak == 0 {
+        Some(None)
+    } else {
+        None
+    }
+}
+
+/// The command that a struct stands for, if it stands for one.
+pub(crate) fn command_in(command: &AuctionCommand) -> Option<Command>
+    ensures { result ≡ decoded_as.command_in command.now }
+{
+    match command.tag {
+        1 => Some(Command::Enter {
+            side: side_in(command.side)?,
+            restriction: restriction_in(command.restriction)?,
+            limit: limit_in(command.has_limit, command.limit)?,
+            quantity: command.quantity,
+            peak: peak_in(command.has_peak, command.peak)?,
+        }),
+        2 => Some(Command::Change {
+            id: command.id,
+            limit: limit_in(command.has_limit, command.limit)?,
+            quantity: command.quantity,
+        }),
+        3 => Some(Command::Delete { id: command.id }),
+        4 => Some(Command::OrderStatus { id: command.id }),
+        5 => Some(Command::Indicate),
+        6 => Some(Command::ReadTrade { number: command.id }),
+        7 => Some(Command::Uncross),
+        _ => None,
+    }
+}

@@ -1,0 +1,41 @@
+-- Beginnings of one list.
+use Rattle.std.proofs.Common.{◌≡◌, ℕ, ◌<◌, ◌≤◌, Bool, true, false, nat_le, MatchBool, List, [], ◌∷◌, ◌++◌, length, refl}
+use Rattle.std.proofs.Common.{ap, sym, ◌∙◌, arith, append_assoc, length-append}
+use Rattle.std.proofs.lemmas.List.{append-nil}
+use Rattle.std.proofs.lemmas.Grind.{common_steps}
+use Rattle.std.proofs.lemmas.Bool.Decides.{nat_tests}
+use mathlib.Core.List.{IsPrefix}
+
+-- each list begins with itself
+pub prefix_self : {A : Type 0} (xs : List A) → IsPrefix xs xs
+prefix_self xs = ([], append-nil xs)
+
+pub prefix_trans : {A : Type 0} (xs ys zs : List A) → IsPrefix xs ys → IsPrefix ys zs → IsPrefix xs zs
+prefix_trans xs ys zs p q = (p.0 ++ q.0, sym (append_assoc xs p.0 q.0) ∙ (ap (λ w. w ++ q.0) p.1 ∙ q.1))
+
+-- of two beginnings of one list the shorter begins the longer
+pub prefix_shorter : {A : Type 0} (xs ys zs : List A) → IsPrefix xs zs → IsPrefix ys zs → length xs ≤ length ys
+    → IsPrefix xs ys
+prefix_shorter [] ys zs p q le = (ys, refl)
+prefix_shorter (x ∷ xs) [] zs p q le = absurd (omega arith)
+prefix_shorter (x ∷ xs) (y ∷ ys) [] p q le = absurd (cc (p.1))
+prefix_shorter (x ∷ xs) (y ∷ ys) (z ∷ zs) p q le =
+    grind (arith, common_steps, (prefix_shorter xs ys zs (p.0, cc (p.1)) (q.0, cc (q.1)) (omega arith)))
+
+-- a beginning as long as the whole is the whole
+pub prefix_whole : {A : Type 0} (xs ys : List A) → IsPrefix xs ys → length ys ≤ length xs → xs ≡ ys
+prefix_whole [] [] p le = refl
+prefix_whole [] (y ∷ ys) p le = absurd (omega arith)
+prefix_whole (x ∷ xs) [] p le = absurd (cc (p.1))
+prefix_whole (x ∷ xs) (y ∷ ys) p le = search (arith, (prefix_whole xs ys (p.0, cc (p.1)) (omega arith)))
+
+pub prefix_length : {A : Type 0} (xs ys : List A) → IsPrefix xs ys → length xs ≤ length ys
+prefix_length xs ys p = omega (arith, sym (ap length p.1) ∙ length-append xs p.0)
+
+-- two beginnings of one list, by a test of their lengths
+pub prefix-by_length : {A : Type 0} (xs ys zs : List A) (m n : ℕ) (b : Bool) → m ≡ length xs → n ≡ length ys
+    → nat_le m n ≡ b → IsPrefix xs zs → IsPrefix ys zs → MatchBool b (IsPrefix xs ys) (length ys < length xs)
+prefix-by_length xs ys zs m n true is_m is_n is p q = let le : m ≤ n = grind (arith, nat_tests) in
+    prefix_shorter xs ys zs p q (omega (arith, le, is_m, is_n))
+prefix-by_length xs ys zs m n false is_m is_n is p q = let lt : n < m = grind (arith, nat_tests) in
+    omega (arith, lt, is_m, is_n)

@@ -1,5 +1,0 @@
-use Rattle.callboard.proofs.KeptLaws.{refused-day}
-use Rattle.callboard.proofs.keeping.refused_orders.Goals as goal
-
-pub returns-clause-kept : goal.returns-clause-kept
-returns-clause-kept c = λ form. refused-day form c.args.day _ c.in_default.field-0.items _ c.in_default.ensures.calls c.requires

@@ -1,0 +1,108 @@
+//! The commands of a journal, applied to an auction once it was read.
+
+ghost use Rattle.std.specs.Prelude.{◌≡◌, ◌≢◌, ◌≤◌, ◌+◌, List, length, Ok, Err, IfErr};
+ghost use Rattle.auction_terms.specs.declared.Entry.{Entry};
+ghost use Rattle.journal.specs.DayWithCalls.{run_input_of, or_orders, orders_for};
+ghost use Rattle.callboard.specs.KeptEntries.{KeepsEntries, KeepsCalls, KeepsDay, calls_for, form_of};
+
+use crate::fault::Fault;
+use crate::kept::Kept;
+use crate::kept_day::{KeptDay, close_day};
+use crate::orders::keep_file;
+use auction::Auction;
+use auction_terms::Call;
+use byte_streams::FromMemory;
+use journal::{DayHeader, Journal, journal_of};
+use order_file::{FileFault, MAX_BYTES};
+use settings::Form;
+use std::alloc::Global;
+
+/// Applies these calls, which come after the auction's so far, and keeps their entries. The error is that memory is
+/// refused.
+fn keep_all(
+    alloc: Global,
+    auction: &mut Auction,
+    kept: &mut Kept,
+    calls: &[Call],
+) -> Result<(), FileFault>
+    requires { auction.old.calls + length calls.now ≤ auction.old.config.max_calls }
+    ensures form { form_of kept.new ≡ form_of kept.old }
+    ensures kept { (entries : List Entry) → KeepsEntries kept.old auction.old entries
+        → KeepsCalls (KeepsEntries kept.new auction.new) entries auction.old auction.new result (Ok calls.now) }
+    ensures memory { IfErr result (λ e. e ≡ FileFault.NoMemory) }
+{
+    for call in calls {
+        if kept.keep_call(alloc, auction, call).is_err() {
+            return Err(FileFault::NoMemory);
+        }
+    }
+    Ok(())
+}
+
+/// Runs the commands that a journal gives, its replies dropped.
+fn keep_journal(alloc: Global, journal: &Journal, form: Form) -> Result<KeptDay, Fault>
+    requires { length journal.now.calls.items ≤ journal.now.day.config.max_calls }
+    ensures kept { KeepsDay form (calls_for journal.now.day (Ok journal.now.calls.items)) result }
+    ensures read { result ≢ Err (Fault.File FileFault.ReadFailed) }
+{
+    let day = journal.day;
+    let mut auction = match Auction::open(alloc, day.config) {
+        Ok(auction) => auction,
+        Err(fault) => return Err(Fault::Open(fault)),
+    };
+    let Ok(mut kept) = Kept::open(alloc, form, &auction) else {
+        return Err(Fault::File(FileFault::NoMemory));
+    };
+    match keep_all(alloc, &mut auction, &mut kept, journal.calls.as_slice()) {
+        Ok(()) => close_day(alloc, day, &mut auction, kept),
+        Err(fault) => Err(Fault::File(fault)),
+    }
+}
+
+/// Runs the commands of the bytes of an order file of this day.
+fn keep_orders(alloc: Global, bytes: Vec<u8>, day: DayHeader, form: Form) -> Result<KeptDay, Fault>
+    ensures kept { KeepsDay form (orders_for day bytes.items) result }
+    ensures read { result ≢ Err (Fault.File FileFault.ReadFailed) }
+{
+    if bytes.len() > MAX_BYTES {
+        return Err(Fault::File(FileFault::TooLong));
+    }
+    let mut rest = FromMemory {
+        rest: b"".as_slice(),
+    };
+    keep_file(alloc, bytes, &mut rest, day, form)
+}
+
+/// Runs the commands of an input that has this fault as a journal: what is no journal is an order file of this day.
+fn keep_or_refuse(
+    alloc: Global,
+    bytes: Vec<u8>,
+    day: DayHeader,
+    form: Form,
+    fault: FileFault,
+) -> Result<KeptDay, Fault>
+    requires { fault ≢ FileFault.ReadFailed }
+    ensures kept { KeepsDay form (or_orders (orders_for day bytes.items) fault) result }
+    ensures read { result ≢ Err (Fault.File FileFault.ReadFailed) }
+{
+    match fault {
+        FileFault::NotADay => keep_orders(alloc, bytes, day, form),
+        _ => Err(Fault::File(fault)),
+    }
+}
+
+/// Runs the commands of an input, a journal or an order file of this day.
+pub fn keep_input(
+    alloc: Global,
+    bytes: Vec<u8>,
+    day: DayHeader,
+    form: Form,
+) -> Result<KeptDay, Fault>
+    ensures kept { KeepsDay form (run_input_of day bytes.items) result }
+    ensures read { result ≢ Err (Fault.File FileFault.ReadFailed) }
+{
+    match journal_of(alloc, bytes.as_slice()) {
+        Ok(journal) => keep_journal(alloc, &journal, form),
+        Err(fault) => keep_or_refuse(alloc, bytes, day, form, fault),
+    }
+}

@@ -1,0 +1,167 @@
+//! The commands of an order file, applied to an auction as they are read.
+
+ghost use Rattle.std.specs.Prelude.{◌≡◌, ◌≢◌, ◌<◌, ◌≤◌, ◌++◌, ◌↔◌};
+ghost use Rattle.std.specs.Prelude.{List, length, unwrap_or, Err, IfErr, IsErrOf};
+ghost use Rattle.std.specs.Io.KnownBytes.{prepend_known};
+ghost use Rattle.auction_terms.specs.declared.Entry.{Entry};
+ghost use Rattle.auction_terms.specs.Auxiliary.RunningAuction.{opened_auction};
+ghost use Rattle.auction.specs.ConfigFault.{open_fault};
+ghost use Rattle.journal.specs.DayWithCalls.{orders_for};
+ghost use Rattle.order_file.specs.Blocks.{block_rows};
+ghost use Rattle.order_file.specs.Calls.{IsReady, calls_left};
+ghost use Rattle.order_file.specs.File.{IsOfRecord, calls_after, calls_of, file};
+ghost use Rattle.callboard.specs.KeptEntries.{KeepsEntries, KeepsCalls, KeepsFile, KeepsDay, KeepsDayOfText, calls_for};
+ghost use Rattle.callboard.specs.KeptEntries.{form_of};
+
+use crate::fault::Fault;
+use crate::kept::Kept;
+use crate::kept_day::{KeptDay, close_day};
+use auction::{Auction, OpenFault};
+use byte_streams::Source;
+use journal::DayHeader;
+use order_file::{Blocks, Calls, FileFault, MAX_BYTES, bytes_after, calls_of};
+use settings::Form;
+use std::alloc::Global;
+
+/// Applies the calls that are left, which come after the auction's so far, and keeps their entries; or answers the
+/// first fault, which may be want of memory.
+fn keep_calls(
+    alloc: Global,
+    calls: &mut Calls<'_>,
+    auction: &mut Auction,
+    kept: &mut Kept,
+) -> Result<(), FileFault>
+    requires { IsReady calls.old.members auction.old.config.max_calls auction.old.calls calls.old }
+    ensures form { form_of kept.new ≡ form_of kept.old }
+    ensures kept { (entries : List Entry) → KeepsEntries kept.old auction.old entries
+        → KeepsCalls (KeepsEntries kept.new auction.new) entries auction.old auction.new result (calls_left calls.old) }
+    ensures room { auction.new.calls ≤ auction.old.config.max_calls }
+    ensures parsed { IfErr result IsOfRecord }
+{
+    'turns: while let Some(call) = calls.next_call()? {
+        if kept.keep_call(alloc, auction, &call).is_err() {
+            return Err(FileFault::NoMemory);
+        }
+    }
+    Ok(())
+}
+
+/// The same of the records of a block.
+fn keep_block(
+    alloc: Global,
+    blocks: &Blocks,
+    auction: &mut Auction,
+    kept: &mut Kept,
+    members: u8,
+) -> Result<(), FileFault>
+    requires { auction.old.calls ≤ auction.old.config.max_calls }
+    ensures form { form_of kept.new ≡ form_of kept.old }
+    ensures kept { (entries : List Entry) → KeepsEntries kept.old auction.old entries
+        → KeepsCalls (KeepsEntries kept.new auction.new) entries auction.old auction.new result
+        (calls_after members auction.old.config.max_calls auction.old.calls (block_rows blocks.now)) }
+    ensures room { auction.new.calls ≤ auction.old.config.max_calls }
+    ensures parsed { IfErr result IsOfRecord }
+{
+    let max_calls = auction.config().max_calls;
+    let mut calls = blocks.calls(alloc, members, max_calls, auction.calls())?;
+    keep_calls(alloc, &mut calls, auction, kept)
+}
+
+/// Reads an order file of which these bytes at the start were read, block by block, applies its calls to an auction
+/// that was just opened, and keeps their entries.
+fn keep_blocks<R: Source>(
+    alloc: Global,
+    start: &[u8],
+    reader: &mut R,
+    auction: &mut Auction,
+    kept: &mut Kept,
+    members: u8,
+) -> Result<(), FileFault>
+    requires opened { auction.old ≡ opened_auction auction.old.config }
+    requires follows { (entries : List Entry) × KeepsEntries kept.old auction.old entries }
+    requires short { length start.now ≤ MAX_BYTES }
+    ensures form { form_of kept.new ≡ form_of kept.old }
+    ensures failed { IsErrOf result FileFault.ReadFailed ↔ (R.failures reader.old < R.failures reader.new) }
+    ensures kept { (entries : List Entry) → KeepsEntries kept.old auction.old entries
+        → KeepsFile (KeepsEntries kept.new auction.new) entries auction.old auction.new result
+        (λ text. file text members auction.old.config.max_calls) (prepend_known start.now (R.left reader.old)) }
+    ensures room { auction.new.calls ≤ auction.old.config.max_calls }
+{
+    let mut blocks = Blocks::open(alloc, start, reader, MAX_BYTES)?;
+    'turns: loop {
+        if let Err(fault) = keep_block(alloc, &blocks, auction, kept, members) {
+            blocks.drain(reader)?;
+            return Err(fault);
+        }
+        if !blocks.next(reader)? {
+            return Ok(());
+        }
+    }
+}
+
+/// What an order file owes whose day can't be opened: a fault of its own comes first.
+fn refused_orders(alloc: Global, bytes: &[u8], day: DayHeader, fault: OpenFault) -> Fault
+    requires { fault ≡ unwrap_or (open_fault day.config) OpenFault.NoMemory }
+    ensures kept { (form : Form)
+        → KeepsDay form (calls_for day (calls_of day.members day.config.max_calls bytes.now)) (Err result) }
+    ensures read { result ≢ Fault.File FileFault.ReadFailed }
+{
+    if let Err(fault) = calls_of(alloc, bytes, day.members, day.config.max_calls) {
+        return Fault::File(fault);
+    }
+    Fault::Open(fault)
+}
+
+/// What an order file owes whose day can't be opened, and of which these bytes at the start were read: a fault of its
+/// own comes first.
+fn refused_file<R: Source>(
+    alloc: Global,
+    start: Vec<u8>,
+    reader: &mut R,
+    day: DayHeader,
+    fault: OpenFault,
+) -> Fault
+    requires short { length start.items ≤ MAX_BYTES }
+    requires fault { fault ≡ unwrap_or (open_fault day.config) OpenFault.NoMemory }
+    ensures failed { (result ≡ Fault.File FileFault.ReadFailed) ↔ (R.failures reader.old < R.failures reader.new) }
+    ensures kept { (form : Form)
+        → KeepsDayOfText form (Err result) (prepend_known start.items (R.left reader.old)) (orders_for day) }
+{
+    match bytes_after(start, reader, MAX_BYTES) {
+        Ok(bytes) => refused_orders(alloc, bytes.as_slice(), day, fault),
+        Err(fault) => Fault::File(fault),
+    }
+}
+
+/// Runs the commands of an order file of this day, of which these bytes at the start were read.
+pub fn keep_file<R: Source>(
+    alloc: Global,
+    start: Vec<u8>,
+    reader: &mut R,
+    day: DayHeader,
+    form: Form,
+) -> Result<KeptDay, Fault>
+    requires { length start.items ≤ MAX_BYTES }
+    ensures failed { IsErrOf result (Fault.File FileFault.ReadFailed)
+        ↔ (R.failures reader.old < R.failures reader.new) }
+    ensures kept { KeepsDayOfText form result (prepend_known start.items (R.left reader.old)) (orders_for day) }
+{
+    let mut auction = match Auction::open(alloc, day.config) {
+        Ok(auction) => auction,
+        Err(fault) => return Err(refused_file(alloc, start, reader, day, fault)),
+    };
+    let Ok(mut kept) = Kept::open(alloc, form, &auction) else {
+        return Err(Fault::File(FileFault::NoMemory));
+    };
+    match keep_blocks(
+        alloc,
+        start.as_slice(),
+        reader,
+        &mut auction,
+        &mut kept,
+        day.members,
+    ) {
+        Ok(()) => close_day(alloc, day, &mut auction, kept),
+        Err(fault) => Err(Fault::File(fault)),
+    }
+}

@@ -1,0 +1,12 @@
+-- Answers of `Audit::print_findings` (src/running.rt): what the prover left open; rt looks here.
+use Rattle.printed_lines.proofs.PrinterLaws.{prints_begun, prints_more}
+use Rattle.day_audit.proofs.running.Audit.print_findings.Goals as goal
+
+pub returns-in_err-print_differences-clause-printed : goal.returns-in_err-print_differences-clause-printed
+returns-in_err-print_differences-clause-printed g c =
+    prints_begun _ c.from_residual.ensures.0 c.in_err-print_differences.ensures.printed
+
+pub returns-clause-printed : goal.returns-clause-printed
+returns-clause-printed g c =
+    prints_more c.in_ok-print_differences.ensures.printed
+    (rw c.in_ok-print_differences.ensures.counts at c.print_counts.ensures)

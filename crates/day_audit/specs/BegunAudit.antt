@@ -1,0 +1,25 @@
+-- An audit of which nothing has been done yet.
+use Rattle.std.specs.Prelude.{◌≡◌, ◌≤◌, List, All, length}
+use Rattle.auction_terms.specs.Auxiliary.RunningAuction.{opened_auction}
+use Rattle.journal.specs.EntryRecord.{IsReplyText}
+use Rattle.journal.specs.JournalFile.{RecordedDay, recorded}
+use Rattle.day_audit.specs.declared.running.Audit.{Audit}
+use Rattle.day_audit.specs.AuditCounts.{no_counts}
+
+-- the recorded day
+abbrev pub day_of : Audit → RecordedDay
+day_of audit = recorded audit.journal.now
+
+-- nothing was counted, and the auction is the one that the day begins with; it can have all of the day's calls, each of
+-- which has a text
+pub record IsBegun (audit : Audit) : Type 0 where
+  pub counts : audit.counts ≡ no_counts
+  pub auction : audit.auction ≡ opened_auction (day_of audit).day.config
+  pub few : length (day_of audit).calls ≤ (day_of audit).day.config.max_calls
+  pub even : length (day_of audit).texts ≡ length (day_of audit).calls
+  pub texts : All IsReplyText (day_of audit).texts
+
+-- the audit is still of the same day, and its auction has the same config
+pub record IsSameDay (old new : Audit) : Type 0 where
+  pub journal : new.journal ≡ old.journal
+  pub config : new.auction.config ≡ old.auction.config

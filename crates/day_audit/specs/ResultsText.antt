@@ -1,0 +1,38 @@
+-- The results of a day, which an audit prints behind its own lines where they are wanted.
+use Rattle.std.specs.Prelude.{ℕ, ◌+◌, Bool, true, false, if◌then◌else◌, List, [], ◌∷◌, ◌++◌, Option, Some, None, codes}
+use Rattle.auction_terms.specs.declared.AuctionKind.{AuctionKind}
+use Rattle.auction_terms.specs.declared.Call.{Call}
+use Rattle.auction_terms.specs.declared.Config.{Config}
+use Rattle.auction_terms.specs.declared.Reply.{Reply}
+use Rattle.auction_terms.specs.Day.{is_uncross_reply, replay}
+use Rattle.printed_lines.specs.ReplyLines.{line}
+use Rattle.printed_lines.specs.ReplyWords.{kind_word}
+use Rattle.journal.specs.JournalFile.{RecordedDay}
+use Rattle.day_audit.specs.Answers.{answers_in}
+use Rattle.day_audit.specs.AuditText.{audit_text}
+
+-- the line of a command's reply, if that is of an uncross that was accepted
+abbrev pub uncross_line : ℕ → Reply → List ℕ
+uncross_line number reply = if is_uncross_reply reply then line number reply else []
+
+-- the lines of the uncrosses among replies that come after so many others
+unfoldable pub uncross_lines : ℕ → List Reply → List ℕ
+uncross_lines before [] = []
+uncross_lines before (reply ∷ replies) = uncross_line (before + 1) reply ++ uncross_lines (before + 1) replies
+
+-- the auction that the day is in, or that it is over
+abbrev pub day_line : Option AuctionKind → List ℕ
+day_line None = codes "day over\n"
+day_line (Some kind) = codes "in " ++ (kind_word kind ++ codes "\n")
+
+-- the lines of the uncrosses of a day with these calls, and where the day stands after them
+abbrev pub results_text : Config → List Call → List ℕ
+results_text config calls = uncross_lines 0 (replay config calls).1 ++ day_line (replay config calls).0.auction
+
+abbrev pub results_if : Bool → RecordedDay → List ℕ
+results_if true j = results_text j.day.config j.calls
+results_if false j = []
+
+-- all that an audit prints: what it found, and then the results of the day, where they are wanted
+abbrev pub printed_text : Bool → RecordedDay → List ℕ
+printed_text results j = audit_text (answers_in j) ++ results_if results j

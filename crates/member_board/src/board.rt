@@ -1,0 +1,93 @@
+//! The board: one lock round the floor.
+ghost use Rattle.auction_terms.specs.Day.{IsLegal};
+
+use crate::floor::Floor;
+use crate::identity::BoardIdentity;
+use crate::versions::{Update, Version};
+use auction_terms::Entry;
+use crossbeam_utils::Backoff;
+use left_right::Absorb;
+use std::marker::Model;
+use std::sync::{Mutex, MutexGuard, Wait};
+use std::thread;
+
+/// How often a call tries a lock that another call has before its thread sleeps.
+const TRIES: u32 = 100;
+
+/// The longest pause between two tries, in turns of `Backoff::spin`. Where it is reached the thread also lets others
+/// have the processor.
+const LONGEST_PAUSE: u32 = 16;
+
+// A pause after this many tries, each a little longer than the one before.
+fn pause(backoff: &Backoff, tries: u32) {
+    for _ in 0..tries.min(LONGEST_PAUSE) {
+        backoff.spin();
+    }
+    if tries >= LONGEST_PAUSE {
+        thread::yield_now();
+    }
+}
+
+/// A board whose day has begun. Threads share it, each calling with members of its own. What the lock keeps is a
+/// legal history of the day, whatever was called. Contracts see the number of its members.
+#[derive(Drop)]
+pub struct Board<K: BoardIdentity>
+where
+    Version<K>: Absorb<Update<K>, State = ()>,
+{
+    pub(crate) floor: Mutex<Floor<K>>,
+    /// A count for each member, which the closing writes.
+    pub(crate) counts: Vec<u32>,
+    pub(crate) members: u8,
+}
+
+impl<K: BoardIdentity> Model for Board<K>
+where
+    Version<K>: Absorb<Update<K>, State = ()>,
+{
+    ghost use Rattle.std.specs.Prelude.{◌≡◌, ℕ, replicate};
+
+    ghost Value = { ℕ };
+
+    ghost view = { λ b. b.members };
+
+    ghost invariant = { λ b. (b.members ≡ K.parts) × (b.counts.items ≡ replicate b.members 0) };
+}
+
+impl<K: BoardIdentity> Board<K>
+where
+    Version<K>: Absorb<Update<K>, State = ()>,
+{
+    /// The floor under its lock.
+    pub fn floor(&self) -> &Mutex<Floor<K>> {
+        &self.floor
+    }
+
+    // The floor, once its lock is free. A call is far shorter than the sleep of a thread, so the lock is tried for a
+    // while, with longer and longer pauses, in which the one that has it may call again: what a call touches stays
+    // where it is.
+    pub(crate) fn lock<R: Wait>(&self, rt: &R) -> MutexGuard<'_, Floor<K>> {
+        let backoff = Backoff::new();
+        for tries in 1..=TRIES {
+            if let Some(floor) = self.floor.try_lock() {
+                return floor;
+            }
+            pause(&backoff, tries);
+        }
+        self.floor.lock(rt)
+    }
+
+    /// Ends a board whose day can't be closed, as where a member was lost, and hands out the history so far, which is
+    /// legal. It waits for the looks that still read, and gives back all of the board's other room, the two copies too.
+    /// A board that is dropped gives back all but these.
+    pub fn abandon<R: Wait>(self, rt: &R) -> Vec<Entry>
+        ensures { IsLegal K.config result.items }
+    {
+        let Board {
+            floor,
+            counts: _counts,
+            members: _,
+        } = self;
+        floor.into_inner().end(rt)
+    }
+}

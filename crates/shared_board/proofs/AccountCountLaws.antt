@@ -1,0 +1,17 @@
+-- A member that follows the story, and has counted as many calls as it has of it, is an account of it.
+use Rattle.std.proofs.Common.{◌≡◌, ℕ, List, length, sym, arith}
+use Rattle.auction_terms.specs.declared.Call.{Call}
+use Rattle.board_terms.specs.MemberView.{MemberView, placed_calls}
+use Rattle.board_terms.specs.Closings.{HasSeenBeginning, IsAccount}
+use Rattle.board_terms.proofs.PrefixLaws.{prefix_whole}
+use Rattle.board_terms.proofs.HistoryLaws.{placed_calls-prefix}
+
+pub account_by_count : (n : ℕ) (story : List Call) (m : MemberView) → HasSeenBeginning n story m
+    → m.calls ≡ length (placed_calls story m.number) → IsAccount story m
+account_by_count n story m f counted = record {
+  begins = f.begins;
+  own_calls =
+      sym (prefix_whole m.mine (placed_calls story m.number) (placed_calls-prefix n story m f)
+      (omega (arith, f.count, counted)));
+  count = f.count;
+}

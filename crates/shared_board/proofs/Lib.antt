@@ -1,0 +1,2 @@
+pub mod FirstFloorLaws
+pub mod AccountCountLaws

@@ -1,0 +1,149 @@
+//! The floor, taken out of its lock: what it shows, and the closing, at which the history is handed out and each
+//! member's account is held against it.
+ghost use Rattle.std.specs.Prelude.{◌≡◌, ◌⊎◌, length, IfErr, IfOk, IsTrue, MatchBool};
+ghost use Rattle.auction_terms.specs.Day.{IsLegal, calls_of};
+ghost use Rattle.board_terms.specs.Closings.{IsAccount};
+ghost use Rattle.shared_board.specs.BoardViews.{IsClosingOf, SeesStory, ladder_after, tape_after};
+
+use crate::floor::{BoxedFloor, SharedFloor};
+use crate::member::{Account, BoardFault, SharedMember};
+use auction_terms::{Entry, Trade};
+use board_terms::Closing;
+use std::marker::Model;
+use tick_ladder::Ladder;
+
+/// The floor of a board, taken out of its lock. Contracts see the opening and the history.
+#[derive(Drop)]
+pub struct TakenFloor {
+    room: BoxedFloor,
+}
+
+impl Model for TakenFloor {
+    ghost use Rattle.shared_board.specs.BoardViews.{FloorView};
+
+    ghost Value = { FloorView };
+
+    ghost view = { λ c. c.room.floor.value };
+}
+
+fn closing_of(floor: SharedFloor) -> Closing
+    ensures closed { IsClosingOf floor.board result }
+    ensures history { result.history.items ≡ floor.history }
+{
+    let SharedFloor {
+        history,
+        counted,
+        ..
+    } = floor;
+    Closing {
+        history,
+        calls: counted,
+    }
+}
+
+// Whether what the account has seen begins the story, and it has counted as many calls as the history has of it.
+#[tactic(auto, using(crate::proofs::AccountCountLaws::account_by_count))]
+fn is_account(floor: &SharedFloor, account: &Account) -> bool
+    requires { account.now.board ≡ floor.now.board }
+    ensures { IsTrue result → IsAccount (calls_of floor.now.history) account.now.view }
+{
+    let counted = floor.counted[usize::from(account.number())];
+    account.follows(&floor.front) && account.calls() == counted
+}
+
+impl TakenFloor {
+    /// How many calls were recorded.
+    pub fn calls(&self) -> u32
+        ensures value { result ≡ length self.now.history }
+        ensures legal { IsLegal self.now.board.config self.now.history }
+    {
+        self.room.floor.auction.calls()
+    }
+
+    /// The calls that were recorded, with their replies. They are a legal history.
+    pub fn history(&self) -> &[Entry]
+        ensures value { result.now ≡ self.now.history }
+        ensures legal { IsLegal self.now.board.config self.now.history }
+    {
+        self.room.floor.history.as_slice()
+    }
+
+    /// The quantities of the orders that count, tick by tick.
+    pub fn ladder(&self) -> &Ladder
+        ensures { result.now ≡ ladder_after self.now.board.config (calls_of self.now.history) }
+    {
+        self.room.floor.auction.ladder()
+    }
+
+    /// The trades of the day so far.
+    pub fn tape(&self) -> &[Trade]
+        ensures { result.now ≡ tape_after self.now.board.config (calls_of self.now.history) }
+    {
+        self.room.floor.auction.tape()
+    }
+
+    /// The history with the counts of the members.
+    ///
+    /// The history is one of the plain auction of one thread; it has exactly as many entries as the counts add up to,
+    /// and each count is that of the entries with its number.
+    pub fn into_closing(self) -> Closing
+        ensures closed { IsClosingOf self.board result }
+        ensures history { result.history.items ≡ self.history }
+    {
+        let TakenFloor { room } = self;
+        let BoxedFloor { floor } = room;
+        closing_of(Box::into_inner(floor))
+    }
+}
+
+impl SharedMember {
+    /// Takes the floor out of the lock, if no other call has it. Then `give_floor` gives it back, or `shut` ends the
+    /// board.
+    pub fn take_floor(&mut self) -> Result<TakenFloor, BoardFault>
+        ensures member { self.new ≡ self.old }
+        ensures board { IfOk result (λ floor. floor.board ≡ self.old.board) }
+        ensures fault { IfErr result (λ f. (f ≡ BoardFault.Busy) ⊎ (f ≡ BoardFault.Closed)) }
+    {
+        match self.shared.take() {
+            Ok(room) => Ok(TakenFloor { room }),
+            Err(fault) => Err(fault),
+        }
+    }
+
+    /// Gives the floor back.
+    pub fn give_floor(&mut self, floor: TakenFloor)
+        requires { floor.board ≡ self.old.board }
+        ensures { self.new ≡ self.old }
+    {
+        let TakenFloor { room } = floor;
+        self.shared.give(room);
+    }
+
+    /// Ends the board, whose floor was taken: each call finds it closed.
+    pub fn shut(&mut self)
+        ensures { self.new ≡ self.old }
+    {
+        self.shared.shut();
+    }
+
+    /// Takes in all calls of the floor, and says whether they are no fewer than the member has seen. Else it is behind.
+    pub fn see(&mut self, floor: &TakenFloor) -> bool
+        requires { floor.now.board ≡ self.old.board }
+        ensures board { self.new.board ≡ self.old.board }
+        ensures seen { MatchBool result (SeesStory (calls_of floor.now.history) self.old.view self.new.view)
+            (self.new ≡ self.old) }
+    {
+        let view = floor.room.floor.shown();
+        self.account.see(view)
+    }
+
+    /// Whether all that this member has seen begins the history's calls, and the history's calls of its number are its
+    /// own.
+    pub fn is_settled(&self, floor: &TakenFloor) -> bool
+        requires { self.now.board ≡ floor.now.board }
+        ensures { IsTrue result → IsAccount (calls_of floor.now.history) self.now.view }
+    {
+        let account = &self.account;
+        is_account(&floor.room.floor, account)
+    }
+}

@@ -1,0 +1,171 @@
+//! What the members of a board share: the lock round the floor, and the copies that looks read.
+ghost use Rattle.std.specs.Prelude.{◌≡◌, ◌<◌, ◌⊎◌, All, IfSome, IfErr, IfOk};
+ghost use Rattle.shared_board.specs.BoardViews.{IsViewOf};
+
+use crate::floor::BoxedFloor;
+use crate::member::BoardFault;
+use crate::view::View;
+use counted_slot::{Counted, FREE, MARKED, MOST_READERS, ONE_READER, PRESENT, TAKEN};
+use std::hint::spin_loop;
+use std::sync::atomic::AtomicU64;
+use std::sync::atomic::Ordering::SeqCst;
+
+/// How often a call tries a lock that another call has.
+const TRIES: u32 = 1000;
+
+/// How often a look tries a copy that is just being written.
+const LOOKS: u32 = 100;
+
+/// The word of the lock while a call has the floor.
+const LENT: u64 = PRESENT;
+
+/// The word of the lock once the board was closed.
+const CLOSED: u64 = MARKED;
+
+/// The word of the lock is `FREE` while the floor is in it.
+#[derive(Drop)]
+pub(crate) struct Shared {
+    pub(crate) floor: Counted<Option<BoxedFloor>>,
+    pub(crate) copies: Vec<Counted<Option<View>>>,
+    pub(crate) newest: AtomicU64,
+    ghost same: { All (λ p. p ≡ floor) copies.items },
+}
+
+// Changes the word of the slot and gets what is in it, where the word is as it was.
+fn swap_floor(
+    slot: &Counted<Option<BoxedFloor>>,
+    old: u64,
+    room: Option<BoxedFloor>,
+    new: u64,
+) -> Result<Option<BoxedFloor>, Option<BoxedFloor>>
+    requires words { (old < 2) × (new < 3) }
+    requires fits { IfSome room (λ r. r.floor.value.board ≡ slot.now) }
+    ensures { IfOk result (λ x. IfSome x (λ r. r.floor.value.board ≡ slot.now)) }
+{
+    let (found, claim) = slot.turn(old, TAKEN);
+    if found != old {
+        claim.done();
+        return Err(room);
+    }
+    Ok(claim.put(room, new))
+}
+
+impl Shared {
+    /// The floor, if no other call has it, or gives it back soon.
+    pub(crate) fn take(&self) -> Result<BoxedFloor, BoardFault>
+        ensures floor { IfOk result (λ room. room.floor.value.board ≡ self.now.floor) }
+        ensures fault { IfErr result (λ f. (f ≡ BoardFault.Busy) ⊎ (f ≡ BoardFault.Closed)) }
+    {
+        for _ in 0..TRIES {
+            let word = self.floor.load();
+            if word == CLOSED {
+                return Err(BoardFault::Closed);
+            }
+            if word == FREE {
+                if let Ok(Some(room)) = swap_floor(&self.floor, FREE, None, LENT) {
+                    return Ok(room);
+                }
+            }
+            spin_loop();
+        }
+        Err(BoardFault::Busy)
+    }
+
+    /// Keeps the floor out for good, once it was taken.
+    pub(crate) fn shut(&self) {
+        let _ = swap_floor(&self.floor, LENT, None, CLOSED);
+    }
+
+    /// Gives the floor back. It alone changes the word while the floor is lent, so this succeeds always.
+    pub(crate) fn give(&self, room: BoxedFloor)
+        requires { room.floor.value.board ≡ self.now.floor }
+    {
+        let _ = swap_floor(&self.floor, LENT, Some(room), FREE);
+    }
+
+    /// Writes what is shown now into a copy that nobody reads, and names it the newest. There are more copies than
+    /// members, so there is one.
+    pub(crate) fn publish(&self, view: View)
+        requires { IsViewOf self.now.floor view.front view.shown }
+    {
+        let newest = self.newest.load(SeqCst) % 256;
+        let calls = u64::from(view.shown.calls);
+        let mut view = view;
+        for i in 0..self.copies.len() {
+            let at = (newest as usize % self.copies.len() + 1 + i) % self.copies.len();
+            match write_copy(&self.copies[at], view) {
+                None => {
+                    self.newest.store(calls * 256 + at as u64 % 256, SeqCst);
+                    return;
+                }
+                Some(back) => view = back,
+            }
+        }
+    }
+
+    /// The newest copy, unless it shows just so many calls.
+    pub(crate) fn newest(&self, seen: u32) -> Option<View>
+        ensures { IfSome result (λ v. IsViewOf self.now.floor v.front v.shown) }
+    {
+        for _ in 0..LOOKS {
+            let word = self.newest.load(SeqCst);
+            if word / 256 == u64::from(seen) {
+                return None;
+            }
+            let at = (word % 256) as usize;
+            if at < self.copies.len() {
+                let view = read_copy(&self.copies[at]);
+                if view.is_some() {
+                    return view;
+                }
+            }
+            spin_loop();
+        }
+        None
+    }
+}
+
+// Writes the view into the copy, or gives it back where somebody reads or writes the copy.
+fn write_copy(slot: &Counted<Option<View>>, view: View) -> Option<View>
+    requires { IsViewOf slot.now view.front view.shown }
+    ensures { IfSome result (λ v. v ≡ view) }
+{
+    let seen = slot.load();
+    if seen % 4 == TAKEN || seen % 0x1_0000_0000 / 4 != 0 {
+        return Some(view);
+    }
+    let (found, claim) = slot.turn(seen, TAKEN);
+    if found != seen {
+        claim.done();
+        return Some(view);
+    }
+    claim.put(Some(view), PRESENT);
+    None
+}
+
+// Reads the copy, where nobody writes it.
+fn read_copy(slot: &Counted<Option<View>>) -> Option<View>
+    ensures { IfSome result (λ v. IsViewOf slot.now v.front v.shown) }
+{
+    let seen = slot.load();
+    if seen % 4 != PRESENT || seen % 0x1_0000_0000 / 4 == MOST_READERS {
+        return None;
+    }
+    let (found, claim) = slot.turn(seen, seen + ONE_READER);
+    if found != seen {
+        claim.done();
+        return None;
+    }
+    let view = copied(claim.get());
+    claim.leave();
+    view
+}
+
+fn copied(view: &Option<View>) -> Option<View>
+    ensures { result ≡ view.now }
+{
+    match view {
+        Some(view) => Some(view.again()),
+        None => None,
+    }
+}

@@ -1,0 +1,620 @@
+// callauction.h in C++17: owning classes, optional limits, results by value. Header only; link libcallauction.
+//
+// An Auction is for one thread at a time. A Board is one auction for many members, who call at once: each Member goes
+// to a thread of its own, and the Board outlives them. What a command does, when it is refused and what it is answered
+// is said in docs/MODEL.md, what each call does in callauction.h. Limits and prices are ticks, quantities whole shares.
+//
+// A call answers a Result: a value, or the Error that callauction.h names. Nothing throws, but for memory:
+// std::bad_alloc where memory is refused. Numbers are given as std::int64_t and looked at: where one doesn't fit its
+// field of a struct, as 256 for a member, the call answers Error::no_command, or Error::no_config, and does nothing.
+#ifndef CALLAUCTION_HPP
+#define CALLAUCTION_HPP
+
+#include <callauction.h>
+
+#include <cstddef>
+#include <cstdint>
+#include <limits>
+#include <memory>
+#include <mutex>
+#include <new>
+#include <optional>
+#include <thread>
+#include <utility>
+#include <variant>
+#include <vector>
+
+namespace callauction {
+
+// ---- numbers
+
+enum class Error : std::uint32_t {
+    bad_bounds = CALLAUCTION_ERROR_BAD_BOUNDS,
+    bad_reference = CALLAUCTION_ERROR_BAD_REFERENCE,
+    bad_capacity = CALLAUCTION_ERROR_BAD_CAPACITY,
+    in_use = CALLAUCTION_ERROR_IN_USE,
+    no_auction = CALLAUCTION_ERROR_NO_AUCTION,
+    no_command = CALLAUCTION_ERROR_NO_COMMAND,
+    full = CALLAUCTION_ERROR_FULL,
+    bad_length = CALLAUCTION_ERROR_BAD_LENGTH,
+    no_config = CALLAUCTION_ERROR_NO_CONFIG,
+    busy = CALLAUCTION_ERROR_BUSY,
+    behind = CALLAUCTION_ERROR_BEHIND,
+    closed = CALLAUCTION_ERROR_CLOSED,
+    no_member = CALLAUCTION_ERROR_NO_MEMBER,
+    missing_member = CALLAUCTION_ERROR_MISSING_MEMBER,
+    overtaken = CALLAUCTION_ERROR_OVERTAKEN
+};
+
+enum class Side : std::uint8_t {
+    none = CALLAUCTION_SIDE_NONE,
+    bid = CALLAUCTION_SIDE_BID,
+    ask = CALLAUCTION_SIDE_ASK
+};
+
+enum class Restriction : std::uint8_t {
+    none = CALLAUCTION_RESTRICTION_NONE,
+    opening_only = CALLAUCTION_RESTRICTION_OPENING_ONLY,
+    closing_only = CALLAUCTION_RESTRICTION_CLOSING_ONLY
+};
+
+enum class AuctionKind : std::uint8_t {
+    opening = CALLAUCTION_AUCTION_OPENING,
+    intraday = CALLAUCTION_AUCTION_INTRADAY,
+    closing = CALLAUCTION_AUCTION_CLOSING
+};
+
+enum class Refusal : std::uint8_t {
+    bad_quantity = CALLAUCTION_REFUSAL_BAD_QUANTITY,
+    bad_limit = CALLAUCTION_REFUSAL_BAD_LIMIT,
+    bad_peak = CALLAUCTION_REFUSAL_BAD_PEAK,
+    book_full = CALLAUCTION_REFUSAL_BOOK_FULL,
+    unknown_order = CALLAUCTION_REFUSAL_UNKNOWN_ORDER,
+    not_operator = CALLAUCTION_REFUSAL_NOT_OPERATOR,
+    day_over = CALLAUCTION_REFUSAL_DAY_OVER,
+    no_such_trade = CALLAUCTION_REFUSAL_NO_SUCH_TRADE,
+    past_auction = CALLAUCTION_REFUSAL_PAST_AUCTION
+};
+
+// One line of English, without a full stop.
+inline const char *text(Error error) { return callauction_error_text(static_cast<std::uint32_t>(error)); }
+inline const char *text(Refusal refusal) { return callauction_refusal_text(static_cast<std::uint32_t>(refusal)); }
+
+// ---- results
+
+// A value, or why there is none.
+template <typename T> class [[nodiscard]] Result {
+public:
+    Result(T value) : answer_(std::in_place_index<0>, std::move(value)) {}
+    Result(Error error) : answer_(std::in_place_index<1>, error) {}
+
+    bool has_value() const { return answer_.index() == 0; }
+    explicit operator bool() const { return has_value(); }
+
+    // The value, where there is one; undefined else, as of std::optional.
+    T &operator*() & { return *std::get_if<0>(&answer_); }
+    const T &operator*() const & { return *std::get_if<0>(&answer_); }
+    T &&operator*() && { return std::move(*std::get_if<0>(&answer_)); }
+    T *operator->() { return std::get_if<0>(&answer_); }
+    const T *operator->() const { return std::get_if<0>(&answer_); }
+
+    // The error, where there is no value; undefined else.
+    Error error() const { return *std::get_if<1>(&answer_); }
+
+private:
+    std::variant<T, Error> answer_;
+};
+
+struct Done {};
+
+// Structs one after another, which somebody else owns.
+template <typename T> class Span {
+public:
+    Span(T *data, std::size_t size) : data_(data), size_(size) {}
+    template <typename Container> Span(Container &owner) : data_(owner.data()), size_(owner.size()) {}
+
+    T *data() const { return data_; }
+    std::size_t size() const { return size_; }
+    T *begin() const { return data_; }
+    T *end() const { return data_ + size_; }
+    T &operator[](std::size_t place) const { return data_[place]; }
+
+private:
+    T *data_;
+    std::size_t size_;
+};
+
+// ---- what an auction is opened with, commands, replies
+
+struct Config {
+    std::int64_t low = 1, high = 1000;         // ticks
+    std::int64_t reference = 200;              // the first reference price, a tick
+    std::int64_t max_open = 4096;              // orders that may be open at a time
+    std::int64_t max_calls = 65536;            // commands that may be applied
+    std::optional<std::int64_t> range = {};    // one more than so many ticks from the reference interrupts an uncross
+};
+
+// A limit of nothing is a market order's, a peak makes an iceberg order.
+struct Enter {
+    Side side;
+    std::int64_t quantity;
+    std::optional<std::int64_t> limit = {};
+    std::optional<std::int64_t> peak = {};
+    Restriction restriction = Restriction::none;
+};
+
+struct Change {
+    std::int64_t id;
+    std::int64_t quantity;
+    std::optional<std::int64_t> limit = {};
+};
+
+struct Delete {
+    std::int64_t id;
+};
+
+struct OrderStatus {
+    std::int64_t id;
+};
+
+struct Indicate {};
+
+struct ReadTrade {
+    std::int64_t number; // from 1 on
+};
+
+struct Uncross {};
+
+using Command = std::variant<Enter, Change, Delete, OrderStatus, Indicate, ReadTrade, Uncross>;
+
+struct Entered {
+    std::uint32_t id;
+};
+
+struct Changed {
+    bool kept; // its place in time
+};
+
+struct Deleted {};
+
+struct OpenOrder {
+    Side side;
+    std::uint64_t quantity, visible; // open shares, and those that are shown
+    std::optional<std::uint32_t> limit;
+};
+
+struct Price {
+    std::uint32_t tick;
+    std::uint64_t volume, surplus;
+    Side side; // of the surplus
+};
+
+struct NoPrice {
+    std::optional<std::uint32_t> best_bid, best_ask;
+};
+
+struct Traded {
+    std::uint32_t bid, ask; // ids of the orders
+    std::uint64_t quantity;
+    std::uint32_t tick;
+};
+
+struct Uncrossed {
+    AuctionKind auction;
+    std::optional<Price> price;
+    std::uint32_t trades;
+};
+
+struct Interrupted {
+    Price price;
+};
+
+using Reply
+    = std::variant<Entered, Changed, Deleted, OpenOrder, Price, NoPrice, Traded, Uncrossed, Interrupted, Refusal>;
+using Display = std::variant<Price, NoPrice>;
+
+// ---- between these and the structs of callauction.h
+
+namespace detail {
+
+// What a call answered: nothing where it was done. Throws std::bad_alloc where memory was refused.
+inline std::optional<Error> error_of(std::uint32_t answer) {
+    if (answer == CALLAUCTION_DONE) return std::nullopt;
+    if (answer == CALLAUCTION_ERROR_NO_MEMORY) throw std::bad_alloc();
+    return static_cast<Error>(answer);
+}
+
+// Puts a number into a field; whether it fits.
+template <typename Field> bool fits(std::int64_t number, Field &field) {
+    if (number < 0 || static_cast<std::uint64_t>(number) > std::numeric_limits<Field>::max()) return false;
+    field = static_cast<Field>(number);
+    return true;
+}
+
+template <typename Field> bool fits(const std::optional<std::int64_t> &number, std::uint8_t &flag, Field &field) {
+    flag = number ? 1 : 0;
+    return !number || fits(*number, field);
+}
+
+// Fills a struct of zeros; whether all numbers fit.
+struct Filling {
+    callauction_command &to;
+
+    bool operator()(const Enter &from) const {
+        to.tag = CALLAUCTION_COMMAND_ENTER;
+        to.side = static_cast<std::uint8_t>(from.side);
+        to.restriction = static_cast<std::uint8_t>(from.restriction);
+        return fits(from.quantity, to.quantity) && fits(from.limit, to.has_limit, to.limit)
+            && fits(from.peak, to.has_peak, to.peak);
+    }
+    bool operator()(const Change &from) const {
+        to.tag = CALLAUCTION_COMMAND_CHANGE;
+        return fits(from.id, to.id) && fits(from.quantity, to.quantity) && fits(from.limit, to.has_limit, to.limit);
+    }
+    bool operator()(const Delete &from) const {
+        to.tag = CALLAUCTION_COMMAND_DELETE;
+        return fits(from.id, to.id);
+    }
+    bool operator()(const OrderStatus &from) const {
+        to.tag = CALLAUCTION_COMMAND_ORDER_STATUS;
+        return fits(from.id, to.id);
+    }
+    bool operator()(const Indicate &) const {
+        to.tag = CALLAUCTION_COMMAND_INDICATE;
+        return true;
+    }
+    bool operator()(const ReadTrade &from) const {
+        to.tag = CALLAUCTION_COMMAND_READ_TRADE;
+        return fits(from.number, to.id);
+    }
+    bool operator()(const Uncross &) const {
+        to.tag = CALLAUCTION_COMMAND_UNCROSS;
+        return true;
+    }
+};
+
+inline std::optional<std::uint32_t> given(std::uint8_t flag, std::uint32_t tick) {
+    return flag ? std::optional<std::uint32_t>(tick) : std::nullopt;
+}
+
+inline NoPrice no_price_of(const callauction_reply &from) {
+    return NoPrice{given(from.has_best_bid, from.best_bid), given(from.has_best_ask, from.best_ask)};
+}
+
+inline Price price_of(const callauction_reply &from) {
+    return Price{from.tick, from.volume, from.surplus, static_cast<Side>(from.side)};
+}
+
+inline Uncrossed uncrossed_of(const callauction_reply &from) {
+    const auto price = from.has_tick ? std::optional<Price>(price_of(from)) : std::nullopt;
+    return Uncrossed{static_cast<AuctionKind>(from.auction), price, from.trades};
+}
+
+inline bool config_fits(const Config &from, callauction_config &to) {
+    to.has_range = from.range ? 1 : 0;
+    return fits(from.low, to.low) && fits(from.high, to.high) && fits(from.reference, to.reference)
+        && fits(from.max_open, to.max_open) && fits(from.max_calls, to.max_calls)
+        && (!from.range || fits(*from.range, to.range));
+}
+
+inline Config config_of(const callauction_config &from) {
+    Config config{from.low, from.high, from.reference, from.max_open, from.max_calls, {}};
+    if (from.has_range) config.range = from.range;
+    return config;
+}
+
+} // namespace detail
+
+// A command of a member as a struct, for calls that take many. Error::no_command where a number doesn't fit.
+inline Result<callauction_command> struct_of(std::int64_t member, const Command &command) {
+    callauction_command made{};
+    if (!detail::fits(member, made.member) || !std::visit(detail::Filling{made}, command)) return Error::no_command;
+    return made;
+}
+
+// The reply of a struct that the library wrote.
+inline Reply reply_of(const callauction_reply &from) {
+    switch (from.tag) {
+    case CALLAUCTION_REPLY_ENTERED: return Entered{from.id};
+    case CALLAUCTION_REPLY_CHANGED: return Changed{from.kept != 0};
+    case CALLAUCTION_REPLY_DELETED: return Deleted{};
+    case CALLAUCTION_REPLY_OPEN_ORDER: {
+        const auto limit = detail::given(from.has_tick, from.tick);
+        return OpenOrder{static_cast<Side>(from.side), from.quantity, from.visible, limit};
+    }
+    case CALLAUCTION_REPLY_PRICED: return detail::price_of(from);
+    case CALLAUCTION_REPLY_UNPRICED: return detail::no_price_of(from);
+    case CALLAUCTION_REPLY_TRADED: return Traded{from.id, from.ask, from.quantity, from.tick};
+    case CALLAUCTION_REPLY_UNCROSSED: return detail::uncrossed_of(from);
+    case CALLAUCTION_REPLY_INTERRUPTED: return Interrupted{detail::price_of(from)};
+    default: return static_cast<Refusal>(from.refusal);
+    }
+}
+
+inline Display display_of(const callauction_reply &from) {
+    if (from.tag == CALLAUCTION_REPLY_PRICED) return detail::price_of(from);
+    return detail::no_price_of(from);
+}
+
+// The shares bid and offered by the orders that count, with a limit at each tick from low to high, and those of the
+// market orders; after as many calls as `calls` says.
+struct Ladder {
+    std::vector<std::uint64_t> bids, asks;
+    callauction_market market;
+    std::uint32_t calls;
+};
+
+// ---- an auction of one thread
+
+class Auction {
+public:
+    static Result<Auction> open(const Config &config) {
+        callauction_config given{};
+        if (!detail::config_fits(config, given)) return Error::no_config;
+        Auction made;
+        if (const auto error = detail::error_of(callauction_open(&made.handle_, &given))) return *error;
+        return made;
+    }
+
+    Auction(Auction &&other) noexcept : handle_(std::exchange(other.handle_, callauction_handle{})) {}
+    Auction &operator=(Auction &&other) noexcept {
+        if (this != &other) {
+            callauction_close(&handle_);
+            handle_ = std::exchange(other.handle_, callauction_handle{});
+        }
+        return *this;
+    }
+    Auction(const Auction &) = delete;
+    Auction &operator=(const Auction &) = delete;
+    ~Auction() { callauction_close(&handle_); }
+
+    Result<Reply> apply(std::int64_t member, const Command &command) {
+        const auto given = struct_of(member, command);
+        if (!given) return given.error();
+        callauction_reply reply;
+        if (const auto error = detail::error_of(callauction_apply(&handle_, &*given, &reply))) return *error;
+        return reply_of(reply);
+    }
+
+    // Applies structs one after another, and writes their replies, as many of each: how many were applied, and the
+    // error that the next one had.
+    std::pair<std::size_t, std::optional<Error>> apply_many(
+        Span<const callauction_command> commands, Span<callauction_reply> replies) {
+        std::size_t applied = 0;
+        const auto answer = callauction_apply_many(
+            &handle_, commands.data(), commands.size(), replies.data(), replies.size(), &applied);
+        return {applied, detail::error_of(answer)};
+    }
+
+    Result<Display> display() const {
+        callauction_reply shown;
+        if (const auto error = detail::error_of(callauction_display(&handle_, &shown))) return *error;
+        return display_of(shown);
+    }
+
+    Result<Ladder> ladder() const {
+        const auto config = this->config();
+        if (!config) return config.error();
+        const auto ticks = static_cast<std::size_t>(config->high - config->low + 1);
+        Ladder found{std::vector<std::uint64_t>(ticks), std::vector<std::uint64_t>(ticks), {}, 0};
+        const auto answer = callauction_ladder(
+            &handle_, found.bids.data(), ticks, found.asks.data(), ticks, &found.market);
+        if (const auto error = detail::error_of(answer)) return *error;
+        const auto counted = calls();
+        if (!counted) return counted.error();
+        found.calls = *counted;
+        return found;
+    }
+
+    // The trades of the day after the first `seen`.
+    Result<std::vector<callauction_trade>> trades(std::size_t seen = 0) const {
+        std::vector<callauction_trade> found;
+        for (std::size_t copied = at_once; copied == at_once;) {
+            const std::size_t had = found.size();
+            found.resize(had + at_once);
+            const auto answer = callauction_trades(&handle_, seen + had, found.data() + had, at_once, &copied);
+            if (const auto error = detail::error_of(answer)) return *error;
+            found.resize(had + copied);
+        }
+        return found;
+    }
+
+    Result<std::uint32_t> calls() const {
+        std::uint32_t found = 0;
+        if (const auto error = detail::error_of(callauction_calls(&handle_, &found))) return *error;
+        return found;
+    }
+
+    Result<Config> config() const {
+        callauction_config found;
+        if (const auto error = detail::error_of(callauction_config_of(&handle_, &found))) return *error;
+        return detail::config_of(found);
+    }
+
+    // An auction of its own, as this one is now.
+    Result<Auction> clone() const {
+        Auction made;
+        if (const auto error = detail::error_of(callauction_clone(&handle_, &made.handle_))) return *error;
+        return made;
+    }
+
+    // Goes back to the opening.
+    Result<Done> reset() {
+        if (const auto error = detail::error_of(callauction_reset(&handle_))) return *error;
+        return Done{};
+    }
+
+private:
+    static constexpr std::size_t at_once = 1024;
+
+    Auction() = default;
+
+    callauction_handle handle_{};
+};
+
+// ---- a board
+
+// The number of a call in the board's history, from 1 on, and its reply.
+struct Receipt {
+    std::uint32_t number;
+    Reply reply;
+};
+
+// How many calls a board has had, and what is shown after them.
+struct Shown {
+    std::uint32_t calls;
+    Display display;
+};
+
+// The history of a board that was closed, and how many calls each member has in it.
+struct Closing {
+    std::vector<callauction_entry> entries;
+    std::vector<std::uint32_t> counts;
+};
+
+class Board;
+
+// A member of a board: one thread at a time has it, and its board outlives it.
+class Member {
+public:
+    // Records a command in the board's history. Error::busy where another call had the board at each of some hundred
+    // tries.
+    Result<Receipt> call(const Command &command) {
+        const auto given = struct_of(0, command);
+        if (!given) return given.error();
+        return call(*given);
+    }
+
+    // The same, but waits while another call has the board: its thread sleeps at a mutex of the board, on which no
+    // proof rests.
+    Result<Receipt> call_waiting(const Command &command) {
+        const auto given = struct_of(0, command);
+        if (!given) return given.error();
+        for (;;) {
+            {
+                const std::lock_guard<std::mutex> waits(*mutex_);
+                const auto found = call(*given);
+                if (found || found.error() != Error::busy) return found;
+            }
+            std::this_thread::yield();
+        }
+    }
+
+    // What is shown. It takes no lock, waits for nobody, and never goes back.
+    Result<Shown> look() {
+        callauction_shown shown;
+        if (const auto error = detail::error_of(callauction_board_look(handle_, &shown))) return *error;
+        return Shown{shown.calls, display_of(shown.display)};
+    }
+
+    Result<Ladder> ladder() {
+        callauction_config config;
+        if (const auto error = detail::error_of(callauction_board_config_of(handle_, &config))) return *error;
+        const std::size_t ticks = config.high - config.low + 1;
+        Ladder found{std::vector<std::uint64_t>(ticks), std::vector<std::uint64_t>(ticks), {}, 0};
+        const auto answer = callauction_board_ladder(
+            handle_, found.bids.data(), ticks, found.asks.data(), ticks, &found.market, &found.calls);
+        if (const auto error = detail::error_of(answer)) return *error;
+        return found;
+    }
+
+    // Copies the trades of the day after the first `seen`, as many as fit: how many.
+    Result<std::size_t> trades(std::size_t seen, Span<callauction_trade> trades) {
+        std::size_t copied = 0;
+        std::uint32_t calls = 0;
+        const auto answer = callauction_board_trades(handle_, seen, trades.data(), trades.size(), &copied, &calls);
+        if (const auto error = detail::error_of(answer)) return *error;
+        return copied;
+    }
+
+    // Copies the entries of the board's history after the first `seen`, as many as fit: how many.
+    Result<std::size_t> history(std::size_t seen, Span<callauction_entry> entries) {
+        std::size_t copied = 0;
+        const auto answer = callauction_board_history(handle_, seen, entries.data(), entries.size(), &copied);
+        if (const auto error = detail::error_of(answer)) return *error;
+        return copied;
+    }
+
+    // How many calls of this member were recorded.
+    Result<std::uint32_t> calls() const {
+        std::uint32_t found = 0;
+        if (const auto error = detail::error_of(callauction_board_calls(handle_, &found))) return *error;
+        return found;
+    }
+
+private:
+    friend class Board;
+
+    Member(callauction_member *handle, std::mutex *mutex) : handle_(handle), mutex_(mutex) {}
+
+    Result<Receipt> call(const callauction_command &command) {
+        callauction_receipt receipt;
+        if (const auto error = detail::error_of(callauction_board_call(handle_, &command, &receipt))) return *error;
+        return Receipt{receipt.number, reply_of(receipt.reply)};
+    }
+
+    callauction_member *handle_;
+    std::mutex *mutex_;
+};
+
+class Board {
+public:
+    static Result<Board> open(std::size_t members, const Config &config) {
+        callauction_config given{};
+        if (!detail::config_fits(config, given)) return Error::no_config;
+        Board made(members);
+        const auto answer = callauction_board_open(made.handles_.get(), members, &given);
+        if (const auto error = detail::error_of(answer)) return *error;
+        return made;
+    }
+
+    Board(Board &&other) noexcept
+        : count_(std::exchange(other.count_, 0)), handles_(std::move(other.handles_)), mutex_(std::move(other.mutex_)) {}
+    Board &operator=(Board &&other) noexcept {
+        if (this != &other) {
+            leave();
+            count_ = std::exchange(other.count_, 0);
+            handles_ = std::move(other.handles_);
+            mutex_ = std::move(other.mutex_);
+        }
+        return *this;
+    }
+    Board(const Board &) = delete;
+    Board &operator=(const Board &) = delete;
+    ~Board() { leave(); }
+
+    std::size_t members() const { return count_; }
+
+    // A member by its number, which is below members(). Member 0 is the operator. Moving the board leaves it as it is.
+    Member member(std::size_t number) { return Member(&handles_[number], mutex_.get()); }
+
+    // Closes the board, when no member calls any more. Calls answer Error::closed from then on.
+    Result<Closing> close() {
+        callauction_config config;
+        if (count_ == 0) return Error::no_member;
+        if (const auto error = detail::error_of(callauction_board_config_of(&handles_[0], &config))) return *error;
+        Closing found{std::vector<callauction_entry>(config.max_calls), std::vector<std::uint32_t>(count_)};
+        std::size_t written = 0;
+        const auto answer = callauction_board_close(handles_.get(), count_, found.entries.data(), found.entries.size(),
+            found.counts.data(), count_, &written);
+        if (const auto error = detail::error_of(answer)) return *error;
+        found.entries.resize(written);
+        return found;
+    }
+
+private:
+    explicit Board(std::size_t members)
+        : count_(members), handles_(new callauction_member[members]{}), mutex_(new std::mutex) {}
+
+    void leave() noexcept {
+        for (std::size_t number = 0; handles_ && number < count_; number++) callauction_board_leave(&handles_[number]);
+    }
+
+    std::size_t count_;
+    std::unique_ptr<callauction_member[]> handles_;
+    std::unique_ptr<std::mutex> mutex_;
+};
+
+} // namespace callauction
+
+#endif

@@ -1,0 +1,247 @@
+/* A board that threads call at once: `boards [THREADS CALLS LOOKS SEED]`. The history, the receipts, the looks and the
+ * counts are held against one another and against a replay by an auction of one thread. */
+#include "callauction.h"
+#include <pthread.h>
+#include <stdatomic.h>
+#include <stdio.h>
+#include <stdlib.h>
+#include <string.h>
+#include <sched.h>
+
+#define WANT(holds)                                                           \
+    do {                                                                      \
+        if (!(holds)) {                                                       \
+            fprintf(stderr, "%s:%d: not so: %s\n", __FILE__, __LINE__, #holds); \
+            exit(1);                                                          \
+        }                                                                     \
+    } while (0)
+
+typedef struct work {
+    callauction_member *member;
+    uint32_t calls, looks;
+    uint64_t seed;
+    callauction_command *commands;
+    callauction_receipt *receipts;
+    callauction_shown *shown; /* `looks` after each call */
+    uint32_t *own;            /* the ids of its open orders, as far as it knows */
+    uint32_t open;
+} work;
+
+static atomic_bool go;
+
+static uint32_t drawn(uint64_t *seed, uint32_t below) {
+    *seed = *seed * 6364136223846793005u + 1442695040888963407u;
+    return (uint32_t)(*seed >> 33) % below;
+}
+
+/* An entry, a change or a deletion of an own order, or a question; the struct's member isn't read by a board. */
+static callauction_command drawn_command(work *of) {
+    callauction_command command = {.member = 77, .quantity = 1 + drawn(&of->seed, 900)};
+    uint32_t roll = drawn(&of->seed, 100);
+    if (roll < 55 || of->open == 0) {
+        command.tag = CALLAUCTION_COMMAND_ENTER;
+        command.side = (uint8_t)(1 + drawn(&of->seed, 2));
+        command.has_limit = drawn(&of->seed, 8) != 0;
+        if (command.has_limit) command.limit = 150 + drawn(&of->seed, 100);
+        return command;
+    }
+    uint32_t at = drawn(&of->seed, of->open);
+    command.id = of->own[at];
+    if (roll < 70) {
+        command.tag = CALLAUCTION_COMMAND_CHANGE;
+        command.has_limit = 1;
+        command.limit = 150 + drawn(&of->seed, 100);
+    } else if (roll < 92) {
+        command.tag = CALLAUCTION_COMMAND_DELETE;
+        of->own[at] = of->own[--of->open];
+    } else {
+        command.tag = roll < 96 ? CALLAUCTION_COMMAND_INDICATE : CALLAUCTION_COMMAND_ORDER_STATUS;
+    }
+    return command;
+}
+
+static void *play(void *argument) {
+    work *of = argument;
+    while (!atomic_load(&go)) sched_yield();
+    for (uint32_t i = 0; i < of->calls; i++) {
+        uint32_t answer;
+        of->commands[i] = drawn_command(of);
+        while ((answer = callauction_board_call(of->member, &of->commands[i], &of->receipts[i])) ==
+               CALLAUCTION_ERROR_BUSY)
+            sched_yield();
+        WANT(answer == CALLAUCTION_DONE);
+        if (of->receipts[i].reply.tag == CALLAUCTION_REPLY_ENTERED) of->own[of->open++] = of->receipts[i].reply.id;
+        for (uint32_t k = 0; k < of->looks; k++)
+            WANT(callauction_board_look(of->member, &of->shown[i * of->looks + k]) == CALLAUCTION_DONE);
+    }
+    return NULL;
+}
+
+/* The entries from number 1 on, read in pieces by one member while the others call. */
+static size_t read_while_called(callauction_member *member, callauction_entry *entries, size_t room) {
+    size_t read = 0, copied = 0;
+    for (int i = 0; i < 200 && read < room; i++) {
+        uint32_t answer = callauction_board_history(member, read, entries + read, room - read, &copied);
+        if (answer == CALLAUCTION_ERROR_BUSY) continue;
+        WANT(answer == CALLAUCTION_DONE);
+        read += copied;
+        sched_yield();
+    }
+    return read;
+}
+
+/* What a handle of zeros answers, and which boards can't be opened. */
+static void edges(const callauction_config *config) {
+    callauction_member none = {0}, three[3] = {{0}}, many[65] = {{0}};
+    callauction_command indicate = {.tag = CALLAUCTION_COMMAND_INDICATE};
+    callauction_config bad = *config;
+    callauction_receipt receipt = {.number = 7};
+    callauction_shown shown = {.calls = 7};
+    uint32_t calls = 7;
+    WANT(callauction_board_call(&none, &indicate, &receipt) == CALLAUCTION_ERROR_NO_MEMBER && receipt.number == 7);
+    WANT(callauction_board_look(&none, &shown) == CALLAUCTION_ERROR_NO_MEMBER && shown.calls == 7);
+    WANT(callauction_board_calls(&none, &calls) == CALLAUCTION_ERROR_NO_MEMBER && calls == 7);
+    WANT(callauction_board_leave(&none) == CALLAUCTION_ERROR_NO_MEMBER);
+    WANT(callauction_board_open(three, 0, config) == CALLAUCTION_ERROR_BAD_CAPACITY);
+    WANT(callauction_board_open(many, 65, config) == CALLAUCTION_ERROR_BAD_CAPACITY);
+    bad.low = 0;
+    WANT(callauction_board_open(many, 65, &bad) == CALLAUCTION_ERROR_BAD_BOUNDS);
+    bad.range = 3;
+    WANT(callauction_board_open(three, 3, &bad) == CALLAUCTION_ERROR_NO_CONFIG);
+    WANT(callauction_board_open(three, 3, config) == CALLAUCTION_DONE);
+    WANT(callauction_board_open(three, 3, &bad) == CALLAUCTION_ERROR_IN_USE);
+    callauction_command unflagged = {.tag = CALLAUCTION_COMMAND_ENTER, .side = 1, .quantity = 5, .limit = 200};
+    WANT(callauction_board_call(&three[1], &unflagged, &receipt) == CALLAUCTION_ERROR_NO_COMMAND);
+    three[1].busy_ = 1;
+    WANT(callauction_board_call(&three[1], &indicate, &receipt) == CALLAUCTION_ERROR_BUSY);
+    three[1].busy_ = 0;
+    WANT(callauction_board_config_of(&three[2], &bad) == CALLAUCTION_DONE && memcmp(&bad, config, sizeof bad) == 0);
+    for (int i = 0; i < 3; i++) WANT(callauction_board_leave(&three[i]) == CALLAUCTION_DONE);
+}
+
+/* A board of two calls is full after them, and its member has seen both. */
+static void full(void) {
+    callauction_config config = {1, 1000, 200, 4, 2, 0, 0};
+    callauction_member two[2] = {{0}};
+    callauction_command indicate = {.tag = CALLAUCTION_COMMAND_INDICATE};
+    callauction_receipt receipt;
+    callauction_shown shown;
+    WANT(callauction_board_open(two, 2, &config) == CALLAUCTION_DONE);
+    WANT(callauction_board_call(&two[1], &indicate, &receipt) == CALLAUCTION_DONE && receipt.number == 1);
+    WANT(callauction_board_call(&two[0], &indicate, &receipt) == CALLAUCTION_DONE && receipt.number == 2);
+    WANT(callauction_board_call(&two[1], &indicate, &receipt) == CALLAUCTION_ERROR_FULL && receipt.number == 2);
+    WANT(callauction_board_look(&two[1], &shown) == CALLAUCTION_DONE && shown.calls == 2);
+    for (int i = 0; i < 2; i++) WANT(callauction_board_leave(&two[i]) == CALLAUCTION_DONE);
+}
+
+/* The ladder and the trades that a member is shown are those of the replay. */
+static void shows_alike(callauction_member *member, const callauction_handle *plain, size_t length) {
+    uint64_t bids[1000], asks[1000], bids_too[1000], asks_too[1000];
+    callauction_market market, market_too;
+    callauction_trade trades[8], trades_too[8];
+    size_t copied, copied_too;
+    uint32_t calls;
+    WANT(callauction_board_ladder(member, bids, 999, asks, 1000, &market, &calls) == CALLAUCTION_ERROR_BAD_LENGTH);
+    WANT(callauction_board_ladder(member, bids, 1000, asks, 1000, &market, &calls) == CALLAUCTION_DONE);
+    WANT(callauction_ladder(plain, bids_too, 1000, asks_too, 1000, &market_too) == CALLAUCTION_DONE);
+    WANT(calls == length && memcmp(bids, bids_too, sizeof bids) == 0 && memcmp(asks, asks_too, sizeof asks) == 0);
+    WANT(memcmp(&market, &market_too, sizeof market) == 0);
+    WANT(callauction_board_trades(member, 3, trades, 8, &copied, &calls) == CALLAUCTION_DONE && calls == length);
+    WANT(callauction_trades(plain, 3, trades_too, 8, &copied_too) == CALLAUCTION_DONE && copied == copied_too);
+    for (size_t i = 0; i < copied; i++)
+        WANT(trades[i].bid == trades_too[i].bid && trades[i].ask == trades_too[i].ask &&
+             trades[i].tick == trades_too[i].tick && trades[i].quantity == trades_too[i].quantity);
+}
+
+static void day(uint32_t threads, uint32_t calls, uint32_t looks, uint64_t seed) {
+    callauction_config config = {1, 1000, 200, 65536, threads * calls + 1, 0, 0};
+    callauction_member *members = calloc(threads, sizeof *members);
+    work *works = calloc(threads, sizeof *works);
+    pthread_t *ids = calloc(threads, sizeof *ids);
+    callauction_entry *entries = calloc(config.max_calls, sizeof *entries);
+    callauction_entry *early = calloc(config.max_calls, sizeof *early);
+    callauction_reply *displays = calloc(config.max_calls + 1, sizeof *displays), reply;
+    uint32_t *counts = calloc(threads, sizeof *counts);
+    size_t length = 0, sum = 0;
+    edges(&config);
+    WANT(callauction_board_open(members, threads, &config) == CALLAUCTION_DONE);
+    for (uint32_t t = 1; t < threads; t++) {
+        works[t] = (work){.member = &members[t], .calls = calls, .looks = looks, .seed = seed * 1000003 + t};
+        works[t].commands = calloc(calls, sizeof *works[t].commands);
+        works[t].receipts = calloc(calls, sizeof *works[t].receipts);
+        works[t].shown = calloc((size_t)calls * looks + 1, sizeof *works[t].shown);
+        works[t].own = calloc(calls, sizeof *works[t].own);
+        WANT(pthread_create(&ids[t], NULL, play, &works[t]) == 0);
+    }
+    atomic_store(&go, true);
+    size_t read = read_while_called(&members[0], early, config.max_calls);
+    for (uint32_t t = 1; t < threads; t++) pthread_join(ids[t], NULL);
+    callauction_command uncross = {.tag = CALLAUCTION_COMMAND_UNCROSS};
+    callauction_receipt last;
+    WANT(callauction_board_call(&members[0], &uncross, &last) == CALLAUCTION_DONE);
+    WANT(last.reply.tag == CALLAUCTION_REPLY_UNCROSSED && last.number == (threads - 1) * calls + 1);
+
+    callauction_handle plain = {0};
+    callauction_entry *all = calloc(config.max_calls, sizeof *all);
+    size_t copied = 0;
+    WANT(callauction_board_history(&members[0], 0, all, config.max_calls, &copied) == CALLAUCTION_DONE);
+    WANT(callauction_open(&plain, &config) == CALLAUCTION_DONE);
+    WANT(callauction_display(&plain, &displays[0]) == CALLAUCTION_DONE);
+    for (size_t i = 0; i < copied; i++) {
+        WANT(callauction_apply(&plain, &all[i].command, &reply) == CALLAUCTION_DONE);
+        WANT(memcmp(&reply, &all[i].reply, sizeof reply) == 0);
+        WANT(callauction_display(&plain, &displays[i + 1]) == CALLAUCTION_DONE);
+    }
+    shows_alike(&members[threads - 1], &plain, copied);
+
+    WANT(callauction_board_close(members, threads, entries, config.max_calls - 1, counts, threads, &length) ==
+         CALLAUCTION_ERROR_BAD_LENGTH);
+    callauction_member other = members[0]; /* out of order: refused, and the board goes on */
+    members[0] = members[1], members[1] = other;
+    WANT(callauction_board_close(members, threads, entries, config.max_calls, counts, threads, &length) ==
+         CALLAUCTION_ERROR_MISSING_MEMBER);
+    members[1] = members[0], members[0] = other;
+    WANT(callauction_board_close(members, threads, entries, config.max_calls, counts, threads, &length) ==
+         CALLAUCTION_DONE);
+    WANT(callauction_board_close(members, threads, entries, config.max_calls, counts, threads, &length) ==
+         CALLAUCTION_ERROR_CLOSED);
+    WANT(callauction_board_call(&members[0], &uncross, &last) == CALLAUCTION_ERROR_CLOSED);
+    WANT(length == copied && memcmp(entries, all, length * sizeof *all) == 0);
+    WANT(read <= length && memcmp(entries, early, read * sizeof *early) == 0);
+    for (uint32_t t = 0; t < threads; t++) {
+        uint32_t own = 0;
+        WANT(callauction_board_calls(&members[t], &own) == CALLAUCTION_DONE && own == counts[t]);
+        WANT(own == (t == 0 ? 1 : calls));
+        sum += own;
+    }
+    WANT(length == sum);
+    for (uint32_t t = 1; t < threads; t++) {
+        uint32_t number = 0, seen = 0;
+        for (uint32_t i = 0; i < calls; i++) {
+            const callauction_receipt *receipt = &works[t].receipts[i];
+            WANT(receipt->number > number && receipt->number <= length);
+            number = receipt->number;
+            WANT(entries[number - 1].command.member == t);
+            WANT(memcmp(&entries[number - 1].reply, &receipt->reply, sizeof receipt->reply) == 0);
+            for (uint32_t k = 0; k < looks; k++) {
+                const callauction_shown *shown = &works[t].shown[i * looks + k];
+                WANT(shown->calls >= seen && shown->calls >= number && shown->calls <= length);
+                seen = shown->calls;
+                WANT(memcmp(&shown->display, &displays[seen], sizeof shown->display) == 0);
+            }
+        }
+        free(works[t].commands), free(works[t].receipts), free(works[t].shown), free(works[t].own);
+    }
+    WANT(callauction_close(&plain) == CALLAUCTION_DONE);
+    for (uint32_t t = 0; t < threads; t++) WANT(callauction_board_leave(&members[t]) == CALLAUCTION_DONE);
+    WANT(callauction_board_leave(&members[0]) == CALLAUCTION_ERROR_NO_MEMBER);
+    free(members), free(works), free(ids), free(entries), free(early), free(displays), free(counts), free(all);
+}
+
+int main(int count, char **words) {
+    uint32_t threads = count > 1 ? (uint32_t)atoi(words[1]) : 8, calls = count > 2 ? (uint32_t)atoi(words[2]) : 12500;
+    uint32_t looks = count > 3 ? (uint32_t)atoi(words[3]) : 2;
+    full();
+    day(threads, calls, looks, count > 4 ? strtoull(words[4], NULL, 10) : 1);
+    return 0;
+}

@@ -1,0 +1,125 @@
+// callauction.hpp: each reply by value, numbers that don't fit a field, owners that are moved, and a board.
+#include <callauction.hpp>
+
+#include <cstdio>
+#include <cstdlib>
+#include <limits>
+#include <type_traits>
+
+namespace ca = callauction;
+
+#define WANT(holds)                                                              \
+    do {                                                                         \
+        if (!(holds)) {                                                          \
+            std::fprintf(stderr, "%s:%d: not so: %s\n", __FILE__, __LINE__, #holds); \
+            std::exit(1);                                                        \
+        }                                                                        \
+    } while (0)
+
+static_assert(!std::is_copy_constructible_v<ca::Auction> && std::is_nothrow_move_constructible_v<ca::Auction>);
+static_assert(!std::is_copy_constructible_v<ca::Board> && std::is_nothrow_move_constructible_v<ca::Board>);
+
+namespace {
+
+template <typename T> T reply(const ca::Result<ca::Reply> &result) {
+    WANT(result.has_value());
+    const auto *found = std::get_if<T>(&*result);
+    WANT(found != nullptr);
+    return *found;
+}
+
+ca::Auction opened(const ca::Config &config) {
+    auto result = ca::Auction::open(config);
+    WANT(result.has_value());
+    return *std::move(result);
+}
+
+const ca::Config day{1, 1000, 500, 10, 100, 50};
+
+void replies_are_values() {
+    auto auction = opened(day);
+    WANT(reply<ca::Entered>(auction.apply(1, ca::Enter{ca::Side::bid, 30, 510, 10})).id == 1);
+    WANT(reply<ca::Entered>(auction.apply(2, ca::Enter{ca::Side::ask, 20, 505})).id == 2);
+    WANT(reply<ca::Entered>(auction.apply(2, ca::Enter{ca::Side::ask, 5})).id == 3);
+    WANT(reply<ca::Changed>(auction.apply(2, ca::Change{2, 15, 505})).kept);
+    reply<ca::Deleted>(auction.apply(2, ca::Delete{3}));
+    const auto order = reply<ca::OpenOrder>(auction.apply(1, ca::OrderStatus{1}));
+    WANT(order.side == ca::Side::bid && order.quantity == 30 && order.visible == 10 && order.limit == 510u);
+    const auto price = reply<ca::Price>(auction.apply(1, ca::Indicate{}));
+    WANT(price.tick == 510 && price.volume == 15 && price.surplus == 15 && price.side == ca::Side::bid);
+    WANT(reply<ca::Refusal>(auction.apply(1, ca::Uncross{})) == ca::Refusal::not_operator);
+    const auto ended = reply<ca::Uncrossed>(auction.apply(0, ca::Uncross{}));
+    WANT(ended.auction == ca::AuctionKind::opening && ended.price && ended.price->tick == 510 && ended.trades == 1);
+    const auto traded = reply<ca::Traded>(auction.apply(1, ca::ReadTrade{1}));
+    WANT(traded.bid == 1 && traded.ask == 2 && traded.quantity == 15 && traded.tick == 510);
+    const auto none = reply<ca::NoPrice>(auction.apply(1, ca::Indicate{}));
+    WANT(none.best_bid == 510u && !none.best_ask);
+    WANT(reply<ca::Entered>(auction.apply(2, ca::Enter{ca::Side::ask, 15, 600})).id == 4);
+    WANT(reply<ca::Entered>(auction.apply(1, ca::Enter{ca::Side::bid, 15, 600})).id == 5);
+    WANT(reply<ca::Interrupted>(auction.apply(0, ca::Uncross{})).price.tick == 600);
+    WANT(auction.trades()->size() == 1 && auction.trades(1)->empty());
+    WANT(auction.ladder()->asks[599] == 15 && *auction.calls() == 14);
+    WANT(auction.config()->range == 50);
+}
+
+void numbers_are_looked_at() {
+    auto auction = opened(day);
+    const auto over = static_cast<std::int64_t>(std::numeric_limits<std::uint32_t>::max()) + 1;
+    for (const std::int64_t member : {std::int64_t{-1}, std::int64_t{256}})
+        WANT(auction.apply(member, ca::Indicate{}).error() == ca::Error::no_command);
+    for (const ca::Command &command : {ca::Command(ca::Enter{ca::Side::bid, -1, 500}),
+             ca::Command(ca::Enter{ca::Side::bid, 1, over}), ca::Command(ca::Enter{ca::Side::none, 1, 500}),
+             ca::Command(ca::Delete{over}), ca::Command(ca::ReadTrade{-1})})
+        WANT(auction.apply(1, command).error() == ca::Error::no_command);
+    WANT(*auction.calls() == 0);
+    WANT(ca::Auction::open({-1, 10, 5, 1, 1, {}}).error() == ca::Error::no_config);
+    WANT(ca::Auction::open({1, 10, 11, 1, 1, {}}).error() == ca::Error::bad_reference);
+    WANT(ca::Auction::open({1, 10, 5, 1, 0, {}}).error() == ca::Error::bad_capacity);
+}
+
+void owners_are_moved() {
+    auto first = opened(day);
+    reply<ca::Entered>(first.apply(1, ca::Enter{ca::Side::bid, 1, 500}));
+    auto copy = first.clone();
+    WANT(copy.has_value() && *copy->calls() == 1);
+    auto second = std::move(first);
+    WANT(first.calls().error() == ca::Error::no_auction); // NOLINT: a moved-from auction holds none
+    WANT(second.reset().has_value() && *second.calls() == 0 && *copy->calls() == 1);
+    second = *std::move(copy);
+    WANT(*second.calls() == 1);
+}
+
+void a_board_is_closed() {
+    auto result = ca::Board::open(2, {1, 1000, 500, 10, 4, {}});
+    WANT(result.has_value());
+    auto board = *std::move(result);
+    auto operating = board.member(0), trading = board.member(1);
+    const auto receipt = trading.call(ca::Enter{ca::Side::bid, 5, 500});
+    WANT(receipt && receipt->number == 1 && std::get<ca::Entered>(receipt->reply).id == 1);
+    WANT(operating.call_waiting(ca::Enter{ca::Side::ask, 5, 500})->number == 2);
+    const auto shown = trading.look();
+    WANT(shown && shown->calls == 2 && std::get<ca::Price>(shown->display).tick == 500);
+    WANT(trading.ladder()->bids[499] == 5 && *trading.calls() == 1);
+    WANT(trading.call(ca::Delete{-1}).error() == ca::Error::no_command);
+    WANT(operating.call(ca::Uncross{})->number == 3);
+    std::vector<callauction_trade> trades(4);
+    WANT(*trading.trades(0, trades) == 1 && trades[0].quantity == 5);
+    std::vector<callauction_entry> entries(4);
+    WANT(*trading.history(1, entries) == 2 && entries[0].reply.id == 2);
+    auto moved = std::move(board);
+    const auto closing = moved.close();
+    WANT(closing && closing->entries.size() == 3 && closing->counts == (std::vector<std::uint32_t>{2, 1}));
+    WANT(trading.call(ca::Indicate{}).error() == ca::Error::closed && moved.close().error() == ca::Error::closed);
+    WANT(board.close().error() == ca::Error::no_member); // NOLINT: a moved-from board holds none
+    WANT(ca::Board::open(65, day).error() == ca::Error::bad_capacity);
+}
+
+} // namespace
+
+int main() {
+    replies_are_values();
+    numbers_are_looked_at();
+    owners_are_moved();
+    a_board_is_closed();
+    return 0;
+}

@@ -1,0 +1,170 @@
+"""Who runs the program on the files: threads of this process, or the workers of a Dask client.
+
+On one machine nothing listens: each thread starts the program and reads its output through a pipe.
+Dask is imported where a client is given, or a scheduler named.
+"""
+import concurrent.futures
+import contextlib
+import os
+from collections.abc import Iterator
+from typing import TYPE_CHECKING, Protocol
+
+from callauction import finder
+from callauction.market.names import instrument_of, line_of
+from callauction.market.rows import Found, Row
+from callauction.market.task import Children, Request, examine
+
+if TYPE_CHECKING:
+    from distributed import Client, Security
+
+SHARES = 32
+"""How many tasks, about, a thread of Dask's workers is to get: enough that the last ones end
+together.
+"""
+START = 1 << 18
+"""How many bytes of a journal take as long as starting the program once or twice."""
+CONNECT_SECONDS = 10
+"""How long a scheduler and its first worker are waited for."""
+
+
+class MarketError(Exception):
+    """The market can't be run as asked: two files of an instrument, workers that have no program
+    or different ones, a scheduler that is lost.
+    """
+
+
+class Workers(Protocol):
+    """What runs tasks, a request on some files each."""
+
+    def digest(self, path: str | None) -> str:
+        """The SHA-256 of the program with this path, or of the one that each worker finds. Raises
+        MarketError where there is no worker, one has no program, or two have different ones.
+        """
+
+    def results(self, files: list[str], request: Request) -> Iterator[list[Found]]:
+        """What is found of files, some rows at a time as they come, in no order. Raises
+        MarketError where the workers are lost.
+        """
+
+
+def size_of(path: str) -> int:
+    """The bytes of a file, 0 where it can't be looked at."""
+    try:
+        return os.stat(path).st_size
+    except OSError:
+        return 0
+
+
+def largest_first(files: list[str]) -> list[tuple[int, str]]:
+    """The files with their bytes, the largest first."""
+    return sorted(((size_of(path), path) for path in files), key=lambda it: (-it[0], it[1]))
+
+
+class Threads:
+    """Threads of this process, one for each core where their number isn't given."""
+
+    def __init__(self, count: int | None = None) -> None:
+        self.count = count or len(os.sched_getaffinity(0))
+
+    def digest(self, path: str | None) -> str:
+        try:
+            return finder.digest(path)
+        except FileNotFoundError as fault:
+            raise MarketError(f"there is no program: {fault}") from fault
+
+    def results(self, files: list[str], request: Request) -> Iterator[list[Found]]:
+        children = Children()
+        pool = concurrent.futures.ThreadPoolExecutor(self.count)
+        try:
+            tasks = [
+                pool.submit(examine, [path], request, children) for _, path in largest_first(files)
+            ]
+            for task in concurrent.futures.as_completed(tasks):
+                yield task.result()
+        finally:
+            children.end()
+            pool.shutdown(cancel_futures=True)
+
+
+def batches_of(files: list[str], threads: int) -> list[list[str]]:
+    """The files in tasks, for so many threads: the largest first, and small ones together."""
+    sized = largest_first(files)
+    share = sum(size + START for size, _ in sized) / (SHARES * threads)
+    batches: list[list[str]] = []
+    room = 0.0
+    for size, path in sized:
+        if size + START > room:
+            batches.append([])
+            room = share
+        batches[-1].append(path)
+        room -= size + START
+    return batches
+
+
+class Cluster:
+    """The workers of a Dask client."""
+
+    def __init__(self, client: "Client") -> None:
+        self.client = client
+
+    def digest(self, path: str | None) -> str:
+        told = self.client.run(finder.digest, path, on_error="return")
+        for worker, answer in sorted(told.items()):
+            if isinstance(answer, Exception):
+                raise MarketError(f"the worker {worker} has no program: {answer}")
+        if not told:
+            raise MarketError("there is no worker")
+        if len(set(told.values())) != 1:
+            raise MarketError("the workers have different programs")
+        return str(next(iter(told.values())))
+
+    def results(self, files: list[str], request: Request) -> Iterator[list[Found]]:
+        """Where workers ended under a task, Dask starts it again elsewhere, and gives it up after
+        some times (allowed-failures). It can't know which file of the task it was, or whether
+        another task was to blame, so the files of such tasks are run once more, each alone.
+        """
+        from distributed import as_completed
+
+        batches = batches_of(files, max(1, sum(self.client.nthreads().values())))
+        suspects: list[str] = []
+        futures = self.client.map(examine, batches, request=request, pure=False, key="callboard")
+        tasks = dict(zip(futures, batches))
+        for future, found in as_completed(futures, with_results=True, raise_errors=False):
+            if future.status == "finished":
+                yield found
+            elif future.status == "error":
+                suspects += tasks[future]
+            else:
+                raise MarketError("the scheduler is lost")
+            future.release()
+        for path in sorted(suspects):
+            yield self.alone(path, request)
+
+    def alone(self, path: str, request: Request) -> list[Found]:
+        """What is found of a file that no other shares a task with. Raises MarketError."""
+        future = self.client.submit(examine, [path], request, pure=False)
+        try:
+            return list(future.result())
+        except Exception as fault:
+            if future.status != "error":
+                raise MarketError("the scheduler is lost") from fault
+            return [blamed(path, fault)]
+
+
+def blamed(path: str, fault: BaseException) -> Found:
+    """The row of a file whose task ended with an exception each time."""
+    from distributed import KilledWorker
+
+    if isinstance(fault, KilledWorker):
+        return Found(Row(instrument_of(path), fault="its worker ended each time"))
+    return Found(Row(instrument_of(path), fault=line_of(f"{type(fault).__name__}: {fault}")))
+
+
+@contextlib.contextmanager
+def connected(scheduler: str, security: "Security | None") -> Iterator[Cluster]:
+    """The workers of this scheduler, at least one. Raises OSError where there is none."""
+    from distributed import Client
+
+    with Client(scheduler, security=security, timeout=CONNECT_SECONDS) as client:
+        client.wait_for_workers(1, timeout=CONNECT_SECONDS)
+        yield Cluster(client)

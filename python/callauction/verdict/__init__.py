@@ -1,0 +1,35 @@
+"""Was this published auction lawful? The verdict on an extract of a day, or on one auction.
+
+    from callauction.verdict import audit_events
+
+    verdict = audit_events("day.csv", reference="19.90", tick_size="0.01")
+    print(verdict)
+    for finding in verdict.findings:
+        print(verdict.explain(finding), verdict.queue(finding), sep="\\n")
+
+Lawful values are the proved program's; they are compared with the recorded ones by a join of two
+tables. No library for C is needed. docs/AUDIT.md has what is judged and what lawful means.
+"""
+from callauction.verdict.audits import audit_auction, audit_events
+from callauction.verdict.columns import ColumnError, refuse_unknown
+from callauction.verdict.coverage import Coverage
+from callauction.verdict.events import BadRow
+from callauction.verdict.findings import Finding, Verdict
+from callauction.verdict.instruments import audit_instruments
+from callauction.verdict.reading import ExtractError, Reading, Table, read_table
+
+__all__ = [
+    "BadRow",
+    "ColumnError",
+    "Coverage",
+    "ExtractError",
+    "Finding",
+    "Reading",
+    "Table",
+    "Verdict",
+    "audit_auction",
+    "audit_events",
+    "audit_instruments",
+    "read_table",
+    "refuse_unknown",
+]

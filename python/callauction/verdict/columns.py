@@ -1,0 +1,143 @@
+"""The columns of a table of events by their names, and what an unknown one is likely to mean."""
+import difflib
+import re
+from collections.abc import Collection, Iterable, Mapping
+
+EVENT_COLUMNS = {
+    "event": "new, replace, cancel, uncross, trade or fill",
+    "order": "the order's id",
+    "member": "who sent it",
+    "side": "bid or buy, ask or sell; in a row uncross the side of the surplus",
+    "price": "a decimal, the market word for a market order, or empty where no such word is said",
+    "quantity": "shares: of a new order, open after a replace, cancelled, executed, traded, filled",
+    "peak": "shares that an iceberg order shows",
+    "restriction": "opening or closing, for an order of that auction alone",
+    "time": "a time of day, with or without its date, or a number",
+    "sequence": "the order of rows that have one time",
+    "new_order": "the id that the order has after a replace",
+    "kept": "true or false: whether a replace kept the place in time",
+    "auction": "opening, intraday, closing or interrupted",
+    "volume": "in a row uncross: what was executed, as quantity",
+    "surplus": "in a row uncross: shares that were left at the price",
+    "trades": "in a row uncross: how many trades were made",
+    "bid": "the id of a trade's bid",
+    "ask": "the id of a trade's ask",
+    "bid_member": "the member of a trade's bid",
+    "ask_member": "the member of a trade's ask",
+}
+"""The columns of an extract, and what each has."""
+NEEDED = ("event", "order", "side", "price", "quantity")
+"""Columns without which no extract is read."""
+OTHER_NAMES = {"only": "restriction"}
+"""Names that are read as another column's."""
+LIKELY = {
+    "action": "event",
+    "type": "event",
+    "orderid": "order",
+    "id": "order",
+    "ordernumber": "order",
+    "clientorderid": "order",
+    "trader": "member",
+    "participant": "member",
+    "account": "member",
+    "firm": "member",
+    "buysell": "side",
+    "bs": "side",
+    "limit": "price",
+    "limitprice": "price",
+    "limitpx": "price",
+    "px": "price",
+    "price": "limit",
+    "qty": "quantity",
+    "size": "quantity",
+    "shares": "quantity",
+    "displayqty": "peak",
+    "visible": "peak",
+    "tradingrestriction": "restriction",
+    "timestamp": "time",
+    "datetime": "time",
+    "seq": "sequence",
+    "seqno": "sequence",
+    "phase": "auction",
+    "imbalance": "surplus",
+    "executed": "volume",
+    "buyorder": "bid",
+    "sellorder": "ask",
+    "buyer": "bid_member",
+    "seller": "ask_member",
+    "neworderid": "new_order",
+    "reply": "reply",
+    "only": "restriction",
+}
+"""Names of other systems in small letters without signs, and the column that each is likely to be."""
+
+
+class ColumnError(ValueError):
+    """A table has a column that isn't known, or has none that is needed; one line."""
+
+
+def plain(name: str) -> str:
+    """A name in small letters, without blanks and signs."""
+    return re.sub(r"[^a-z0-9]", "", name.casefold())
+
+
+def likely(name: object, known: Collection[str]) -> str | None:
+    """Which of the known columns this name is likely to mean, None where none is near."""
+    text = plain(str(name))
+    alike = {plain(column): column for column in known}
+    if text in alike:
+        return alike[text]
+    if LIKELY.get(text) in known:
+        return LIKELY[text]
+    longer = [name for name in alike if len(text) > 2 and name.startswith(text)]
+    if len(longer) == 1:
+        return alike[longer[0]]
+    near = difflib.get_close_matches(text, alike, 1, 0.8)
+    return alike[near[0]] if near else None
+
+
+def unknown_columns(
+    found: Iterable[object], known: Collection[str], ignore: Collection[str] = ()
+) -> list[str]:
+    """Each column that is neither known nor to be ignored, with its likely meaning. `*` in `ignore`
+    is every column.
+    """
+    strange = [name for name in found if name not in known and name not in ignore]
+    guesses = [(name, likely(name, known)) for name in strange if "*" not in ignore]
+    return [f"{name!r} (is it {guess}?)" if guess else f"{name!r}" for name, guess in guesses]
+
+
+def refuse_unknown(
+    found: Iterable[object], known: Collection[str], ignore: Collection[str] = ()
+) -> None:
+    """Raises ColumnError where a column is neither known nor to be ignored: it may be a known one
+    by another name, and without that the table says something else.
+    """
+    unknown = unknown_columns(found, known, ignore)
+    if unknown:
+        word = "column" if len(unknown) == 1 else "columns"
+        raise ColumnError(
+            f"unknown {word} {', '.join(unknown)}: rename it or ignore it; there are "
+            f"{', '.join(known)}"
+        )
+
+
+def renamed(found: Iterable[object], columns: Mapping[str, str]) -> dict[object, str]:
+    """By each column that a mapping of our names to theirs names, our name. Raises ColumnError for
+    a name of ours that isn't one, or one of theirs that the table hasn't, or two of ours for one.
+    """
+    names = [*found]
+    for ours, theirs in columns.items():
+        if ours not in EVENT_COLUMNS:
+            guess = likely(ours, EVENT_COLUMNS)
+            hint = f" (is it {guess}?)" if guess else ""
+            raise ColumnError(f"columns: there is no column {ours!r}{hint} to map {theirs!r} to")
+        if theirs not in names:
+            guess = likely(theirs, [str(name) for name in names])
+            hint = f" (is it {guess!r}?)" if guess else ""
+            raise ColumnError(f"columns: the table has no column {theirs!r}{hint}")
+    made: dict[object, str] = {theirs: ours for ours, theirs in columns.items()}
+    if len(made) < len(columns):
+        raise ColumnError("columns: two columns are mapped to one of the table")
+    others = {name: OTHER_NAMES[str(name)] for name in names if name in OTHER_NAMES}
+    return {**others, **made}

@@ -1,0 +1,66 @@
+"""Times of an extract as numbers that can be compared."""
+import datetime
+import re
+from decimal import Decimal
+
+import pandas
+
+_CLOCK = re.compile(
+    r"(?:(?P<date>\d{4}-\d\d-\d\d|\d{8}|\d{1,2}\.\d{1,2}\.\d{4})[T \-])?"
+    r"(?P<hour>\d{1,2}):(?P<minute>\d\d)(?::(?P<second>\d\d)(?:[.,](?P<part>\d{1,9}))?)?"
+    r"(?P<zone>Z|[+-]\d\d:?\d\d)?",
+    re.ASCII,
+)
+_NUMBER = re.compile(r"\d{1,30}(?:[.,]\d{1,30})?", re.ASCII)
+_DATES = {"-": "%Y-%m-%d", ".": "%d.%m.%Y", "": "%Y%m%d"}
+DAY_SECONDS = 86_400
+
+
+def shown(value: object) -> str:
+    """A time as an extract has it; empty for none."""
+    if value is None or value is pandas.NaT or value is pandas.NA or value != value:
+        return ""
+    if isinstance(value, datetime.datetime | datetime.time):
+        return value.isoformat()
+    return str(value).strip()
+
+
+def seconds(value: object) -> Decimal | None:
+    """The seconds of a time: since its day's begin, or that of the first day where it has a date; a
+    number is what it is. None where it is no time.
+    """
+    text = shown(value)
+    if _NUMBER.fullmatch(text):
+        return Decimal(text.replace(",", "."))
+    found = _CLOCK.fullmatch(text)
+    if not found:
+        return None
+    parts = [int(found[name] or 0) for name in ("hour", "minute", "second")]
+    if parts[0] > 23 or parts[1] > 59 or parts[2] > 60:
+        return None
+    clock = parts[0] * 3600 + parts[1] * 60 + parts[2]
+    days = _days(found["date"])
+    if days is None:
+        return None
+    part = Decimal(f"0.{found['part'] or 0}")
+    return days * DAY_SECONDS + clock - _offset(found["zone"]) + part
+
+
+def _days(date: str | None) -> int | None:
+    """The number of a date, 0 for none given; None where there is no such date."""
+    if date is None:
+        return 0
+    sign = "-" if "-" in date else "." if "." in date else ""
+    try:
+        return datetime.datetime.strptime(date, _DATES[sign]).toordinal()
+    except ValueError:
+        return None
+
+
+def _offset(zone: str | None) -> int:
+    """The seconds that a zone's clocks are ahead."""
+    if zone is None or zone == "Z":
+        return 0
+    digits = zone[1:].replace(":", "")
+    ahead = int(digits[:2]) * 3600 + int(digits[2:]) * 60
+    return ahead if zone[0] == "+" else -ahead

@@ -1,0 +1,30 @@
+"""docs/AUDIT.md: its extract is the stored one, and prints what the page says."""
+import pytest
+from callauction.__main__ import main
+from extracts import TOP
+
+PAGE = TOP / "docs/AUDIT.md"
+EXTRACT = TOP / "examples/extracts/german.csv"
+MOST_BYTES = 8_000
+
+
+def indented(text: str) -> str:
+    return "".join(f"    {line}\n" for line in text.splitlines())
+
+
+def test_the_page_shows_the_stored_extract_and_its_verdict(
+    capsys: pytest.CaptureFixture[str],
+) -> None:
+    page = PAGE.read_text(encoding="utf-8")
+    assert len(page.encode()) <= MOST_BYTES
+    words = EXTRACT.with_suffix(".args").read_text(encoding="utf-8").split()
+    assert main(["audit", str(EXTRACT), *words]) == 4
+    printed = capsys.readouterr().out
+    assert printed == EXTRACT.with_suffix(".txt").read_text(encoding="utf-8")
+    assert indented(printed) in page
+    extract = EXTRACT.read_text(encoding="utf-8")
+    assert indented(extract) in page and len(extract.splitlines()) == 10
+    [command] = [part for part in page.split("\n\n") if part.startswith("    python3 -m callauction")]
+    shown = command.replace("\\\n", " ").replace("'", "").split()
+    assert shown[:5] == ["python3", "-m", "callauction", "audit", "examples/extracts/german.csv"]
+    assert shown[5:] == words

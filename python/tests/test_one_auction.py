@@ -1,0 +1,226 @@
+"""One auction from its book: a day with continuous trading between its auctions is judged auction
+by auction.
+"""
+import dataclasses
+import random
+from collections.abc import Iterator
+from decimal import Decimal
+from typing import Any
+
+import pandas
+import pytest
+from callauction.verdict import ColumnError, Reading, Verdict, audit_auction
+from extracts import price_of
+from hypothesis import given, settings, strategies
+
+from checks.model import day as model
+
+LOW, HIGH = 995, 1010
+AUCTIONS = ("opening", "intraday", "closing")
+
+
+@dataclasses.dataclass
+class Resting:
+    """An order of the continuous book."""
+
+    order: str
+    member: str
+    side: str
+    tick: int | None
+    open: int
+    restriction: str
+    time: str
+    sequence: int
+
+
+@dataclasses.dataclass
+class Auction:
+    """An auction of the day: the book at the end of its call phase, and what was published."""
+
+    name: str
+    book: pandas.DataFrame
+    published: dict[str, Any]
+    reference: str
+
+    def audit(self, **options: Any) -> Verdict:
+        return audit_auction(self.book, self.published, reference=self.reference, **options)
+
+
+class Market:
+    """A day of continuous trading with three auctions: between these an order trades at once with
+    the best ones of the other side, at their prices, and rests with what is left.
+    """
+
+    def __init__(self, seed: int) -> None:
+        self.chance = random.Random(seed)
+        self.book: list[Resting] = []
+        self.reference = self.chance.randint(LOW, HIGH)
+        self.count = 0
+
+    def auctions(self) -> Iterator[Auction]:
+        for number, name in enumerate(AUCTIONS):
+            for _ in range(self.chance.randint(0, 8) if number else 0):
+                self.trade_at_once(self.new_order(is_limited=True))
+            for _ in range(self.chance.randint(0, 8)):
+                self.book.append(self.new_order(is_limited=False))
+            yield self.auction(number, name)
+
+    def new_order(self, is_limited: bool) -> Resting:
+        chance = self.chance
+        self.count += 1
+        tick = None if not is_limited and chance.random() < 0.2 else chance.randint(LOW, HIGH)
+        restriction = "" if is_limited else chance.choice(["", "", "", "closing"])
+        second = self.count // 3
+        return Resting(
+            f"A{self.count:04}",
+            chance.choice(["Adler", "Birk", "Cohn"]),
+            chance.choice(["bid", "ask"]),
+            tick,
+            chance.choice([10, 20, 50, 60]),
+            restriction,
+            f"{9 + second // 60:02}:{second % 60:02}:00",
+            self.count,
+        )
+
+    def trade_at_once(self, order: Resting) -> None:
+        """Trades an order with those of the other side that it meets, and rests it."""
+        sign = 1 if order.side == "bid" else -1
+        others = [it for it in self.book if it.side != order.side and not it.restriction]
+        for other in sorted(others, key=lambda it: sign * (it.tick or 0)):
+            if order.tick is None or other.tick is None or sign * (order.tick - other.tick) < 0:
+                continue
+            shares = min(order.open, other.open)
+            order.open -= shares
+            other.open -= shares
+            self.reference = other.tick if shares else self.reference
+        self.book = [it for it in [*self.book, order] if it.open > 0]
+
+    def auction(self, number: int, name: str) -> Auction:
+        """The auction by the model, whose fills leave the book."""
+        day = model.Day(LOW, HIGH, self.reference, 1000, None)
+        day.auction = number
+        for it in self.book:
+            day.apply(1, ("enter", it.side, it.tick, it.open, None, it.restriction))
+        book, reference = self.frame(), price_of(self.reference)
+        reply = day.apply(0, ("uncross",)).split()
+        published: dict[str, Any] = {"auction": name, "price": "no price"}
+        if reply[1] == "price":
+            published = dict(auction=name, price=price_of(int(reply[2])), volume=int(reply[4]),
+                             surplus=int(reply[6]), side=reply[7])
+        rows = [(self.book[it.bid - 1].order, self.book[it.ask - 1].order, it.quantity,
+                 price_of(it.tick)) for it in day.tape]
+        trades = pandas.DataFrame(rows, columns=["bid", "ask", "quantity", "price"])
+        published["trades"] = self.chance.choice([trades, trades.sample(frac=1, random_state=1)])
+        for trade in day.tape:
+            self.book[trade.bid - 1].open -= trade.quantity
+            self.book[trade.ask - 1].open -= trade.quantity
+        self.book = [it for it in self.book if it.open > 0]
+        self.reference = day.reference
+        return Auction(name, book, published, reference)
+
+    def frame(self) -> pandas.DataFrame:
+        """The book in any order of its rows; time and sequence say the priority."""
+        rows = [(it.order, it.member, it.side, price_of(it.tick) or None, it.open, it.restriction,
+                 it.time, it.sequence) for it in self.book]
+        columns = ["order", "member", "side", "price", "open", "restriction", "time", "sequence"]
+        found = pandas.DataFrame(rows, columns=columns)
+        return found.sample(frac=1, random_state=self.count) if len(found) else found
+
+
+@settings(deadline=None, max_examples=100)
+@given(strategies.integers(0, 2**32))
+def test_a_day_with_continuous_trading_is_judged_auction_by_auction(seed: int) -> None:
+    for auction in Market(seed).auctions():
+        verdict = auction.audit()
+        assert not verdict.findings and not verdict.bad_rows, str(verdict)
+        compared, of = verdict.coverage["trades"]
+        assert verdict.coverage["prices"] == (1, 1) and compared in (0, of)
+        if "volume" not in auction.published:
+            continue
+        auction.published["volume"] += 1
+        verdict = auction.audit()
+        [finding] = verdict.findings
+        assert (finding.item, finding.row) == ("volume", "published")
+
+
+def book(**changes: Any) -> pandas.DataFrame:
+    rows = [
+        dict(order="X", member="Adler", side="bid", price="20.05", quantity=100, time="09:00:02.400"),
+        dict(order="Y", member="Birk", side="bid", price="20.05", quantity=100, time="09:00:01.123"),
+        dict(order="Z", member="Cohn", side="ask", price="20.00", quantity=100, time="09:00:03.000"),
+    ]
+    return pandas.DataFrame(rows).assign(**changes)
+
+
+def trades(*rows: tuple[str, str, int, str]) -> pandas.DataFrame:
+    return pandas.DataFrame(rows, columns=["bid", "ask", "quantity", "price"])
+
+
+PUBLISHED = dict(price="20.05", volume=100, surplus=100, side="bid", auction="opening")
+
+
+def test_a_finding_of_a_fill_has_the_queue() -> None:
+    published = dict(PUBLISHED, trades=trades(("X", "Z", 100, "20.05")))
+    verdict = audit_auction(book(), published, reference="20.00", tick_size="0.01")
+    [finding] = verdict.findings
+    assert finding.rule == "Y entered 09:00:01.123 stands before X entered 09:00:02.400 at 20.05"
+    assert str(finding) == (
+        "row 0, opening: trade: recorded bid X ask Z: 100 at 20.05, lawful bid Y ask Z: 100 at "
+        "20.05: Y entered 09:00:01.123 stands before X entered 09:00:02.400 at 20.05"
+    )
+    queue = verdict.queue(finding)
+    assert queue["order"].tolist() == ["Y", "X", "Z"]
+    assert queue["recorded"].tolist() == [0, 100, 100] and queue["lawful"].tolist() == [100, 0, 100]
+    assert queue["price"].tolist() == [Decimal("20.05")] * 2 + [Decimal("20.00")]
+
+
+def test_a_finding_of_a_price_has_the_sentences_of_its_book() -> None:
+    published = dict(PUBLISHED, price="20.00", trades=trades(("Y", "Z", 100, "20.00")))
+    verdict = audit_auction(book(), published, reference="20.00", tick_size="0.01")
+    [finding] = verdict.findings
+    assert (finding.item, finding.recorded, finding.lawful) == ("price", "20.00", "20.05")
+    assert finding.rule == (
+        "Both leave a surplus of 100 on the bid side, so the highest, 20.05, is the price."
+    )
+    assert "Only limits of orders are candidates: 20.00 and 20.05." in verdict.explain(finding)
+
+
+def test_a_count_of_trades_may_stand_in_their_place() -> None:
+    verdict = audit_auction(book(), dict(PUBLISHED, trades=1), reference="20.00")
+    assert verdict.word == "incomplete" and verdict.coverage["trades"] == (0, 1)
+    assert verdict.coverage["counts"] == (1, 1)
+    verdict = audit_auction(book(), dict(PUBLISHED, trades=2), reference="20.00")
+    assert [finding.item for finding in verdict.findings] == ["count"]
+
+
+def test_fills_may_stand_in_place_of_trades() -> None:
+    fills = pandas.DataFrame({"order": ["X", "Z"], "quantity": [100, 100]})
+    verdict = audit_auction(book(), dict(PUBLISHED, fills=fills), reference="20.00")
+    [finding] = verdict.findings
+    assert finding.item == "fill" and finding.rule.startswith("Y entered 09:00:01.123 stands ")
+
+
+def test_a_book_that_is_no_book_is_told() -> None:
+    with pytest.raises(ColumnError, match=r"unknown column 'Price' \(is it price\?\)"):
+        audit_auction(book().rename(columns={"price": "Price"}), PUBLISHED, reference="20.00")
+    with pytest.raises(ColumnError, match=r"unknown column 'vol' \(is it volume\?\)"):
+        audit_auction(book(), dict(price=1, vol=2), reference="20.00")
+    with pytest.raises(ValueError, match="say which auction"):
+        audit_auction(book(restriction="closing"), dict(price="20.05"), reference="20.00")
+    verdict = audit_auction(
+        book(price="MKT"), dict(PUBLISHED, price="20.00", surplus=100, trades=1),
+        reference="20.00", reading=Reading(market=("MKT",))
+    )
+    assert verdict.word == "incomplete" and not verdict.findings
+    bad = audit_auction(book(quantity=[0, 100, 100]), PUBLISHED, reference="20.00")
+    assert str(bad.bad_rows[0]) == "row 0: the rules say refused 1 BadQuantity"
+
+
+def test_a_range_interrupts() -> None:
+    verdict = audit_auction(book(), PUBLISHED, reference="19.00", range="0.50")
+    [finding] = verdict.findings
+    assert (finding.item, finding.recorded, finding.lawful) == ("auction", "opening", "interrupted")
+    assert finding.rule == (
+        "The price, 20.05, is 1.05 from the reference, 19.00, beyond the range of 0.50, so the "
+        "uncross is interrupted."
+    )
