@@ -71,7 +71,7 @@ fn keep_block(
 /// that was just opened, and keeps their entries.
 fn keep_blocks<R: Source>(
     alloc: Global,
-    start: &[u8],
+    start: Vec<u8>,
     reader: &mut R,
     auction: &mut Auction,
     kept: &mut Kept,
@@ -79,15 +79,17 @@ fn keep_blocks<R: Source>(
 ) -> Result<(), FileFault>
     requires opened { auction.old ≡ opened_auction auction.old.config }
     requires follows { (entries : List Entry) × KeepsEntries kept.old auction.old entries }
-    requires short { length start.now ≤ MAX_BYTES }
+    requires short { length start.items ≤ MAX_BYTES }
     ensures form { form_of kept.new ≡ form_of kept.old }
     ensures failed { IsErrOf result FileFault.ReadFailed ↔ (R.failures reader.old < R.failures reader.new) }
     ensures kept { (entries : List Entry) → KeepsEntries kept.old auction.old entries
         → KeepsFile (KeepsEntries kept.new auction.new) entries auction.old auction.new result
-        (λ text. file text members auction.old.config.max_calls) (prepend_known start.now (R.left reader.old)) }
+        (λ text. file text members auction.old.config.max_calls) (prepend_known start.items (R.left reader.old)) }
     ensures room { auction.new.calls ≤ auction.old.config.max_calls }
 {
-    let mut blocks = Blocks::open(alloc, start, reader, MAX_BYTES)?;
+    let mut blocks = Blocks::open(alloc, start.as_slice(), reader, MAX_BYTES)?;
+    // The blocks have a copy, and the start may be the whole input.
+    drop(start);
     'turns: loop {
         if let Err(fault) = keep_block(alloc, &blocks, auction, kept, members) {
             blocks.drain(reader)?;
@@ -153,14 +155,7 @@ pub fn keep_file<R: Source>(
     let Ok(mut kept) = Kept::open(alloc, form, &auction) else {
         return Err(Fault::File(FileFault::NoMemory));
     };
-    match keep_blocks(
-        alloc,
-        start.as_slice(),
-        reader,
-        &mut auction,
-        &mut kept,
-        day.members,
-    ) {
+    match keep_blocks(alloc, start, reader, &mut auction, &mut kept, day.members) {
         Ok(()) => close_day(alloc, day, &mut auction, kept),
         Err(fault) => Err(Fault::File(fault)),
     }

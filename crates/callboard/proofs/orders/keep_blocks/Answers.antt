@@ -15,7 +15,8 @@ pub returns-in_err-blocks-clause-kept : goal.returns-in_err-blocks-clause-kept
 returns-in_err-blocks-clause-kept g c = λ entries h.
     let p = err_from_is_err_and c.from_residual.result c.from_residual.ensures.1 in
     input-file-fault (KeepsEntries c.args.kept.now c.args.auction.now) entries _ _ c.from_residual.result
-    c.in_err-blocks.field-0.0 _ _ (p.1 ∙ ap Err p.2) (fails-file _ _ _ _ c.in_err-blocks.ensures.rows)
+    c.in_err-blocks.field-0.0 _ _ (p.1 ∙ ap Err p.2)
+    (fails-file _ _ _ _ (rw c.as_slice.ensures.value at c.in_err-blocks.ensures.rows))
 
 pub turns-init : goal.turns-init
 turns-init g c = record {
@@ -25,7 +26,7 @@ turns-init g c = record {
   calls = (
     [],
     no_calls _,
-    carries-open _ _ _ _ c.in_ok-blocks.blocks c.in_ok-blocks.ensures.rows,
+    carries-open _ _ _ _ c.in_ok-blocks.blocks (rw c.as_slice.ensures.value at c.in_ok-blocks.ensures.rows),
     λ entries h. subst (KeepsEntries c.args.kept.now c.args.auction.now) (sym (append-nil entries)) h,
   );
 }

@@ -17,7 +17,7 @@ invariant-turns g l = record {
   form : form_of l.kept ≡ form_of l.fn.kept;
   room : l.auction.calls ≤ l.fn.auction.config.max_calls;
   calls : (front : List Call) × (l.auction ≡ after_calls l.fn.auction front)
-      × Carries (prepend_known l.start (g.R.Source.left l.fn.reader)) (g.R.Source.left l.reader) l.members
+      × Carries (prepend_known l.fn.start.items (g.R.Source.left l.fn.reader)) (g.R.Source.left l.reader) l.members
       l.fn.auction.config.max_calls front l.blocks
       × ((entries : List Entry) → KeepsEntries l.fn.kept l.fn.auction entries
       → KeepsEntries l.kept l.auction (entries ++ entries_from l.fn.auction.config l.fn.auction.state front));

@@ -23,13 +23,11 @@ returns-in-Ok-keep_blocks-clause-kept g c =
     file-said c.args.form c.args.day c.keep_blocks.new.kept c.in-Ok.auction c.keep_blocks.new.auction _
     c.close_day.result c.in-Ok.ensures.opening
     (c.in-Ok-keep_blocks.ensures.form ∙ c.in-Ok-open.ensures.form) opens c.in-Ok-keep_blocks.ensures.room
-    (rw c.as_slice.ensures.value
-    at (c.in-Ok-keep_blocks.ensures.kept [] (c.in-Ok-open.ensures.none (opened_so _ _ c.in-Ok.ensures.opening))))
+    (c.in-Ok-keep_blocks.ensures.kept [] (c.in-Ok-open.ensures.none (opened_so _ _ c.in-Ok.ensures.opening)))
     c.close_day.ensures
 
 pub returns-clause-kept : goal.returns-clause-kept
 returns-clause-kept g c =
     file-said-fault c.args.form c.args.day c.keep_blocks.new.kept c.in-Ok.auction c.keep_blocks.new.auction _
     c.in-Err-keep_blocks.fault c.in-Ok.ensures.opening
-    (rw c.as_slice.ensures.value
-    at (c.in-Err-keep_blocks.ensures.kept [] (c.in-Ok-open.ensures.none (opened_so _ _ c.in-Ok.ensures.opening))))
+    (c.in-Err-keep_blocks.ensures.kept [] (c.in-Ok-open.ensures.none (opened_so _ _ c.in-Ok.ensures.opening)))
