@@ -8,13 +8,17 @@
 mod ends;
 mod failures;
 mod memory;
+mod reader;
 mod sink;
 mod source;
+mod writer;
 mod writing;
 
 pub use ends::{FromRead, ToWrite};
 pub use failures::Failures;
 pub use memory::{FromMemory, ToMemory};
+pub use reader::Reader;
 pub use sink::{Sink, SinkFailed};
 pub use source::{Source, SourceFailed};
+pub use writer::Writer;
 pub use writing::{WriteFailed, write_all};

@@ -1,9 +1,9 @@
 //! Readers and writers that give and take little at a time, or fail.
 
-ghost use Rattle.std.specs.Prelude.{◌≡◌, ◌<◌};
+ghost use Rattle.std.specs.Prelude.{◌≡◌, ◌<◌, ⊤};
 
 use super::{Printed, served};
-use byte_streams::{Failures, FromRead, ToWrite};
+use byte_streams::{Failures, FromRead, Reader, SinkFailed, SourceFailed, ToWrite, Writer};
 use std::io;
 use std::io::{ErrorKind, Read, Write};
 use std::marker::Brand;
@@ -74,6 +74,14 @@ impl Read for Giver<'_> {
     }
 }
 
+impl Reader for Giver<'_> {
+    ghost read_gives = { λ _ _ _ _. ⊤ };
+
+    fn read_some(&mut self, buffer: &mut [u8]) -> Result<usize, SourceFailed> {
+        self.read(buffer).map_err(|_| SourceFailed)
+    }
+}
+
 /// Takes at most `step` bytes at a time, and from the write on that comes after `writes` takes none,
 /// or fails.
 #[derive(Drop)]
@@ -100,6 +108,14 @@ impl Write for Taker {
 
     fn flush(&mut self) -> io::Result<()> {
         Ok(())
+    }
+}
+
+impl Writer for Taker {
+    ghost write_takes = { λ _ _ _ _. ⊤ };
+
+    fn write_some(&mut self, bytes: &[u8]) -> Result<usize, SinkFailed> {
+        self.write(bytes).map_err(|_| SinkFailed)
     }
 }
 
