@@ -22,11 +22,11 @@ from callauction.market.splitting import TableError, split
 from callauction.market.summary import Summary
 from callauction.market.task import MIB, Request
 from callauction.market.workers import MarketError, Threads, Workers, connected
+from callauction.statuses import BAD_DAY, BAD_FILE, BROKEN_OFF, DONE, FAILED
 
 if TYPE_CHECKING:
     from distributed import Security
 
-BAD_FILE, BAD_WORDS, NO_RUN, BROKEN_OFF = 1, 2, 3, 130
 SECURE, PLAIN = "tls://", "tcp://"
 ADDRESS = re.compile(r"t(?:ls|cp)://[^/\s]+:\d{1,5}")
 
@@ -194,15 +194,15 @@ def examine(asked: argparse.Namespace) -> int:
         security_of(asked)
     except (MarketError, OSError) as fault:
         tell(fault)
-        return BAD_WORDS
+        return BAD_DAY
     try:
         summary = run_market(asked, *compared_with(files, expected))
     except InUse as fault:
         tell(fault)
-        return BAD_WORDS
+        return BAD_DAY
     except (MarketError, OSError) as fault:
         tell(fault)
-        return NO_RUN
+        return FAILED
     except KeyboardInterrupt:
         kept = f": {log_path(asked.output)} has what was found; --resume" if asked.output else ""
         tell(f"broken off{kept}")
@@ -222,9 +222,9 @@ def split_table(asked: argparse.Namespace) -> int:
         return BAD_FILE
     except InUse as fault:
         tell(fault)
-        return BAD_WORDS
+        return BAD_DAY
     except OSError as fault:
         tell(fault)
-        return NO_RUN
+        return FAILED
     print(f"instruments {len(paths)}")
-    return 0
+    return DONE

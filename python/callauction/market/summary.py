@@ -2,11 +2,10 @@
 from collections.abc import Iterable
 
 from callauction.market.rows import OVER, Row
+from callauction.statuses import BAD_FILE, DONE, INCOMPLETE, UNLAWFUL
 
 MOST_NAMED = 20
 """How many unlawful or bad files are named."""
-LAWFUL, BAD_FILE, UNLAWFUL, INCOMPLETE = 0, 1, 4, 5
-"""The statuses, of which a bad file's comes first: where one is bad, not all was audited."""
 
 
 class Summary:
@@ -39,13 +38,15 @@ class Summary:
         return sum(getattr(row, name) or 0 for row in self.rows)
 
     def status(self) -> int:
-        """The status of the run: of an audit also whether all replies were compared."""
+        """The status of the run: of an audit also whether all replies were compared. That of a bad
+        file comes first: where one is bad, not all was audited.
+        """
         if any(row.fault for row in self.rows):
             return BAD_FILE
         if self.total("unlawful"):
             return UNLAWFUL
         is_complete = self.total("compared") and all(row.is_complete() for row in self.rows)
-        return INCOMPLETE if self.is_audit and not is_complete else LAWFUL
+        return INCOMPLETE if self.is_audit and not is_complete else DONE
 
     def named(self) -> list[str]:
         """A line for each row with a fault or with something unlawful, by the instruments."""
@@ -78,7 +79,7 @@ class Summary:
         """What an audit found: lawful, unlawful or incomplete."""
         if self.total("unlawful"):
             return "unlawful"
-        return "lawful" if self.status() == LAWFUL else "incomplete"
+        return "lawful" if self.status() == DONE else "incomplete"
 
     def lines(self) -> list[str]:
         """What is printed: the unlawful and the bad files, the closing line, and of an audit its

@@ -28,9 +28,10 @@ from callauction.market.forms import (
 )
 from callauction.market.names import instrument_of, line_of
 from callauction.market.rows import Found, Row
+from callauction.statuses import DONE, UNLAWFUL
 
 MIB = 1 << 20
-GOOD = {0, 4}
+GOOD = {DONE, UNLAWFUL}
 """The statuses of the program that go with a good file: all is lawful, or something isn't."""
 NO_MEMORY = "out of memory"
 """What the program says where it gets no memory."""
