@@ -120,3 +120,18 @@ def test_a_long_line(tmp_path: pathlib.Path) -> None:
     files = {"crates/terms/specs/Lib.antt": long, "crates/terms/proofs/A.antt": long}
     tree = planted(tmp_path, **files)
     assert len(faults_of(sources.long_lines, tree)) == 2
+
+
+HEADS = [
+    "use one.Thing",
+    "-- Answers of `f` (src/lib.rt): what the prover left open.",
+    "-- Answers of `f` (src/gone.rt): what the prover left open; rt looks here.",
+]
+
+
+@pytest.mark.parametrize("head", HEADS)
+def test_a_walk_without_a_head(tmp_path: pathlib.Path, head: str) -> None:
+    good = "-- Invariants of the loops of `f` (src/lib.rt); rt looks here.\n"
+    files = {"Answers": head + "\n", "Invariants": good}
+    named = {f"crates/terms/proofs/f/{name}.antt": text for name, text in files.items()}
+    assert len(faults_of(sources.walks_without_a_head, planted(tmp_path, **named))) == 1

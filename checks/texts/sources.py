@@ -4,6 +4,8 @@
 - No name of a file is shared by specs or proofs of two crates, but for Lib, Answers, Invariants and
   Proof, and for the folders of proofs that are named as a module or a function.
 - No file is named `..Lemmas.antt`: we say Laws.
+- The first line of a file in a folder of proofs that is named as a function says what it belongs
+  to, and that `rt` looks there.
 - No two lemmas have names that differ by hyphens and underscores alone.
 - A limit of the market or of memory (LIMITS) isn't written as a number, where it isn't the value of
   a constant: in sources, definitions and proofs, but for tests, examples, comments and texts.
@@ -34,6 +36,7 @@ CONSTANT = re.compile(r"(pub(\([a-z]+\))? )?(const|static) (?P<name>[A-Z][A-Z0-9
 TEXT = re.compile(r'"(?:[^"\\]|\\.)*"')
 MODIFIERS = r"(?:(?:pub|abbrev|unfoldable|opaque) +)*"
 LEMMA = re.compile(MODIFIERS + r"(?P<name>[^\s:(){},=]+)(?: *\{[^}]*\})* *: ")
+HEAD = re.compile(r"-- .*`.+` \((?P<source>src/[\w/]+\.rt)\).* rt looks here\.")
 BLOCK = re.compile(MODIFIERS + r"(?P<word>module|record|data)\b")
 
 
@@ -52,6 +55,15 @@ def shared_names(tree: Tree) -> Iterator[str]:
     for name, those in sorted(files.items()):
         if len({tree.crate(file) for file in those}) > 1:
             yield f"{', '.join(map(tree.name, those))}: one name for files of several crates"
+
+
+def walks_without_a_head(tree: Tree) -> Iterator[str]:
+    for file in filter(tree.is_of_function, tree.proofs):
+        head = HEAD.fullmatch(tree.lines(file)[0])
+        if head is None:
+            yield f"{tree.name(file)}:1: it doesn't say what it is of: '-- .. rt looks here.'"
+        elif not (tree.top / "crates" / tree.crate(file) / head["source"]).is_file():
+            yield f"{tree.name(file)}:1: there is no {head['source']}"
 
 
 def lemma_files(tree: Tree) -> Iterator[str]:
@@ -136,6 +148,7 @@ def retyped_limits(tree: Tree) -> Iterator[str]:
 RULES = [
     long_lines,
     shared_names,
+    walks_without_a_head,
     lemma_files,
     near_names,
     retyped_limits,

@@ -1,7 +1,7 @@
 //! Each call that takes memory, once, and what it answers where a request for memory is refused.
 //!
 //! A test can have no allocator of its own: a `Global` holds a `Memory` of the runtime, which only the process has. So
-//! `checks/refusals` runs these tests as built, with the first, the second and each later request refused, one a run.
+//! `./check refusals` runs these tests as built, with the first, the second and each later request refused, one a run.
 //! There each of them returns the fault that its call documents, or fails; in the run that meets no refusal, as here,
 //! it looks at the right answer.
 

@@ -1,3 +1,4 @@
+-- Invariants of the loops of `accounts_error` (src/board/closing.rt); rt looks here.
 use Rattle.std.proofs.Common.{◌≡◌, ◌<◌, ℕ, get_or}
 use Rattle.auction_c.specs.declared.member_handle.AuctionMember.{AuctionMember}
 use Rattle.auction_c.specs.BoardCalls.{HoldsAccount}

@@ -1,3 +1,4 @@
+-- Answers of `close_all` (src/board/closing.rt): what the prover left open; rt looks here.
 use Rattle.std.proofs.Common.{◌≡◌, ◌∙◌, ap, refl, set, subst}
 use Rattle.std.proofs.lemmas.List.{set-get_or}
 use Rattle.shared_board.specs.BoardViews.{FloorView}

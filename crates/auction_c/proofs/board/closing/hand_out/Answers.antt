@@ -1,3 +1,4 @@
+-- Answers of `hand_out` (src/board/closing.rt): what the prover left open; rt looks here.
 use Rattle.std.proofs.Common.{rules, ◌≡◌, ◌≤◌, ◌∙◌, ap, arith, length, subst, List}
 use Rattle.auction_terms.specs.declared.Entry.{Entry}
 use Rattle.auction_c.specs.Entries.{AreEntries}

@@ -1,3 +1,4 @@
+-- Answers of `copy_entries` (src/board/copying.rt): what the prover left open; rt looks here.
 use Rattle.std.proofs.Common.{◌∙◌, ◌<◌, length, subst, arith, length-set}
 use Rattle.std.proofs.lemmas.List.{get_or_default}
 use Rattle.auction_terms.specs.declared.Entry.{Entry}

@@ -1,3 +1,4 @@
+-- Invariants of the loops of `copy_entries` (src/board/copying.rt); rt looks here.
 use Rattle.std.proofs.Common.{◌≡◌, length}
 use Rattle.auction_c.specs.Entries.{AreEntries}
 use Rattle.auction_c.proofs.board.copying.copy_entries.Given as goal

@@ -1,3 +1,4 @@
+-- Invariants of the loops of `boxed` (src/board/opening.rt); rt looks here.
 use Rattle.std.proofs.Common.{◌≡◌, map}
 use Rattle.auction_c.proofs.board.opening.boxed.Given as goal
 

@@ -1,3 +1,4 @@
+-- Answers of `fill` (src/board/opening.rt): what the prover left open; rt looks here.
 use Rattle.std.proofs.Common.{rules, ◌≡◌, length}
 use Rattle.shared_board.specs.BoardViews.{opened_board}
 use Rattle.auction_c.proofs.OpenLaws.{holds_new_members, as_many}

@@ -1,3 +1,4 @@
+-- Answers of `is_in_use` (src/board/opening.rt): what the prover left open; rt looks here.
 use Rattle.std.proofs.Common.{rules, tests}
 use Rattle.std.specs.Prelude.{is_some}
 use Rattle.std.proofs.lemmas.Iterator.{YieldsList-from_slice}

@@ -1,3 +1,4 @@
+-- Invariants of the loops of `put_in` (src/board/opening.rt); rt looks here.
 use Rattle.std.proofs.Common.{◌≡◌, ◌++◌, Some, length, map, take}
 use Rattle.auction_c.proofs.board.opening.put_in.Given as goal
 

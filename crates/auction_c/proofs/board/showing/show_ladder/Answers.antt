@@ -1,3 +1,4 @@
+-- Answers of `show_ladder` (src/board/showing.rt): what the prover left open; rt looks here.
 use Rattle.std.proofs.Common.{rules, ◌≡◌, ◌∙◌, ap, sym, subst, length}
 use Rattle.auction_terms.specs.Day.{IsLegal, calls_of}
 use Rattle.auction_terms.specs.Ladder.{LadderView}

@@ -1,3 +1,4 @@
+-- Answers of `show_trades` (src/board/showing.rt): what the prover left open; rt looks here.
 use Rattle.std.proofs.Common.{rules, ◌≡◌, ◌++◌, ◌∙◌, ap, sym, subst, length, drop, map, min, take, List}
 use Rattle.auction_terms.specs.Day.{IsLegal, calls_of}
 use Rattle.auction_terms.specs.declared.Trade.{Trade}

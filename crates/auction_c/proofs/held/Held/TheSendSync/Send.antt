@@ -1,3 +1,4 @@
+-- The proof that `Held` is `Send` (src/held.rt); rt looks here.
 use mir.Raw.{raw}
 use base.Shift.{Keyless}
 use denote.Memory.{lone}

@@ -1,3 +1,4 @@
+-- The proof that `HeldMember` is `Send` (src/member_held.rt); rt looks here.
 use mir.Raw.{raw}
 use base.Shift.{Keyless}
 use denote.Memory.{lone}
