@@ -122,6 +122,13 @@ impl DayState {
         self.auction
     }
 
+    /// The last auction price, or the one that was handed in.
+    pub(crate) fn reference(&self) -> u32
+        ensures { result ≡ self.now.state.reference }
+    {
+        self.reference
+    }
+
     /// The quantities of the orders that count, tick by tick over the bounds.
     pub(crate) fn ladder(&self) -> &Ladder
         ensures value { result.now ≡ ladder_over self.now.config (current_orders self.now.state) }

@@ -169,6 +169,13 @@ impl Auction {
         self.day.auction()
     }
 
+    /// The reference price in ticks: the last auction price of the day, and before it that of the config.
+    pub fn reference(&self) -> u32
+        ensures { result ≡ self.now.state.reference }
+    {
+        self.day.reference()
+    }
+
     /// The quantities of the orders that count in the current auction, tick by tick over the bounds, among which are
     /// all limits of these orders.
     pub fn ladder(&self) -> &Ladder
