@@ -11,6 +11,7 @@ mod copying;
 mod delete;
 mod enter;
 mod indicate;
+mod listing;
 mod order_status;
 mod read_trade;
 mod uncross;

@@ -1,14 +1,19 @@
 -- The open orders in priority, and what was executed of each.
-use Rattle.std.specs.Prelude.{ℕ, ◌==◌, Bool, true, List, ◌++◌, Option, Some, None, filter, map, sum_by}
+use Rattle.std.specs.Prelude.{ℕ, ◌==◌, Bool, true, if◌then◌else◌, List, [], ◌++◌, Option, Some, None, filter, map}
+use Rattle.std.specs.Prelude.{sum_by}
 use Rattle.std.specs.declared.cmp.Ordering.{Ordering}
 use Rattle.auction_terms.specs.declared.Side.{Side}
 use Rattle.auction_terms.specs.declared.Side.TheVariants.{Bid, Ask}
 use Rattle.auction_terms.specs.declared.Order.{Order}
 use Rattle.auction_terms.specs.declared.OpenOrder.{OpenOrder}
 use Rattle.auction_terms.specs.declared.Trade.{Trade}
-use Rattle.auction_terms.specs.Book.{is_on}
-use Rattle.auction_terms.specs.Allotment.{by_price}
-use Rattle.auction_terms.specs.Day.{State, visible_of}
+use Rattle.auction_terms.specs.declared.AuctionKind.{AuctionKind}
+use Rattle.auction_terms.specs.declared.Config.{Config}
+use Rattle.auction_terms.specs.declared.Price.{Price}
+use Rattle.auction_terms.specs.Book.{auction_orders, is_on, is_restricted_to}
+use Rattle.auction_terms.specs.AuctionPrice.{price}
+use Rattle.auction_terms.specs.Allotment.{by_price, rest_in, trades}
+use Rattle.auction_terms.specs.Day.{State, is_interrupted, visible_of}
 use Rattle.auction_terms.specs.Auxiliary.Sort.{in_order}
 
 abbrev pub by_limit : Side → Order → Order → Ordering
@@ -42,11 +47,39 @@ with_executions tape side order = record {
   filled = executed_of tape side order.id;
 }
 
--- the open orders of a side in priority, also those that wait for another auction
-abbrev pub listed_on : Side → Option ℕ → State → List OpenOrder
-listed_on side member state =
-    map (with_executions state.tape side) (side_in_priority side (orders_by member state.book))
+-- the orders of a side in priority, of all members or of one
+abbrev pub listed_on : Side → Option ℕ → List Order → List Trade → List OpenOrder
+listed_on side member book tape = map (with_executions tape side) (side_in_priority side (orders_by member book))
 
--- the bids, and then the asks, of all members or of one
+-- the bids, and then the asks
+abbrev pub listed : Option ℕ → List Order → List Trade → List OpenOrder
+listed member book tape = listed_on Bid member book tape ++ listed_on Ask member book tape
+
+-- the open orders, also those that wait for another auction
 unfoldable pub orders_in_priority : Option ℕ → State → List OpenOrder
-orders_in_priority member state = listed_on Bid member state ++ listed_on Ask member state
+orders_in_priority member state = listed member state.book state.tape
+
+-- ---- what an uncross takes out
+
+-- those that are for this auction alone
+abbrev pub restricted_to : AuctionKind → List OpenOrder → List OpenOrder
+restricted_to kind orders = filter (λ listed. is_restricted_to kind listed.order.restriction) orders
+
+-- the orders for this auction alone that are left after it, at this price or without one; none where it is interrupted
+abbrev pub expiring_at : Config → State → AuctionKind → Option Price → List OpenOrder
+expiring_at config state kind None = restricted_to kind (listed None state.book state.tape)
+expiring_at config state kind (Some priced) =
+    if is_interrupted config state priced.tick
+    then []
+    else restricted_to kind
+        (listed None (rest_in kind state.book priced.tick)
+        (state.tape ++ trades (auction_orders state.book kind) priced.tick))
+
+abbrev pub expiring_in : Config → State → Option AuctionKind → List OpenOrder
+expiring_in config state None = []
+expiring_in config state (Some kind) =
+    expiring_at config state kind (price (auction_orders state.book kind) state.reference)
+
+-- the orders that an uncross would take out now, as they are for its auction alone, in priority
+unfoldable pub orders_expiring : Config → State → List OpenOrder
+orders_expiring config state = expiring_in config state state.auction

@@ -15,6 +15,7 @@ mod copying;
 mod counting;
 mod ending;
 mod executing;
+mod listing;
 
 use super::known::{KnownPrice, find};
 use auction_terms::{AuctionKind, Config, Limit, NewOrder, Order};
