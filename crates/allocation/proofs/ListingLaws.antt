@@ -26,7 +26,8 @@ use Rattle.auction_terms.specs.Auxiliary.StampedOrders.{placed_by_stamp, orders_
 use Rattle.auction_terms.proofs.FillLaws.{sum_by-map}
 use Rattle.auction_terms.proofs.RankLaws.{by_rank_total, all_agree_by_place, all_apart_by_place, map-filter}
 use Rattle.auction_terms.proofs.RankLaws.{PlacesRise-filter, sum_by-filter}
-use Rattle.auction_terms.proofs.SortLaws.{Before, Rising, map-in_order, rising_in_order, sum_by-in_order, up_from_sorted}
+use Rattle.auction_terms.proofs.SortLaws.{Before, Rising, map-in_order, rising_in_order, sum_by-in_order}
+use Rattle.auction_terms.proofs.SortLaws.{up_from_sorted}
 use Rattle.order_book.specs.Orders.{OrdersView, HasAllOrders, present, slot_at}
 use Rattle.order_book.proofs.WalkLaws.{present_more, present_all}
 use Rattle.allocation.specs.declared.listing.Listed.{Listed}

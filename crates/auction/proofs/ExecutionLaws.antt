@@ -1,6 +1,7 @@
 -- What trades execute, by the ids of orders; no trade is larger than an order may be.
-use Rattle.std.proofs.Common.{◌≡◌, ◌≢◌, ℕ, zero, suc, ◌+◌, ◌*◌, ◌<◌, ◌≤◌, Bool, nat_eq, cond, ◌⊎◌, inl, inr, List, [], ◌∷◌, ◌++◌, All}
-use Rattle.std.proofs.Common.{length, map, filter, take, get_or, set, sum_by, replicate, refl, sym, ap, subst, ◌∙◌, arith}
+use Rattle.std.proofs.Common.{◌≡◌, ◌≢◌, ℕ, zero, suc, ◌+◌, ◌-◌, ◌*◌, ◌<◌, ◌≤◌, nat_eq, cond, inl, inr, List, []}
+use Rattle.std.proofs.Common.{◌∷◌, ◌++◌, All, length, map, take, get_or, set, replicate, refl, sym, ap, subst, ◌∙◌}
+use Rattle.std.proofs.Common.{arith}
 use Rattle.std.proofs.lemmas.Bool.{cases_lt}
 use Rattle.std.proofs.lemmas.Bool.Decides.{nat_tests}
 use Rattle.std.proofs.lemmas.Grind.{common_steps}
@@ -23,11 +24,14 @@ use Rattle.auction_terms.specs.Auxiliary.OrderLists.{IsOrderly}
 use Rattle.auction_terms.specs.Auxiliary.RankedFills.{allot, price_order, ranked_orders, requested_fill}
 use Rattle.auction_terms.specs.Auxiliary.Sort.{in_order, place_in}
 use Rattle.auction_terms.specs.Book.{auction_orders, is_eligible_on, participates_in, volume}
+use Rattle.auction_terms.specs.Day.{visible_of}
 use Rattle.auction_terms.specs.Ladder.{tick_values}
-use Rattle.auction_terms.specs.Priority.{executed_of, traded_on, with_executions}
+use Rattle.auction_terms.specs.Priority.{executed_of, listed_on, traded_on, with_executions}
 use Rattle.auction_terms.proofs.LadderLaws.{at_spread, length-tick_values, set_spread}
 use Rattle.auction_terms.proofs.RankLaws.{fills_of_is}
+use Rattle.allocation.specs.declared.listing.Listed.{Listed}
 use Rattle.allocation.specs.declared.listing.RankedOrder.{RankedOrder}
+use Rattle.allocation.specs.Listing.{AreInPriority}
 use Rattle.auction.specs.Executions.{AreSmall, executed_by_id, HaveIdsUpTo, with_executed}
 use Rattle.auction.proofs.EmptyBookLaws.{spread_zero}
 
@@ -149,11 +153,13 @@ executed_by_id-more tape side last t =
     let old = executed_of tape side in
     let new = executed_of (tape ++ t ∷ []) side in
     let size = last + 1 in
+    let zero_id : 0 + id ≡ id = omega arith in
     elim (cases_lt id size) [
       | inl within ↦
           set_spread old new 0 size id (get_or (tick_values old 0 size) id 0 + t.quantity) within
-          (ap (λ n. n + t.quantity) (at_spread old 0 size id within) ∙ same_id side tape t)
-          (λ other differs. other_id side tape t other differs)
+          (ap (λ n. n + t.quantity) (at_spread old 0 size id within ∙ ap old zero_id) ∙ same_id side tape t
+          ∙ ap new (sym zero_id))
+          (λ other differs. other_id side tape t other (λ same. differs (same ∙ sym zero_id)))
       | inr past ↦
           set_past (tick_values old 0 size) id _ (omega (arith, past, length-tick_values old 0 size))
           ∙ same_below old new 0 size (λ other l. other_id side tape t other (λ same. omega (arith, same, l, past)))
@@ -169,9 +175,10 @@ All-take P (suc n) (x ∷ xs) all = All-cons P x (take n xs) (All-head P x xs al
 
 -- so many trades don't overflow
 pub executed_fits : (tape : List Trade) (side : Side) (last k : ℕ) (id : ℕ) → AreSmall tape
-    → k ≤ 3 * MAX_OPEN_ORDERS → get_or (executed_by_id (take k tape) side last) id 0 ≤ 3 * MAX_OPEN_ORDERS * MAX_QUANTITY
+    → k ≤ 3 * MAX_OPEN_ORDERS
+    → get_or (executed_by_id (take k tape) side last) id 0 ≤ 3 * MAX_OPEN_ORDERS * MAX_QUANTITY
 executed_fits tape side last k id small few =
-    let most = executed_most side id (take k tape) (All-take IsSmallTrade k tape small) in
+    let most = executed_most side (0 + id) (take k tape) (All-take IsSmallTrade k tape small) in
     let long = length-take k tape in
     elim (cases_lt id (last + 1)) [
       | inl within ↦ omega (arith, at_spread (executed_of (take k tape) side) 0 (last + 1) id within, most, long)
@@ -179,41 +186,57 @@ executed_fits tape side last k id small few =
           omega (
             arith,
             get_or_past (executed_by_id (take k tape) side last) id 0 (omega (
-                  arith,
-                  past,
-                  length-tick_values (executed_of (take k tape) side) 0 (last + 1),
-                )),
+              arith,
+              past,
+              length-tick_values (executed_of (take k tape) side) 0 (last + 1),
+            )),
           )
     ]
 
 -- ---- the orders that are listed
 
+abbrev with_filled : Order → ℕ → OpenOrder
+with_filled order n = record { order = order; visible = visible_of order; filled = n }
+
 listed_one : (tape : List Trade) (side : Side) (last : ℕ) (r : RankedOrder) → r.order.id ≤ last
     → with_executed (executed_by_id tape side last) r ≡ with_executions tape side r.order
 listed_one tape side last r within =
-    let same : get_or (executed_by_id tape side last) r.order.id 0 ≡ executed_of tape side r.order.id =
-    at_spread (executed_of tape side) 0 (last + 1) r.order.id (omega arith) in
-    cc
+    let zero_id : 0 + r.order.id ≡ r.order.id = omega arith in
+    let same : get_or (tick_values (executed_of tape side) 0 (last + 1)) r.order.id 0
+    ≡ executed_of tape side r.order.id =
+    at_spread (executed_of tape side) 0 (last + 1) r.order.id (omega arith) ∙ ap (executed_of tape side) zero_id in
+    ap (λ n. with_filled r.order n) same
 
 pub listed_is : (tape : List Trade) (side : Side) (last : ℕ) (ranked : List RankedOrder) → HaveIdsUpTo last ranked
     → map (with_executed (executed_by_id tape side last)) ranked
     ≡ map (with_executions tape side) (map (λ r. r.order) ranked)
 listed_is tape side last [] all = refl
 listed_is tape side last (r ∷ ranked) all =
-    let first = listed_one tape side last r (All-head _ r ranked all) in
-    let rest = listed_is tape side last ranked (All-tail _ r ranked all) in
+    let first = listed_one tape side last r (All-head (λ (x : RankedOrder). x.order.id ≤ last) r ranked all) in
+    let rest = listed_is tape side last ranked (All-tail (λ (x : RankedOrder). x.order.id ≤ last) r ranked all) in
     cc
 
 ids_upto : (last most : ℕ) (ranked : List RankedOrder) → HaveIdsUpTo last ranked → last ≤ most
     → HaveIdsUpTo most ranked
-ids_upto last most [] all above = All-nil _
+ids_upto last most [] all above = All-nil (λ (x : RankedOrder). x.order.id ≤ most)
 ids_upto last most (r ∷ ranked) all above =
-    let first : r.order.id ≤ last = All-head _ r ranked all in
-    All-cons _ r ranked (omega arith) (ids_upto last most ranked (All-tail _ r ranked all) above)
+    let first : r.order.id ≤ last = All-head (λ (x : RankedOrder). x.order.id ≤ last) r ranked all in
+    All-cons (λ (x : RankedOrder). x.order.id ≤ most) r ranked (omega arith)
+    (ids_upto last most ranked (All-tail (λ (x : RankedOrder). x.order.id ≤ last) r ranked all) above)
 
 -- one more id
 pub ids_more : (last id most : ℕ) (ranked : List RankedOrder) (r : RankedOrder) → HaveIdsUpTo last ranked
     → r.order.id ≡ id → last ≤ most → id ≤ most → HaveIdsUpTo most (ranked ++ r ∷ [])
 ids_more last id most ranked r all is above covers =
     All-append (λ (x : RankedOrder). x.order.id ≤ most) ranked (r ∷ []) (ids_upto last most ranked all above)
-    (All-cons _ r [] (omega arith) (All-nil _))
+    (All-cons (λ (x : RankedOrder). x.order.id ≤ most) r [] (omega arith)
+    (All-nil (λ (x : RankedOrder). x.order.id ≤ most)))
+
+-- the whole of a side
+pub side_listed : (tape : List Trade) (listed : Listed) (last : ℕ) (book : List Order) (ranked : List RankedOrder)
+    (executed : List ℕ) → HaveIdsUpTo last ranked → executed ≡ executed_by_id tape listed.side last
+    → AreInPriority listed book ranked
+    → map (with_executed executed) ranked ≡ listed_on listed.side listed.member book tape
+side_listed tape listed last book ranked executed upto is in_priority =
+    ap (λ l. map (with_executed l) ranked) is ∙ listed_is tape listed.side last ranked upto
+    ∙ ap (map (with_executions tape listed.side)) in_priority

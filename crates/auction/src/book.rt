@@ -18,6 +18,7 @@ mod copying;
 mod counted;
 mod known;
 mod listing;
+mod refilling;
 
 use allocation::Desk;
 use auction_terms::{Config, Display, Limit, NewOrder, Order, Price, Trade};

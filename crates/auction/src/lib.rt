@@ -19,6 +19,7 @@ mod commands;
 mod copying;
 mod history;
 mod open_orders;
+mod refilling;
 
 pub use auction_terms::Config;
 use auction_terms::{

@@ -1,6 +1,6 @@
 //! The open orders as they are listed.
 ghost use Rattle.std.specs.Prelude.{◌≡◌, IfOk};
-ghost use Rattle.auction_terms.specs.Priority.{orders_in_priority};
+ghost use Rattle.auction_terms.specs.Priority.{orders_expiring, orders_in_priority};
 
 use crate::Auction;
 use auction_terms::OpenOrder;
@@ -21,5 +21,15 @@ impl Auction {
         ensures { IfOk result (λ listed. listed.items ≡ orders_in_priority member self.now.state) }
     {
         self.day.open_orders(alloc, member)
+    }
+
+    /// The orders that an uncross now would take out because they are for its auction alone, in priority, with what
+    /// would be left of them then: none after the day, and where the uncross would be interrupted.
+    ///
+    /// The only error is want of memory.
+    pub fn expiring_orders(&self, alloc: Global) -> Result<Vec<OpenOrder>, AllocError>
+        ensures { IfOk result (λ listed. listed.items ≡ orders_expiring self.now.config self.now.state) }
+    {
+        self.day.expiring_orders(alloc)
     }
 }

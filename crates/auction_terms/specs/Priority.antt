@@ -72,8 +72,8 @@ expiring_at config state kind (Some priced) =
     if is_interrupted config state priced.tick
     then []
     else restricted_to kind
-        (listed None (rest_in kind state.book priced.tick)
-        (state.tape ++ trades (auction_orders state.book kind) priced.tick))
+    (listed None (rest_in kind state.book priced.tick)
+    (state.tape ++ trades (auction_orders state.book kind) priced.tick))
 
 abbrev pub expiring_in : Config → State → Option AuctionKind → List OpenOrder
 expiring_in config state None = []

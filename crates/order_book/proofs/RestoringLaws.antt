@@ -98,7 +98,8 @@ module _ (from : List (Option Stamped)) (from_keys : List ℕ) (stamps : ℕ) (s
           | inl here ↦ elim (cases_eq j put.key) [
             | inl there ↦ here ∙ sym there
             | inr differs ↦
-                absurd (apart_from_new j t differs f (sym same ∙ ap (λ (y : Stamped). y.stamp) (sym (new_is i s here e))))
+                absurd (apart_from_new j t differs f (sym same
+                ∙ ap (λ (y : Stamped). y.stamp) (sym (new_is i s here e))))
           ]
           | inr differs ↦ elim (cases_eq j put.key) [
             | inl there ↦
@@ -209,7 +210,8 @@ pub has_room : (from : List (Option Stamped)) (place : ℕ) (orders : Slab Stamp
 has_room from place orders None at len room = tt
 has_room from place orders (Some x) at len room =
     let more : length (present (take (place + 1) from)) ≡ length (present (take place from)) + 1 =
-    ap length (present_more from place) ∙ length-append (present (take place from)) (option_to_list (slot_at from place))
+    ap length (present_more from place)
+    ∙ length-append (present (take place from)) (option_to_list (slot_at from place))
     ∙ ap (λ o. length (present (take place from)) + length (option_to_list o)) (sym at) in
     omega (arith, more, present_few from (place + 1), length-present from)
 
@@ -234,5 +236,6 @@ keys_long old new keys keys' None done = ap length done.1
 keys_long old new keys keys' (Some x) done = ap length done.written ∙ length-set keys (x.order.id - 1) done.key
 
 -- no more are put back than there were
-pub restored_few : (from : List (Option Stamped)) (place : ℕ) → length (present (take place from)) ≤ count_by is_some from
+pub restored_few : (from : List (Option Stamped)) (place : ℕ)
+    → length (present (take place from)) ≤ count_by is_some from
 restored_few from place = omega (arith, present_few from place, length-present from)

@@ -16,6 +16,7 @@ mod counting;
 mod ending;
 mod executing;
 mod listing;
+mod refilling;
 
 use super::known::{KnownPrice, find};
 use auction_terms::{AuctionKind, Config, Limit, NewOrder, Order};

@@ -6,6 +6,7 @@ ghost use Rattle.auction.specs.Executions as executions;
 ghost use Rattle.auction.specs.Executions.{AreSmall, HaveIdsUpTo, with_executed};
 
 use super::DayState;
+use crate::book::Book;
 use allocation::{Listed, RankedOrder};
 use auction_terms::{OpenOrder, Side, Trade};
 use std::alloc::{AllocError, Global};
@@ -61,6 +62,13 @@ fn last_id(ranked: &[RankedOrder]) -> u32
     last
 }
 
+// What the table has under an id.
+fn at_id(executed: &[u64], id: u32) -> u64
+    ensures { result ≡ slice_index executed.now id }
+{
+    executed.get(id as usize).copied().unwrap_or(0)
+}
+
 // Adds these orders to those that are listed, each with what is written under its id.
 fn list(
     listed: &mut Vec<OpenOrder>,
@@ -75,28 +83,57 @@ fn list(
         listed.push(OpenOrder {
             order,
             visible: order.visible(),
-            filled: executed.get(order.id as usize).copied().unwrap_or(0),
+            filled: at_id(executed, order.id),
         })?;
     }
     Ok(())
 }
 
-impl DayState {
-    // Adds the open orders of a side to those that are listed.
-    fn list_side(
-        &self,
-        alloc: Global,
-        of: Listed,
-        listed: &mut Vec<OpenOrder>,
-    ) -> Result<(), AllocError>
-        ensures { IfOk result (λ _. listed.new.items
-            ≡ listed.old.items ++ priority.listed_on of.side of.member self.now.state) }
-    {
-        let ranked = self.book.in_priority(alloc, of)?;
-        let executed = executed_by_id(alloc, &self.tape, of.side, last_id(&ranked))?;
-        list(listed, &ranked, &executed)
-    }
+// Adds the open orders of a side to those that are listed.
+fn list_side(
+    alloc: Global,
+    book: &Book,
+    tape: &[Trade],
+    of: Listed,
+    listed: &mut Vec<OpenOrder>,
+) -> Result<(), AllocError>
+    requires few { length tape.now ≤ 3 * book.now.max_open }
+    requires small { AreSmall tape.now }
+    ensures { IfOk result (λ _. listed.new.items
+        ≡ listed.old.items ++ priority.listed_on of.side of.member book.now.orders tape.now) }
+{
+    let ranked = book.in_priority(alloc, of)?;
+    let executed = executed_by_id(alloc, tape, of.side, last_id(&ranked))?;
+    list(listed, &ranked, &executed)
+}
 
+/// The open orders in priority, the bids before the asks, of all members or of one, each with what these trades
+/// executed of it. Only want of memory makes it fail.
+pub(super) fn list_orders(
+    alloc: Global,
+    book: &Book,
+    tape: &[Trade],
+    member: Option<u8>,
+) -> Result<Vec<OpenOrder>, AllocError>
+    requires few { length tape.now ≤ 3 * book.now.max_open }
+    requires small { AreSmall tape.now }
+    ensures { IfOk result (λ listed. listed.items ≡ priority.listed member book.now.orders tape.now) }
+{
+    let mut listed = Vec::new(alloc);
+    let bids = Listed {
+        side: Side::Bid,
+        member,
+    };
+    list_side(alloc, book, tape, bids, &mut listed)?;
+    let asks = Listed {
+        side: Side::Ask,
+        member,
+    };
+    list_side(alloc, book, tape, asks, &mut listed)?;
+    Ok(listed)
+}
+
+impl DayState {
     /// The open orders in priority, the bids before the asks, of all members or of one, each with what was executed of
     /// it. Only want of memory makes it fail.
     #[tactic(auto, unfolding(auction_terms::specs::Priority::orders_in_priority))]
@@ -107,17 +144,6 @@ impl DayState {
     ) -> Result<Vec<OpenOrder>, AllocError>
         ensures { IfOk result (λ listed. listed.items ≡ priority.orders_in_priority member self.now.state) }
     {
-        let mut listed = Vec::new(alloc);
-        let bids = Listed {
-            side: Side::Bid,
-            member,
-        };
-        self.list_side(alloc, bids, &mut listed)?;
-        let asks = Listed {
-            side: Side::Ask,
-            member,
-        };
-        self.list_side(alloc, asks, &mut listed)?;
-        Ok(listed)
+        list_orders(alloc, &self.book, &self.tape, member)
     }
 }

@@ -14,7 +14,8 @@ restore-requires-clause-room c =
     ap (λ (o : OrdersView). o.max_open) c.other.view_is ∙ c.requires.0
     ∙ sym (ap (λ (o : OrdersView). o.max_open) c.self.view_is) in
     let few =
-    subst (λ (o : OrdersView). count_by is_some o.slots ≤ c.self.inside.max_open) c.self.view_is c.self.invariant.1.few in
+    subst (λ (o : OrdersView). count_by is_some o.slots ≤ c.self.inside.max_open) c.self.view_is
+    c.self.invariant.1.few in
     has_room c.args.self.now.slots c.loop-place.place c.loop-place.orders c.copied.result found
     c.loop-place.invariant.len
     (omega (
@@ -69,7 +70,8 @@ invariant_of-other c =
     ap (λ (o : OrdersView). o.max_calls) c.other.view_is ∙ c.requires.1
     ∙ sym (ap (λ (o : OrdersView). o.max_calls) c.self.view_is) in
     let few =
-    subst (λ (o : OrdersView). count_by is_some o.slots ≤ c.self.inside.max_open) c.self.view_is c.self.invariant.1.few in
+    subst (λ (o : OrdersView). count_by is_some o.slots ≤ c.self.inside.max_open) c.self.view_is
+    c.self.invariant.1.few in
     let is = c.loop-place.invariant in
     let stamps = sym (ap (λ (o : OrdersView). o.stamps) c.self.view_is) in (
       subst (λ n. IsSound c.loop-place.orders.slots c.loop-place.keys.items n) stamps is.restored.sound,
