@@ -145,14 +145,14 @@ abbrev claim_at : Side → PlacedOrder → Claim
 claim_at side x = claim_of side (record { order = x.1; stamp = x.0 })
 
 -- what counts the orders that are wider
-wide : Stamped → ℕ
+unfoldable pub wide : Stamped → ℕ
 wide s = if is_narrow s then 0 else 1
 
-wide_at : PlacedOrder → ℕ
+unfoldable pub wide_at : PlacedOrder → ℕ
 wide_at x = wide (record { order = x.1; stamp = x.0 })
 
 -- a better rank is a lesser number
-rank_less : (side : Side) (x y : PlacedOrder) → wide_at x ≡ 0 → wide_at y ≡ 0 → by_rank side x y ≡ Less
+pub rank_less : (side : Side) (x y : PlacedOrder) → wide_at x ≡ 0 → wide_at y ≡ 0 → by_rank side x y ≡ Less
     → nat_cmp (claim_at side x).rank (claim_at side y).rank ≡ Less
 unfolding wide wide_at
 rank_less side x y n m less = grind (arith, common_steps, nat_tests)
@@ -171,12 +171,12 @@ rising_claims side (x ∷ xs) n r =
     let parts = sum_by-cons wide_at x xs in
     (before_claims side x xs (omega arith) (omega arith) r.0, rising_claims side xs (omega arith) r.1)
 
-map-map : {X Y Z : Type 0} (f : Y → Z) (g : X → Y) (xs : List X) → map f (map g xs) ≡ map (λ x. f (g x)) xs
+pub map-map : {X Y Z : Type 0} (f : Y → Z) (g : X → Y) (xs : List X) → map f (map g xs) ≡ map (λ x. f (g x)) xs
 map-map f g [] = refl
 map-map f g (x ∷ xs) = ap (λ l. f (g x) ∷ l) (map-map f g xs)
 
 -- where nothing counts, nothing of a part does
-none_left : {X : Type 0} (f : X → ℕ) (p : X → Bool) (xs : List X) → sum_by f xs ≡ 0 → sum_by f (filter p xs) ≡ 0
+pub none_left : {X : Type 0} (f : X → ℕ) (p : X → Bool) (xs : List X) → sum_by f xs ≡ 0 → sum_by f (filter p xs) ≡ 0
 none_left f p [] e = refl
 none_left f p (x ∷ xs) e = grind (arith, common_steps, sum_by-cons, (none_left f p xs))
 
@@ -259,7 +259,7 @@ pub narrow_more : (slots : List (Option Stamped)) (i : ℕ) (found : Option Stam
     → found ≡ slot_at slots i → AreNarrow (option_to_list found) → AreNarrow (present (take (i + 1) slots))
 narrow_more slots i found so_far at narrow = grind (arith, common_steps, sum_by-append, present_more)
 
-filter_both : {X : Type 0} (p q : X → Bool) (xs : List X) → filter (λ x. p x && q x) xs ≡ filter q (filter p xs)
+pub filter_both : {X : Type 0} (p q : X → Bool) (xs : List X) → filter (λ x. p x && q x) xs ≡ filter q (filter p xs)
 filter_both p q [] = refl
 filter_both p q (x ∷ xs) = grind (arith, common_steps, (filter_both p q xs))
 

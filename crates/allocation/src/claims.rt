@@ -48,7 +48,7 @@ fn priority_of(side: Side, limit: Limit) -> u64
 }
 
 /// Where an order stands on its side, as a number: by its limit first, and then by its place in time.
-fn rank_of(side: Side, stamped: Stamped) -> u128
+pub(crate) fn rank_of(side: Side, stamped: Stamped) -> u128
     ensures value { result ≡ rank side stamped }
     ensures narrow { is_narrow stamped ≡ true }
 {

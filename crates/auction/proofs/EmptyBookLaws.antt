@@ -8,7 +8,7 @@ use Rattle.auction_terms.specs.Auxiliary.StampedOrders.{orders_of}
 use Rattle.auction_terms.specs.Ladder.{LadderView, tick_values, ladder_of}
 use Rattle.auction.specs.LadderBook.{HasLadder}
 
-spread_zero : (f : ℕ → ℕ) (a n : ℕ) → ((t : ℕ) → f t ≡ 0) → tick_values f a n ≡ replicate n 0
+pub spread_zero : (f : ℕ → ℕ) (a n : ℕ) → ((t : ℕ) → f t ≡ 0) → tick_values f a n ≡ replicate n 0
 spread_zero f a zero none = refl
 spread_zero f a (suc n) none = let first = none a in let rest = spread_zero f (a + 1) n none in cc
 

@@ -15,6 +15,7 @@ use Rattle.auction_terms.specs.declared.Trade.{Trade}
 use Rattle.auction_terms.specs.Book.{auction_orders, current_kind}
 use Rattle.auction_terms.specs.Day.{State, opening_state, Outcome}
 use Rattle.auction_terms.specs.Ladder.{LadderView, ladder_of}
+use Rattle.auction.specs.Executions.{AreSmall}
 use Rattle.auction.specs.OpenOrders.{OpenOrders}
 
 -- with how many places in time were given out
@@ -67,6 +68,7 @@ pub record IsSound (config : Config) (auction : Option AuctionKind) (book : Open
   -- no auction makes more trades than there were open orders
   pub trades : length tape.items ≤ auctions_ended auction * config.max_open
   pub room : 3 * config.max_open ≤ vec_capacity tape
+  pub small : AreSmall tape.items
 
 -- no place in time was given out but by a call, and no more calls were had than may be
 pub record HasCallCount (auction : AuctionState) (calls : ℕ) : Type 0 where

@@ -1,5 +1,5 @@
 -- The open orders, and the auction whose orders count.
-use Rattle.std.specs.Prelude.{◌≡◌, ℕ, ◌+◌, ◌-◌, if◌then◌else◌, List, [], ◌∷◌, ◌++◌, Some}
+use Rattle.std.specs.Prelude.{◌≡◌, ℕ, ◌+◌, ◌-◌, ◌==◌, Bool, ◌&&◌, if◌then◌else◌, List, [], ◌∷◌, ◌++◌, Some}
 use Rattle.auction_terms.specs.declared.Config.{Config}
 use Rattle.auction_terms.specs.declared.AuctionKind.{AuctionKind}
 use Rattle.auction_terms.specs.declared.AuctionKind.TheVariants.{Opening}
@@ -39,6 +39,18 @@ no_orders config = record {
 -- the same room with no orders and none entered, in the opening auction
 abbrev pub without_orders : OpenOrders → OpenOrders
 without_orders book = record book { orders = []; kind = Opening; entered = 0; stamps = 0 }
+
+-- as many orders may be open and as many calls be had, and the ticks are the same
+abbrev pub HasSameRoom : OpenOrders → OpenOrders → Type 0
+HasSameRoom book other =
+    (other.low ≡ book.low) × (other.ticks ≡ book.ticks)
+    × (other.max_open ≡ book.max_open) × (other.max_calls ≡ book.max_calls)
+
+-- the same bounds, and room for as many orders and calls
+abbrev pub has_same_limits : Config → Config → Bool
+has_same_limits config other =
+    (config.low == other.low) && (config.high == other.high)
+    && (config.max_open == other.max_open) && (config.max_calls == other.max_calls)
 
 -- the orders that count
 abbrev pub current_orders : OpenOrders → List Order

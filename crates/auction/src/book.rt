@@ -9,6 +9,7 @@ ghost use Rattle.auction_terms.specs.Ladder.{ladder_of};
 ghost use Rattle.auction_terms.specs.Day.{display_at, is_bad_quantity};
 ghost use Rattle.tick_ladder.specs.TickLadder.{IsLadderOf};
 ghost use Rattle.auction.specs.ConfigFault.{open_fault};
+ghost use Rattle.auction.specs.Executions.{AreSmall};
 ghost use Rattle.auction.specs.OpenOrders.{no_orders, current_orders, IsTickIn, IsLimitIn, IsOpenIn};
 ghost use Rattle.auction.specs.OpenOrders.{with_order, with_change, without_order, with_execution_at, in_next_auction};
 ghost use Rattle.auction.specs.KnownPrice.{IsPriceAt};
@@ -16,6 +17,8 @@ ghost use Rattle.auction.specs.KnownPrice.{IsPriceAt};
 mod copying;
 mod counted;
 mod known;
+mod listing;
+mod refilling;
 
 use allocation::Desk;
 use auction_terms::{Config, Display, Limit, NewOrder, Order, Price, Trade};
@@ -188,6 +191,7 @@ impl Book {
         ensures tape { tape.new.items ≡ tape.old.items ++ trades (current_orders self.old) price }
         ensures count { result ≡ length (trades (current_orders self.old) price) }
         ensures few { result ≤ length self.old.orders }
+        ensures small { AreSmall (trades (current_orders self.old) price) }
         ensures capacity { vec_capacity tape.new ≡ vec_capacity tape.old }
     {
         self.known = None;

@@ -10,9 +10,12 @@ mod change;
 mod copying;
 mod delete;
 mod enter;
+mod expiring;
 mod indicate;
+mod listing;
 mod order_status;
 mod read_trade;
+mod refilling;
 mod uncross;
 
 use crate::book::Book;

@@ -4,7 +4,7 @@
 //! effect on the open orders, the trades, the reference price and the current auction, and it is answered. The opening,
 //! the intraday and the closing auction follow one another, each with its call phase and its uncross.
 //!
-//! All memory is taken by [`Auction::open`] and [`Auction::copied`].
+//! All memory is taken by [`Auction::open`], [`Auction::copied`] and [`Auction::open_orders`].
 #![tactic(auto)]
 
 ghost use Rattle.std.specs.Prelude.{◌≡◌, ◌<◌, ◌≤◌, IfOk, IfErr, IfSome, Err, None, nat_eq};
@@ -18,6 +18,8 @@ mod book;
 mod commands;
 mod copying;
 mod history;
+mod open_orders;
+mod refilling;
 
 pub use auction_terms::Config;
 use auction_terms::{

@@ -83,7 +83,7 @@ agree_by_place : (side : Side) (x : PlacedOrder) (ys : List PlacedOrder) → Pla
 agree_by_place side x [] b = tt
 agree_by_place side x (y ∷ ys) b = grind (arith, (agree_by_place side x ys b.1))
 
-all_agree_by_place : (side : Side) (xs : List PlacedOrder) → PlacesRise xs
+pub all_agree_by_place : (side : Side) (xs : List PlacedOrder) → PlacesRise xs
     → AllAgree (by_rank side) (price_order side) (λ z. z.1) xs
 all_agree_by_place side [] r = tt
 all_agree_by_place side (x ∷ xs) r = (agree_by_place side x xs r.0, all_agree_by_place side xs r.1)

@@ -32,7 +32,7 @@ length-in_order : (xs : List Stamped) → length (in_order by_stamp xs) ≡ leng
 length-in_order [] = refl
 length-in_order (x ∷ xs) = length-place_in x (in_order by_stamp xs) ∙ ap suc (length-in_order xs)
 
-length-present : (slots : List (Option Stamped)) → length (present slots) ≡ count_by is_some slots
+pub length-present : (slots : List (Option Stamped)) → length (present slots) ≡ count_by is_some slots
 length-present [] = refl
 length-present (None ∷ slots) = omega (arith, length-present slots, sum_by-cons (λ o. cond (is_some o) 1 0) None slots)
 length-present (Some s ∷ slots) =

@@ -65,6 +65,14 @@ with_less orders id quantity = left_by order_of (changed_by order_of id (on_orde
 abbrev pub without_orders : OrdersView → OrdersView
 without_orders orders = record orders { line = []; slots = []; stamps = 0; entered = 0 }
 
+-- as many orders may be open, and as many calls be had
+abbrev pub HasSameRoom : OrdersView → OrdersView → Type 0
+HasSameRoom orders other = (other.max_open ≡ orders.max_open) × (other.max_calls ≡ orders.max_calls)
+
+-- they differ in the places of the walk at most
+abbrev pub IsSameButWalk : OrdersView → OrdersView → Type 0
+IsSameButWalk orders other = other ≡ record orders { slots = other.slots }
+
 -- nothing has changed but the line, and the places of the walk
 abbrev pub OnlyLineChanges : OrdersView → OrdersView → Type 0
 OnlyLineChanges old new = new ≡ record old { line = new.line; slots = new.slots }

@@ -47,6 +47,10 @@ empty_ladder low high = record {
   market_asks = 0;
 }
 
+-- they are of the same ticks
+abbrev pub HasSameTicks : LadderView → LadderView → Type 0
+HasSameTicks view other = (other.low ≡ view.low) × (length other.bids ≡ length view.bids)
+
 -- the ladder with the same ticks, and no order
 abbrev pub without_orders : LadderView → LadderView
 without_orders view = record {

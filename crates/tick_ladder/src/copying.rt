@@ -1,6 +1,6 @@
 //! A ladder emptied, and a ladder copied.
 ghost use Rattle.std.specs.Prelude.{◌≡◌, IfOk};
-ghost use Rattle.tick_ladder.specs.TickLadder.{without_orders};
+ghost use Rattle.tick_ladder.specs.TickLadder.{HasSameTicks, without_orders};
 
 use crate::Ladder;
 use std::alloc::{AllocError, Global};
@@ -29,5 +29,17 @@ impl Ladder {
             market_bids: self.market_bids,
             market_asks: self.market_asks,
         })
+    }
+
+    /// Gives another ladder of the same ticks the quantities of this one, whatever it had. It takes no memory.
+    pub fn copy_into(&self, other: &mut Ladder)
+        requires { HasSameTicks self.now other.old }
+        ensures { other.new ≡ self.now }
+    {
+        self.bids.copy_into(&mut other.bids);
+        self.asks.copy_into(&mut other.asks);
+        self.present.copy_into(&mut other.present);
+        other.market_bids = self.market_bids;
+        other.market_asks = self.market_asks;
     }
 }

@@ -87,6 +87,16 @@ impl Tally {
         })
     }
 
+    /// Makes other numbers, which are as many, the same as these. It takes no memory.
+    pub fn copy_into(&self, other: &mut Tally)
+        requires { length other.old ≡ length self.now }
+        ensures { other.new ≡ self.now }
+    {
+        other.places.copy_from_slice(&self.places);
+        other.blocks.copy_from_slice(&self.blocks);
+        other.groups.copy_from_slice(&self.groups);
+    }
+
     /// The numbers.
     pub fn places(&self) -> &[u64]
         ensures { result.now ≡ self.now }

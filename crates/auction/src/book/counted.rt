@@ -15,6 +15,8 @@ mod copying;
 mod counting;
 mod ending;
 mod executing;
+mod listing;
+mod refilling;
 
 use super::known::{KnownPrice, find};
 use auction_terms::{AuctionKind, Config, Limit, NewOrder, Order};

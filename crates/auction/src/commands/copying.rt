@@ -7,7 +7,11 @@ use auction_terms::{AuctionKind, Trade};
 use std::alloc::{AllocError, Global};
 
 // The same trades, with room for `room` of them.
-fn copied_tape(alloc: Global, trades: &[Trade], room: usize) -> Result<Vec<Trade>, AllocError>
+pub(super) fn copied_tape(
+    alloc: Global,
+    trades: &[Trade],
+    room: usize,
+) -> Result<Vec<Trade>, AllocError>
     ensures items { IfOk result (λ copy. copy.items ≡ trades.now) }
     ensures room { IfOk result (λ copy. room ≤ vec_capacity copy) }
 {

@@ -38,7 +38,7 @@ impl DayState {
     }
 
     // Whether this price is the first one of the call phase that lies outside the range.
-    fn is_interrupted(&self, tick: u32) -> bool
+    pub(super) fn is_interrupted(&self, tick: u32) -> bool
         ensures { result ≡ day.is_interrupted self.now.config self.now.state tick }
     {
         !self.extended && is_outside(self.config.range, self.reference, tick)

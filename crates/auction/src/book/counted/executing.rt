@@ -4,6 +4,7 @@ ghost use Rattle.auction_terms.specs.declared.limits.TheConstants.{MAX_OPEN_ORDE
 ghost use Rattle.auction_terms.specs.Auxiliary.OrderLists.{book_after_fill, book_after_fills, IsExecutable};
 ghost use Rattle.auction_terms.specs.Auxiliary.OrderLists.{AreExecutable};
 ghost use Rattle.auction_terms.specs.Allotment.{trades};
+ghost use Rattle.auction.specs.Executions.{AreSmall};
 ghost use Rattle.auction.specs.OpenOrders.{current_orders, with_execution_at};
 
 use super::LadderBook;
@@ -39,6 +40,7 @@ impl LadderBook {
         ensures book { self.new.book ≡ with_execution_at price self.old.book }
         ensures trades { desk.new.trades ≡ trades (current_orders self.old.book) price }
         ensures few { length desk.new.trades ≤ length self.old.book.orders }
+        ensures small { AreSmall (trades (current_orders self.old.book) price) }
         ensures bounded { length desk.new.trades ≤ MAX_OPEN_ORDERS }
         ensures room { desk.new.room ≡ desk.old.room }
     {

@@ -30,4 +30,5 @@ invariant_of-self c =
       reference = c.self.invariant.reference;
       trades = c.self.invariant.trades;
       room = c.self.invariant.room;
+      small = c.self.invariant.small;
     }

@@ -21,6 +21,7 @@ invariant_of-self c =
       reference = c.self.invariant.reference;
       trades = c.self.invariant.trades;
       room = c.self.invariant.room;
+      small = c.self.invariant.small;
     }
 
 pub returns-clause-outcome : goal.returns-clause-outcome

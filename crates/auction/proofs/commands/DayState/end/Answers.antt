@@ -21,4 +21,5 @@ invariant_of-self c =
       reference = inside.reference;
       trades = subst (λ a. length fields.tape.items ≤ auctions_ended a * most) next (omega (arith, after));
       room = inside.room;
+      small = inside.small;
     }

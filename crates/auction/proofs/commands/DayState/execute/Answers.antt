@@ -1,9 +1,13 @@
 -- Answers of `DayState::execute` (src/commands/uncross.rt): what the prover left open; rt looks here.
 -- The auction has ended at a price within the bounds.
 use Rattle.std.proofs.Common.{◌*◌, ◌≤◌, sym, ap, subst, ◌∙◌, arith, length, length-append}
+use Rattle.std.proofs.lemmas.List.Elements.{All-append}
+use Rattle.auction_terms.specs.declared.limits.TheConstants.{MAX_QUANTITY}
+use Rattle.auction_terms.specs.declared.Trade.{Trade}
 use Rattle.auction_terms.specs.Book.{auction_orders}
 use Rattle.auction_terms.specs.Allotment.{rest_in, trades}
 use Rattle.auction.specs.AuctionState.{AuctionState, IsBookOf, IsBoundedBy, auctions_ended}
+use Rattle.auction.specs.Executions.{AreSmall}
 use Rattle.auction.proofs.DayLaws.{book_edited, book_ended, ended_more}
 use Rattle.auction.proofs.BookLengthLaws.{length-rest_in}
 use Rattle.auction.proofs.commands.DayState.execute.Goals as goal
@@ -38,4 +42,8 @@ invariant_of-self c =
           subst (λ a. length c.uncross-trades.new.tape.items ≤ auctions_ended a * most) next
           (omega (arith, after, tape));
       room = omega (arith, inside.room, c.uncross-trades.ensures.capacity);
+      small = subst AreSmall (sym c.uncross-trades.ensures.tape)
+          (All-append (λ (t : Trade). t.quantity ≤ MAX_QUANTITY) fields.tape.items
+          (trades (auction_orders fields.book.orders fields.book.kind) tick) inside.small
+          c.uncross-trades.ensures.small);
     }

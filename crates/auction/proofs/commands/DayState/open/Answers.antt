@@ -1,6 +1,10 @@
 -- Answers of `DayState::open` (src/commands.rt): what the prover left open; rt looks here.
 -- A new day is sound.
-use Rattle.std.proofs.Common.{length, ap, arith}
+use Rattle.std.proofs.Common.{◌≤◌, length, sym, ap, subst, arith}
+use Rattle.std.proofs.lemmas.List.Elements.{All-nil}
+use Rattle.auction_terms.specs.declared.limits.TheConstants.{MAX_QUANTITY}
+use Rattle.auction_terms.specs.declared.Trade.{Trade}
+use Rattle.auction.specs.Executions.{AreSmall}
 use Rattle.auction.specs.OpenOrders.{OpenOrders}
 use Rattle.auction.proofs.ConfigFaultLaws.{terms_within}
 use Rattle.auction.proofs.commands.DayState.open.Goals as goal
@@ -22,4 +26,5 @@ invariant_of-result c =
       reference = (within.low, within.high);
       trades = omega (arith, ap length tape.items);
       room = tape.capacity;
+      small = subst AreSmall (sym tape.items) (All-nil (λ (t : Trade). t.quantity ≤ MAX_QUANTITY));
     }

@@ -1,7 +1,11 @@
 -- Answers of `DayState::reset` (src/commands/copying.rt): what the prover left open; rt looks here.
 -- The day is as sound as at its opening.
-use Rattle.std.proofs.Common.{length, ap, ◌∙◌, arith}
+use Rattle.std.proofs.Common.{◌≤◌, length, sym, ap, subst, ◌∙◌, arith}
+use Rattle.std.proofs.lemmas.List.Elements.{All-nil}
+use Rattle.auction_terms.specs.declared.limits.TheConstants.{MAX_QUANTITY}
+use Rattle.auction_terms.specs.declared.Trade.{Trade}
 use Rattle.auction.specs.AuctionState.{AuctionState}
+use Rattle.auction.specs.Executions.{AreSmall}
 use Rattle.auction.specs.OpenOrders.{OpenOrders}
 use Rattle.auction.proofs.commands.DayState.reset.Goals as goal
 
@@ -24,4 +28,5 @@ invariant_of-self c =
       reference = (omega (arith, c.requires.0, low, at), omega (arith, c.requires.1, at, high));
       trades = omega (arith, c.clear.ensures.len);
       room = omega (arith, was.room, c.clear.ensures.capacity);
+      small = subst AreSmall (sym c.clear.ensures.items) (All-nil (λ (t : Trade). t.quantity ≤ MAX_QUANTITY));
     }

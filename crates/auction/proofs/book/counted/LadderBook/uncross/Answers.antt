@@ -2,11 +2,14 @@
 use Rattle.std.proofs.Common.{◌≡◌, length, sym, ap, subst, ◌∙◌, arith}
 use Rattle.auction_terms.specs.Auxiliary.StampedOrders.{orders_of}
 use Rattle.auction_terms.specs.Auxiliary.OrderLists.{book_after_fills, AreExecutable}
-use Rattle.auction_terms.specs.Allotment.{rest_in}
+use Rattle.auction_terms.specs.Allotment.{rest_in, trades}
 use Rattle.auction_terms.proofs.ReduceLaws.{fills_executable}
 use Rattle.auction_terms.proofs.RestIdLaws.{rest_in_turn}
+use Rattle.auction.specs.Executions.{AreSmall}
 use Rattle.auction.specs.LadderBook.{LadderBookView}
+use Rattle.auction.specs.OpenOrders.{current_orders}
 use Rattle.auction.proofs.AuctionEndLaws.{few_trades}
+use Rattle.auction.proofs.ExecutionLaws.{small_trades}
 use Rattle.auction.proofs.book.counted.LadderBook.uncross.Goals as goal
 
 pub execute-requires : goal.execute-requires
@@ -45,3 +48,8 @@ returns-clause-bounded c =
       c.self.invariant.few,
       c.self.invariant.small,
     )
+
+pub returns-clause-small : goal.returns-clause-small
+returns-clause-small c =
+    subst (λ (b : LadderBookView). AreSmall (trades (current_orders b.book) c.args.price)) c.self.view_is
+    (small_trades c.self.inside.kind (orders_of c.self.inside.orders.line) c.args.price c.self.invariant.kept.orderly)
