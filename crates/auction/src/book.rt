@@ -130,12 +130,13 @@ impl Book {
     }
 
     /// The same as [`Book::display`], of which the price is kept for the next question.
+    #[inline(always)]
     pub(crate) fn show(&mut self, reference: u32) -> Display
         requires { IsTickIn self.old reference }
         ensures book { self.new ≡ self.old }
         ensures display { result ≡ display_at (current_orders self.old) reference }
     {
-        self.keep_price_at(reference).display()
+        self.counted.show_at(reference, &mut self.known)
     }
 
     /// Adds a new order as the last one in time, under the next id, which it returns.

@@ -150,6 +150,7 @@ impl DayState {
 
     /// The same, of which the price is kept for the next question.
     #[tactic(auto, unfolding(auction_terms::specs::Day::display))]
+    #[inline(always)]
     pub(crate) fn show(&mut self) -> Display
         ensures state { self.new ≡ self.old }
         ensures display { result ≡ day.display self.old.state }

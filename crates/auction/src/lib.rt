@@ -213,14 +213,25 @@ impl Auction {
     }
 
     /// The same as [`Auction::apply`], of a call that is lent, as it isn't copied then.
-    #[tactic(auto, unfolding(auction_terms::specs::Day::step))]
     pub fn apply_call(&mut self, call: &Call) -> Reply
         requires { self.old.calls < self.old.config.max_calls }
         ensures state { self.new ≡ auction_after_call self.old call.now }
         ensures reply { result ≡ (step self.old.config self.old.state call.now).1 }
     {
+        let mut reply = Reply::Deleted;
+        self.answer_call(call, &mut reply);
+        reply
+    }
+
+    /// The same as [`Auction::apply_call`], with the reply put in the place of another, as it isn't copied then.
+    #[tactic(auto, unfolding(auction_terms::specs::Day::step))]
+    pub fn answer_call(&mut self, call: &Call, reply: &mut Reply)
+        requires { self.old.calls < self.old.config.max_calls }
+        ensures state { self.new ≡ auction_after_call self.old call.now }
+        ensures reply { reply.new ≡ (step self.old.config self.old.state call.now).1 }
+    {
         let outcome = self.day.decide(call);
         self.calls += 1;
-        outcome.unwrap_or_else(Reply::Refused)
+        *reply = outcome.unwrap_or_else(Reply::Refused);
     }
 }

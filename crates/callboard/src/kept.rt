@@ -8,7 +8,7 @@ ghost use Rattle.callboard.specs.KeptEntries.{KeepsEntries, KeepsWholeDay, form_
 ghost use Rattle.callboard.specs.Printed.{entry_of_call};
 
 use auction::Auction;
-use auction_terms::{Call, Entry};
+use auction_terms::{Call, Entry, Reply};
 use day_tables::KeptBook;
 use journal::keep_entry;
 use printed_lines::KeptText;
@@ -81,7 +81,11 @@ impl Kept {
             (entries ++ entry_of_call call.now (step auction.old.config auction.old.state call.now).1 ∷ [])) }
     {
         match self {
-            Kept::Lines(replies) => replies.push(&auction.apply_call(call)),
+            Kept::Lines(replies) => {
+                let mut reply = Reply::Deleted;
+                auction.answer_call(call, &mut reply);
+                replies.push(&reply)
+            }
             Kept::Journal(lines) => keep_entry(lines, apply(auction, call)),
             Kept::Trades(entries) => keep_whole(entries, apply(auction, call)),
             Kept::Book(book) => book.keep_call(alloc, auction, *call),

@@ -7,6 +7,7 @@ use Rattle.std.specs.Ordering.{nat_cmp}
 use Rattle.std.specs.declared.cmp.Ordering.{Ordering}
 use Rattle.slab.specs.Slab.{Slab, slab_len}
 use Rattle.auction_terms.specs.declared.limits.TheConstants.{MAX_OPEN_ORDERS, MAX_QUANTITY, MAX_TOTAL}
+use Rattle.order_book.specs.declared.slots.TheConstants.{MAX_KEY}
 use Rattle.auction_terms.specs.declared.Order.{Order}
 use Rattle.auction_terms.specs.declared.Limit.{Limit}
 use Rattle.auction_terms.specs.declared.Stamped.{Stamped}
@@ -120,11 +121,16 @@ pub record IsSound (slots : List (Option Stamped)) (keys : List ℕ) (stamps : �
       s.stamp ≡ t.stamp →
       i ≡ j
 
+-- each of its keys can be kept
+abbrev pub HasKeys : Slab Stamped → Type 0
+HasKeys orders = orders.capacity ≤ MAX_KEY
+
 -- the room that was made, and how much of it is used
 pub record HasRoom (orders : Slab Stamped) (keys : Vec ℕ) (stamps max_open max_calls : ℕ) : Type 0 where
   pub few : slab_len orders ≤ max_open
   pub small : max_open ≤ MAX_OPEN_ORDERS
   pub capacity : max_open ≤ orders.capacity
+  pub keyed : HasKeys orders
   pub ids : length keys.items ≤ stamps
   pub calls : stamps ≤ max_calls
   pub keys_room : max_calls ≤ vec_capacity keys

@@ -1,9 +1,10 @@
 //! The open orders emptied, and the open orders copied.
 ghost use Rattle.std.specs.Prelude.{◌≡◌, ◌≤◌, vec_capacity, IfOk};
 ghost use Rattle.slab.specs.Slab.{slab_len};
-ghost use Rattle.order_book.specs.Orders.{without_orders};
+ghost use Rattle.order_book.specs.Orders.{HasKeys, without_orders};
 
 use crate::Orders;
+use crate::slots::with_keys;
 use auction_terms::Stamped;
 use slab::Slab;
 use std::alloc::{AllocError, Global};
@@ -13,14 +14,15 @@ fn copied_slots(orders: &Slab<Stamped>, room: usize) -> Result<Slab<Stamped>, Al
     requires { slab_len orders.now ≤ room }
     ensures slots { IfOk result (λ copy. copy.slots ≡ orders.now.slots) }
     ensures room { IfOk result (λ copy. room ≤ copy.capacity) }
+    ensures keys { IfOk result HasKeys }
 {
     let mut copy = orders.clone()?;
     copy.reserve_exact(room - orders.len())?;
-    Ok(copy)
+    with_keys(copy)
 }
 
 /// The same keys, with room for `room` of them.
-fn copied_keys(alloc: Global, keys: &[usize], room: usize) -> Result<Vec<usize>, AllocError>
+fn copied_keys(alloc: Global, keys: &[u32], room: usize) -> Result<Vec<u32>, AllocError>
     ensures items { IfOk result (λ copy. copy.items ≡ keys.now) }
     ensures room { IfOk result (λ copy. room ≤ vec_capacity copy) }
 {

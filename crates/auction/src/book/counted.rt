@@ -3,7 +3,7 @@ ghost use Rattle.std.specs.Prelude.{◌≡◌, ◌+◌, ◌<◌, ◌≤◌, leng
 ghost use Rattle.auction_terms.specs.Book.{order_of_new};
 ghost use Rattle.auction_terms.specs.Edits.{order_with, keeps_place, with_terms};
 ghost use Rattle.auction_terms.specs.Ladder.{ladder_of};
-ghost use Rattle.auction_terms.specs.Day.{is_bad_quantity};
+ghost use Rattle.auction_terms.specs.Day.{display_at, is_bad_quantity};
 ghost use Rattle.tick_ladder.specs.TickLadder.{IsLadderOf};
 ghost use Rattle.auction.specs.ConfigFault.{open_fault};
 ghost use Rattle.auction.specs.OpenOrders.{no_orders, current_orders, IsTickIn, IsLimitIn, IsOpenIn};
@@ -19,7 +19,7 @@ mod listing;
 mod refilling;
 
 use super::known::{KnownPrice, find};
-use auction_terms::{AuctionKind, Config, Limit, NewOrder, Order};
+use auction_terms::{AuctionKind, Config, Display, Limit, NewOrder, Order};
 use counting::{add, take};
 use order_book::Orders;
 use std::alloc::{AllocError, Global};
@@ -101,6 +101,25 @@ impl LadderBook {
         match known {
             Some(known) if known.reference == reference => *known,
             _ => find(&self.ladder, reference),
+        }
+    }
+
+    /// What is shown at a reference of the orders that count: by what is known of the price there, or else by what is
+    /// found, which is known then.
+    #[inline(always)]
+    pub(super) fn show_at(&self, reference: u32, known: &mut Option<KnownPrice>) -> Display
+        requires tick { IsTickIn self.now.book reference }
+        requires known { IfSome known.old (IsKnownOf self.now.book) }
+        ensures known { IfSome known.new (IsKnownOf self.now.book) }
+        ensures display { result ≡ display_at (current_orders self.now.book) reference }
+    {
+        match known {
+            Some(kept) if kept.reference == reference => kept.display(),
+            _ => {
+                let found = find(&self.ladder, reference);
+                *known = Some(found);
+                found.display()
+            }
         }
     }
 

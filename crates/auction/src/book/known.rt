@@ -22,6 +22,7 @@ pub(super) struct KnownPrice {
 
 impl KnownPrice {
     /// What is shown: the price, or the best limits where there is none.
+    #[inline(always)]
     pub(super) fn display(&self) -> Display
         ensures { result ≡ shown self.now.price self.now.best_bid self.now.best_ask }
     {
