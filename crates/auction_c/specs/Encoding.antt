@@ -11,13 +11,11 @@ use Rattle.auction_terms.specs.declared.Price.{Price}
 use Rattle.auction_terms.specs.declared.Trade.{Trade}
 use Rattle.auction_terms.specs.declared.Display.{Display}
 use Rattle.auction_terms.specs.declared.Display.TheVariants.{Priced, Unpriced}
-use Rattle.auction_terms.specs.declared.Refusal.{Refusal}
-use Rattle.auction_terms.specs.declared.Refusal.TheVariants.{BadQuantity, BadLimit, BadPeak, BookFull, UnknownOrder}
-use Rattle.auction_terms.specs.declared.Refusal.TheVariants.{NotOperator, DayOver, NoSuchTrade, PastAuction}
 use Rattle.auction_terms.specs.declared.Reply.{Reply}
 use Rattle.auction_terms.specs.declared.Reply.TheVariants.{Entered, Changed, Deleted, OpenOrder, Indicated, Traded}
 use Rattle.auction_terms.specs.declared.Reply.TheVariants.{Uncrossed, Interrupted, Refused as IsRefused}
 use Rattle.auction_terms.specs.Ladder.{LadderView}
+use Rattle.auction_terms.specs.Refusals.{refusal_number}
 use Rattle.auction_c.specs.declared.structs.AuctionCommand.{AuctionCommand}
 use Rattle.auction_c.specs.declared.structs.AuctionConfig.{AuctionConfig}
 use Rattle.auction_c.specs.declared.structs.AuctionMarket.{AuctionMarket}
@@ -39,17 +37,6 @@ abbrev pub auction_kind_out : AuctionKind → ℕ
 auction_kind_out Opening = 1
 auction_kind_out Intraday = 2
 auction_kind_out Closing = 3
-
-abbrev pub refusal_out : Refusal → ℕ
-refusal_out BadQuantity = 1
-refusal_out BadLimit = 2
-refusal_out BadPeak = 3
-refusal_out BookFull = 4
-refusal_out UnknownOrder = 5
-refusal_out NotOperator = 6
-refusal_out DayOver = 7
-refusal_out NoSuchTrade = 8
-refusal_out PastAuction = 9
 
 -- a reply with this tag, and 0 in all else
 abbrev pub tagged : ℕ → AuctionReply
@@ -111,7 +98,7 @@ reply_out (Indicated shown) = display_out shown
 reply_out (Traded t) = record (tagged 7) { id = t.bid; ask = t.ask; tick = t.tick; quantity = t.quantity }
 reply_out (Uncrossed kind trades price) = uncrossed_out kind trades price
 reply_out (Interrupted price) = price_out 9 price
-reply_out (IsRefused reason) = record (tagged 10) { refusal = refusal_out reason }
+reply_out (IsRefused reason) = record (tagged 10) { refusal = refusal_number reason }
 
 abbrev pub trade_out : Trade → AuctionTrade
 trade_out t = record { quantity = t.quantity; bid = t.bid; ask = t.ask; tick = t.tick }

@@ -5,7 +5,7 @@ ghost use Rattle.auction_c.specs.Encoding as encoded_as;
 ghost use Rattle.auction_c.specs.ReadBack.{reply_back};
 
 use crate::structs::{AuctionConfig, AuctionReply, AuctionTrade};
-use auction_terms::{AuctionKind, Config, Display, Limit, Price, Refusal, Reply, Side, Trade};
+use auction_terms::{AuctionKind, Config, Display, Limit, Price, Reply, Side, Trade};
 
 pub(crate) fn side_out(side: Side) -> u8
     ensures { result ≡ encoded_as.side_out side }
@@ -32,22 +32,6 @@ fn auction_kind_out(kind: AuctionKind) -> u8
         AuctionKind::Opening => 1,
         AuctionKind::Intraday => 2,
         AuctionKind::Closing => 3,
-    }
-}
-
-fn refusal_out(reason: Refusal) -> u8
-    ensures { result ≡ encoded_as.refusal_out reason }
-{
-    match reason {
-        Refusal::BadQuantity => 1,
-        Refusal::BadLimit => 2,
-        Refusal::BadPeak => 3,
-        Refusal::BookFull => 4,
-        Refusal::UnknownOrder => 5,
-        Refusal::NotOperator => 6,
-        Refusal::DayOver => 7,
-        Refusal::NoSuchTrade => 8,
-        Refusal::PastAuction => 9,
     }
 }
 
@@ -172,7 +156,7 @@ pub(crate) fn reply_out(reply: Reply) -> AuctionReply
         } => uncrossed_out(kind, trades, price),
         Reply::Interrupted(price) => price_out(9, price),
         Reply::Refused(reason) => AuctionReply {
-            refusal: refusal_out(reason),
+            refusal: reason.number(),
             ..tagged(10)
         },
     }

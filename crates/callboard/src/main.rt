@@ -112,6 +112,8 @@ fn exit_code(rt: &HostRuntime, answered: &io::Result<u8>) -> ExitCode
     }
 }
 
+// The toolchain takes no clause on the entry. What is left to it is to hand `exit_code` what `run_program` answered,
+// which the stored run and the test command see.
 fn main(rt: HostRuntime) -> ExitCode {
     let blanks = (Blank::new(1), Blank::new(1), Blank::new(1));
     let answered = run_program::<Brand, Brand, Brand, HostRuntime>(

@@ -9,15 +9,17 @@ use Rattle.auction_terms.specs.declared.Limit.TheVariants.{Market, At}
 use Rattle.auction_terms.specs.declared.AuctionKind.TheVariants as kind
 use Rattle.auction_terms.specs.declared.Price.{Price}
 use Rattle.auction_terms.specs.declared.Display.TheVariants.{Priced, Unpriced}
+use Rattle.auction_terms.specs.declared.Refusal.{Refusal}
 use Rattle.auction_terms.specs.declared.Refusal.TheVariants as refused
 use Rattle.auction_terms.specs.declared.Reply.{Reply}
 use Rattle.auction_terms.specs.declared.Reply.TheVariants as reply
-use Rattle.printed_lines.specs.ReplyWords.{words_text, number_word, price_words, reply_text, side_word}
+use Rattle.auction_terms.specs.Refusals.{refusal_number}
+use Rattle.printed_lines.specs.ReplyWords.{words_text, number_word, price_words, refusal_name, reply_text, side_word}
 use Rattle.journal.specs.WideReplies.{IsWide, IsWidePrice, IsWideReply}
 use Rattle.journal.specs.declared.entry.TheConstants.{MAX_REPLY}
 use Rattle.journal.specs.EntryRecord.{is_reply_text}
 use Rattle.journal.specs.JournalPromises.{IsFieldText}
-use Rattle.journal.proofs.ReplyTextLaws.{reply-plain, reply-printable}
+use Rattle.journal.proofs.ReplyTextLaws.{refusal-wide, reply-plain, reply-printable}
 
 short : (n : ℕ) → IsWide n → length (decimal n) ≤ 20
 short n h = length-decimal-le 20 n (omega arith) (omega arith) h
@@ -30,6 +32,17 @@ side-short (Some Ask) = omega arith
 number-short : (n : Option ℕ) → IfSome n IsWide → length (number_word n) ≤ 20
 number-short None h = omega arith
 number-short (Some n) h = short n h
+
+name-short : (r : Refusal) → length (refusal_name r) ≤ 12
+name-short refused.BadQuantity = omega arith
+name-short refused.BadLimit = omega arith
+name-short refused.BadPeak = omega arith
+name-short refused.BookFull = omega arith
+name-short refused.UnknownOrder = omega arith
+name-short refused.NotOperator = omega arith
+name-short refused.DayOver = omega arith
+name-short refused.NoSuchTrade = omega arith
+name-short refused.PastAuction = omega arith
 
 price-short : (p : Price) → IsWidePrice p → length (words_text (price_words p)) ≤ 90
 price-short p h =
@@ -68,15 +81,8 @@ reply-short (reply.Uncrossed kind.Opening trades (Some p)) h = omega (arith, pri
 reply-short (reply.Uncrossed kind.Intraday trades (Some p)) h = omega (arith, price-ends p trades h.1 h.0)
 reply-short (reply.Uncrossed kind.Closing trades (Some p)) h = omega (arith, price-ends p trades h.1 h.0)
 reply-short (reply.Interrupted p) h = omega (arith, price-short p h)
-reply-short (reply.Refused refused.BadQuantity) h = omega arith
-reply-short (reply.Refused refused.BadLimit) h = omega arith
-reply-short (reply.Refused refused.BadPeak) h = omega arith
-reply-short (reply.Refused refused.BookFull) h = omega arith
-reply-short (reply.Refused refused.UnknownOrder) h = omega arith
-reply-short (reply.Refused refused.NotOperator) h = omega arith
-reply-short (reply.Refused refused.DayOver) h = omega arith
-reply-short (reply.Refused refused.NoSuchTrade) h = omega arith
-reply-short (reply.Refused refused.PastAuction) h = omega arith
+reply-short (reply.Refused r) h =
+    simp length-append (omega (arith, short (refusal_number r) (refusal-wide r), name-short r))
 
 -- the text of a reply can stand in a field without quotes
 pub reply-fits : (r : Reply) → IsWideReply r → IsFieldText (reply_text r)

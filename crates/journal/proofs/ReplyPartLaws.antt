@@ -1,6 +1,6 @@
 -- A reply as words, and the reply of such words.
 use Rattle.std.proofs.Common.{◌≡◌, ◌++◌, ◌∷◌, [], ℕ, List, Option, Some, None, refl, get_or}
-use Rattle.std.specs.Prelude.{if◌then◌else◌, decimal, codes}
+use Rattle.std.specs.Prelude.{◌==◌, if◌then◌else◌, decimal, codes}
 use Rattle.std.specs.Str.{bytes_eq}
 use Rattle.std.specs.Str.Parse.{digits_value}
 use Rattle.auction_terms.specs.declared.Side.{Side}
@@ -15,7 +15,8 @@ use Rattle.auction_terms.specs.declared.Refusal.{Refusal}
 use Rattle.auction_terms.specs.declared.Refusal.TheVariants as refused
 use Rattle.auction_terms.specs.declared.Reply.{Reply}
 use Rattle.auction_terms.specs.declared.Reply.TheVariants as reply
-use Rattle.printed_lines.specs.ReplyWords.{side_word, kind_word, place_word, number_word, reply_text}
+use Rattle.auction_terms.specs.Refusals.{refusal_number}
+use Rattle.printed_lines.specs.ReplyWords.{side_word, kind_word, place_word, number_word, refusal_name, reply_text}
 use Rattle.journal.proofs.SpacedWordLaws.{spaced}
 
 abbrev pub price_parts : Price → List (List ℕ)
@@ -23,15 +24,7 @@ price_parts p = codes "price" ∷ decimal p.tick ∷ codes "volume" ∷ decimal 
     ∷ side_word p.side ∷ []
 
 abbrev pub refusal_parts : Refusal → List (List ℕ)
-refusal_parts refused.BadQuantity = codes "1" ∷ codes "BadQuantity" ∷ []
-refusal_parts refused.BadLimit = codes "2" ∷ codes "BadLimit" ∷ []
-refusal_parts refused.BadPeak = codes "3" ∷ codes "BadPeak" ∷ []
-refusal_parts refused.BookFull = codes "4" ∷ codes "BookFull" ∷ []
-refusal_parts refused.UnknownOrder = codes "5" ∷ codes "UnknownOrder" ∷ []
-refusal_parts refused.NotOperator = codes "6" ∷ codes "NotOperator" ∷ []
-refusal_parts refused.DayOver = codes "7" ∷ codes "DayOver" ∷ []
-refusal_parts refused.NoSuchTrade = codes "8" ∷ codes "NoSuchTrade" ∷ []
-refusal_parts refused.PastAuction = codes "9" ∷ codes "PastAuction" ∷ []
+refusal_parts r = decimal (refusal_number r) ∷ refusal_name r ∷ []
 
 abbrev pub limit_parts : Limit → List (List ℕ)
 limit_parts Market = codes "market" ∷ codes "visible" ∷ []
@@ -84,15 +77,7 @@ text-spaced (reply.Traded t) = refl
 text-spaced (reply.Uncrossed kind trades None) = refl
 text-spaced (reply.Uncrossed kind trades (Some p)) = refl
 text-spaced (reply.Interrupted p) = refl
-text-spaced (reply.Refused refused.BadQuantity) = refl
-text-spaced (reply.Refused refused.BadLimit) = refl
-text-spaced (reply.Refused refused.BadPeak) = refl
-text-spaced (reply.Refused refused.BookFull) = refl
-text-spaced (reply.Refused refused.UnknownOrder) = refl
-text-spaced (reply.Refused refused.NotOperator) = refl
-text-spaced (reply.Refused refused.DayOver) = refl
-text-spaced (reply.Refused refused.NoSuchTrade) = refl
-text-spaced (reply.Refused refused.PastAuction) = refl
+text-spaced (reply.Refused r) = refl
 
 -- ---- back again
 
@@ -114,16 +99,17 @@ side_at ws k = side_by (get_or ws k [])
 abbrev lone_side_at : List (List ℕ) → ℕ → Side
 lone_side_at ws k = if bytes_eq (get_or ws k []) (codes "bid") then Bid else Ask
 
-abbrev refusal_at : List (List ℕ) → ℕ → Refusal
-refusal_at ws k =
-    if bytes_eq (get_or ws k []) (codes "1") then refused.BadQuantity
-    else if bytes_eq (get_or ws k []) (codes "2") then refused.BadLimit
-    else if bytes_eq (get_or ws k []) (codes "3") then refused.BadPeak
-    else if bytes_eq (get_or ws k []) (codes "4") then refused.BookFull
-    else if bytes_eq (get_or ws k []) (codes "5") then refused.UnknownOrder
-    else if bytes_eq (get_or ws k []) (codes "6") then refused.NotOperator
-    else if bytes_eq (get_or ws k []) (codes "7") then refused.DayOver
-    else if bytes_eq (get_or ws k []) (codes "8") then refused.NoSuchTrade
+-- the refusal of this number
+abbrev pub refusal_by : ℕ → Refusal
+refusal_by n =
+    if n == 1 then refused.BadQuantity
+    else if n == 2 then refused.BadLimit
+    else if n == 3 then refused.BadPeak
+    else if n == 4 then refused.BookFull
+    else if n == 5 then refused.UnknownOrder
+    else if n == 6 then refused.NotOperator
+    else if n == 7 then refused.DayOver
+    else if n == 8 then refused.NoSuchTrade
     else refused.PastAuction
 
 -- the price whose word stands just before the words that are given
@@ -160,7 +146,7 @@ reply_by w ws =
     else if bytes_eq w (codes "intraday") then uncrossed_from kind.Intraday ws
     else if bytes_eq w (codes "closing") then uncrossed_from kind.Closing ws
     else if bytes_eq w (codes "interrupted") then interrupted_from ws
-    else reply.Refused (refusal_at ws 0)
+    else reply.Refused (refusal_by (value_at ws 0))
 
 -- the reply of these words
 abbrev pub reply_of : List (List ℕ) → Reply

@@ -14,17 +14,19 @@ use Rattle.auction_terms.specs.declared.AuctionKind.{AuctionKind}
 use Rattle.auction_terms.specs.declared.AuctionKind.TheVariants as kind
 use Rattle.auction_terms.specs.declared.Price.{Price}
 use Rattle.auction_terms.specs.declared.Display.TheVariants.{Priced, Unpriced}
+use Rattle.auction_terms.specs.declared.Refusal.{Refusal}
 use Rattle.auction_terms.specs.declared.Refusal.TheVariants as refused
 use Rattle.auction_terms.specs.declared.Reply.{Reply}
 use Rattle.auction_terms.specs.declared.Reply.TheVariants as reply
-use Rattle.printed_lines.specs.ReplyWords.{side_word, kind_word, number_word, reply_text}
+use Rattle.auction_terms.specs.Refusals.{refusal_number}
+use Rattle.printed_lines.specs.ReplyWords.{side_word, kind_word, number_word, refusal_name, reply_text}
 use Rattle.journal.specs.PlainLines.{IsPlain}
 use Rattle.journal.specs.WideReplies.{IsFullyPrinted, IsWide, IsWidePrice, IsWideReply}
 use Rattle.journal.proofs.CallFieldLaws.{first-digit, not-word}
 use Rattle.journal.proofs.SpacedWordLaws.{IsWord, decimal-word, spaced-plain, spaced-printable, words-spaced}
 use Rattle.journal.proofs.SpacedWordLaws.{words_from}
 use Rattle.journal.proofs.ReplyPartLaws.{reply_head, reply_of, reply_parts, reply_rest, text-spaced, uncross_parts}
-use Rattle.journal.proofs.ReplyPartLaws.{number_by, side_by}
+use Rattle.journal.proofs.ReplyPartLaws.{number_by, refusal_by, side_by}
 
 side-letters : (side : Option Side) → IsWord (side_word side)
 side-letters None = refl
@@ -59,6 +61,28 @@ uncross-letters p trades h = (
   ),
 )
 
+pub refusal-wide : (r : Refusal) → IsWide (refusal_number r)
+refusal-wide refused.BadQuantity = omega arith
+refusal-wide refused.BadLimit = omega arith
+refusal-wide refused.BadPeak = omega arith
+refusal-wide refused.BookFull = omega arith
+refusal-wide refused.UnknownOrder = omega arith
+refusal-wide refused.NotOperator = omega arith
+refusal-wide refused.DayOver = omega arith
+refusal-wide refused.NoSuchTrade = omega arith
+refusal-wide refused.PastAuction = omega arith
+
+name-letters : (r : Refusal) → IsWord (refusal_name r)
+name-letters refused.BadQuantity = refl
+name-letters refused.BadLimit = refl
+name-letters refused.BadPeak = refl
+name-letters refused.BookFull = refl
+name-letters refused.UnknownOrder = refl
+name-letters refused.NotOperator = refl
+name-letters refused.DayOver = refl
+name-letters refused.NoSuchTrade = refl
+name-letters refused.PastAuction = refl
+
 pub parts-letters : (r : Reply) → IsWideReply r → AllByRecursion IsWord (reply_parts r)
 parts-letters (reply.Entered id) h = (refl, (decimal-word id h, tt))
 parts-letters (reply.Changed true) h = (refl, (refl, tt))
@@ -90,15 +114,8 @@ parts-letters (reply.Uncrossed kind.Opening trades (Some p)) h = (refl, uncross-
 parts-letters (reply.Uncrossed kind.Intraday trades (Some p)) h = (refl, uncross-letters p trades h)
 parts-letters (reply.Uncrossed kind.Closing trades (Some p)) h = (refl, uncross-letters p trades h)
 parts-letters (reply.Interrupted p) h = (refl, (refl, price-letters p h))
-parts-letters (reply.Refused refused.BadQuantity) h = (refl, (refl, (refl, tt)))
-parts-letters (reply.Refused refused.BadLimit) h = (refl, (refl, (refl, tt)))
-parts-letters (reply.Refused refused.BadPeak) h = (refl, (refl, (refl, tt)))
-parts-letters (reply.Refused refused.BookFull) h = (refl, (refl, (refl, tt)))
-parts-letters (reply.Refused refused.UnknownOrder) h = (refl, (refl, (refl, tt)))
-parts-letters (reply.Refused refused.NotOperator) h = (refl, (refl, (refl, tt)))
-parts-letters (reply.Refused refused.DayOver) h = (refl, (refl, (refl, tt)))
-parts-letters (reply.Refused refused.NoSuchTrade) h = (refl, (refl, (refl, tt)))
-parts-letters (reply.Refused refused.PastAuction) h = (refl, (refl, (refl, tt)))
+parts-letters (reply.Refused r) h =
+    (refl, (decimal-word (refusal_number r) (refusal-wide r), (name-letters r, tt)))
 
 kind-some : (k : AuctionKind) (xs : List ℕ) → 0 < length (kind_word k ++ xs)
 kind-some kind.Opening xs = omega arith
@@ -138,6 +155,17 @@ side-back : (side : Option Side) → side_by (side_word side) ≡ side
 side-back None = refl
 side-back (Some Bid) = refl
 side-back (Some Ask) = refl
+
+refusal-of-number : (r : Refusal) (n : ℕ) → n ≡ refusal_number r → refusal_by n ≡ r
+refusal-of-number refused.BadQuantity k e = rw e refl
+refusal-of-number refused.BadLimit k e = rw e refl
+refusal-of-number refused.BadPeak k e = rw e refl
+refusal-of-number refused.BookFull k e = rw e refl
+refusal-of-number refused.UnknownOrder k e = rw e refl
+refusal-of-number refused.NotOperator k e = rw e refl
+refusal-of-number refused.DayOver k e = rw e refl
+refusal-of-number refused.NoSuchTrade k e = rw e refl
+refusal-of-number refused.PastAuction k e = rw e refl
 
 -- the reply is that of its words
 parts-back : (r : Reply) → IsWideReply r → IsFullyPrinted r → reply_of (reply_parts r) ≡ r
@@ -188,15 +216,8 @@ parts-back (reply.Uncrossed kind.Closing trades (Some p)) h t =
     ) refl
 parts-back (reply.Interrupted p) h t =
     rw (value-decimal p.tick h.0, value-decimal p.volume h.1, value-decimal p.surplus h.2, side-back p.side) refl
-parts-back (reply.Refused refused.BadQuantity) h t = refl
-parts-back (reply.Refused refused.BadLimit) h t = refl
-parts-back (reply.Refused refused.BadPeak) h t = refl
-parts-back (reply.Refused refused.BookFull) h t = refl
-parts-back (reply.Refused refused.UnknownOrder) h t = refl
-parts-back (reply.Refused refused.NotOperator) h t = refl
-parts-back (reply.Refused refused.DayOver) h t = refl
-parts-back (reply.Refused refused.NoSuchTrade) h t = refl
-parts-back (reply.Refused refused.PastAuction) h t = refl
+parts-back (reply.Refused r) h t =
+    ap reply.Refused (refusal-of-number r _ (value-decimal (refusal_number r) (refusal-wide r)))
 
 text-back : (r : Reply) → IsWideReply r → IsFullyPrinted r → reply_of (words_from [] (reply_text r)) ≡ r
 text-back r h t =

@@ -12,6 +12,7 @@ use Rattle.auction_terms.specs.declared.Refusal.{Refusal}
 use Rattle.auction_terms.specs.declared.Refusal.TheVariants as refused
 use Rattle.auction_terms.specs.declared.Reply.{Reply}
 use Rattle.auction_terms.specs.declared.Reply.TheVariants as reply
+use Rattle.auction_terms.specs.Refusals.{refusal_number}
 
 -- texts, one after the other
 abbrev pub words_text : List (List ℕ) → List ℕ
@@ -44,17 +45,17 @@ price_words p =
     codes "price " ∷ decimal p.tick ∷ codes " volume " ∷ decimal p.volume ∷ codes " surplus " ∷ decimal p.surplus
     ∷ codes " " ∷ side_word p.side ∷ []
 
--- the number and the name of a refusal
-abbrev pub refusal_word : Refusal → List ℕ
-refusal_word refused.BadQuantity = codes "1 BadQuantity"
-refusal_word refused.BadLimit = codes "2 BadLimit"
-refusal_word refused.BadPeak = codes "3 BadPeak"
-refusal_word refused.BookFull = codes "4 BookFull"
-refusal_word refused.UnknownOrder = codes "5 UnknownOrder"
-refusal_word refused.NotOperator = codes "6 NotOperator"
-refusal_word refused.DayOver = codes "7 DayOver"
-refusal_word refused.NoSuchTrade = codes "8 NoSuchTrade"
-refusal_word refused.PastAuction = codes "9 PastAuction"
+-- the name of a refusal
+abbrev pub refusal_name : Refusal → List ℕ
+refusal_name refused.BadQuantity = codes "BadQuantity"
+refusal_name refused.BadLimit = codes "BadLimit"
+refusal_name refused.BadPeak = codes "BadPeak"
+refusal_name refused.BookFull = codes "BookFull"
+refusal_name refused.UnknownOrder = codes "UnknownOrder"
+refusal_name refused.NotOperator = codes "NotOperator"
+refusal_name refused.DayOver = codes "DayOver"
+refusal_name refused.NoSuchTrade = codes "NoSuchTrade"
+refusal_name refused.PastAuction = codes "PastAuction"
 
 abbrev pub limit_words : Limit → List (List ℕ)
 limit_words Market = codes " market visible " ∷ []
@@ -78,7 +79,7 @@ reply_words (reply.Traded t) =
     ∷ codes " at " ∷ decimal t.tick ∷ []
 reply_words (reply.Uncrossed kind trades price) = kind_word kind ∷ uncross_words price trades
 reply_words (reply.Interrupted p) = codes "interrupted " ∷ price_words p
-reply_words (reply.Refused r) = codes "refused " ∷ refusal_word r ∷ []
+reply_words (reply.Refused r) = codes "refused " ∷ decimal (refusal_number r) ∷ codes " " ∷ refusal_name r ∷ []
 
 -- the text of a reply
 abbrev pub reply_text : Reply → List ℕ

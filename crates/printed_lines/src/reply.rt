@@ -6,7 +6,7 @@ ghost use Rattle.printed_lines.specs.declared.page.TheConstants.{LONGEST_NUMBER,
 ghost use Rattle.printed_lines.specs.ReplyWords.{words_text, limit_words, number_word, price_words, reply_text};
 
 use crate::page::Page;
-use crate::words::{kind_word, place_word, refusal_word, side_word};
+use crate::words::{kind_word, place_word, refusal_name, side_word};
 use auction_terms::{AuctionKind, Display, Limit, Price, Reply, Side, Trade};
 
 /// Puts a number on the page, or a dash where there is none.
@@ -151,7 +151,9 @@ pub fn put_reply(page: &mut Page, reply: Reply)
         }
         Reply::Refused(refused) => {
             page.put("refused ");
-            page.put(refusal_word(refused));
+            page.put_number(u64::from(refused.number()));
+            page.put(" ");
+            page.put(refusal_name(refused));
         }
     }
 }

@@ -1,7 +1,7 @@
 //! The words of a reply.
 
 ghost use Rattle.std.specs.Prelude.{◌≡◌, ◌≤◌, length};
-ghost use Rattle.printed_lines.specs.ReplyWords.{side_word, kind_word, place_word, refusal_word};
+ghost use Rattle.printed_lines.specs.ReplyWords.{side_word, kind_word, place_word, refusal_name};
 
 use auction_terms::{AuctionKind, Refusal, Side};
 
@@ -37,20 +37,20 @@ pub fn place_word(kept: bool) -> &'static str
     if kept { "kept" } else { "moved" }
 }
 
-/// The number and the name of a refusal.
-pub fn refusal_word(refused: Refusal) -> &'static str
-    ensures word { result.now ≡ refusal_word refused }
-    ensures short { length result.now ≤ 14 }
+/// The name of a refusal.
+pub fn refusal_name(refused: Refusal) -> &'static str
+    ensures name { result.now ≡ refusal_name refused }
+    ensures short { length result.now ≤ 12 }
 {
     match refused {
-        Refusal::BadQuantity => "1 BadQuantity",
-        Refusal::BadLimit => "2 BadLimit",
-        Refusal::BadPeak => "3 BadPeak",
-        Refusal::BookFull => "4 BookFull",
-        Refusal::UnknownOrder => "5 UnknownOrder",
-        Refusal::NotOperator => "6 NotOperator",
-        Refusal::DayOver => "7 DayOver",
-        Refusal::NoSuchTrade => "8 NoSuchTrade",
-        Refusal::PastAuction => "9 PastAuction",
+        Refusal::BadQuantity => "BadQuantity",
+        Refusal::BadLimit => "BadLimit",
+        Refusal::BadPeak => "BadPeak",
+        Refusal::BookFull => "BookFull",
+        Refusal::UnknownOrder => "UnknownOrder",
+        Refusal::NotOperator => "NotOperator",
+        Refusal::DayOver => "DayOver",
+        Refusal::NoSuchTrade => "NoSuchTrade",
+        Refusal::PastAuction => "PastAuction",
     }
 }

@@ -5,10 +5,26 @@ use Rattle.std.specs.Prelude.{All}
 use Rattle.std.proofs.lemmas.List.Elements.{All-head, All-tail, All-get_or, All-push, All-weaker}
 use Rattle.std.proofs.lemmas.List.{get_or-map, get_or_append_left, get_or_default, length-map, map-append}
 use Rattle.std.proofs.Math.Seq.{get_or-append_seam}
+use Rattle.auction_terms.specs.declared.Refusal.{Refusal}
+use Rattle.auction_terms.specs.declared.Refusal.TheVariants as refused
 use Rattle.auction_terms.specs.declared.Reply.{Reply}
 use Rattle.auction_terms.specs.declared.Reply.TheVariants as reply
+use Rattle.auction_terms.specs.Refusals.{refusal_number}
 use Rattle.reply_list.specs.ReplyList.{IsCode, brief_reply, replies_of, reply_of}
 use Rattle.reply_list.specs.declared.TheConstants.{FIRST_OTHER}
+
+-- a refusal's number is its code
+pub refusal_code : (r : Refusal) → brief_reply (refusal_number r) ≡ reply.Refused r
+unfolding brief_reply
+refusal_code refused.BadQuantity = refl
+refusal_code refused.BadLimit = refl
+refusal_code refused.BadPeak = refl
+refusal_code refused.BookFull = refl
+refusal_code refused.UnknownOrder = refl
+refusal_code refused.NotOperator = refl
+refusal_code refused.DayOver = refl
+refusal_code refused.NoSuchTrade = refl
+refusal_code refused.PastAuction = refl
 
 -- a code below the others' says its reply by itself
 pub brief_reply-code : (others : List Reply) (code : ℕ) → code < FIRST_OTHER → reply_of others code ≡ brief_reply code

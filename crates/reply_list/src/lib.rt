@@ -40,23 +40,13 @@ impl Model for ReplyList {
     ghost invariant = { λ l. All (IsCode (length l.others.items)) l.codes.items };
 }
 
-/// The code of a refusal.
-#[tactic(auto, unfolding(crate::specs::ReplyList::brief_reply))]
+/// The code of a refusal, which is its number.
+#[tactic(auto, using(crate::proofs::ReplyListLaws::refusal_code))]
 fn refusal_code(refusal: Refusal) -> u32
     ensures code { brief_reply result ≡ replies.Refused refusal }
-    ensures brief_reply { result < FIRST_ID }
+    ensures brief { result < FIRST_ID }
 {
-    match refusal {
-        Refusal::BadQuantity => 1,
-        Refusal::BadLimit => 2,
-        Refusal::BadPeak => 3,
-        Refusal::BookFull => 4,
-        Refusal::UnknownOrder => 5,
-        Refusal::NotOperator => 6,
-        Refusal::DayOver => 7,
-        Refusal::NoSuchTrade => 8,
-        Refusal::PastAuction => 9,
-    }
+    u32::from(refusal.number())
 }
 
 /// The code of an entry, if its id leaves room for it.
