@@ -1,7 +1,7 @@
 //! Open orders made the same as others, in the room that they have.
 ghost use Rattle.std.specs.Prelude.{◌≡◌, ◌<◌, ◌≤◌, length, IfSome, vec_capacity};
 ghost use Rattle.slab.specs.Slab.{HasRoomFor};
-ghost use Rattle.order_book.specs.Orders.{HasSameRoom, IsSameButWalk};
+ghost use Rattle.order_book.specs.Orders.{HasKeys, HasSameRoom, IsSameButWalk};
 ghost use Rattle.order_book.specs.Restoring.{Restores};
 
 use crate::Orders;
@@ -9,7 +9,7 @@ use auction_terms::Stamped;
 use slab::Slab;
 
 // The same keys, where there is room for them.
-fn copy_keys(from: &[usize], to: &mut Vec<usize>)
+fn copy_keys(from: &[u32], to: &mut Vec<u32>)
     requires { length from.now ≤ vec_capacity to.old }
     ensures items { to.new.items ≡ from.now }
     ensures capacity { vec_capacity to.old ≤ vec_capacity to.new }
@@ -19,8 +19,9 @@ fn copy_keys(from: &[usize], to: &mut Vec<usize>)
 }
 
 // Puts an order into a slot, if there is one, and writes down its key.
-fn restore(orders: &mut Slab<Stamped>, keys: &mut Vec<usize>, found: Option<Stamped>)
+fn restore(orders: &mut Slab<Stamped>, keys: &mut Vec<u32>, found: Option<Stamped>)
     requires room { IfSome found (λ s. HasRoomFor orders.old 1) }
+    requires keyed { HasKeys orders.old }
     requires within { IfSome found (λ s. (0 < s.order.id) × (s.order.id ≤ length keys.old.items)) }
     ensures restored { Restores found orders.old orders.new keys.old.items keys.new.items }
     ensures slots { orders.new.capacity ≡ orders.old.capacity }
@@ -30,7 +31,7 @@ fn restore(orders: &mut Slab<Stamped>, keys: &mut Vec<usize>, found: Option<Stam
         return;
     };
     let key = orders.insert_reserved(stamped);
-    keys[stamped.order.id as usize - 1] = key;
+    keys[stamped.order.id as usize - 1] = key as u32;
 }
 
 impl Orders {

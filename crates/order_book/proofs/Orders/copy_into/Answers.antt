@@ -79,6 +79,7 @@ invariant_of-other c =
         few = omega (arith, is.len, restored_few c.args.self.now.slots c.loop-place.place, few, same_open);
         small = c.other.invariant.1.small;
         capacity = omega (arith, c.other.invariant.1.capacity, c.clear.ensures.capacity, is.capacity);
+        keyed = omega (arith, c.other.invariant.1.keyed, c.clear.ensures.capacity, is.capacity);
         ids = omega (arith, is.ids, entered, c.self.invariant.1.ids);
         calls = omega (arith, c.self.invariant.1.calls, same_calls);
         keys_room = omega (arith, c.other.invariant.1.keys_room, c.copy_keys.ensures.capacity, is.room);
