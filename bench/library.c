@@ -128,6 +128,9 @@ static void measure_board(uint32_t members, const char *name) {
         start = now();
         for (uint32_t k = 0; k < LOOKS; k++) want(callauction_board_look(&handles[0], &shown));
         printf("board-look %.1f\n", (now() - start) / LOOKS);
+        start = now();
+        call_all(&parts[0]);
+        printf("board-call-watched %.1f\n", (now() - start) / CALLS);
     }
     for (uint32_t m = 0; m < members; m++) want(callauction_board_leave(&handles[m]));
 }
@@ -160,7 +163,12 @@ static void measure_copies(void) {
         closing += now() - made;
     }
     printf("clone %.1f\nclose %.1f\n", cloning / COPIES, closing / COPIES);
+    want(callauction_clone(&auction, &copy));
     double start = now();
+    for (int k = 0; k < COPIES; k++) want(callauction_clone(&auction, &copy));
+    printf("clone-over %.1f\n", (now() - start) / COPIES);
+    want(callauction_close(&copy));
+    start = now();
     for (int k = 0; k < COPIES; k++) want(callauction_reset(&auction));
     printf("reset %.1f\n", (now() - start) / COPIES);
     want(callauction_close(&auction));

@@ -66,8 +66,9 @@ typedef enum callauction_error {
     CALLAUCTION_ERROR_CLOSED = 13,       /* the board was closed */
     CALLAUCTION_ERROR_NO_MEMBER = 14,    /* the handle holds no member */
     CALLAUCTION_ERROR_MISSING_MEMBER = 15, /* the handles don't hold all members of a board in their order */
-    CALLAUCTION_ERROR_OVERTAKEN = 16     /* the board's story has a call that its history hasn't; no run is known to
+    CALLAUCTION_ERROR_OVERTAKEN = 16,    /* the board's story has a call that its history hasn't; no run is known to
                                             meet it */
+    CALLAUCTION_ERROR_BAD_MEMBER = 17    /* the number is neither a member's nor CALLAUCTION_ALL_MEMBERS */
 } callauction_error;
 
 /* ---- the structs: a flag is 0 or 1, and a value whose flag is 0 is 0 ---- */
@@ -188,6 +189,22 @@ typedef struct callauction_trade {
     uint32_t tick;     /* the price */
 } callauction_trade;
 
+/* An open order, as it is listed. */
+typedef struct callauction_order {
+    uint64_t quantity;   /* the open shares */
+    uint64_t visible;    /* those that are shown: the lesser of peak and open shares */
+    uint64_t filled;     /* those that the day's trades executed of it */
+    uint32_t id;
+    uint32_t limit;      /* a tick; 0 where has_limit is 0, of a market order */
+    uint8_t member;
+    uint8_t side;        /* CALLAUCTION_SIDE_BID or CALLAUCTION_SIDE_ASK */
+    uint8_t restriction; /* callauction_restriction */
+    uint8_t has_limit;
+} callauction_order;
+
+/* Whose orders: those of a member, 0 to 255, or of all. */
+enum { CALLAUCTION_ALL_MEMBERS = 256 };
+
 /* The shares of the market orders that count. */
 typedef struct callauction_market {
     uint64_t bids, asks;
@@ -254,6 +271,18 @@ CALLAUCTION_RESULT uint32_t callauction_ladder(const callauction_handle *handle,
 CALLAUCTION_RESULT uint32_t callauction_trades(const callauction_handle *handle, size_t seen,
                                                callauction_trade *trades, size_t trade_count, size_t *copied);
 
+/* Copies the open orders of a member, or of all, in price-time priority, as many as there are and as fit, and writes
+ * how many it copied: bids before asks, also those that wait for another auction. BAD_MEMBER; NO_MEMORY, as it takes
+ * memory while it runs. */
+CALLAUCTION_RESULT uint32_t callauction_orders(const callauction_handle *handle, uint32_t member,
+                                               callauction_order *orders, size_t order_count, size_t *copied);
+
+/* As callauction_orders, the orders of all that an uncross now would take out because they are for its auction alone,
+ * with what would be left of them then: none after the day, and where the uncross would be interrupted. Called before
+ * an uncross, it says which orders that one takes out. */
+CALLAUCTION_RESULT uint32_t callauction_expiring(const callauction_handle *handle, callauction_order *orders,
+                                                 size_t order_count, size_t *copied);
+
 /* Writes how many commands were applied, the refused ones among them. */
 CALLAUCTION_RESULT uint32_t callauction_calls(const callauction_handle *handle, uint32_t *calls);
 
@@ -264,8 +293,9 @@ CALLAUCTION_RESULT uint32_t callauction_config_of(const callauction_handle *hand
 CALLAUCTION_RESULT uint32_t callauction_reset(callauction_handle *handle);
 
 /* The other handle gets an auction of its own, a copy of this one as it is now; what is done to one isn't seen in the
- * other. NO_AUCTION where `handle` holds none; else IN_USE where `other` holds one; else NO_MEMORY where memory is
- * refused. BUSY where both are one. */
+ * other. Where it holds an auction with the same bounds, max_open and max_calls, that one is written over, and no
+ * memory is taken. NO_AUCTION where `handle` holds none; else IN_USE where `other` holds any other auction; else
+ * NO_MEMORY where memory is refused. BUSY where both are one. */
 CALLAUCTION_RESULT uint32_t callauction_clone(const callauction_handle *handle, callauction_handle *other);
 
 /* Gives up the auction and its memory; the handle then holds none, and may be opened again. On a handle that holds
@@ -289,9 +319,10 @@ CALLAUCTION_RESULT uint32_t callauction_board_open(callauction_member *members, 
 CALLAUCTION_RESULT uint32_t callauction_board_call(callauction_member *member, const callauction_command *command,
                                                    callauction_receipt *receipt);
 
-/* Writes how many calls the board has had and what is shown after them. It takes no lock and waits for nobody. It never
- * goes back: all that the member has seen, its own calls among it, comes before. After the board was closed it shows
- * the last again. */
+/* Writes how many calls the board has had and what is shown after them. It takes no lock and waits for nobody; only a
+ * board's first look takes the lock as a call does, and where it is BUSY all the while shows what the member has seen:
+ * calls before it take no time to show what nobody looks at. It never goes back: all that the member has seen, its own
+ * calls among it, comes before. After the board was closed it shows the last. */
 CALLAUCTION_RESULT uint32_t callauction_board_look(callauction_member *member, callauction_shown *shown);
 
 /* As callauction_ladder and callauction_trades, after as many calls as it writes, none of which the member hasn't seen
@@ -416,6 +447,16 @@ CALLAUCTION_AT(trade, quantity, 0);
 CALLAUCTION_AT(trade, bid, 8);
 CALLAUCTION_AT(trade, ask, 12);
 CALLAUCTION_AT(trade, tick, 16);
+CALLAUCTION_SIZE(order, 40);
+CALLAUCTION_AT(order, quantity, 0);
+CALLAUCTION_AT(order, visible, 8);
+CALLAUCTION_AT(order, filled, 16);
+CALLAUCTION_AT(order, id, 24);
+CALLAUCTION_AT(order, limit, 28);
+CALLAUCTION_AT(order, member, 32);
+CALLAUCTION_AT(order, side, 33);
+CALLAUCTION_AT(order, restriction, 34);
+CALLAUCTION_AT(order, has_limit, 35);
 CALLAUCTION_SIZE(market, 16);
 CALLAUCTION_AT(market, bids, 0);
 CALLAUCTION_AT(market, asks, 8);

@@ -43,7 +43,8 @@ enum class Error : std::uint32_t {
     closed = CALLAUCTION_ERROR_CLOSED,
     no_member = CALLAUCTION_ERROR_NO_MEMBER,
     missing_member = CALLAUCTION_ERROR_MISSING_MEMBER,
-    overtaken = CALLAUCTION_ERROR_OVERTAKEN
+    overtaken = CALLAUCTION_ERROR_OVERTAKEN,
+    bad_member = CALLAUCTION_ERROR_BAD_MEMBER
 };
 
 enum class Side : std::uint8_t {
@@ -406,6 +407,23 @@ public:
         return found;
     }
 
+    // The open orders in priority, of a member or of all.
+    Result<std::vector<callauction_order>> orders(std::optional<std::int64_t> member = {}) const {
+        std::uint8_t one = 0;
+        if (member && !detail::fits(*member, one)) return Error::bad_member;
+        const std::uint32_t of = member ? std::uint32_t{one} : std::uint32_t{CALLAUCTION_ALL_MEMBERS};
+        return listed([&](callauction_order *to, std::size_t room, std::size_t *copied) {
+            return callauction_orders(&handle_, of, to, room, copied);
+        });
+    }
+
+    // The orders that an uncross now would take out, as they are for its auction alone.
+    Result<std::vector<callauction_order>> expiring() const {
+        return listed([&](callauction_order *to, std::size_t room, std::size_t *copied) {
+            return callauction_expiring(&handle_, to, room, copied);
+        });
+    }
+
     // The trades of the day after the first `seen`.
     Result<std::vector<callauction_trade>> trades(std::size_t seen = 0) const {
         std::vector<callauction_trade> found;
@@ -438,6 +456,13 @@ public:
         return made;
     }
 
+    // Makes another auction with the same bounds, max_open and max_calls a copy of this one, and takes no memory. Where
+    // it has others, Error::in_use.
+    Result<Done> copy_into(Auction &other) const {
+        if (const auto error = detail::error_of(callauction_clone(&handle_, &other.handle_))) return *error;
+        return Done{};
+    }
+
     // Goes back to the opening.
     Result<Done> reset() {
         if (const auto error = detail::error_of(callauction_reset(&handle_))) return *error;
@@ -448,6 +473,17 @@ private:
     static constexpr std::size_t at_once = 1024;
 
     Auction() = default;
+
+    // What a call writes that copies orders.
+    template <typename Call> Result<std::vector<callauction_order>> listed(Call call) const {
+        const auto config = this->config();
+        if (!config) return config.error();
+        std::vector<callauction_order> found(static_cast<std::size_t>(config->max_open));
+        std::size_t copied = 0;
+        if (const auto error = detail::error_of(call(found.data(), found.size(), &copied))) return *error;
+        found.resize(copied);
+        return found;
+    }
 
     callauction_handle handle_{};
 };

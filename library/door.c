@@ -15,6 +15,8 @@ uint32_t proved_callauction_apply_many(callauction_handle *, const callauction_c
 uint32_t proved_callauction_display(callauction_handle *, callauction_reply *);
 uint32_t proved_callauction_ladder(callauction_handle *, uint64_t *, size_t, uint64_t *, size_t, callauction_market *);
 uint32_t proved_callauction_trades(callauction_handle *, size_t, callauction_trade *, size_t, size_t *);
+uint32_t proved_callauction_orders(callauction_handle *, uint32_t, callauction_order *, size_t, size_t *);
+uint32_t proved_callauction_expiring(callauction_handle *, callauction_order *, size_t, size_t *);
 uint32_t proved_callauction_calls(callauction_handle *, uint32_t *);
 uint32_t proved_callauction_config_of(callauction_handle *, callauction_config *);
 uint32_t proved_callauction_reset(callauction_handle *);
@@ -93,6 +95,18 @@ uint32_t callauction_trades(const callauction_handle *handle, size_t seen, calla
                             size_t trade_count, size_t *copied) {
     callauction_handle *own = (callauction_handle *)handle;
     THROUGH(own, proved_callauction_trades(own, seen, trades, trade_count, copied));
+}
+
+uint32_t callauction_orders(const callauction_handle *handle, uint32_t member, callauction_order *orders,
+                            size_t order_count, size_t *copied) {
+    callauction_handle *own = (callauction_handle *)handle;
+    THROUGH(own, proved_callauction_orders(own, member, orders, order_count, copied));
+}
+
+uint32_t callauction_expiring(const callauction_handle *handle, callauction_order *orders, size_t order_count,
+                              size_t *copied) {
+    callauction_handle *own = (callauction_handle *)handle;
+    THROUGH(own, proved_callauction_expiring(own, orders, order_count, copied));
 }
 
 uint32_t callauction_calls(const callauction_handle *handle, uint32_t *calls) {
@@ -196,6 +210,7 @@ const char *callauction_error_text(uint32_t error) {
     case CALLAUCTION_ERROR_CLOSED: return "the board was closed";
     case CALLAUCTION_ERROR_NO_MEMBER: return "the handle holds no member";
     case CALLAUCTION_ERROR_MISSING_MEMBER: return "the handles don't hold all members of a board in their order";
+    case CALLAUCTION_ERROR_BAD_MEMBER: return "the number is no member's";
     case CALLAUCTION_ERROR_OVERTAKEN: return "the board's story has a call that its history hasn't";
     default: return "unknown error";
     }

@@ -1,9 +1,10 @@
 """What the calls of the library for C take beside the same commands on an auction inside.
 
 Runs bench/library.c and `clock board` of crates/clock in turns: nanoseconds, the best and the
-middle one of the runs. `apply-display` is an `apply` with a `display` after it, which a call on a
-board makes too; `board-call-of-4` has four members at once on threads of their own, a call on the
-wall. Needs cc.
+middle one of the runs. `clone-over` writes over the last clone. `apply-display` is an `apply` with
+a `display` after it, which a call on a board makes too; `board-call` is one where nobody has
+looked, `board-call-watched` one where somebody has; `board-call-of-4` has four members at once on
+threads of their own, a call on the wall. Needs cc.
 """
 import argparse
 import tempfile
@@ -12,9 +13,10 @@ import measuring
 from measuring import Figures, head, row
 
 INSIDE = "apply-alone"
-ORDER = [INSIDE, "apply", "apply-many", "clone", "close", "reset"]
-ORDER += ["apply-display", "board-call", "board-call-of-4", "board-look"]
-CALLS = ["apply", "apply-many", "apply-display", "board-call", "board-call-of-4"]
+ORDER = [INSIDE, "apply", "apply-many", "clone", "clone-over", "close", "reset"]
+ORDER += ["apply-display", "board-call", "board-call-watched", "board-call-of-4", "board-look"]
+CALLS = ["apply", "apply-many", *ORDER[-5:-1]]
+"""Those that are held against the command inside."""
 
 
 def measure(asked: argparse.Namespace) -> bool:

@@ -27,7 +27,21 @@ typedef struct work {
     uint32_t open;
 } work;
 
+/* Built with UNDER_MUTEX, no two calls are made at once: so helgrind, which doesn't know the library's own lock, can
+ * tell whether a call touches what another thread's does beside that lock. */
+#ifdef UNDER_MUTEX
+static pthread_mutex_t mutex = PTHREAD_MUTEX_INITIALIZER;
+static void begin_call(void) { pthread_mutex_lock(&mutex); }
+static void end_call(void) { pthread_mutex_unlock(&mutex); }
+static void wait_for_all(void) {}
+#else
 static atomic_bool go;
+static void begin_call(void) {}
+static void end_call(void) {}
+static void wait_for_all(void) {
+    while (!atomic_load(&go)) sched_yield();
+}
+#endif
 
 static uint32_t drawn(uint64_t *seed, uint32_t below) {
     *seed = *seed * 6364136223846793005u + 1442695040888963407u;
@@ -60,19 +74,30 @@ static callauction_command drawn_command(work *of) {
     return command;
 }
 
+/* A call, made again while another has the board. */
+static uint32_t called(callauction_member *member, const callauction_command *command, callauction_receipt *receipt) {
+    uint32_t answer = CALLAUCTION_ERROR_BUSY;
+    while (answer == CALLAUCTION_ERROR_BUSY) {
+        begin_call();
+        answer = callauction_board_call(member, command, receipt);
+        end_call();
+        if (answer == CALLAUCTION_ERROR_BUSY) sched_yield();
+    }
+    return answer;
+}
+
 static void *play(void *argument) {
     work *of = argument;
-    while (!atomic_load(&go)) sched_yield();
+    wait_for_all();
     for (uint32_t i = 0; i < of->calls; i++) {
-        uint32_t answer;
         of->commands[i] = drawn_command(of);
-        while ((answer = callauction_board_call(of->member, &of->commands[i], &of->receipts[i])) ==
-               CALLAUCTION_ERROR_BUSY)
-            sched_yield();
-        WANT(answer == CALLAUCTION_DONE);
+        WANT(called(of->member, &of->commands[i], &of->receipts[i]) == CALLAUCTION_DONE);
         if (of->receipts[i].reply.tag == CALLAUCTION_REPLY_ENTERED) of->own[of->open++] = of->receipts[i].reply.id;
-        for (uint32_t k = 0; k < of->looks; k++)
+        for (uint32_t k = 0; k < of->looks; k++) {
+            begin_call();
             WANT(callauction_board_look(of->member, &of->shown[i * of->looks + k]) == CALLAUCTION_DONE);
+            end_call();
+        }
     }
     return NULL;
 }
@@ -81,7 +106,9 @@ static void *play(void *argument) {
 static size_t read_while_called(callauction_member *member, callauction_entry *entries, size_t room) {
     size_t read = 0, copied = 0;
     for (int i = 0; i < 200 && read < room; i++) {
+        begin_call();
         uint32_t answer = callauction_board_history(member, read, entries + read, room - read, &copied);
+        end_call();
         if (answer == CALLAUCTION_ERROR_BUSY) continue;
         WANT(answer == CALLAUCTION_DONE);
         read += copied;
@@ -134,6 +161,32 @@ static void full(void) {
     for (int i = 0; i < 2; i++) WANT(callauction_board_leave(&two[i]) == CALLAUCTION_DONE);
 }
 
+/* A look shows all that was called, whether somebody looked while it was or not. */
+static void looks_show_all(bool is_watched) {
+    callauction_config config = {1, 1000, 200, 8, 8, 0, 0};
+    callauction_member members[3] = {{0}};
+    callauction_command enter = {.tag = CALLAUCTION_COMMAND_ENTER, .side = CALLAUCTION_SIDE_BID, .quantity = 5, .has_limit = 1};
+    callauction_entry entries[8];
+    callauction_receipt receipt;
+    callauction_shown shown;
+    uint32_t counts[3], called = 0;
+    size_t written;
+    WANT(callauction_board_open(members, 3, &config) == CALLAUCTION_DONE);
+    for (enter.limit = 100; enter.limit < 104; enter.limit++) {
+        WANT(callauction_board_call(&members[1], &enter, &receipt) == CALLAUCTION_DONE && receipt.number == ++called);
+        if (!is_watched) continue;
+        WANT(callauction_board_look(&members[2], &shown) == CALLAUCTION_DONE && shown.calls == called);
+        WANT(shown.display.best_bid == enter.limit);
+    }
+    if (is_watched) WANT(callauction_board_look(&members[0], &shown) == CALLAUCTION_DONE && shown.calls == called);
+    WANT(callauction_board_close(members, 3, entries, 8, counts, 3, &written) == CALLAUCTION_DONE && written == called);
+    for (int i = 0; i < 3; i++) {
+        WANT(callauction_board_look(&members[i], &shown) == CALLAUCTION_DONE && shown.calls == called);
+        WANT(shown.display.tag == CALLAUCTION_REPLY_UNPRICED && shown.display.best_bid == 103);
+        WANT(callauction_board_leave(&members[i]) == CALLAUCTION_DONE);
+    }
+}
+
 /* The ladder and the trades that a member is shown are those of the replay. */
 static void shows_alike(callauction_member *member, const callauction_handle *plain, size_t length) {
     uint64_t bids[1000], asks[1000], bids_too[1000], asks_too[1000];
@@ -173,7 +226,9 @@ static void day(uint32_t threads, uint32_t calls, uint32_t looks, uint64_t seed)
         works[t].own = calloc(calls, sizeof *works[t].own);
         WANT(pthread_create(&ids[t], NULL, play, &works[t]) == 0);
     }
+#ifndef UNDER_MUTEX
     atomic_store(&go, true);
+#endif
     size_t read = read_while_called(&members[0], early, config.max_calls);
     for (uint32_t t = 1; t < threads; t++) pthread_join(ids[t], NULL);
     callauction_command uncross = {.tag = CALLAUCTION_COMMAND_UNCROSS};
@@ -242,6 +297,8 @@ int main(int count, char **words) {
     uint32_t threads = count > 1 ? (uint32_t)atoi(words[1]) : 8, calls = count > 2 ? (uint32_t)atoi(words[2]) : 12500;
     uint32_t looks = count > 3 ? (uint32_t)atoi(words[3]) : 2;
     full();
+    looks_show_all(false);
+    looks_show_all(true);
     day(threads, calls, looks, count > 4 ? strtoull(words[4], NULL, 10) : 1);
     return 0;
 }

@@ -292,7 +292,7 @@ static void copies(void) {
     applied(&auction, order(1, CALLAUCTION_SIDE_BID, 200, 5));
     applied(&auction, order(2, CALLAUCTION_SIDE_ASK, 200, 5));
     WANT(callauction_clone(&auction, &copy) == CALLAUCTION_DONE && calls_of(&copy) == 2);
-    WANT(callauction_clone(&auction, &copy) == CALLAUCTION_ERROR_IN_USE);
+    WANT(callauction_clone(&auction, &auction) == CALLAUCTION_ERROR_BUSY);
     WANT(applied(&copy, other(0, CALLAUCTION_COMMAND_UNCROSS, 0)).trades == 1);
     WANT(callauction_display(&auction, &here) == CALLAUCTION_DONE);
     WANT(here.tag == CALLAUCTION_REPLY_PRICED && here.volume == 5);
@@ -303,6 +303,92 @@ static void copies(void) {
     WANT(callauction_close(&auction) == CALLAUCTION_DONE);
     WANT(applied(&copy, order(3, CALLAUCTION_SIDE_BID, 0, 1)).id == 3);
     WANT(callauction_close(&copy) == CALLAUCTION_DONE);
+}
+
+/* A copy over an auction of the same limits forgets what that was, and goes on by itself. */
+static void copies_over_another(void) {
+    callauction_handle auction = {0}, second = {0};
+    callauction_config config = usual, changed[4] = {usual, usual, usual, usual};
+    callauction_reply here, there;
+    size_t copied;
+    config.reference = 205;
+    config.has_range = 1;
+    config.range = 1;
+    changed[0].low++;
+    changed[1].high++;
+    changed[2].max_open++;
+    changed[3].max_calls++;
+    opened(&auction);
+    applied(&auction, order(1, CALLAUCTION_SIDE_BID, 200, 5));
+    for (size_t i = 0; i < 4; i++) {
+        WANT(callauction_open(&second, &changed[i]) == CALLAUCTION_DONE);
+        applied(&second, order(2, CALLAUCTION_SIDE_ASK, 201, 5));
+        WANT(callauction_clone(&auction, &second) == CALLAUCTION_ERROR_IN_USE && calls_of(&second) == 1);
+        WANT(callauction_display(&second, &there) == CALLAUCTION_DONE && there.best_ask == 201 && !there.has_best_bid);
+        WANT(callauction_close(&second) == CALLAUCTION_DONE);
+    }
+    WANT(callauction_open(&second, &config) == CALLAUCTION_DONE);
+    for (int i = 0; i < 6; i++) applied(&second, order(2, CALLAUCTION_SIDE_ASK, 206, 5));
+    applied(&second, order(3, CALLAUCTION_SIDE_BID, 206, 12));
+    WANT(applied(&second, other(0, CALLAUCTION_COMMAND_UNCROSS, 0)).trades == 3);
+    WANT(callauction_clone(&auction, &second) == CALLAUCTION_DONE && calls_of(&second) == 1);
+    WANT(callauction_config_of(&second, &config) == CALLAUCTION_DONE && memcmp(&config, &usual, sizeof usual) == 0);
+    WANT(callauction_display(&auction, &here) == CALLAUCTION_DONE);
+    WANT(callauction_display(&second, &there) == CALLAUCTION_DONE && memcmp(&here, &there, sizeof here) == 0);
+    WANT(callauction_trades(&second, 0, NULL, 0, &copied) == CALLAUCTION_DONE);
+    WANT(applied(&second, order(2, CALLAUCTION_SIDE_ASK, 200, 2)).id == 2);
+    WANT(applied(&second, other(0, CALLAUCTION_COMMAND_UNCROSS, 0)).trades == 1 && calls_of(&auction) == 1);
+    WANT(callauction_clone(&second, &auction) == CALLAUCTION_DONE && calls_of(&auction) == 3);
+    WANT(applied(&auction, other(1, CALLAUCTION_COMMAND_READ_TRADE, 1)).quantity == 2);
+    WANT(callauction_close(&auction) == CALLAUCTION_DONE && callauction_close(&second) == CALLAUCTION_DONE);
+}
+
+/* Bids before asks, market orders first, then by limit and by time, with what was executed of each. */
+static void the_orders(void) {
+    static const uint32_t all[] = {4, 3, 5, 1, 6, 2}, of_2[] = {6, 2}, left[] = {3, 5, 1};
+    callauction_handle auction = {0};
+    callauction_command waiting = order(2, CALLAUCTION_SIDE_ASK, 195, 9), iceberg = order(1, CALLAUCTION_SIDE_BID, 200, 50);
+    callauction_order orders[8], before[8];
+    size_t copied = 77;
+    waiting.restriction = CALLAUCTION_RESTRICTION_OPENING_ONLY;
+    iceberg.has_peak = 1;
+    iceberg.peak = 8;
+    opened(&auction);
+    applied(&auction, order(1, CALLAUCTION_SIDE_BID, 199, 5));
+    applied(&auction, order(2, CALLAUCTION_SIDE_ASK, 210, 6));
+    applied(&auction, iceberg);
+    applied(&auction, order(3, CALLAUCTION_SIDE_BID, 0, 4));
+    applied(&auction, order(3, CALLAUCTION_SIDE_BID, 200, 7));
+    applied(&auction, waiting);
+    WANT(callauction_orders(&auction, CALLAUCTION_ALL_MEMBERS, orders, 8, &copied) == CALLAUCTION_DONE && copied == 6);
+    for (size_t i = 0; i < 6; i++) WANT(orders[i].id == all[i] && orders[i].filled == 0);
+    WANT(orders[0].has_limit == 0 && orders[0].limit == 0 && orders[0].side == CALLAUCTION_SIDE_BID);
+    WANT(orders[1].quantity == 50 && orders[1].visible == 8 && orders[1].has_limit == 1 && orders[1].limit == 200);
+    WANT(orders[4].restriction == CALLAUCTION_RESTRICTION_OPENING_ONLY && orders[4].side == CALLAUCTION_SIDE_ASK);
+    WANT(orders[4].member == 2 && orders[4].visible == 9);
+    memset(orders, 0xAA, sizeof orders);
+    memset(before, 0xAA, sizeof before);
+    WANT(callauction_orders(&auction, 2, orders, 1, &copied) == CALLAUCTION_DONE && copied == 1);
+    WANT(orders[0].id == of_2[0] && memcmp(&orders[1], &before[1], sizeof *orders) == 0);
+    WANT(callauction_orders(&auction, 2, orders, 8, &copied) == CALLAUCTION_DONE && copied == 2 && orders[1].id == of_2[1]);
+    WANT(callauction_orders(&auction, 255, NULL, 0, &copied) == CALLAUCTION_DONE && copied == 0);
+    WANT(callauction_orders(&auction, 257, orders, 8, &copied) == CALLAUCTION_ERROR_BAD_MEMBER && copied == 0);
+    WANT(callauction_orders(&auction, UINT32_MAX, orders, 8, &copied) == CALLAUCTION_ERROR_BAD_MEMBER);
+    /* 61 shares bid at 200, 9 offered: order 4 gets 4 of them, order 3 the other 5, and order 6 has nothing left */
+    WANT(callauction_expiring(&auction, orders, 8, &copied) == CALLAUCTION_DONE && copied == 0);
+    iceberg = order(2, CALLAUCTION_SIDE_ASK, 210, 3);
+    iceberg.restriction = CALLAUCTION_RESTRICTION_OPENING_ONLY;
+    applied(&auction, iceberg);
+    WANT(callauction_expiring(&auction, orders, 8, &copied) == CALLAUCTION_DONE && copied == 1);
+    WANT(orders[0].id == 7 && orders[0].quantity == 3 && orders[0].filled == 0);
+    WANT(applied(&auction, other(0, CALLAUCTION_COMMAND_UNCROSS, 0)).trades == 2);
+    WANT(callauction_orders(&auction, CALLAUCTION_ALL_MEMBERS, orders, 8, &copied) == CALLAUCTION_DONE && copied == 4);
+    WANT(orders[0].id == left[0] && orders[0].quantity == 45 && orders[0].filled == 5 && orders[0].visible == 8);
+    WANT(orders[1].id == left[1] && orders[1].filled == 0 && orders[2].id == left[2] && orders[3].id == 2);
+    WANT(callauction_expiring(&auction, NULL, 0, &copied) == CALLAUCTION_DONE && copied == 0);
+    WANT(callauction_close(&auction) == CALLAUCTION_DONE);
+    WANT(callauction_orders(&auction, 257, orders, 8, &copied) == CALLAUCTION_ERROR_NO_AUCTION && copied == 0);
+    WANT(callauction_expiring(&auction, orders, 8, &copied) == CALLAUCTION_ERROR_NO_AUCTION && copied == 0);
 }
 
 /* After a reset ids, trades, reference and auction are those of an opening. */
@@ -337,6 +423,8 @@ int main(void) {
     the_ladder();
     the_trades();
     copies();
+    copies_over_another();
+    the_orders();
     a_reset();
     puts("calls: as worked out");
     return 0;

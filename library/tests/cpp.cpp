@@ -60,6 +60,11 @@ void replies_are_values() {
     WANT(auction.trades()->size() == 1 && auction.trades(1)->empty());
     WANT(auction.ladder()->asks[599] == 15 && *auction.calls() == 14);
     WANT(auction.config()->range == 50);
+    const auto open = auction.orders();
+    WANT(open && open->size() == 3 && (*open)[0].id == 5 && (*open)[1].id == 1 && (*open)[1].filled == 15);
+    WANT(auction.orders(2)->at(0).id == 4 && auction.orders(7)->empty() && auction.expiring()->empty());
+    WANT(auction.orders(256).error() == ca::Error::bad_member);
+    WANT(auction.orders(-1).error() == ca::Error::bad_member);
 }
 
 void numbers_are_looked_at() {
@@ -87,6 +92,11 @@ void owners_are_moved() {
     WANT(second.reset().has_value() && *second.calls() == 0 && *copy->calls() == 1);
     second = *std::move(copy);
     WANT(*second.calls() == 1);
+    auto third = opened(day);
+    reply<ca::Entered>(third.apply(2, ca::Enter{ca::Side::ask, 1, 500}));
+    WANT(second.copy_into(third).has_value() && third.orders()->at(0).side == CALLAUCTION_SIDE_BID);
+    auto small = opened({1, 10, 5, 1, 1, {}});
+    WANT(second.copy_into(small).error() == ca::Error::in_use && *small.calls() == 0);
 }
 
 void a_board_is_closed() {

@@ -1,7 +1,9 @@
-/* Memory, with the heap of checks/parts/refusing_memory.c: `memory open`, `memory day`, `memory many COUNT`.
+/* Memory, with the heap of checks/parts/refusing_memory.c: `memory open`, `memory day`, `memory list`,
+ * `memory many COUNT`.
  *
  * open: opens an auction, clones it and closes both; where memory is refused the call answers so, and nothing is kept.
- * day: the same, and between them commands, displays and resets, which ask for no memory.
+ * day: the same, and between them commands, displays, resets and a clone over the clone, which ask for no memory.
+ * list: opens an auction and lists its orders; where memory is refused, the call answers so, and writes nothing.
  * many: opens and closes so many times, and prints by how many KiB the process has grown since a tenth of them. */
 #include "callauction.h"
 #include <stdio.h>
@@ -46,8 +48,41 @@ static int opens(bool has_day) {
     }
     if (answer != CALLAUCTION_DONE) return leave("another answer of a clone");
     if (has_day && !plays(&copy)) return leave("the copy's day went otherwise");
+    if (has_day && callauction_clone(&auction, &copy) != CALLAUCTION_DONE) return leave("not written over");
     bool are_closed = callauction_close(&auction) == CALLAUCTION_DONE && callauction_close(&copy) == CALLAUCTION_DONE;
     return are_closed ? 0 : leave("not closed");
+}
+
+/* Whether a list was written with just so many orders, or none was, for want of memory. */
+static bool is_list(uint32_t answer, const callauction_order *orders, size_t copied, size_t wanted) {
+    callauction_order untouched;
+    memset(&untouched, 0xAA, sizeof untouched);
+    if (answer == CALLAUCTION_DONE) return copied == wanted;
+    bool is_same = copied == 0 && memcmp(orders, &untouched, sizeof untouched) == 0;
+    return answer == CALLAUCTION_ERROR_NO_MEMORY && is_same;
+}
+
+static int lists(void) {
+    callauction_handle auction = {0};
+    callauction_order all[8], some[8];
+    callauction_reply reply;
+    size_t copied = 77, expiring = 77;
+    memset(all, 0xAA, sizeof all);
+    memset(some, 0xAA, sizeof some);
+    uint32_t answer = callauction_open(&auction, &config);
+    if (answer != CALLAUCTION_DONE) return answer == CALLAUCTION_ERROR_NO_MEMORY ? 3 : leave("another answer");
+    for (uint32_t i = 0; i < 6; i++) {
+        callauction_command command = {.tag = CALLAUCTION_COMMAND_ENTER, .side = (uint8_t)(1 + i % 2), .quantity = 1 + i};
+        command.restriction = i > 3 ? CALLAUCTION_RESTRICTION_OPENING_ONLY : CALLAUCTION_RESTRICTION_NONE;
+        if (callauction_apply(&auction, &command, &reply) != CALLAUCTION_DONE) return leave("not entered");
+    }
+    uint32_t listed = callauction_orders(&auction, CALLAUCTION_ALL_MEMBERS, all, 8, &copied);
+    if (!is_list(listed, all, copied, 6)) return leave("another list");
+    /* 9 shares are bid and 12 offered at market: of the orders for the opening the ask, entered last, has 3 left */
+    uint32_t told = callauction_expiring(&auction, some, 8, &expiring);
+    if (!is_list(told, some, expiring, 1)) return leave("another list of what expires");
+    if (callauction_close(&auction) != CALLAUCTION_DONE) return leave("not closed");
+    return listed == CALLAUCTION_DONE && told == CALLAUCTION_DONE ? 0 : 3;
 }
 
 static long kibibytes(void) {
@@ -74,5 +109,6 @@ static int many(long count) {
 
 int main(int count, char **words) {
     if (count == 3 && strcmp(words[1], "many") == 0) return many(atol(words[2]));
+    if (count == 2 && strcmp(words[1], "list") == 0) return lists();
     return opens(count == 2 && strcmp(words[1], "day") == 0);
 }

@@ -1,11 +1,12 @@
-/* Two threads, each with a handle of its own, and two handles side by side in one: `threads`. */
+/* Two threads, each with a handle of its own, and two handles side by side in one: `threads [ROUNDS]`. */
 #include "callauction.h"
 #include <pthread.h>
 #include <stdio.h>
 #include <stdlib.h>
 #include <string.h>
 
-enum { COMMANDS = 60000, ROUNDS = 8 };
+enum { COMMANDS = 60000 };
+static int rounds = 8;
 static const callauction_config config = {1, 1000, 500, 4096, 65536, 0, 0};
 
 typedef struct day {
@@ -39,7 +40,7 @@ static void write_day(day *of) {
 static void *play(void *argument) {
     day *of = argument;
     of->is_right = true;
-    for (int round = 0; round < ROUNDS; round++) {
+    for (int round = 0; round < rounds; round++) {
         callauction_handle auction = {0};
         size_t applied = 0;
         of->is_right &= callauction_open(&auction, &config) == CALLAUCTION_DONE;
@@ -61,7 +62,8 @@ static bool play_side_by_side(day *one, day *two) {
     return is_right && callauction_close(&first) == 0 && callauction_close(&second) == 0;
 }
 
-int main(void) {
+int main(int count, char **words) {
+    if (count > 1) rounds = atoi(words[1]);
     static day one = {.seed = 1}, two = {.seed = 2};
     pthread_t first, second;
     write_day(&one);

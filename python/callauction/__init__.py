@@ -15,7 +15,7 @@ from typing import TYPE_CHECKING
 
 if TYPE_CHECKING:
     from callauction import journal, plot, report, verdict
-    from callauction.arrays import COMMAND, ENTRY, REPLY, TRADE
+    from callauction.arrays import COMMAND, ENTRY, ORDER, REPLY, TRADE
     from callauction.auction import Auction
     from callauction.board import Board, Member, Receipt, Shown
     from callauction.errors import (
@@ -89,6 +89,7 @@ __all__ = [
     "NoCommandError",
     "NoPrice",
     "NotAppliedError",
+    "ORDER",
     "Price",
     "REPLY",
     "Receipt",

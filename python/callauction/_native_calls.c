@@ -102,6 +102,14 @@ uint32_t python_trades(python_auction *own, size_t seen, callauction_trade *trad
     ANSWER_TAKEN(own, callauction_trades(&own->handle_, seen, trades, count, copied));
 }
 
+uint32_t python_orders(python_auction *own, uint32_t member, callauction_order *orders, size_t count, size_t *copied) {
+    ANSWER_TAKEN(own, callauction_orders(&own->handle_, member, orders, count, copied));
+}
+
+uint32_t python_expiring(python_auction *own, callauction_order *orders, size_t count, size_t *copied) {
+    ANSWER_TAKEN(own, callauction_expiring(&own->handle_, orders, count, copied));
+}
+
 uint32_t python_calls(python_auction *own, uint32_t *calls) {
     ANSWER_TAKEN(own, callauction_calls(&own->handle_, calls));
 }

@@ -48,6 +48,10 @@ uint32_t python_apply_many(python_auction *own, const callauction_command *comma
 uint32_t python_display(python_auction *own, callauction_reply *shown);
 uint32_t python_ladder(python_auction *own, uint64_t *bids, uint64_t *asks, size_t ticks, callauction_market *market);
 uint32_t python_trades(python_auction *own, size_t seen, callauction_trade *trades, size_t count, size_t *copied);
+
+/* Orders of the member, or of all by CALLAUCTION_ALL_MEMBERS. */
+uint32_t python_orders(python_auction *own, uint32_t member, callauction_order *orders, size_t count, size_t *copied);
+uint32_t python_expiring(python_auction *own, callauction_order *orders, size_t count, size_t *copied);
 uint32_t python_calls(python_auction *own, uint32_t *calls);
 uint32_t python_config_of(python_auction *own, callauction_config *config);
 uint32_t python_reset(python_auction *own);

@@ -53,6 +53,24 @@ REPLY = numpy.dtype(
 TRADE = numpy.dtype([("quantity", "u8"), ("bid", "u4"), ("ask", "u4"), ("tick", "u4")], align=True)
 """A trade of 24 bytes: its shares, the ids of its two orders, its price."""
 
+ORDER = numpy.dtype(
+    [
+        ("quantity", "u8"),
+        ("visible", "u8"),
+        ("filled", "u8"),
+        ("id", "u4"),
+        ("limit", "u4"),
+        ("member", "u1"),
+        ("side", "u1"),
+        ("restriction", "u1"),
+        ("has_limit", "u1"),
+    ],
+    align=True,
+)
+"""An open order of 40 bytes: its open, visible and executed shares; `side` is a Side, `restriction`
+a Restriction, and a market order has no limit.
+"""
+
 ENTRY = numpy.dtype([("command", COMMAND), ("reply", REPLY)], align=True)
 """An entry of a board's history of 96 bytes: a call with its reply."""
 

@@ -6,7 +6,7 @@ from typing import Any, Self
 import numpy
 
 from callauction._native import ffi, lib
-from callauction.arrays import COMMAND, REPLY, TRADE, Shares, Structs, whole
+from callauction.arrays import COMMAND, ORDER, REPLY, TRADE, Shares, Structs, whole
 from callauction.errors import AuctionError, ClosedError, FullError, NoCommandError
 from callauction.reading import (
     entered,
@@ -57,6 +57,7 @@ _HAS_LIMIT, _HAS_PEAK = int(lib.PYTHON_HAS_LIMIT), int(lib.PYTHON_HAS_PEAK)
 _enter, _ask = lib.python_enter, lib.python_ask
 _AT_ONCE = 1024
 """How many trades are copied by one call of the library."""
+_ALL_MEMBERS = int(lib.CALLAUCTION_ALL_MEMBERS)
 
 
 class _Signature:
@@ -334,6 +335,28 @@ class Auction:
             seen += room
         return numpy.concatenate(found)
 
+    def orders(self, member: int | None = None) -> Structs:
+        """The open orders of a member, or of all, in price-time priority: a new array of ORDER, the
+        bids before the asks. Orders that wait for another auction are among them. Raises TypeError
+        or ValueError for a bad number, and MemoryError.
+        """
+        of = _ALL_MEMBERS if member is None else number("member", member, _ALL_MEMBERS - 1)
+        return self._orders(lib.python_orders, of)
+
+    def expiring(self) -> Structs:
+        """The orders that an uncross now would take out because they are for its auction alone,
+        with what would be left of them then: a new array of ORDER. Raises MemoryError.
+        """
+        return self._orders(lib.python_expiring)
+
+    def _orders(self, function: Any, *of: int) -> Structs:
+        """The orders that this call of the library writes."""
+        orders = numpy.zeros(self.config.max_open, ORDER)
+        written = ffi.from_buffer("callauction_order[]", orders, require_writable=True)
+        copied = ffi.new("size_t *")
+        self._call(function, *of, written, len(written), copied)
+        return orders[: copied[0]].copy()
+
     @property
     def calls(self) -> int:
         """How many commands were applied, the refused ones among them."""
@@ -369,6 +392,21 @@ class Auction:
         other = type(self).__new__(type(self))
         self._call(lib.python_clone, other._own)
         return other
+
+    def copy_into(self, other: "Auction") -> None:
+        """Makes another auction of the same bounds, `max_open` and `max_calls` a copy of this one,
+        whatever it was, and takes no memory. Raises ValueError where it has others, TypeError where
+        it is no Auction, and ClosedError where it was closed.
+        """
+        if not isinstance(other, Auction):
+            raise TypeError(f"other must be an Auction, not {type(other).__name__}")
+        if other.is_closed:
+            raise ClosedError("other was closed")
+        answer = lib.python_clone(self._own, other._own)
+        if answer == lib.CALLAUCTION_ERROR_IN_USE:
+            raise ValueError("other must have the same bounds, max_open and max_calls")
+        if answer:
+            raise error_of(answer)
 
     def __copy__(self) -> Self:
         return self.copy()

@@ -16,7 +16,7 @@ from callauction.errors import NotAppliedError, RefusedError
 from callauction.reasons import Explanation, explain
 from callauction.program import Day
 from callauction.reading import number, reply_of
-from callauction.tables import audit_of, book_at, books_of, journal_of, trades_of
+from callauction.tables import audit_of, book_at, books_of, journal_of, orders_frame, trades_of
 from callauction.words import (
     Indicate,
     Change,
@@ -194,6 +194,20 @@ class RecordedAuction:
         """As Auction.market."""
         with self._lock:
             return self._auction.market()
+
+    def orders(self, member: int | None = None) -> pandas.DataFrame:
+        """The open orders of a member, or of all, in price-time priority (tables.ORDERS): the bids
+        before the asks, also those that wait for another auction. Raises as Auction.orders.
+        """
+        with self._lock:
+            return orders_frame(self._auction.orders(member))
+
+    def expiring(self) -> pandas.DataFrame:
+        """The orders that an uncross now would take out because they are for its auction alone,
+        with what would be left of them then (tables.ORDERS).
+        """
+        with self._lock:
+            return orders_frame(self._auction.expiring())
 
     @property
     def calls(self) -> int:

@@ -11,6 +11,7 @@ import re
 
 import pandas
 
+from callauction.arrays import Structs
 from callauction.program import Day, ProgramError
 
 TRADES = {
@@ -58,6 +59,19 @@ JOURNAL = {
 """The columns of a journal: a row for each entry, `reply` being what was recorded and `lawful` what
 the rules give. A field that a command hasn't is empty or `<NA>`.
 """
+ORDERS = {
+    "id": "int64",
+    "member": "int64",
+    "side": "str",
+    "limit": "Int64",
+    "quantity": "int64",
+    "visible": "int64",
+    "filled": "int64",
+    "only": "str",
+}
+"""The columns of open orders: a row for each, in price-time priority, with its open, visible and
+executed shares; `only` is `opening`, `closing` or empty.
+"""
 DAY = ("low", "high", "reference", "members", "open", "calls", "range")
 """The numbers of a day record."""
 AUDIT = ("entry", "recorded", "lawful")
@@ -72,6 +86,29 @@ _FIELDS = {
     "uncross": (),
 }
 _FINDING = re.compile(r'(\d+): recorded "(.*)", lawful "([^"]*)"')
+
+
+# ---- what an auction lists, as a frame
+
+_SIDES, _ONLY = ("", "bid", "ask"), ("", "opening", "closing")
+
+
+def orders_frame(orders: Structs) -> pandas.DataFrame:
+    """The frame of an array of ORDER, with the columns of ORDERS."""
+    limits = pandas.array(orders["limit"].astype("int64"), dtype="Int64")
+    limits[orders["has_limit"] == 0] = pandas.NA
+    columns = {
+        "id": orders["id"],
+        "member": orders["member"],
+        "side": [_SIDES[side] for side in orders["side"]],
+        "limit": limits,
+        "quantity": orders["quantity"],
+        "visible": orders["visible"],
+        "filled": orders["filled"],
+        "only": [_ONLY[restriction] for restriction in orders["restriction"]],
+    }
+    frame = pandas.DataFrame(columns, columns=list(ORDERS))
+    return frame.astype({name: kind for name, kind in ORDERS.items() if kind == "int64"})
 
 
 # ---- what the program prints, as frames

@@ -5,13 +5,13 @@ from typing import Any
 import callauction
 import numpy
 import pytest
-from callauction import COMMAND, REPLY, TRADE, CommandTag, Restriction, AuctionKind, Refusal, ReplyTag, Side
+from callauction import COMMAND, ORDER, REPLY, TRADE, CommandTag, Restriction, AuctionKind, Refusal, ReplyTag, Side
 from callauction._native import ffi, lib
 from callauction.reading import BITS
 
 
 @pytest.mark.parametrize(
-    "name, dtype", [("command", COMMAND), ("reply", REPLY), ("trade", TRADE)]
+    "name, dtype", [("command", COMMAND), ("reply", REPLY), ("trade", TRADE), ("order", ORDER)]
 )
 def test_each_dtype_is_the_struct(name: str, dtype: "numpy.dtype[Any]") -> None:
     fields: Any = dtype.fields

@@ -1,5 +1,5 @@
 -- What the structs that come from C stand for.
-use Rattle.std.specs.Prelude.{ℕ, ◌==◌, ◌&&◌, if◌then◌else◌, Option, Some, None, option_and_then, option_map}
+use Rattle.std.specs.Prelude.{ℕ, ◌==◌, nat_lt, ◌&&◌, if◌then◌else◌, Option, Some, None, option_and_then, option_map}
 use Rattle.auction_terms.specs.declared.Config.{Config}
 use Rattle.auction_terms.specs.declared.Side.{Side}
 use Rattle.auction_terms.specs.declared.Side.TheVariants.{Bid, Ask}
@@ -10,6 +10,7 @@ use Rattle.auction_terms.specs.declared.Limit.TheVariants.{Market, At}
 use Rattle.auction_terms.specs.declared.Command.{Command}
 use Rattle.auction_terms.specs.declared.Command.TheVariants.{Enter, Change, Delete, OrderStatus, Indicate, ReadTrade}
 use Rattle.auction_terms.specs.declared.Command.TheVariants.{Uncross}
+use Rattle.auction_c.specs.declared.decoding.TheConstants.{ALL_MEMBERS}
 use Rattle.auction_c.specs.declared.structs.AuctionConfig.{AuctionConfig}
 use Rattle.auction_c.specs.declared.structs.AuctionCommand.{AuctionCommand}
 
@@ -71,3 +72,8 @@ command_in c =
     else if c.tag == 6 then Some (ReadTrade c.id)
     else if c.tag == 7 then Some Uncross
     else None
+
+-- whose orders a number stands for: a member's, or all
+abbrev pub member_in : ℕ → Option (Option ℕ)
+member_in member =
+    if nat_lt member ALL_MEMBERS then Some (Some member) else if member == ALL_MEMBERS then Some None else None

@@ -11,14 +11,19 @@ use Rattle.auction_terms.specs.declared.Price.{Price}
 use Rattle.auction_terms.specs.declared.Trade.{Trade}
 use Rattle.auction_terms.specs.declared.Display.{Display}
 use Rattle.auction_terms.specs.declared.Display.TheVariants.{Priced, Unpriced}
+use Rattle.auction_terms.specs.declared.OpenOrder.{OpenOrder as Listed}
+use Rattle.auction_terms.specs.declared.Restriction.{Restriction}
+use Rattle.auction_terms.specs.declared.Restriction.TheVariants.{Unrestricted, OpeningOnly, ClosingOnly}
 use Rattle.auction_terms.specs.declared.Reply.{Reply}
 use Rattle.auction_terms.specs.declared.Reply.TheVariants.{Entered, Changed, Deleted, OpenOrder, Indicated, Traded}
 use Rattle.auction_terms.specs.declared.Reply.TheVariants.{Uncrossed, Interrupted, Refused as IsRefused}
+use Rattle.auction_terms.specs.Book.{tick_of}
 use Rattle.auction_terms.specs.Ladder.{LadderView}
 use Rattle.auction_terms.specs.Refusals.{refusal_number}
 use Rattle.auction_c.specs.declared.structs.AuctionCommand.{AuctionCommand}
 use Rattle.auction_c.specs.declared.structs.AuctionConfig.{AuctionConfig}
 use Rattle.auction_c.specs.declared.structs.AuctionMarket.{AuctionMarket}
+use Rattle.auction_c.specs.declared.structs.AuctionOrder.{AuctionOrder}
 use Rattle.auction_c.specs.declared.structs.AuctionReply.{AuctionReply}
 use Rattle.auction_c.specs.declared.structs.AuctionTrade.{AuctionTrade}
 
@@ -99,6 +104,24 @@ reply_out (Traded t) = record (tagged 7) { id = t.bid; ask = t.ask; tick = t.tic
 reply_out (Uncrossed kind trades price) = uncrossed_out kind trades price
 reply_out (Interrupted price) = price_out 9 price
 reply_out (IsRefused reason) = record (tagged 10) { refusal = refusal_number reason }
+
+abbrev pub restriction_out : Restriction → ℕ
+restriction_out Unrestricted = 0
+restriction_out OpeningOnly = 1
+restriction_out ClosingOnly = 2
+
+abbrev pub order_out : Listed → AuctionOrder
+order_out listed = record {
+  quantity = listed.order.quantity;
+  visible = listed.visible;
+  filled = listed.filled;
+  id = listed.order.id;
+  limit = unwrap_or (tick_of listed.order.limit) 0;
+  member = listed.order.member;
+  side = side_out listed.order.side;
+  restriction = restriction_out listed.order.restriction;
+  has_limit = flag_out (is_some (tick_of listed.order.limit));
+}
 
 abbrev pub trade_out : Trade → AuctionTrade
 trade_out t = record { quantity = t.quantity; bid = t.bid; ask = t.ask; tick = t.tick }

@@ -1,13 +1,31 @@
 //! What an auction shows, copied into arrays of C.
-ghost use Rattle.std.specs.Prelude.{◌≡◌, ◌<◌, ◌++◌, length, map, min, take, drop};
+ghost use Rattle.std.specs.Prelude.{◌≡◌, ◌<◌, ◌++◌, true, false, length, map, min, take, drop};
+ghost use Rattle.auction.specs.OpenOrders.{has_same_limits};
 ghost use Rattle.auction_c.specs.Calling.{ladder_error};
 ghost use Rattle.auction_c.specs.Encoding as encoded_as;
+ghost use Rattle.auction_c.specs.declared.errors.TheConstants.{DONE, IN_USE};
 
-use crate::encoding::trade_out;
-use crate::errors::{BAD_LENGTH, DONE};
-use crate::structs::{AuctionMarket, AuctionTrade};
-use auction_terms::{Side, Trade};
+use crate::encoding::{order_out, trade_out};
+use crate::errors::{BAD_LENGTH, DONE, IN_USE};
+use crate::structs::{AuctionMarket, AuctionOrder, AuctionTrade};
+use auction::Auction;
+use auction_terms::{OpenOrder, Side, Trade};
 use tick_ladder::Ladder;
+
+/// Writes this auction over one of the same limits, and answers `DONE`. Where that has other limits it changes nothing,
+/// and answers `IN_USE`.
+pub(crate) fn copy_over(auction: &Auction, other: &mut Auction) -> u32
+    ensures same { has_same_limits auction.now.config other.old.config ≡ true →
+        (result ≡ DONE) × (other.new ≡ auction.now) }
+    ensures other { has_same_limits auction.now.config other.old.config ≡ false →
+        (result ≡ IN_USE) × (other.new ≡ other.old) }
+{
+    if !auction.has_same_limits(other) {
+        return IN_USE;
+    }
+    auction.copy_into(other);
+    DONE
+}
 
 /// Writes trades for C, as many as there is room for, and answers how many.
 pub(crate) fn copy_trades(trades: &[Trade], to: &mut [AuctionTrade]) -> usize
@@ -17,6 +35,18 @@ pub(crate) fn copy_trades(trades: &[Trade], to: &mut [AuctionTrade]) -> usize
     let most = trades.len().min(to.len());
     for i in 0..most {
         to[i] = trade_out(trades[i]);
+    }
+    most
+}
+
+/// Writes open orders for C, as many as there is room for, and answers how many.
+pub(crate) fn copy_orders(listed: &[OpenOrder], to: &mut [AuctionOrder]) -> usize
+    ensures count { result ≡ min (length listed.now) (length to.old) }
+    ensures copied { to.new ≡ map encoded_as.order_out (take result listed.now) ++ drop result to.old }
+{
+    let most = listed.len().min(to.len());
+    for i in 0..most {
+        to[i] = order_out(listed[i]);
     }
     most
 }

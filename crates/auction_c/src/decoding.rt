@@ -5,6 +5,9 @@ ghost use Rattle.auction_c.specs.Decoding as decoded_as;
 use crate::structs::{AuctionCommand, AuctionConfig};
 use auction_terms::{Command, Config, Limit, Restriction, Side};
 
+/// The number that stands for all members.
+pub const ALL_MEMBERS: u32 = 256;
+
 fn range_in(flag: u32, range: u32) -> Option<Option<u32>>
     ensures { result ≡ decoded_as.flagged_in flag range }
 {
@@ -70,6 +73,19 @@ fn peak_in(flag: u8, peak: u64) -> Option<Option<u64>>
     if flag == 1 {
         Some(Some(peak))
     } else if flag == 0 && peak == 0 {
+        Some(None)
+    } else {
+        None
+    }
+}
+
+/// Whose orders a number stands for: those of a member, or of all.
+pub(crate) fn member_in(member: u32) -> Option<Option<u8>>
+    ensures { result ≡ decoded_as.member_in member }
+{
+    if member < ALL_MEMBERS {
+        Some(Some(member as u8))
+    } else if member == ALL_MEMBERS {
         Some(None)
     } else {
         None

@@ -4,8 +4,10 @@ ghost use Rattle.auction_c.specs.Decoding as decoded_as;
 ghost use Rattle.auction_c.specs.Encoding as encoded_as;
 ghost use Rattle.auction_c.specs.ReadBack.{reply_back};
 
-use crate::structs::{AuctionConfig, AuctionReply, AuctionTrade};
-use auction_terms::{AuctionKind, Config, Display, Limit, Price, Reply, Side, Trade};
+use crate::structs::{AuctionConfig, AuctionOrder, AuctionReply, AuctionTrade};
+use auction_terms::{
+    AuctionKind, Config, Display, Limit, OpenOrder, Price, Reply, Restriction, Side, Trade,
+};
 
 pub(crate) fn side_out(side: Side) -> u8
     ensures { result ≡ encoded_as.side_out side }
@@ -159,6 +161,35 @@ pub(crate) fn reply_out(reply: Reply) -> AuctionReply
             refusal: reason.number(),
             ..tagged(10)
         },
+    }
+}
+
+fn restriction_out(restriction: Restriction) -> u8
+    ensures { result ≡ encoded_as.restriction_out restriction }
+{
+    match restriction {
+        Restriction::Unrestricted => 0,
+        Restriction::OpeningOnly => 1,
+        Restriction::ClosingOnly => 2,
+    }
+}
+
+/// An open order as C reads it.
+pub(crate) fn order_out(listed: OpenOrder) -> AuctionOrder
+    ensures { result ≡ encoded_as.order_out listed }
+{
+    let order = listed.order;
+    let tick = order.tick();
+    AuctionOrder {
+        quantity: order.quantity,
+        visible: listed.visible,
+        filled: listed.filled,
+        id: order.id,
+        limit: tick.unwrap_or(0),
+        member: order.member,
+        side: side_out(order.side),
+        restriction: restriction_out(order.restriction),
+        has_limit: u8::from(tick.is_some()),
     }
 }
 

@@ -58,6 +58,9 @@ pub const MISSING_MEMBER: u32 = 15;
 /// The board's story has a call that its history hasn't. No run is known to meet it.
 pub const OVERTAKEN: u32 = 16;
 
+/// The number is neither a member's nor `ALL_MEMBERS`.
+pub const BAD_MEMBER: u32 = 17;
+
 /// The number of a fault of an opening.
 pub(crate) fn fault_out(fault: OpenFault) -> u32
     ensures { result ≡ fault_number fault }

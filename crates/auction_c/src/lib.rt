@@ -2,15 +2,16 @@
 //!
 //! `library/callauction.h` has the same for C. A handle of zeros holds no auction, and each call on it but an opening
 //! answers `NO_AUCTION` and does nothing else. Each call takes the handle by reference, one call at a time, and answers
-//! `DONE` or the number of an error, which changes nothing. Only opening and cloning take memory.
+//! `DONE` or the number of an error, which changes nothing. Only opening, cloning and listing orders take memory.
 #![tactic(auto)]
 
-ghost use Rattle.std.specs.Prelude.{◌≡◌, ◌<◌, ◌+◌, ◌-◌, ◌++◌, Some, None, IsSome, IsNone, IfSome};
+ghost use Rattle.std.specs.Prelude.{◌≡◌, ◌<◌, ◌+◌, ◌-◌, ◌++◌, true, false, Some, None, IsSome, IsNone, IfSome};
 ghost use Rattle.std.specs.Prelude.{length, map, min, take, drop, option_map};
 ghost use Rattle.std.specs.Option.{option_map_or};
 ghost use Rattle.auction_terms.specs.Day.{display};
 ghost use Rattle.auction_terms.specs.Auxiliary.RunningAuction.{opened_auction};
 ghost use Rattle.auction.specs.ConfigFault.{open_fault};
+ghost use Rattle.auction.specs.OpenOrders.{has_same_limits};
 ghost use Rattle.auction_c.specs.Calling.{fault_number, apply_struct, apply_all};
 ghost use Rattle.auction_c.specs.Calling.{ladder_now, ladder_error, ticks_of, unseen_trades};
 ghost use Rattle.auction_c.specs.Decoding as decoded_as;
@@ -28,24 +29,26 @@ mod handle;
 mod held;
 mod member_handle;
 mod member_held;
+mod order_calls;
 mod structs;
 
 use applying::{apply_each, apply_one};
 use auction::Auction;
-use copying::{copy_ladder, copy_trades};
+use copying::{copy_ladder, copy_over, copy_trades};
+pub use decoding::ALL_MEMBERS;
 use decoding::config_in;
 use encoding::{config_out, display_out};
 use errors::fault_out;
 pub use errors::{
-    BAD_BOUNDS, BAD_CAPACITY, BAD_LENGTH, BAD_REFERENCE, BEHIND, BUSY, CLOSED, DONE, FULL, IN_USE,
-    MISSING_MEMBER, NO_AUCTION, NO_COMMAND, NO_CONFIG, NO_MEMBER, NO_MEMORY, OVERTAKEN,
+    BAD_BOUNDS, BAD_CAPACITY, BAD_LENGTH, BAD_MEMBER, BAD_REFERENCE, BEHIND, BUSY, CLOSED, DONE,
+    FULL, IN_USE, MISSING_MEMBER, NO_AUCTION, NO_COMMAND, NO_CONFIG, NO_MEMBER, NO_MEMORY, OVERTAKEN,
 };
 pub use handle::AuctionHandle;
 pub use member_handle::AuctionMember;
 use std::alloc::Global;
 pub use structs::{
-    AuctionCommand, AuctionConfig, AuctionEntry, AuctionMarket, AuctionReceipt, AuctionReply,
-    AuctionShown, AuctionTrade,
+    AuctionCommand, AuctionConfig, AuctionEntry, AuctionMarket, AuctionOrder, AuctionReceipt,
+    AuctionReply, AuctionShown, AuctionTrade,
 };
 
 /// Opens an auction, which the handle then holds: no orders, no trades, no calls, the reference of the config.
@@ -249,9 +252,11 @@ pub extern "C" fn callauction_reset(handle: &mut AuctionHandle) -> u32
     DONE
 }
 
-/// Makes the other handle hold an auction of its own that stands where this one does.
+/// Makes the other handle hold an auction of its own that stands where this one does. Where it holds an auction of the
+/// same bounds and room already, that one is written over, and no memory is taken.
 ///
-/// Where the other handle holds an auction already it answers `IN_USE`, and else `NO_MEMORY` where memory is refused.
+/// Where the other handle holds an auction of other bounds or room it answers `IN_USE`; where it holds none, `NO_MEMORY`
+/// where memory is refused.
 #[unsafe(no_mangle)]
 pub extern "C" fn callauction_clone(
     alloc: Global,
@@ -262,7 +267,10 @@ pub extern "C" fn callauction_clone(
     ensures copied { result ≡ 0 → other.new.held.value ≡ handle.old.held.value }
     ensures refused { 0 < result → other.new.held.value ≡ other.old.held.value }
     ensures missing { IsNone handle.old.held.value → result ≡ NO_AUCTION }
-    ensures busy { IsSome handle.old.held.value → IsSome other.old.held.value → result ≡ IN_USE }
+    ensures busy { IfSome handle.old.held.value (λ a. IfSome other.old.held.value (λ b.
+        has_same_limits a.config b.config ≡ false → result ≡ IN_USE)) }
+    ensures reused { IfSome handle.old.held.value (λ a. IfSome other.old.held.value (λ b.
+        has_same_limits a.config b.config ≡ true → result ≡ DONE)) }
     ensures memory { IsSome handle.old.held.value → IsNone other.old.held.value →
         0 < result → result ≡ NO_MEMORY }
 {
@@ -270,7 +278,7 @@ pub extern "C" fn callauction_clone(
         return NO_AUCTION;
     }
     if other.is_open {
-        return IN_USE;
+        return copy_over(handle.held.get_mut(), other.held.get_mut());
     }
     match handle.held.get_mut().copied(alloc) {
         Ok(copy) => other.hold(alloc, copy),

@@ -95,6 +95,25 @@ pub struct AuctionTrade {
     pub tick: u32,
 }
 
+/// An open order, as it is listed.
+#[repr(C)]
+#[derive(Clone, Copy, Debug, PartialEq, Eq)]
+pub struct AuctionOrder {
+    /// Shares that are open, that are shown, and that the trades of the day executed.
+    pub quantity: u64,
+    pub visible: u64,
+    pub filled: u64,
+    pub id: u32,
+    /// A tick, where `has_limit` is 1; else 0, of a market order.
+    pub limit: u32,
+    pub member: u8,
+    /// 1 bid, 2 ask.
+    pub side: u8,
+    /// The auctions that the order is for: 0 every one, 1 the opening, 2 the closing alone.
+    pub restriction: u8,
+    pub has_limit: u8,
+}
+
 /// The shares of the market orders that count.
 #[repr(C)]
 #[derive(Clone, Copy, Debug, PartialEq, Eq)]

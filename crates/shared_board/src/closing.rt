@@ -119,10 +119,12 @@ impl SharedMember {
         self.shared.give(room);
     }
 
-    /// Ends the board, whose floor was taken: each call finds it closed.
-    pub fn shut(&mut self)
+    /// Ends the board, whose floor was taken: each call finds it closed, and looks show what was last.
+    pub fn shut(&mut self, floor: &TakenFloor)
+        requires { floor.now.board ≡ self.old.board }
         ensures { self.new ≡ self.old }
     {
+        self.shared.publish(floor.room.floor.shown());
         self.shared.shut();
     }
 

@@ -7,7 +7,7 @@ ghost use Rattle.board_terms.specs.MemberView.{placed_calls, after_call};
 ghost use Rattle.board_terms.specs.CallsAndLooks.{CallsOnce, EndsWithCall, IsLook, SeesFullHistory, ShowsAfter};
 ghost use Rattle.shared_board.specs.BoardViews.{IsViewOf, SeesStory, board_member};
 
-use crate::shared::Shared;
+use crate::shared::{Shared, Unwatched};
 use crate::story::Front;
 use crate::view::View;
 use auction_terms::{Command, Config};
@@ -212,18 +212,53 @@ impl SharedMember {
         call_on(shared, account, command)
     }
 
-    /// Looks at the board: how many calls it has had, and the display of the book after them. It takes no lock and no
-    /// memory, waits for nobody, and isn't recorded. It never goes back.
+    /// Looks at the board: how many calls it has had, and the display of the book after them. It takes no lock, but for
+    /// the first look of the board, before which calls show nothing, and no memory; it waits for nobody, and isn't
+    /// recorded. It never goes back.
     pub fn look(&mut self) -> Shown
         ensures board { self.new.board ≡ self.old.board }
         ensures look { IsLook self.old.board.config self.old.view self.new.view result }
     {
-        let seen = self.account.seen.shown.calls;
-        let shared: &Shared = &self.shared;
-        match shared.newest(seen) {
-            Some(view) => self.account.catch_up(view),
-            None => self.account.again(),
-        }
+        let SharedMember { shared, account } = self;
+        look_at(shared, account)
+    }
+}
+
+// A look of this account at what it shares.
+fn look_at(shared: &Shared, account: &mut Account) -> Shown
+    requires { shared.now.floor ≡ account.old.board }
+    ensures board { account.new.board ≡ account.old.board }
+    ensures look { IsLook account.old.board.config account.old.view account.new.view result }
+{
+    match shared.newest(account.seen.shown.calls) {
+        Ok(Some(view)) => account.catch_up(view),
+        Ok(None) => account.again(),
+        Err(Unwatched) => look_first(shared, account),
+    }
+}
+
+// The first look: from now on calls show what is so. Where another call has the lock all the while, the next look is
+// the first.
+fn look_first(shared: &Shared, account: &mut Account) -> Shown
+    requires { shared.now.floor ≡ account.old.board }
+    ensures board { account.new.board ≡ account.old.board }
+    ensures look { IsLook account.old.board.config account.old.view account.new.view result }
+{
+    let Ok(room) = shared.take() else {
+        return account.again();
+    };
+    let view = room.floor.shown();
+    shared.publish(view.again());
+    shared.give(room);
+    account.catch_up(view)
+}
+
+// Shows what the account has seen now, if somebody has looked.
+fn show(shared: &Shared, account: &Account)
+    requires { shared.now.floor ≡ account.now.board }
+{
+    if shared.is_watched() {
+        shared.publish(account.shown());
     }
 }
 
@@ -246,7 +281,7 @@ fn call_on(shared: &Shared, account: &mut Account, command: Command) -> Result<R
     };
     match room.floor.call(account, command) {
         Ok(receipt) => {
-            shared.publish(account.shown());
+            show(shared, account);
             shared.give(room);
             Ok(receipt)
         }

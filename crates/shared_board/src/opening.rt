@@ -11,7 +11,7 @@ ghost use Rattle.board_terms.specs.MemberView.{newcomer};
 use crate::day::Day;
 use crate::floor::{BoxedFloor, SharedFloor};
 use crate::member::{Account, SharedMember};
-use crate::shared::Shared;
+use crate::shared::{Shared, UNWATCHED};
 use crate::story::{Front, Head, new_story};
 use crate::view::View;
 use auction::{Auction, OpenFault};
@@ -86,18 +86,15 @@ fn shared_around(
     alloc: Global,
     day: &Day,
     room: BoxedFloor,
-    opening: View,
 ) -> Result<Arc<Shared, Global>, AllocError>
-    requires room { room.floor.value.board ≡ day.now }
-    requires opening { IsViewOf day.now opening.front opening.shown }
+    requires { room.floor.value.board ≡ day.now }
     ensures { IfOk result (λ shared. shared.value.floor ≡ day.now) }
 {
     let shared = Shared {
         floor: Counted::new(Some(room), day),
         copies: no_copies(alloc, day, usize::from(day.members) + 1)?,
-        newest: AtomicU64::new(0),
+        newest: AtomicU64::new(UNWATCHED),
     };
-    shared.publish(opening);
     Ok(Arc::new(alloc, shared)?)
 }
 
@@ -162,7 +159,7 @@ fn begun(
         members,
         story: front,
     };
-    let shared = shared_around(alloc, &day, room, opening.again())?;
+    let shared = shared_around(alloc, &day, room)?;
     new_members(alloc, &shared, &day, &opening)
 }
 

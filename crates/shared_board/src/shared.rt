@@ -22,6 +22,12 @@ const LENT: u64 = PRESENT;
 /// The word of the lock once the board was closed.
 const CLOSED: u64 = MARKED;
 
+/// What `newest` is until somebody looks. Calls show nothing then.
+pub(crate) const UNWATCHED: u64 = u64::MAX;
+
+/// Nobody has looked yet.
+pub(crate) struct Unwatched;
+
 /// The word of the lock is `FREE` while the floor is in it.
 #[derive(Drop)]
 pub(crate) struct Shared {
@@ -83,6 +89,11 @@ impl Shared {
         let _ = swap_floor(&self.floor, LENT, Some(room), FREE);
     }
 
+    /// Whether somebody has looked.
+    pub(crate) fn is_watched(&self) -> bool {
+        self.newest.load(SeqCst) != UNWATCHED
+    }
+
     /// Writes what is shown now into a copy that nobody reads, and names it the newest. There are more copies than
     /// members, so there is one.
     pub(crate) fn publish(&self, view: View)
@@ -104,24 +115,27 @@ impl Shared {
     }
 
     /// The newest copy, unless it shows just so many calls.
-    pub(crate) fn newest(&self, seen: u32) -> Option<View>
-        ensures { IfSome result (λ v. IsViewOf self.now.floor v.front v.shown) }
+    pub(crate) fn newest(&self, seen: u32) -> Result<Option<View>, Unwatched>
+        ensures { IfOk result (λ found. IfSome found (λ v. IsViewOf self.now.floor v.front v.shown)) }
     {
         for _ in 0..LOOKS {
             let word = self.newest.load(SeqCst);
             if word / 256 == u64::from(seen) {
-                return None;
+                return Ok(None);
+            }
+            if word == UNWATCHED {
+                return Err(Unwatched);
             }
             let at = (word % 256) as usize;
             if at < self.copies.len() {
                 let view = read_copy(&self.copies[at]);
                 if view.is_some() {
-                    return view;
+                    return Ok(view);
                 }
             }
             spin_loop();
         }
-        None
+        Ok(None)
     }
 }
 

@@ -122,11 +122,12 @@ fn give_back(first: &mut AuctionMember, floor: TakenFloor)
     }
 }
 
-fn end_board(first: &mut AuctionMember)
+fn end_board(first: &mut AuctionMember, floor: &TakenFloor)
+    requires board { IfSome first.old.held.value (λ m. floor.now.board ≡ m.board) }
     ensures same { first.new ≡ first.old }
 {
     if first.is_open {
-        first.held.get_mut().shut();
+        first.held.get_mut().shut(floor);
     }
 }
 
@@ -156,7 +157,7 @@ pub(crate) fn close_all(
         give_back(&mut handles[0], floor);
         return error;
     }
-    end_board(&mut handles[0]);
+    end_board(&mut handles[0], &floor);
     hand_out(floor, entries, counts, written);
     DONE
 }

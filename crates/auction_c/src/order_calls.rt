@@ -1,0 +1,87 @@
+//! The open orders of an auction, for C.
+ghost use Rattle.std.specs.Prelude.{◌≡◌, ◌<◌, ◌++◌, IsSome, IsNone, IfSome, length, map, min, take, drop};
+ghost use Rattle.auction_terms.specs.Priority.{orders_in_priority, orders_expiring};
+ghost use Rattle.auction_c.specs.Decoding as decoded_as;
+ghost use Rattle.auction_c.specs.Encoding as encoded_as;
+ghost use Rattle.auction_c.specs.declared.errors.TheConstants.{BAD_MEMBER, NO_AUCTION, NO_MEMORY};
+
+use crate::copying::copy_orders;
+use crate::decoding::member_in;
+use crate::errors::{BAD_MEMBER, DONE, NO_AUCTION, NO_MEMORY};
+use crate::handle::AuctionHandle;
+use crate::structs::AuctionOrder;
+use std::alloc::Global;
+
+/// Writes the open orders in priority, of a member or of all, as many as there is room for, and how many it wrote.
+///
+/// It answers `BAD_MEMBER` where the number is neither a member's nor `ALL_MEMBERS`, and else `NO_MEMORY` only where
+/// memory is refused.
+#[unsafe(no_mangle)]
+pub extern "C" fn callauction_orders(
+    alloc: Global,
+    handle: &mut AuctionHandle,
+    member: u32,
+    orders: &mut [AuctionOrder],
+    copied: &mut usize,
+) -> u32
+    ensures held { handle.new.held.value ≡ handle.old.held.value }
+    ensures missing { IsNone handle.old.held.value → result ≡ NO_AUCTION }
+    ensures member { IsSome handle.old.held.value → IsNone (decoded_as.member_in member) → result ≡ BAD_MEMBER }
+    ensures memory { IsSome handle.old.held.value → IsSome (decoded_as.member_in member) → 0 < result →
+        result ≡ NO_MEMORY }
+    ensures copied { result ≡ 0 → IfSome handle.old.held.value (λ a. IfSome (decoded_as.member_in member) (λ m.
+        copied.new ≡ min (length (orders_in_priority m a.state)) (length orders.old))) }
+    ensures orders { result ≡ 0 → IfSome handle.old.held.value (λ a. IfSome (decoded_as.member_in member) (λ m.
+        orders.new ≡ map encoded_as.order_out (take copied.new (orders_in_priority m a.state))
+        ++ drop copied.new orders.old)) }
+    ensures unchanged { 0 < result → (copied.new ≡ 0) × (orders.new ≡ orders.old) }
+{
+    *copied = 0;
+    if !handle.is_open {
+        return NO_AUCTION;
+    }
+    let Some(of) = member_in(member) else {
+        return BAD_MEMBER;
+    };
+    match handle.held.get_mut().open_orders(alloc, of) {
+        Ok(listed) => {
+            *copied = copy_orders(&listed, orders);
+            DONE
+        }
+        Err(_) => NO_MEMORY,
+    }
+}
+
+/// Writes the orders that an uncross now would take out, as they are for its auction alone, with what would be left of
+/// them, as many as there is room for, and how many it wrote.
+///
+/// It answers `NO_MEMORY` only where memory is refused.
+#[unsafe(no_mangle)]
+pub extern "C" fn callauction_expiring(
+    alloc: Global,
+    handle: &mut AuctionHandle,
+    orders: &mut [AuctionOrder],
+    copied: &mut usize,
+) -> u32
+    ensures held { handle.new.held.value ≡ handle.old.held.value }
+    ensures missing { IsNone handle.old.held.value → result ≡ NO_AUCTION }
+    ensures memory { IsSome handle.old.held.value → 0 < result → result ≡ NO_MEMORY }
+    ensures copied { result ≡ 0 → IfSome handle.old.held.value (λ a.
+        copied.new ≡ min (length (orders_expiring a.config a.state)) (length orders.old)) }
+    ensures orders { result ≡ 0 → IfSome handle.old.held.value (λ a.
+        orders.new ≡ map encoded_as.order_out (take copied.new (orders_expiring a.config a.state))
+        ++ drop copied.new orders.old) }
+    ensures unchanged { 0 < result → (copied.new ≡ 0) × (orders.new ≡ orders.old) }
+{
+    *copied = 0;
+    if !handle.is_open {
+        return NO_AUCTION;
+    }
+    match handle.held.get_mut().expiring_orders(alloc) {
+        Ok(listed) => {
+            *copied = copy_orders(&listed, orders);
+            DONE
+        }
+        Err(_) => NO_MEMORY,
+    }
+}

@@ -1,0 +1,173 @@
+"""The open orders, what an uncross takes out, and copies over another auction, beside the rules."""
+import copy
+from collections.abc import Iterator
+
+import pandas
+import pytest
+from callauction import Auction, ClosedError, Enter, RecordedAuction, Restriction, Side
+from days import EXAMPLES, options_of
+from printed import Options, command_of, opened
+
+from checks.generators import orders
+from checks.model.answers import DEFAULTS
+from checks.model.day import Day, Order
+from checks.model.day import opened as opened_by_the_rules
+from checks.model.files import FileFault, order_file
+
+NUMBERS = ("low", "high", "reference", "open", "calls", "range")
+Row = tuple[int, int, str, int | None, int, int, int, str]
+"""An order as the rules list it: id, member, side, limit, open, visible and executed shares, and
+the auction that it is only for.
+"""
+
+
+def row_of(order: Order, day: Day) -> Row:
+    visible = order.quantity if order.peak is None else min(order.peak, order.quantity)
+    filled = sum(trade.quantity for trade in day.tape if order.id in (trade.bid, trade.ask))
+    terms = order.id, order.member, order.side, order.limit, order.quantity
+    return *terms, visible, filled, order.only
+
+
+def listed(day: Day, member: int | None = None) -> list[Row]:
+    """The open orders by the rules, the bids before the asks."""
+    mine = [order for order in day.book.values() if member in (None, order.member)]
+    sides = [[order for order in mine if order.side == side] for side in ("bid", "ask")]
+    return [row_of(order, day) for side in sides for order in sorted(side, key=Order.rank)]
+
+
+def taken_out(day: Day) -> list[Row]:
+    """The orders that an uncross would take out, by the rules."""
+    kind, tick = day.kind(), day.price()
+    if not kind:
+        return []
+    far = tick is not None and day.range is not None and abs(tick - day.reference) > day.range
+    if far and not day.extended:
+        return []
+    left = copy.deepcopy(day)
+    if tick is not None:
+        left.tape += left.execute(tick)
+    return [row for row in listed(left) if row[-1] == kind]
+
+
+def rows(frame: pandas.DataFrame) -> list[Row]:
+    """The rows of a frame of orders, with None for a market order's limit."""
+    limits = [None if limit is pandas.NA else limit for limit in frame["limit"]]
+    plain = frame.assign(limit=pandas.Series(limits, dtype="object"))
+    return [*plain.itertuples(index=False, name=None)]
+
+
+def days() -> Iterator[tuple[Options, str]]:
+    """The examples, and random files."""
+    for file in EXAMPLES:
+        yield DEFAULTS | options_of(file), file.read_text(encoding="utf-8")
+    for seed in range(120):
+        yield orders.order_file("short", seed)
+
+
+def test_the_orders_are_those_of_the_rules_after_each_command() -> None:
+    looked = 0
+    for options, text in days():
+        try:
+            calls = order_file(text, options).calls
+        except FileFault:
+            continue
+        day = opened_by_the_rules(options)
+        records = [line.split(",") for line in text.splitlines() if line]
+        numbers = [options[name] for name in NUMBERS]
+        with RecordedAuction(*numbers) as auction:
+            for (member, words), fields in zip(calls, records):
+                if words[0] == "uncross":
+                    assert rows(auction.expiring()) == taken_out(day)
+                day.apply(member, words)
+                auction.apply(member, command_of(fields[1:]))
+                assert rows(auction.orders()) == listed(day)
+                assert rows(auction.orders(member)) == listed(day, member)
+                looked += len(day.book)
+            assert rows(auction.expiring()) == taken_out(day)
+    assert looked > 10_000
+
+
+def test_an_uncross_takes_out_what_was_said() -> None:
+    """And nothing else than that and what it executes whole."""
+    for seed in range(120, 200):
+        options, text = orders.order_file("short", seed)
+        with opened(options) as auction:
+            for fields in (line.split(",") for line in text.splitlines() if line):
+                before = {int(id) for id in auction.orders()["id"]}
+                leaves = {int(row["id"]): int(row["quantity"]) for row in auction.expiring()}
+                if auction.is_full:
+                    break
+                auction.apply(int(fields[0]), command_of(fields[1:]))
+                if fields[1] == "uncross" and fields[0] == "0":
+                    after = {int(id) for id in auction.orders()["id"]}
+                    assert not leaves.keys() & after and leaves.keys() <= before
+
+
+def test_members_and_closed_auctions() -> None:
+    with Auction() as auction:
+        auction.enter(255, Side.ASK, 5, 200, restriction=Restriction.CLOSING_ONLY)
+        auction.enter(0, Side.BID, 7, peak=None)
+        assert auction.orders(255)["quantity"].tolist() == [5]
+        assert auction.orders()["id"].tolist() == [2, 1]
+        assert auction.orders(1).tolist() == []
+        for bad in (-1, 256, 1 << 40):
+            with pytest.raises(ValueError, match="^member"):
+                auction.orders(bad)
+        with pytest.raises(TypeError, match="^member"):
+            auction.orders("1")  # type: ignore[arg-type]
+    with pytest.raises(ClosedError):
+        auction.orders()
+    with pytest.raises(ClosedError):
+        auction.expiring()
+
+
+def test_a_copy_over_another_forgets_what_that_was() -> None:
+    with Auction(max_open=9, max_calls=30) as auction, Auction(max_open=9, max_calls=30) as other:
+        auction.apply(1, Enter(Side.BID, 50, 200))
+        for k in range(5):
+            other.apply(2, Enter(Side.ASK, 10 + k, 190 + k))
+        other.apply(3, Enter(Side.BID, 10))
+        other.uncross()
+        auction.copy_into(other)
+        assert other.orders().tolist() == auction.orders().tolist()
+        assert (other.calls, other.display(), len(other.trades())) == (1, auction.display(), 0)
+        other.enter(2, Side.ASK, 20, 200)
+        other.uncross()
+        assert (len(other.trades()), auction.calls, len(auction.trades())) == (1, 1, 0)
+        other.copy_into(auction)
+        assert auction.orders()["filled"].tolist() == [20] and len(auction.trades()) == 1
+
+
+def test_random_days_go_on_in_a_copy_over_another() -> None:
+    for seed in range(200, 260):
+        options, text = orders.order_file("short", seed)
+        fields = [line.split(",") for line in text.splitlines() if line][: options["calls"]]
+        half = len(fields) // 2
+        with opened(options) as auction, opened(options) as other:
+            for place, (member, *words) in enumerate(fields):
+                if place == half:
+                    auction.copy_into(other)
+                if place >= half:
+                    command = command_of(words)
+                    reply = auction.apply(int(member), command)
+                    assert other.apply(int(member), command) == reply
+                    assert other.orders().tolist() == auction.orders().tolist()
+                else:
+                    auction.apply(int(member), command_of(words))
+                    other.apply(int(member) % 2, command_of(fields[-1 - place][1:]))
+
+
+def test_a_copy_over_an_auction_of_other_limits_is_refused() -> None:
+    with Auction() as auction, Auction(range=3, reference=5) as other:
+        auction.copy_into(other)
+        assert other.config == auction.config
+        for bad in ({"low": 2}, {"high": 999}, {"max_open": 9}, {"max_calls": 9}):
+            with Auction(**bad) as third:
+                third.enter(1, Side.BID, 5)
+                with pytest.raises(ValueError, match="^other"):
+                    auction.copy_into(third)
+                assert third.calls == 1
+        with pytest.raises(TypeError, match="^other"):
+            auction.copy_into("other")  # type: ignore[arg-type]
+    with Auction() as auction, pytest.raises(ClosedError):
+        auction.copy_into(other)
