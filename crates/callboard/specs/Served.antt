@@ -82,9 +82,10 @@ abbrev pub IsQuiet : List Text → ℕ → Type 0
 IsQuiet words status = (status ≡ 2) ⊎ ((status ≡ 1) × (task_at (matches_of callboard words) ≢ Some Live))
 
 -- what a run had and gave, with the failures counted before and after it
-abbrev pub ends_by : Option (List ℕ) → Option (List ℕ) → Option (List ℕ) → ℕ → ℕ → ℕ → ℕ → Ends
-ends_by left old new reads reads_after writes writes_after = record {
+abbrev pub ends_by : Option (List ℕ) → Option (List ℕ) → Option (List ℕ) → Option (List ℕ) → ℕ → ℕ → ℕ → ℕ → Ends
+ends_by left rest old new reads reads_after writes writes_after = record {
   left = left;
+  rest = rest;
   old = old;
   new = new;
   ReadFailed = reads < reads_after;
@@ -93,8 +94,9 @@ ends_by left old new reads reads_after writes writes_after = record {
 
 -- a status that the program answers to some words with some ends
 abbrev pub IsAnswer : ℕ → Type 0
-IsAnswer status = (words : List Text) × (left old new : Option (List ℕ)) × (reads reads_after writes writes_after : ℕ)
-    × AnswersCommandLine words (ends_by left old new reads reads_after writes writes_after) status
+IsAnswer status = (words : List Text) × (left rest old new : Option (List ℕ))
+    × (reads reads_after writes writes_after : ℕ)
+    × AnswersCommandLine words (ends_by left rest old new reads reads_after writes writes_after) status
 
 -- a status that the process ends with: that is one, or its words couldn't be had
 abbrev pub IsOfProcess : ℕ → Type 0

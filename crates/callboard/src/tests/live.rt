@@ -28,23 +28,39 @@ const ROWS: &[Row] = &[
     ),
     (
         LIVE,
-        b"1,enter,bid,500,200\n1,sell\n2,enter,ask,300,199\r\n0,uncross",
-        "1: entered 1\n3: entered 2\n4: opening price 200 volume 300 surplus 200 bid trades 1\n",
-        "record 2: bad command\n",
+        b"1,enter,bid,500,200\n1,sell\n2,enter,ask,300,199\r\n\n0,uncross\n",
+        "1: entered 1\nrecord 2: bad command\n2: entered 2\n\
+        3: opening price 200 volume 300 surplus 200 bid trades 1\n",
+        "",
+        1,
+    ),
+    (
+        LIVE,
+        b"1,ask\n0,uncross",
+        "1: no price bid - ask -\nrecord 2: cut off\n",
+        "",
+        1,
+    ),
+    (
+        LIVE,
+        b"1,\"ask\n1,ask\n\"1\",\"ask\"\n",
+        "record 1: quote not closed\n1: no price bid - ask -\n2: no price bid - ask -\n",
+        "",
         1,
     ),
     (
         &["callboard", "--live", "--calls", "1"],
         b"1,sell\n1,ask\n1,ask\n1,sell\n",
-        "2: no price bid - ask -\n",
-        "record 1: bad command\nrecord 3: too many commands\nrecord 4: too many commands\n",
+        "record 1: bad command\n1: no price bid - ask -\n\
+        record 3: too many commands\nrecord 4: too many commands\n",
+        "",
         1,
     ),
     (
         LIVE,
         b"day,1,1000,200,4,4096,65536,\n1,ask,no price bid - ask -\n",
-        "",
         "record 1: bad member\nrecord 2: wrong number of fields\n",
+        "",
         1,
     ),
     (
