@@ -1,5 +1,5 @@
 pub mod RecordTextLaws
-pub mod LineLaws
-pub mod AnswerLaws
+pub mod InputLineLaws
+pub mod ResponderLaws
 pub mod SessionLaws
 pub mod TurnLaws

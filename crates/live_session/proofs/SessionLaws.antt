@@ -6,7 +6,7 @@ use Rattle.auction_terms.specs.declared.Entry.{Entry}
 use Rattle.auction_terms.specs.Auxiliary.RunningAuction.{RunningAuction}
 use Rattle.csv.specs.Reading.{default_config, strip_bom}
 use Rattle.order_file.proofs.RowLaws.{records_from-done}
-use Rattle.live_session.specs.Answered.{Answered, after_end, answered_lines, line_fault, refused}
+use Rattle.live_session.specs.Answered.{Answered, after_input_end, answered_lines, line_fault, refused}
 use Rattle.live_session.specs.Gathered.{Gathers}
 use Rattle.live_session.specs.Hearing.{HasHeard}
 use Rattle.live_session.specs.InputLines.{IsFirstLineEnd, Lines, is_quote_open, is_too_long, line_ended, line_longer}
@@ -17,8 +17,8 @@ use Rattle.live_session.specs.declared.line.TheConstants.{MAX_RECORD_BYTES}
 use Rattle.live_session.specs.declared.responder.Responder.{Responder}
 use Rattle.live_session.specs.declared.session.Session.{Session}
 use Rattle.live_session.specs.declared.terms.SessionTerms.{SessionTerms}
-use Rattle.live_session.proofs.AnswerLaws.{line-refused, none-waiting, waiting-more}
-use Rattle.live_session.proofs.LineLaws.{held-line, held-none, lines-ended, split-there}
+use Rattle.live_session.proofs.ResponderLaws.{line-refused, none-waiting, waiting-more}
+use Rattle.live_session.proofs.InputLineLaws.{held-line, held-none, lines-ended, split-there}
 use Rattle.live_session.proofs.RecordTextLaws.{closed-both, closed-none}
 
 -- a line without a fault
@@ -87,16 +87,17 @@ pub end-blank : (responder : Responder) (terms : SessionTerms) (so_far : Answere
     (given : List ℕ)
     (committed : List Entry) → items ≡ take (MAX_RECORD_BYTES + 1) at_hand → items ≡ []
     → Gathers responder terms so_far given committed
-    → Gathers responder terms (after_end so_far at_hand) given committed
+    → Gathers responder terms (after_input_end so_far at_hand) given committed
 end-blank responder terms so_far at_hand items given committed held none gathers =
     rw (held-none at_hand (sym held ∙ none)) gathers
 
-open-end : (so_far : Answered) (at_hand : List ℕ) → at_hand ≢ [] → after_end so_far at_hand ≡ refused so_far bad.CutOff
+open-end : (so_far : Answered) (at_hand : List ℕ) → at_hand ≢ []
+    → after_input_end so_far at_hand ≡ refused so_far bad.CutOff
 open-end so_far [] some = absurd (some refl)
 open-end so_far (b ∷ bs) some = refl
 
 pub end-open : (so_far : Answered) (at_hand items : List ℕ) → items ≡ take (MAX_RECORD_BYTES + 1) at_hand → items ≢ []
-    → refused so_far bad.CutOff ≡ after_end so_far at_hand
+    → refused so_far bad.CutOff ≡ after_input_end so_far at_hand
 end-open so_far at_hand items held some =
     sym (open-end so_far at_hand (λ none. some (held ∙ ap (take (MAX_RECORD_BYTES + 1)) none)))
 

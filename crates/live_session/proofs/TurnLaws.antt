@@ -28,8 +28,8 @@ use Rattle.live_session.specs.declared.responder.Responder.{Responder}
 use Rattle.live_session.specs.declared.run.TheConstants.{ROOM_OF_A_READ}
 use Rattle.live_session.specs.declared.session.Session.{Session}
 use Rattle.live_session.specs.declared.terms.SessionTerms.{SessionTerms}
-use Rattle.live_session.proofs.AnswerLaws.{IsBeginningOf, begins-all, entries-both, entries-begin, none-waiting}
-use Rattle.live_session.proofs.LineLaws.{lines-append}
+use Rattle.live_session.proofs.ResponderLaws.{IsBeginningOf, begins-all, entries-both, entries-begin, none-waiting}
+use Rattle.live_session.proofs.InputLineLaws.{lines-append}
 use Rattle.live_session.proofs.RecordTextLaws.{closed-none}
 
 -- ---- between turns
@@ -236,6 +236,7 @@ module _ {C : Type 0} (c : Ghosts C) (terms : SessionTerms) (start : RunningAuct
       given = before.text;
       text_is = gathers.text;
       written = rw h.written just.answered.text;
+      commits = h.commits ∙ just.answered.commits;
     }
 
     -- all was given

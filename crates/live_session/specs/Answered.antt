@@ -114,13 +114,13 @@ abbrev pub answered : SessionTerms → RunningAuction → List ℕ → Answered
 answered terms start heard = answered_lines terms start (lines_of heard)
 
 -- A line that the input ends in was cut off: it isn't read as a record.
-abbrev pub after_end : Answered → List ℕ → Answered
-after_end so_far [] = so_far
-after_end so_far (byte ∷ bytes) = refused so_far bad.CutOff
+abbrev pub after_input_end : Answered → List ℕ → Answered
+after_input_end so_far [] = so_far
+after_input_end so_far (byte ∷ bytes) = refused so_far bad.CutOff
 
 -- what it answers to an input that has ended
 abbrev pub answered_whole : SessionTerms → RunningAuction → List ℕ → Answered
-answered_whole terms start heard = after_end (answered terms start heard) (lines_of heard).at_hand
+answered_whole terms start heard = after_input_end (answered terms start heard) (lines_of heard).at_hand
 
 -- whether a record was bad
 abbrev pub ending_of : List BadRecord → Ending

@@ -34,3 +34,4 @@ pub record IsCommitted {C : Type 0} (c : Ghosts C) (old new : C) (entries : List
   pub left : c.left new ≡ c.left old
   pub written : c.written new ≡ c.written old
   pub committed : Appends (c.committed old) (c.committed new) entries
+  pub commits : c.commit_failures new ≡ c.commit_failures old

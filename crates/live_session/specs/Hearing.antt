@@ -3,7 +3,7 @@ use Rattle.std.specs.Prelude.{◌≡◌, ◌+◌, ℕ, List, [], ◌∷◌, take
 use Rattle.auction_terms.specs.declared.Entry.{Entry}
 use Rattle.auction_terms.specs.Auxiliary.RunningAuction.{RunningAuction}
 use Rattle.csv.specs.Reading.{default_config, records}
-use Rattle.live_session.specs.Answered.{Answered, after_end, after_records, answered_lines, line_fault}
+use Rattle.live_session.specs.Answered.{Answered, after_input_end, after_records, answered_lines, line_fault}
 use Rattle.live_session.specs.Gathered.{Gathers}
 use Rattle.live_session.specs.Giving.{IsNew}
 use Rattle.live_session.specs.InputLines.{Lines, is_record_open, line_ended}
@@ -51,7 +51,7 @@ abbrev pub AnswersEnd : {E : Type 0} → Session → Session → Result (Unit {0
 AnswersEnd old new result =
     (terms : SessionTerms) (start : RunningAuction) (lines : Lines) (given : List ℕ) (committed : List Entry)
     → HasAnsweredAll old terms start lines given committed
-    → OnOk result (Gathers new.responder terms (after_end (answered_lines terms start lines) lines.at_hand) given
+    → OnOk result (Gathers new.responder terms (after_input_end (answered_lines terms start lines) lines.at_hand) given
     committed)
 
 -- a session of which nothing has come

@@ -47,6 +47,7 @@ pub record MayBeWritten {C : Type 0} (c : Ghosts C) (terms : SessionTerms) (star
   pub given : List ℕ
   pub text_is : given ++ text ≡ answers.text
   pub written : Appends (c.written old) (c.written new) given
+  pub commits : c.commit_failures new ≡ c.commit_failures old
 
 -- The input has ended, and each of its lines is answered.
 pub record IsDone {C : Type 0} (c : Ghosts C) (terms : SessionTerms) (start : RunningAuction) (old new : C)

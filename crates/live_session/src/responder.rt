@@ -137,7 +137,8 @@ impl Responder {
     /// Answers the records that are left.
     fn answer_rows(&mut self, alloc: Global, rows: &mut Reader<&[u8]>) -> Result<(), AllocError>
         requires { IsRecordReader rows.old }
-        ensures { AddsAnswers self.old self.new (λ terms so_far. after_records terms so_far (rows_left rows.old)) result }
+        ensures { AddsAnswers self.old self.new
+            (λ terms so_far. after_records terms so_far (rows_left rows.old)) result }
     {
         let mut row = ByteRecord::new(alloc);
         'rows: for _ in 0..u64::MAX {

@@ -5,8 +5,8 @@ use Rattle.std.proofs.lemmas.List.{append-nil}
 use Rattle.std.proofs.lemmas.Result.{err_from_is_err_and}
 use Rattle.live_session.specs.Answered.{answered, answered_whole}
 use Rattle.live_session.specs.Talk.{HasRead}
-use Rattle.live_session.proofs.AnswerLaws.{IsBeginningOf, begins-same, begins-whole}
-use Rattle.live_session.proofs.LineLaws.{take-short}
+use Rattle.live_session.proofs.ResponderLaws.{IsBeginningOf, begins-same, begins-whole}
+use Rattle.live_session.proofs.InputLineLaws.{take-short}
 use Rattle.live_session.proofs.TurnLaws.{all-heard, breaks-giving, breaks-unanswered, ends-cut, ends-done, ends-ready}
 use Rattle.live_session.proofs.TurnLaws.{ends-unheard, gathers-emptied, has-answered, has-read, heard-more, just-read}
 use Rattle.live_session.proofs.TurnLaws.{may-be-written, ready-first, reads-same}

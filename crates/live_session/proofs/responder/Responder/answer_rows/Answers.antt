@@ -3,7 +3,7 @@
 use Rattle.std.proofs.Common.{refl, subst}
 use Rattle.live_session.specs.Answered.{Answered}
 use Rattle.live_session.specs.Gathered.{Gathers}
-use Rattle.live_session.proofs.AnswerLaws.{rows-end, rows-next}
+use Rattle.live_session.proofs.ResponderLaws.{rows-end, rows-next}
 use Rattle.live_session.proofs.responder.Responder.answer_rows.Goals as goal
 
 pub rows-init : goal.rows-init

@@ -3,7 +3,7 @@
 use Rattle.std.proofs.Common.{◌+◌, ◌++◌, ℕ, List, ap, ◌∙◌}
 use Rattle.live_session.specs.BadRecords.{bad_record_line}
 use Rattle.live_session.proofs.SessionLaws.{put-text}
-use Rattle.live_session.proofs.AnswerLaws.{ending-bad}
+use Rattle.live_session.proofs.ResponderLaws.{ending-bad}
 use Rattle.live_session.proofs.responder.Responder.refuse.Goals as goal
 
 pub returns : goal.returns

@@ -3,7 +3,7 @@
 use Rattle.std.proofs.Common.{take, ap, subst, ◌∙◌}
 use Rattle.live_session.specs.Answered.{Answered}
 use Rattle.live_session.specs.Gathered.{Gathers}
-use Rattle.live_session.proofs.AnswerLaws.{waiting-answered}
+use Rattle.live_session.proofs.ResponderLaws.{waiting-answered}
 use Rattle.live_session.proofs.session.Session.answer_waiting.Goals as goal
 
 pub returns : goal.returns

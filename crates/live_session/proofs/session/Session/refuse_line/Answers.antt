@@ -2,7 +2,7 @@
 -- Of `Session::refuse_line`: the line is answered behind those that waited, in the form that `rt` wants.
 use Rattle.std.proofs.Common.{ap, sym, rules, ◌∙◌}
 use Rattle.live_session.specs.Answered.{line_fault}
-use Rattle.live_session.proofs.LineLaws.{held-line}
+use Rattle.live_session.proofs.InputLineLaws.{held-line}
 use Rattle.live_session.proofs.SessionLaws.{refused-line}
 use Rattle.live_session.proofs.session.Session.refuse_line.Goals as goal
 

@@ -3,7 +3,7 @@
 use Rattle.std.proofs.Common.{◌≡◌, [], refl, ap, subst, sym, rules, OnOk, ◌∙◌}
 use Rattle.live_session.specs.Hearing.{HasHeard}
 use Rattle.live_session.specs.InputLines.{Lines, lines_after}
-use Rattle.live_session.proofs.LineLaws.{lines-longer, lines-none, no-bytes}
+use Rattle.live_session.proofs.InputLineLaws.{lines-longer, lines-none, no-bytes}
 use Rattle.live_session.proofs.SessionLaws.{next-line}
 use Rattle.live_session.proofs.session.Session.take_all.Goals as goal
 

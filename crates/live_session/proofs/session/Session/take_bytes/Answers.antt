@@ -2,7 +2,7 @@
 -- Of `Session::take_bytes`: the line is longer, in the form that `rt` wants.
 use Rattle.std.proofs.Common.{◌+◌, ◌++◌, List, ℕ, length, take, ap, arith, ◌∙◌}
 use Rattle.live_session.specs.declared.line.TheConstants.{MAX_RECORD_BYTES}
-use Rattle.live_session.proofs.LineLaws.{take-short, take-twice}
+use Rattle.live_session.proofs.InputLineLaws.{take-short, take-twice}
 use Rattle.live_session.proofs.session.Session.take_bytes.Goals as goal
 
 pub returns : goal.returns

@@ -7,7 +7,7 @@ use Rattle.auction_terms.specs.declared.Entry.{Entry}
 use Rattle.auction_terms.specs.Auxiliary.RunningAuction.{RunningAuction}
 use Rattle.csv.specs.Reading.{default_config, records, strip_bom}
 use Rattle.journal.specs.PrintedJournal.{call_line, call_lines}
-use Rattle.live_session.specs.Answered.{Answered, after_end, after_line, after_line_by, after_lines, after_record}
+use Rattle.live_session.specs.Answered.{Answered, after_input_end, after_line, after_line_by, after_lines, after_record}
 use Rattle.live_session.specs.Answered.{after_records, answer_by, answered, answered_lines, answered_whole, ending_of}
 use Rattle.live_session.specs.Answered.{line_fault}
 use Rattle.live_session.specs.Answered.{live_call, nothing_yet, refused, replied}
@@ -17,7 +17,7 @@ use Rattle.live_session.specs.declared.fault.BadRecord.{BadRecord}
 use Rattle.live_session.specs.declared.fault.BadRecord.TheVariants as bad
 use Rattle.live_session.specs.declared.fault.Ending.TheVariants.{SomeBad}
 use Rattle.live_session.specs.declared.terms.SessionTerms.{SessionTerms}
-use Rattle.live_session.proofs.LineLaws.{lines-append}
+use Rattle.live_session.proofs.InputLineLaws.{lines-append}
 use Rattle.live_session.proofs.RecordTextLaws.{IsClosed, line-end-first, records-then}
 
 -- ---- records and lines, and then others
@@ -137,7 +137,7 @@ begins-lines terms a [] = begins-same a
 begins-lines terms a (l ∷ ls) =
     begins-on _ _ _ (begins-line-by terms a l (line_fault l)) (begins-lines terms (after_line terms a l) ls)
 
-begins-end : (a : Answered) (line : List ℕ) → IsBeginningOf a (after_end a line)
+begins-end : (a : Answered) (line : List ℕ) → IsBeginningOf a (after_input_end a line)
 begins-end a [] = begins-same a
 begins-end a (b ∷ bs) = begins-refused a bad.CutOff
 
