@@ -44,71 +44,72 @@ same-count : {n m : ℕ} → m ≡ n → n < m → ⊥
 same-count e h = omega (arith, e, h)
 
 -- what a session that broke off has written
-broke-off : {C : Type 0} (c : Ghosts C) (day : DayHeader) (old new : C)
-    → (h : BreaksOff c (terms_of day) (opened_auction day.config) old new)
-    → BrokeOff day (ends_between c old new) (h.before ++ h.last)
-broke-off c day old new h =
+broke-off : {C : Type 0} (c : Ghosts C) (day : DayHeader) (reserve : ℕ) (old new : C)
+    → (h : BreaksOff c (terms_of day reserve) (opened_auction day.config) old new)
+    → BrokeOff day reserve (ends_between c old new) (h.before ++ h.last)
+broke-off c day reserve old new h =
     record { before = h.before; last = h.last; heard_is = refl; short = h.short; text = h.text }
 
-pub ran-live : {C : Type 0} (c : Ghosts C) (day : DayHeader) (old new : C) (ended : Result Ending LiveFault)
-    → open_fault day.config ≡ None → EndsSession c (terms_of day) (opened_auction day.config) old new ended
-    → RunsLive day (ends_between c old new) (as_session ended)
-ran-live c day old new (Ok ending) opens h = record {
+pub ran-live : {C : Type 0} (c : Ghosts C) (day : DayHeader) (reserve : ℕ) (old new : C)
+    (ended : Result Ending LiveFault) → open_fault day.config ≡ None
+    → EndsSession c (terms_of day reserve) (opened_auction day.config) old new ended
+    → RunsLive day reserve (ends_between c old new) (as_session ended)
+ran-live c day reserve old new (Ok ending) opens h = record {
   heard = h.heard;
   consumed = h.device.read;
   wrote = (opens, h.all, h.answered.text, h.ending_is);
   read_failed = (λ e. absurd (cc (e)), λ f. absurd (same-count h.reads f));
   write_failed = (λ e. absurd (cc (e)), λ f. absurd (same-count h.answered.writes f));
 }
-ran-live c day old new (Err fault.ReadFailed) opens h = record {
+ran-live c day reserve old new (Err fault.ReadFailed) opens h = record {
   heard = h.heard;
   consumed = h.device.read;
   wrote = h.answered.text;
   read_failed = (λ e. omega (arith, h.reads), λ f. refl);
   write_failed = (λ e. absurd (cc (e)), λ f. absurd (same-count h.answered.writes f));
 }
-ran-live c day old new (Err fault.WriteFailed) opens h = record {
+ran-live c day reserve old new (Err fault.WriteFailed) opens h = record {
   heard = h.0.before ++ h.0.last;
   consumed = h.0.device.read;
-  wrote = broke-off c day old new h.0;
+  wrote = broke-off c day reserve old new h.0;
   read_failed = (λ e. absurd (cc (e)), λ f. absurd (same-count h.0.reads f));
   write_failed = (λ e. h.1, λ f. refl);
 }
-ran-live c day old new (Err fault.CommitFailed) opens h = record {
+ran-live c day reserve old new (Err fault.CommitFailed) opens h = record {
   heard = h.0.before ++ h.0.last;
   consumed = h.0.device.read;
-  wrote = broke-off c day old new h.0;
+  wrote = broke-off c day reserve old new h.0;
   read_failed = (λ e. absurd (cc (e)), λ f. absurd (same-count h.0.reads f));
   write_failed = (λ e. absurd (cc (e)), λ f. absurd (same-count h.1 f));
 }
-ran-live c day old new (Err fault.NoMemory) opens h = record {
+ran-live c day reserve old new (Err fault.NoMemory) opens h = record {
   heard = h.0.before ++ h.0.last;
   consumed = h.0.device.read;
-  wrote = broke-off c day old new h.0;
+  wrote = broke-off c day reserve old new h.0;
   read_failed = (λ e. absurd (cc (e)), λ f. absurd (same-count h.0.reads f));
   write_failed = (λ e. absurd (cc (e)), λ f. absurd (same-count h.1 f));
 }
 
 -- by the reader and the writer that a session was given, and what they are at last
-pub ran-by : {C R O : Type 0} (c : Ghosts C) (day : DayHeader) (start : RunningAuction) (old new : C)
+pub ran-by : {C R O : Type 0} (c : Ghosts C) (day : DayHeader) (reserve : ℕ) (start : RunningAuction) (old new : C)
     (ended : Result Ending LiveFault) → open_fault day.config ≡ None → start ≡ opened_auction day.config
-    → EndsSession c (terms_of day) start old new ended
+    → EndsSession c (terms_of day reserve) start old new ended
     → (reads : source.Ghosts R) (writes : sink.Ghosts O) (reader last_reader read : R) (out last_out written : O)
     → ends_between c old new ≡ ends_of reads writes reader read out written → last_reader ≡ read → last_out ≡ written
-    → RunsLive day (ends_of reads writes reader last_reader out last_out) (as_session ended)
-ran-by {R = R} {O = O} c day start old new ended opens begun ran reads writes reader last_reader read out last_out written
-    same is_read is_written =
-    subst (λ (ends : Ends). RunsLive day ends (as_session ended))
+    → RunsLive day reserve (ends_of reads writes reader last_reader out last_out) (as_session ended)
+ran-by {R = R} {O = O} c day reserve start old new ended opens begun ran reads writes reader last_reader read out
+    last_out written same is_read is_written =
+    subst (λ (ends : Ends). RunsLive day reserve ends (as_session ended))
     (same ∙ sym (ap₂ (λ (r : R) (w : O). ends_of reads writes reader r out w) is_read is_written))
-    (ran-live c day old new ended opens
-    (subst (λ (a : RunningAuction). EndsSession c (terms_of day) a old new ended) begun ran))
+    (ran-live c day reserve old new ended opens
+    (subst (λ (a : RunningAuction). EndsSession c (terms_of day reserve) a old new ended) begun ran))
 
 -- a day that can't be opened
 pub not-opened : {R O : Type 0} (reads : source.Ghosts R) (writes : sink.Ghosts O) (reader : R) (out : O)
-    (day : DayHeader)
+    (day : DayHeader) (reserve : ℕ)
     (f : OpenFault) → f ≡ unwrap_or (open_fault day.config) NoMemory
-    → RunsLive day (ends_of reads writes reader reader out out) (Err (Open f))
-not-opened reads writes reader out day f is = record {
+    → RunsLive day reserve (ends_of reads writes reader reader out out) (Err (Open f))
+not-opened reads writes reader out day reserve f is = record {
   heard = [];
   consumed = Consumes-nil _;
   wrote = (refl, refl, is);

@@ -42,41 +42,44 @@ abbrev pub session_status : SessionResult → ℕ
 session_status (Ok ending) = ending_status ending
 session_status (Err f) = live_status f
 
--- the operator has no calls of its own
-abbrev pub terms_of : DayHeader → SessionTerms
-terms_of day = record { members = day.members; reserve = 0 }
+-- the day's members, and how many of its last calls are the operator's
+abbrev pub terms_of : DayHeader → ℕ → SessionTerms
+terms_of day reserve = record { members = day.members; reserve = reserve }
 
 -- the answers to the lines that have ended once these bytes have come, and to all of an input that has ended so
-abbrev pub so_far : DayHeader → List ℕ → Answered
-so_far day heard = answered (terms_of day) (opened_auction day.config) heard
+abbrev pub so_far : DayHeader → ℕ → List ℕ → Answered
+so_far day reserve heard = answered (terms_of day reserve) (opened_auction day.config) heard
 
-abbrev pub in_all : DayHeader → List ℕ → Answered
-in_all day heard = answered_whole (terms_of day) (opened_auction day.config) heard
+abbrev pub in_all : DayHeader → ℕ → List ℕ → Answered
+in_all day reserve heard = answered_whole (terms_of day reserve) (opened_auction day.config) heard
 
 -- The session broke off while it answered what its last read had brought: all that came before is answered, and of the
 -- rest a beginning.
-pub record BrokeOff (day : DayHeader) (ends : Ends) (heard : List ℕ) : Type 0 where
+pub record BrokeOff (day : DayHeader) (reserve : ℕ) (ends : Ends) (heard : List ℕ) : Type 0 where
   pub before : List ℕ
   pub last : List ℕ
   pub heard_is : heard ≡ before ++ last
   pub short : length last ≤ ROOM_OF_A_READ
-  pub text : AppendsBetween ends.old ends.new (so_far day before).text (in_all day heard).text
+  pub text : AppendsBetween ends.old ends.new (so_far day reserve before).text (in_all day reserve heard).text
 
 -- What was written once these bytes had come. The session ended with its input, or before anything came, as the day
 -- can't be opened, or at a read that failed, with all before it answered; or it broke off while it answered.
-abbrev pub WroteAnswers : DayHeader → Ends → List ℕ → SessionResult → Type 0
-WroteAnswers day ends heard (Ok ending) =
+abbrev pub WroteAnswers : DayHeader → ℕ → Ends → List ℕ → SessionResult → Type 0
+WroteAnswers day reserve ends heard (Ok ending) =
     (open_fault day.config ≡ None) × IfSome ends.left (λ input. input ≡ heard)
-    × Appends ends.old ends.new (in_all day heard).text × (ending ≡ ending_of (in_all day heard).faults)
-WroteAnswers day ends heard (Err (Open f)) =
+    × Appends ends.old ends.new (in_all day reserve heard).text
+    × (ending ≡ ending_of (in_all day reserve heard).faults)
+WroteAnswers day reserve ends heard (Err (Open f)) =
     (heard ≡ []) × (ends.new ≡ ends.old) × (f ≡ unwrap_or (open_fault day.config) NoMemory)
-WroteAnswers day ends heard (Err (Live fault.ReadFailed)) = Appends ends.old ends.new (so_far day heard).text
-WroteAnswers day ends heard (Err (Live f)) = BrokeOff day ends heard
+WroteAnswers day reserve ends heard (Err (Live fault.ReadFailed)) =
+    Appends ends.old ends.new (so_far day reserve heard).text
+WroteAnswers day reserve ends heard (Err (Live f)) = BrokeOff day reserve ends heard
 
--- What came of a session of this day: which bytes of its input it took, and what it wrote of them.
-pub record RunsLive (day : DayHeader) (ends : Ends) (ended : SessionResult) : Type 0 where
+-- What came of a session of this day, with so many calls for the operator: which bytes of its input it took, and what
+-- it wrote of them.
+pub record RunsLive (day : DayHeader) (reserve : ℕ) (ends : Ends) (ended : SessionResult) : Type 0 where
   pub heard : List ℕ
   pub consumed : Consumes ends.left ends.rest heard
-  pub wrote : WroteAnswers day ends heard ended
+  pub wrote : WroteAnswers day reserve ends heard ended
   pub read_failed : IsErrOf ended (Live fault.ReadFailed) ↔ ends.ReadFailed
   pub write_failed : IsErrOf ended (Live fault.WriteFailed) ↔ ends.WriteFailed

@@ -30,14 +30,16 @@ fn as_session(ended: Result<Ending, LiveFault>) -> Result<Ending, SessionFault>
 }
 
 /// Answers each record of the input as soon as its line has ended, on an auction of this day: the line of a good one,
-/// or the fault of a bad one, goes to `out`. Before the input is read on, all answers to what has come are written.
+/// or the fault of a bad one, goes to `out`. The last `reserve` calls of the day are member 0's. Before the input is
+/// read on, all answers to what has come are written.
 pub fn run_session<'a, R: Source, O: Sink>(
     alloc: Global,
     reader: &'a mut R,
     out: &'a mut O,
     day: DayHeader,
+    reserve: u32,
 ) -> Result<Ending, SessionFault>
-    ensures { RunsLive day (ends_of R.Source O.Sink reader.old reader.new out.old out.new) result }
+    ensures { RunsLive day reserve (ends_of R.Source O.Sink reader.old reader.new out.old out.new) result }
 {
     let auction = match Auction::open(alloc, day.config) {
         Ok(auction) => auction,
@@ -45,7 +47,7 @@ pub fn run_session<'a, R: Source, O: Sink>(
     };
     let terms = SessionTerms {
         members: day.members,
-        reserve: 0,
+        reserve,
     };
     let mut channels = Channels::new(reader, out);
     let ended = run_live(alloc, &mut channels, auction, terms);

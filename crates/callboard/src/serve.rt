@@ -130,10 +130,11 @@ fn serve_live<R: Source, O: Sink, E: Sink>(
     out: &mut O,
     err: &mut E,
     day: DayHeader,
+    reserve: u32,
 ) -> u8
-    ensures { RunsSession day (ends_of R.Source O.Sink reader.old reader.new out.old out.new) result }
+    ensures { RunsSession day reserve (ends_of R.Source O.Sink reader.old reader.new out.old out.new) result }
 {
-    match run_session(alloc, reader, out, day) {
+    match run_session(alloc, reader, out, day, reserve) {
         Ok(Ending::AllGood) => 0,
         Ok(Ending::SomeBad) => 1,
         Err(fault) => tell_end(err, fault),
@@ -169,7 +170,7 @@ fn serve_settings<R: KeepsStart, O: Sink, E: Sink, T: Wait + Threads + Sync>(
     } = settings;
     let day = DayHeader { config, members };
     match task {
-        Task::Live => serve_live(alloc, reader, out, err, day),
+        Task::Live { reserve } => serve_live(alloc, reader, out, err, day, reserve),
         Task::Audit { results } => {
             let run = run_audit(alloc, reader, out, results);
             tell_run(err, run, reader.start())
@@ -215,6 +216,7 @@ pub fn serve<'a, R: KeepsStart, O: Sink, E: Sink, T: Wait + Threads + Sync>(
         Err(WordsFault::ResultsWithoutAudit) => {
             return refuse_mix(err, &WordsFault::ResultsWithoutAudit);
         }
+        Err(WordsFault::WithoutLive) => return refuse_mix(err, &WordsFault::WithoutLive),
         Err(WordsFault::Parse(error)) => {
             let Some(text) = text_of(alloc, &error) else {
                 return tell(err, Fault::NoMemory);

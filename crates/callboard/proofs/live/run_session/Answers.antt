@@ -10,7 +10,7 @@ returns g c =
     let reader = same.0 in
     let out = same.1 in
     rw c.as_session.ensures (
-      ran-by _ c.args.day _ _ _ c.run_live-ended.result (opened-well _ _ c.in-Ok.ensures.refused) c.in-Ok.ensures.opening
-      ran g.R.Source g.O.Sink c.args.reader.now _ c.run_live-ended.new.talk.input.now c.args.out.now _
-      c.run_live-ended.new.talk.output.now refl (search rules) (search rules)
+    ran-by _ c.args.day c.args.reserve _ _ _ c.run_live-ended.result (opened-well _ _ c.in-Ok.ensures.refused)
+    c.in-Ok.ensures.opening ran g.R.Source g.O.Sink c.args.reader.now _ c.run_live-ended.new.talk.input.now
+    c.args.out.now _ c.run_live-ended.new.talk.output.now refl (search rules) (search rules)
     )
