@@ -7,13 +7,13 @@ _callboard() {
             mapfile -t COMPREPLY < <(compgen -W 'lines journal trades book' -- "$word")
             return
             ;;
-        --low | --high | --reference | --open | --calls | --range | --members)
+        --low | --high | --reference | --open | --calls | --range | --members | --reserve)
             return
             ;;
     esac
     if [[ $word == -* ]]; then
         mapfile -t COMPREPLY < <(compgen -W '--low --high --reference --open --calls --range --members
-            --floor --history --print --audit --results --live --help --version' -- "$word")
+            --floor --history --print --audit --results --live --reserve --help --version' -- "$word")
     fi
 }
 complete -F _callboard callboard

@@ -38,7 +38,7 @@ def tell_bulk(program: Program, files: list[File], runs: int) -> bool:
     head("file", *columns, "ratio", *[f"{name}, MiB" for name in names], "lines")
     for file in files:
         command = [*program.words, *file.words]
-        live = [*command, "--live"]
+        live = [*command, "--live", "--reserve", "0"]
         is_same = lines_of(command, file) == lines_of(live, file)
         own, bulk = measuring.in_turns([command, live], file.path, runs)
         ratio = bulk.seconds / own.seconds

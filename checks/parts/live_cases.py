@@ -10,6 +10,9 @@ from checks.parts.sessions import Talk, Turn
 
 EXAMPLES = built.TOP / "examples"
 LONGEST_RECORD = 1_048_576
+USUAL_RESERVE = 16
+RESERVED = "calls are reserved for the operator"
+OPEN_QUOTE = "quote not closed"
 
 BAD_RECORDS = [
     (b"1000,ask", "bad member"),
@@ -19,7 +22,8 @@ BAD_RECORDS = [
     (b"0,ask,1", "wrong number of fields"),
     (b"0,enter,buy,1,1", "bad field 3"),
     (b"0,enter,bid,many,1", "bad field 4"),
-    (b'0,enter,bid,1,"1\n"', "bad field 5"),
+    (b'0,enter,bid,1,"1', OPEN_QUOTE),
+    (b'0,enter,bid,1,"x"', "bad field 5"),
 ]
 """Records that are no commands, each with its fault."""
 
@@ -35,10 +39,10 @@ def example_talks() -> Iterator[Talk]:
         yield Talk(file.stem, words, turns)
 
 
-def byte_by_byte(record: bytes, answer: str, err: str = "") -> list[Turn]:
+def byte_by_byte(record: bytes, answer: str) -> list[Turn]:
     """The turns of a record whose bytes come one by one; its last byte completes it."""
     *first, last = [record[place : place + 1] for place in range(len(record))]
-    return [*[Turn(byte) for byte in first], Turn(last, answer, err)]
+    return [*[Turn(byte) for byte in first], Turn(last, answer)]
 
 
 NO_PRICE = "no price bid - ask -\n"
@@ -49,13 +53,12 @@ def spelled_talks() -> Iterator[Talk]:
     yield Talk("byte by byte", [], byte_by_byte(b"1,ask\n", f"1: {NO_PRICE}"))
     yield Talk("a byte order mark", [], byte_by_byte(b"\xef\xbb\xbf1,ask\n", f"1: {NO_PRICE}"))
     yield Talk(
-        "a byte order mark in the second record",
+        "a byte order mark before the second record",
         [],
         [
             Turn(b"1,ask\n", f"1: {NO_PRICE}"),
-            Turn(b"\xef\xbb\xbf1,ask\n", "", bad(2, "bad member")),
+            Turn(b"\xef\xbb\xbf1,ask\n", f"2: {NO_PRICE}"),
         ],
-        status=1,
     )
     yield Talk(
         "CR LF",
@@ -68,19 +71,24 @@ def spelled_talks() -> Iterator[Talk]:
         ],
     )
     yield Talk(
-        "quotes over lines", [], byte_by_byte(b'1,"as\nk"\n', "", bad(1, "bad command")), status=1
+        "quotes over lines",
+        [],
+        [
+            *byte_by_byte(b'1,"as\n', bad(1, OPEN_QUOTE)),
+            *byte_by_byte(b'k"\n', bad(2, "bad member")),
+            Turn(b"1,ask\n", f"1: {NO_PRICE}"),
+        ],
+        status=1,
     )
     yield Talk("a quoted word", [], byte_by_byte(b'"1","ask"\n', f"1: {NO_PRICE}"))
-    yield Talk(
-        "no line end at the end",
-        [],
-        [Turn(b"1,ask\n2,ask", f"1: {NO_PRICE}")],
-        Turn(b"", f"2: {NO_PRICE}"),
-    )
-    yield Talk("an open quote at the end", [], [Turn(b'1,"ask')], Turn(b"", f"1: {NO_PRICE}"))
-    yield Talk(
-        "half a byte order mark", [], [Turn(b"\xef\xbb")], Turn(b"", "", bad(1, "bad member")), 1
-    )
+    for cut in (b"2,ask", b'1,"ask', b"\xef\xbb", b"1,delete,1", b'"'):
+        yield Talk(
+            f"cut off, {cut!r}",
+            [],
+            [Turn(b"1,ask\n" + cut, f"1: {NO_PRICE}")],
+            Turn(b"", bad(2, "cut off")),
+            status=1,
+        )
     yield Talk("no bytes", [], [])
     yield Talk("line ends alone", [], [Turn(b"\n\r\n\r\r\n\n")])
     yield Talk(
@@ -103,19 +111,31 @@ def bad_talks() -> Iterator[Talk]:
     for record, fault in BAD_RECORDS:
         turns = [
             Turn(b"1,ask\n", f"1: {NO_PRICE}"),
-            Turn(record + b"\n", "", bad(2, fault)),
-            Turn(b"1,ask\n", f"3: {NO_PRICE}"),
+            Turn(record + b"\n", bad(2, fault)),
+            Turn(b"1,ask\n", f"2: {NO_PRICE}"),
         ]
         yield Talk(f"a bad record, {record!r}", [], turns, status=1)
     yield Talk(
         "commands behind the last that may come",
-        ["--calls", "2"],
+        ["--calls", "2", "--reserve", "0"],
         [
             Turn(b"1,ask\n", f"1: {NO_PRICE}"),
-            Turn(b"1,sell\n", "", bad(2, "bad command")),
-            Turn(b"1,ask\n", f"3: {NO_PRICE}"),
-            Turn(b"1,ask\n", "", bad(4, "too many commands")),
-            Turn(b"1,sell\n", "", bad(5, "too many commands")),
+            Turn(b"1,sell\n", bad(2, "bad command")),
+            Turn(b"1,ask\n", f"2: {NO_PRICE}"),
+            Turn(b"1,ask\n", bad(4, "too many commands")),
+            Turn(b"1,sell\n", bad(5, "too many commands")),
+        ],
+        status=1,
+    )
+    yield Talk(
+        "the operator's calls",
+        ["--calls", "18"],
+        [
+            Turn(b"1,ask\n2,ask\n", f"1: {NO_PRICE}2: {NO_PRICE}"),
+            Turn(b"1,ask\n", bad(3, RESERVED)),
+            Turn(b"3,sell\n", bad(4, "bad command")),
+            Turn(b"0,ask\n0,uncross\n", f"3: {NO_PRICE}4: opening no price\n"),
+            Turn(b"2,enter,bid,1,1\n", bad(7, RESERVED)),
         ],
         status=1,
     )
@@ -123,7 +143,7 @@ def bad_talks() -> Iterator[Talk]:
     yield Talk(
         "a journal",
         [],
-        [Turn(journal[0], "", bad(1, "bad member")), Turn(journal[1], "", bad(2, "bad field 6"))],
+        [Turn(journal[0], bad(1, "bad member")), Turn(journal[1], bad(2, "bad field 6"))],
         status=1,
     )
 
@@ -132,30 +152,37 @@ def long_talks() -> Iterator[Talk]:
     """Records as long as they may be, and longer."""
     first = Turn(b"1,ask\n", f"1: {NO_PRICE}")
     longest = b"1," + b"x" * (LONGEST_RECORD - 2)
+    last = Turn(b"1,ask\n", f"2: {NO_PRICE}")
     yield Talk(
         "the longest record",
         [],
-        [
-            first,
-            Turn(longest + b"\n", "", bad(2, "bad command")),
-            Turn(b"1,ask\n", f"3: {NO_PRICE}"),
-        ],
+        [first, Turn(longest + b"\n", bad(2, "bad command")), last],
         status=1,
     )
-    for more in (b"x", b'"', b","):
+    for more in (b"x", b'"', b",", b"x" * 3_000_000):
         yield Talk(
-            f"a record that is too long by {more!r}",
+            f"a record that is too long by {more[:2]!r}",
             [],
-            [first, Turn(longest + more, "", bad(2, "record too long"))],
+            [first, Turn(longest + more + b"\n", bad(2, "record too long")), last],
             status=1,
-            ends_itself=True,
         )
     yield Talk(
         "a good record before one that is too long, at once",
         [],
-        [Turn(b"1,ask\n" + longest + b"xx\n1,ask\n", f"1: {NO_PRICE}", bad(2, "record too long"))],
+        [
+            Turn(
+                b"1,ask\n" + longest + b"xx\n1,ask\n",
+                f"1: {NO_PRICE}{bad(2, 'record too long')}2: {NO_PRICE}",
+            )
+        ],
         status=1,
-        ends_itself=True,
+    )
+    yield Talk(
+        "a record that is too long and has no end",
+        [],
+        [Turn(b"1,ask\n" + longest + b"xx", f"1: {NO_PRICE}")],
+        Turn(b"", bad(2, "cut off")),
+        status=1,
     )
 
 
@@ -169,40 +196,63 @@ class Random:
     @property
     def status(self) -> int:
         """1 where a record is bad."""
-        return int(any(turn.err for turn in self.turns))
+        return int(any(turn.out.startswith("record ") for turn in self.turns))
 
 
 def random_session(seed: int) -> Random:
-    """The random order file of this seed, with bad records among its own."""
+    """The random order file of this seed, with bad records among its own, and with as many calls
+    kept for the operator as `--reserve` says, or as usual.
+    """
     dice = random.Random(seed)
     options, text = orders.order_file("short", seed)
     options = DEFAULTS | options
-    records, calls = text.splitlines(), options["calls"]
-    first = "".join(f"{record}\n" for record in records[:calls])
-    lines = printed(first, options).splitlines(keepends=True)
-    turns: list[Turn] = []
-
-    def refuse(record: bytes, fault: str, is_full: bool) -> None:
-        told = "too many commands" if is_full else fault
-        end = dice.choice([b"\n", b"\r", b"\n\n"])
-        turns.append(Turn(record + end, "", bad(len(turns) + 1, told)))
-
-    for place, record in enumerate(records):
+    reserve = dice.choice([None, None, 0, 1, options["calls"]])
+    records: list[tuple[str, str | None]] = []
+    for record in text.splitlines():
         while dice.random() < 0.2:
-            refuse(*dice.choice(BAD_RECORDS), place >= calls)
-        if place >= calls:
-            refuse(record.encode("latin-1"), "", True)
-            continue
-        answer = lines[place].split(": ", 1)[1]
-        end = dice.choice([b"\n", b"\r", b"\n\n"])
-        turns.append(Turn(record.encode("latin-1") + end, f"{len(turns) + 1}: {answer}"))
-    return Random(orders.option_words(options), turns)
+            bad_record, fault = dice.choice(BAD_RECORDS)
+            records.append((bad_record.decode("latin-1"), fault))
+        records.append((record, None))
+    kept = USUAL_RESERVE if reserve is None else reserve
+    faults = [*faults_of(records, options["calls"], kept)]
+    good = [record for (record, _), fault in zip(records, faults, strict=True) if fault is None]
+    lines = iter(printed("".join(f"{record}\n" for record in good), options).splitlines(True))
+    turns = [
+        Turn(
+            record.encode("latin-1") + dice.choice([b"\n", b"\r", b"\n\n"]),
+            next(lines) if fault is None else bad(place, fault),
+        )
+        for place, ((record, _), fault) in enumerate(zip(records, faults, strict=True), 1)
+    ]
+    words = [] if reserve is None else ["--reserve", str(reserve)]
+    return Random([*orders.option_words(options), *words], turns)
+
+
+def faults_of(
+    records: list[tuple[str, str | None]], calls: int, reserve: int
+) -> Iterator[str | None]:
+    """The fault of each record, or None for one that is executed, on a day of so many calls, the
+    last of which are the operator's. Each record has the fault of its line or of its fields, if
+    they have one.
+    """
+    made = 0
+    for record, fault in records:
+        if fault == OPEN_QUOTE:
+            yield fault
+        elif made >= calls:
+            yield "too many commands"
+        elif fault is not None:
+            yield fault
+        elif int(record.split(",")[0].strip('"')) != 0 and made + reserve >= calls:
+            yield RESERVED
+        else:
+            made += 1
+            yield None
 
 
 def at_once(turns: list[Turn]) -> Turn:
     """These turns, sent at once."""
-    out, err = ("".join(it) for it in ((turn.out for turn in turns), (turn.err for turn in turns)))
-    return Turn(b"".join(turn.sent for turn in turns), out, err)
+    return Turn(b"".join(turn.sent for turn in turns), "".join(turn.out for turn in turns))
 
 
 Run = tuple[str, list[str], str, int, str, str]
@@ -225,6 +275,9 @@ def run_table() -> Iterator[Run]:
         ["--print=book"],
     ):
         yield f"--live {words[0]}", ["--live", *words], "< /dev/null", 2, "", alone
+    without = "--reserve goes with --live\n"
+    yield "--reserve alone", ["--reserve", "16"], "< /dev/null", 2, "", without
+    yield "--reserve 1048577", ["--live", "--reserve=1048577"], "< /dev/null", 2, "", "*"
     yield "a form that there isn't", ["--live", "--print", "x"], "< /dev/null", 2, "", "*"
     yield "bounds", ["--live", "--low", "9", "--high", "8"], "< /", 2, "", "bad bounds\n"
     yield "a reference", ["--live", "--high", "100"], "< /", 2, "", "bad reference\n"

@@ -14,10 +14,11 @@ use Rattle.callboard.specs.declared.fault.Fault.TheVariants as fault
 use Rattle.callboard.specs.declared.fault.Finish.{Finish}
 use Rattle.callboard.specs.Status.{RunResult}
 
--- What a run had and gave: what there was to read, what had been written before and after it, and whether a read or a
--- write failed.
+-- What a run had and gave: what was left to read before and after it, what had been written before and after it, and
+-- whether a read or a write failed.
 pub record Ends : Type 1 where
   pub left : Option (List ℕ)
+  pub rest : Option (List ℕ)
   pub old : Option (List ℕ)
   pub new : Option (List ℕ)
   pub ReadFailed : Type 0
@@ -27,6 +28,7 @@ pub record Ends : Type 1 where
 abbrev pub ends_of : {R W : Type 0} → source.Ghosts R → sink.Ghosts W → R → R → W → W → Ends
 ends_of reads writes reader reader' writer writer' = record {
   left = reads.left reader;
+  rest = reads.left reader';
   old = writes.written writer;
   new = writes.written writer';
   ReadFailed = reads.failures reader < reads.failures reader';

@@ -1,5 +1,5 @@
 -- What the program answers to its words.
-use Rattle.std.specs.Prelude.{◌≡◌, Option, ◌<◌, ◌≢◌, ◌⊎◌, ℕ, List, Some}
+use Rattle.std.specs.Prelude.{◌≡◌, Option, ◌<◌, ◌≢◌, ◌⊎◌, ℕ, List, Some, Bool, true, false}
 use Rattle.clap.specs.Kinds.{IsAmong}
 use Rattle.clap.specs.Simple.{matches_of}
 use Rattle.clap.specs.Walk.{Text}
@@ -11,6 +11,7 @@ use Rattle.settings.specs.Options.{callboard}
 use Rattle.settings.specs.Ranges.{IsInRange}
 use Rattle.settings.specs.Tasks.{task_at}
 use Rattle.settings.specs.declared.fault.WordsFault.TheVariants.{AuditNotAlone, LiveNotAlone, ResultsWithoutAudit}
+use Rattle.settings.specs.declared.fault.WordsFault.TheVariants.{WithoutLive}
 use Rattle.settings.specs.declared.types.Settings.{Settings}
 use Rattle.settings.specs.declared.types.Task.{Task}
 use Rattle.settings.specs.declared.types.Task.TheVariants.{Audit, Floor, Live, Run}
@@ -26,15 +27,16 @@ abbrev pub RunsJobForStatus : Job → Ends → ℕ → Type 0
 RunsJobForStatus job ends status = (run : RunResult) × IsRunOf job ends run × (status ≡ run_status run)
 
 -- the records of the input were answered as they came, and the status is that of the session
-abbrev pub RunsSession : DayHeader → Ends → ℕ → Type 0
-RunsSession day ends status = (ended : SessionResult) × RunsLive day ends ended × (status ≡ session_status ended)
+abbrev pub RunsSession : DayHeader → ℕ → Ends → ℕ → Type 0
+RunsSession day reserve ends status =
+    (ended : SessionResult) × RunsLive day reserve ends ended × (status ≡ session_status ended)
 
 -- what is done with an input, which is of this day where it says no other
 abbrev pub DoesTask : DayHeader → Task → Ends → ℕ → Type 0
 DoesTask day (Run form) = RunsJobForStatus (auction_job day form)
 DoesTask day (Floor form) = RunsJobForStatus (board_job day form)
 DoesTask day (Audit results) = RunsJobForStatus (audit_job results)
-DoesTask day Live = RunsSession day
+DoesTask day (Live reserve) = RunsSession day reserve
 
 -- the day that the settings say
 abbrev pub day_of : Settings → DayHeader
@@ -61,11 +63,11 @@ pub record AnswersWords (words : List Text) (ends : Ends) (status : ℕ) : Type 
   pub none_read : ends.ReadFailed → ⊥
   pub write_failed : ends.WriteFailed → status ≡ 3
 
--- The words ask for an audit that doesn't stand alone, for answers as records come that don't, or for results without
--- an audit. The status is 2; nothing is printed, and nothing is read.
+-- The words ask for an audit that doesn't stand alone, for answers as records come that don't, or for what goes with
+-- either without it. The status is 2; nothing is printed, and nothing is read.
 pub record RefusesMix (words : List Text) (ends : Ends) (status : ℕ) : Type 0 where
   pub refused : RefusesWords words AuditNotAlone
-      ⊎ (RefusesWords words LiveNotAlone ⊎ RefusesWords words ResultsWithoutAudit)
+      ⊎ (RefusesWords words LiveNotAlone ⊎ (RefusesWords words ResultsWithoutAudit ⊎ RefusesWords words WithoutLive))
   pub status_is : status ≡ 2
   pub kept : ends.new ≡ ends.old
   pub none_read : ends.ReadFailed → ⊥
@@ -77,14 +79,20 @@ AnswersCommandLine words ends status =
     ((s : Settings) × AcceptsWords words s × IsInRange s × ServesSettings s ends status)
     ⊎ (AnswersWords words ends status ⊎ RefusesMix words ends status)
 
+-- records are answered as they come
+abbrev pub is_session : Option Task → Bool
+is_session (Some (Live reserve)) = true
+is_session task = false
+
 -- a bad command line or bounds, or a bad input but for one whose records are answered as they come
 abbrev pub IsQuiet : List Text → ℕ → Type 0
-IsQuiet words status = (status ≡ 2) ⊎ ((status ≡ 1) × (task_at (matches_of callboard words) ≢ Some Live))
+IsQuiet words status = (status ≡ 2) ⊎ ((status ≡ 1) × (is_session (task_at (matches_of callboard words)) ≡ false))
 
 -- what a run had and gave, with the failures counted before and after it
-abbrev pub ends_by : Option (List ℕ) → Option (List ℕ) → Option (List ℕ) → ℕ → ℕ → ℕ → ℕ → Ends
-ends_by left old new reads reads_after writes writes_after = record {
+abbrev pub ends_by : Option (List ℕ) → Option (List ℕ) → Option (List ℕ) → Option (List ℕ) → ℕ → ℕ → ℕ → ℕ → Ends
+ends_by left rest old new reads reads_after writes writes_after = record {
   left = left;
+  rest = rest;
   old = old;
   new = new;
   ReadFailed = reads < reads_after;
@@ -93,8 +101,9 @@ ends_by left old new reads reads_after writes writes_after = record {
 
 -- a status that the program answers to some words with some ends
 abbrev pub IsAnswer : ℕ → Type 0
-IsAnswer status = (words : List Text) × (left old new : Option (List ℕ)) × (reads reads_after writes writes_after : ℕ)
-    × AnswersCommandLine words (ends_by left old new reads reads_after writes writes_after) status
+IsAnswer status = (words : List Text) × (left rest old new : Option (List ℕ))
+    × (reads reads_after writes writes_after : ℕ)
+    × AnswersCommandLine words (ends_by left rest old new reads reads_after writes writes_after) status
 
 -- a status that the process ends with: that is one, or its words couldn't be had
 abbrev pub IsOfProcess : ℕ → Type 0

@@ -2,24 +2,54 @@
 
 ghost use Rattle.std.specs.Prelude.{◌≡◌};
 ghost use Rattle.callboard.specs.FileRun.{ends_of};
-ghost use Rattle.callboard.specs.LiveRun.{RunsLive};
+ghost use Rattle.callboard.specs.LiveRun.{RunsLive, as_session};
 
+use auction::{Auction, OpenFault};
 use byte_streams::{Sink, Source};
 use journal::DayHeader;
-use live_session::{Channels, Ending, LiveFault, run_live};
+use live_session::{Channels, Ending, LiveFault, SessionTerms, run_live};
 use std::alloc::Global;
 
-/// Answers each record of the input as soon as it is complete, on an auction of this day: the line of a good one goes
-/// to `out`, the fault of a bad one to `err`. Before the input is read on, all answers to what has come are written.
-pub fn run_session<'a, R: Source, O: Sink, E: Sink>(
+/// Why a session ends before its input.
+#[derive(Clone, Copy, Debug, PartialEq, Eq)]
+pub enum SessionFault {
+    /// No auction can be opened for the day. Nothing was read.
+    Open(OpenFault),
+    /// The session itself broke off.
+    Live(LiveFault),
+}
+
+/// What comes of a session whose day was opened.
+fn as_session(ended: Result<Ending, LiveFault>) -> Result<Ending, SessionFault>
+    ensures { result ≡ as_session ended }
+{
+    match ended {
+        Ok(ending) => Ok(ending),
+        Err(fault) => Err(SessionFault::Live(fault)),
+    }
+}
+
+/// Answers each record of the input as soon as its line has ended, on an auction of this day: the line of a good one,
+/// or the fault of a bad one, goes to `out`. The last `reserve` calls of the day are member 0's. Before the input is
+/// read on, all answers to what has come are written.
+pub fn run_session<'a, R: Source, O: Sink>(
     alloc: Global,
     reader: &'a mut R,
     out: &'a mut O,
-    err: &'a mut E,
     day: DayHeader,
-) -> Result<Ending, LiveFault>
-    ensures { RunsLive day (ends_of R.Source O.Sink reader.old reader.new out.old out.new) result }
+    reserve: u32,
+) -> Result<Ending, SessionFault>
+    ensures { RunsLive day reserve (ends_of R.Source O.Sink reader.old reader.new out.old out.new) result }
 {
-    let mut channels = Channels::new(reader, out, err);
-    run_live(alloc, &mut channels, day.config, day.members)
+    let auction = match Auction::open(alloc, day.config) {
+        Ok(auction) => auction,
+        Err(fault) => return Err(SessionFault::Open(fault)),
+    };
+    let terms = SessionTerms {
+        members: day.members,
+        reserve,
+    };
+    let mut channels = Channels::new(reader, out);
+    let ended = run_live(alloc, &mut channels, auction, terms);
+    as_session(ended)
 }

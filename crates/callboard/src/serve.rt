@@ -12,7 +12,7 @@ ghost use Rattle.callboard.specs.Status.{run_status, status_of};
 use crate::audit::run_audit;
 use crate::fault::{Fault, Finish};
 use crate::floor::run_floor;
-use crate::live::run_session;
+use crate::live::{SessionFault, run_session};
 use crate::run::run_file;
 use byte_streams::{Sink, Source, write_all};
 use clap::Error;
@@ -110,19 +110,16 @@ fn print_text<O: Sink, E: Sink>(out: &mut O, err: &mut E, error: &Error, text: &
 }
 
 /// Tells why a session ended before its input, and answers its status.
-fn tell_end<E: Sink>(err: &mut E, fault: LiveFault) -> u8
+fn tell_end<E: Sink>(err: &mut E, fault: SessionFault) -> u8
     ensures { result ≡ live_status fault }
 {
     match fault {
-        LiveFault::Open(fault) => tell(err, Fault::Open(fault)),
-        LiveFault::ReadFailed => tell(err, Fault::File(FileFault::ReadFailed)),
-        LiveFault::WriteFailed => tell(err, Fault::WriteFailed),
-        LiveFault::NoMemory => tell(err, Fault::NoMemory),
-        LiveFault::RecordTooLong { number } => {
-            let text = format_args!("record {number}: record too long");
-            write_line(err, InlineText::<64>::of(text).as_str());
-            1
+        SessionFault::Open(fault) => tell(err, Fault::Open(fault)),
+        SessionFault::Live(LiveFault::ReadFailed) => tell(err, Fault::File(FileFault::ReadFailed)),
+        SessionFault::Live(LiveFault::WriteFailed | LiveFault::CommitFailed) => {
+            tell(err, Fault::WriteFailed)
         }
+        SessionFault::Live(LiveFault::NoMemory) => tell(err, Fault::NoMemory),
     }
 }
 
@@ -133,10 +130,11 @@ fn serve_live<R: Source, O: Sink, E: Sink>(
     out: &mut O,
     err: &mut E,
     day: DayHeader,
+    reserve: u32,
 ) -> u8
-    ensures { RunsSession day (ends_of R.Source O.Sink reader.old reader.new out.old out.new) result }
+    ensures { RunsSession day reserve (ends_of R.Source O.Sink reader.old reader.new out.old out.new) result }
 {
-    match run_session(alloc, reader, out, err, day) {
+    match run_session(alloc, reader, out, day, reserve) {
         Ok(Ending::AllGood) => 0,
         Ok(Ending::SomeBad) => 1,
         Err(fault) => tell_end(err, fault),
@@ -172,7 +170,7 @@ fn serve_settings<R: KeepsStart, O: Sink, E: Sink, T: Wait + Threads + Sync>(
     } = settings;
     let day = DayHeader { config, members };
     match task {
-        Task::Live => serve_live(alloc, reader, out, err, day),
+        Task::Live { reserve } => serve_live(alloc, reader, out, err, day, reserve),
         Task::Audit { results } => {
             let run = run_audit(alloc, reader, out, results);
             tell_run(err, run, reader.start())
@@ -218,6 +216,7 @@ pub fn serve<'a, R: KeepsStart, O: Sink, E: Sink, T: Wait + Threads + Sync>(
         Err(WordsFault::ResultsWithoutAudit) => {
             return refuse_mix(err, &WordsFault::ResultsWithoutAudit);
         }
+        Err(WordsFault::WithoutLive) => return refuse_mix(err, &WordsFault::WithoutLive),
         Err(WordsFault::Parse(error)) => {
             let Some(text) = text_of(alloc, &error) else {
                 return tell(err, Fault::NoMemory);

@@ -1,5 +1,5 @@
-pub mod ArrivalLaws
-pub mod TakingLaws
-pub mod HeldLaws
-pub mod SpeakingLaws
+pub mod RecordTextLaws
+pub mod InputLineLaws
+pub mod ResponderLaws
+pub mod SessionLaws
 pub mod TurnLaws

@@ -1,153 +1,361 @@
 -- A session from turn to turn.
-use Rattle.std.proofs.Common.{◌≡◌, ◌+◌, ℕ, List, [], ◌∷◌, ◌++◌, take, Option, Some, None, true, false, Ok, Err, refl}
-use Rattle.std.proofs.Common.{ap, sym, subst, ◌∙◌}
+use Rattle.std.proofs.Common.{◌≡◌, ◌≤◌, ◌+◌, ℕ, List, [], ◌++◌, length, Option, Some, None, Ok, Err}
+use Rattle.std.proofs.Common.{refl, ap, sym, subst, append_assoc, arith, ◌∙◌}
 use Rattle.std.specs.Prelude.{IfSome}
 use Rattle.std.proofs.lemmas.List.{append-nil}
 use Rattle.std.proofs.KnownBytes.{Appends-nil, Consumes-kept, Consumes-nil, Consumes-trans}
 use Rattle.std.specs.Io.KnownBytes.{Appends, Consumes, IsAtEnd, Keeps}
-use Rattle.auction_terms.specs.declared.Config.{Config}
-use Rattle.auction.specs.ConfigFault.{open_fault}
-use Rattle.csv.specs.Reading.{default_config, records, strip_bom}
-use Rattle.order_file.specs.declared.fault.FileFault.{FileFault}
-use Rattle.live_session.specs.Answered.{Answered, after_record, after_records, answered, nothing_yet}
-use Rattle.live_session.specs.Arrival.{all_records, complete, is_too_long, taken}
-use Rattle.live_session.specs.HeldInput.{Brings, IsHeld}
-use Rattle.live_session.specs.Speaking.{Goes, IsNew, Speaks, Starts, Waits}
-use Rattle.live_session.specs.Talk.{Began, Ends, IsAnswered, Said}
-use Rattle.live_session.specs.ToldFaults.{Tells, TellsBeginning}
+use Rattle.auction_terms.specs.declared.Entry.{Entry}
+use Rattle.auction_terms.specs.Auxiliary.RunningAuction.{RunningAuction}
+use Rattle.byte_streams.specs.Streams.{AppendsBeginning}
+use Rattle.byte_streams.proofs.StreamLaws.{appends-more}
+use Rattle.csv.specs.Reading.{default_config}
+use Rattle.journal.specs.PrintedJournal.{call_lines}
+use Rattle.journal.proofs.KeptLineLaws.{holds-none}
+use Rattle.order_file.proofs.RowLaws.{records_from-done}
+use Rattle.printed_lines.specs.KeptText.{text_of}
+use Rattle.live_session.specs.Answered.{Answered, after_lines, answered, answered_lines, answered_whole}
+use Rattle.live_session.specs.Gathered.{Gathers, IsCommitted}
+use Rattle.live_session.specs.Giving.{Gives, HasGiven, IsEmptied, IsUnread}
+use Rattle.live_session.specs.Hearing.{HasAnsweredAll, HasHeard, IsNewSession}
+use Rattle.live_session.specs.InputLines.{Lines, lines_after, lines_of, no_lines}
+use Rattle.live_session.specs.Talk.{AppendsBetween, EndsSession, HasAnswered, HasRead}
+use Rattle.live_session.specs.Talk.{IsAnswered, IsAnswerTo, MayBeWritten}
 use Rattle.live_session.specs.declared.conversation.Conversation.{Ghosts}
 use Rattle.live_session.specs.declared.fault.LiveFault.{LiveFault}
 use Rattle.live_session.specs.declared.fault.LiveFault.TheVariants as fault
-use Rattle.live_session.specs.declared.held.Held.{Held}
+use Rattle.live_session.specs.declared.responder.Responder.{Responder}
+use Rattle.live_session.specs.declared.run.TheConstants.{ROOM_OF_A_READ}
 use Rattle.live_session.specs.declared.session.Session.{Session}
-use Rattle.live_session.proofs.HeldLaws.{begun-none, complete-all, complete-first}
-use Rattle.live_session.proofs.SpeakingLaws.{began-on, starts-on, starts-records}
+use Rattle.live_session.specs.declared.terms.SessionTerms.{SessionTerms}
+use Rattle.live_session.proofs.ResponderLaws.{IsBeginningOf, begins-all, entries-both, entries-begin, none-waiting}
+use Rattle.live_session.proofs.InputLineLaws.{lines-append}
+use Rattle.live_session.proofs.RecordTextLaws.{closed-none}
 
--- ---- records, and then others
+-- ---- between turns
 
-pub after-both : (members : ℕ) (a : Answered) (xs ys : List (List (List ℕ)))
-    → after_records members a (xs ++ ys) ≡ after_records members (after_records members a xs) ys
-unfolding after_records
-after-both members a [] ys = refl
-after-both members a (x ∷ xs) ys = after-both members (after_record members a x) xs ys
+-- all lines that have come are answered
+pub record IsReadyToRead {C : Type 0} (c : Ghosts C) (terms : SessionTerms) (start : RunningAuction) (base now : C)
+    (session : Session) (heard : List ℕ) : Type 0 where
+  pub device : HasRead c base now heard
+  pub all : HasAnsweredAll session terms start (lines_of heard) (answered terms start heard).text
+      (answered terms start heard).entries
+  pub answered : HasAnswered c base now (answered terms start heard)
+  pub reads : c.read_failures now ≡ c.read_failures base
 
--- the answers to the first records come first
-pub starts-first : (config : Config) (members : ℕ) (xs ys all : List (List (List ℕ))) → xs ++ ys ≡ all
-    → Starts (answered config members xs) (answered config members all)
-starts-first config members xs ys all is =
-    subst (Starts (answered config members xs)) (sym (after-both members (nothing_yet config) xs ys)
-    ∙ ap (answered config members) is)
-    (starts-records members (answered config members xs) ys)
+-- more has come, and isn't answered
+pub record HasJustRead {C : Type 0} (c : Ghosts C) (terms : SessionTerms) (start : RunningAuction) (base now : C)
+    (heard bytes : List ℕ) : Type 0 where
+  pub device : HasRead c base now (heard ++ bytes)
+  pub answered : HasAnswered c base now (answered terms start heard)
+  pub reads : c.read_failures now ≡ c.read_failures base
+  pub short : length bytes ≤ ROOM_OF_A_READ
 
--- ---- the ends
-
-tells-all : (a b : Option (List FileFault)) (x : List FileFault) → Tells a b x → TellsBeginning a b x
-tells-all a b x h = (x, [], append-nil x, h)
-
--- what was said so far is a beginning of it
-speaks-began : {C : Type 0} (c : Ghosts C) (base now : C) (session : Session) (heard : List ℕ) (so_far : Answered)
-    → Speaks c base now session heard so_far → Began c base now so_far
-speaks-began c base now session heard so_far h = record {
-  text = (h.text.0, session.page, h.text.1, h.text.2);
-  faults = tells-all _ _ so_far.faults h.faults;
+-- where all is answered, nothing waits
+pub all-heard : (session : Session) (terms : SessionTerms) (start : RunningAuction) (lines : Lines) (given : List ℕ)
+    (committed : List Entry) → HasAnsweredAll session terms start lines given committed
+    → HasHeard session terms start lines given committed
+all-heard session terms start lines given committed h = record {
+  applied = answered_lines terms start lines;
+  gathers = h.gathers;
+  text = [];
+  waiting = h.waiting;
+  closed = closed-none;
+  answers = none-waiting terms (answered_lines terms start lines) (records_from-done default_config 1);
+  line = h.line;
 }
 
--- with nothing on the page, it is all said
-pub speaks-said : {C : Type 0} (c : Ghosts C) (base now : C) (session : Session) (heard : List ℕ) (so_far : Answered)
-    → Speaks c base now session heard so_far → session.page ≡ [] → Said c base now so_far
-speaks-said c base now session heard so_far h empty = record {
-  text =
-      subst (Appends (c.written base) (c.written now)) (sym (append-nil h.text.0)
-      ∙ ap (λ (page : List ℕ). h.text.0 ++ page) (sym empty) ∙ h.text.1) h.text.2;
-  faults = h.faults;
-  writes = h.writes;
+-- a session that has just begun
+no-entry-lines : call_lines 0 [] ≡ []
+unfolding call_lines
+no-entry-lines = refl
+
+answered-nothing : {C : Type 0} (c : Ghosts C) (terms : SessionTerms) (start : RunningAuction) (base : C)
+    → HasAnswered c base base (answered terms start [])
+unfolding after_lines lines_after
+answered-nothing c terms start base = record {
+  text = Appends-nil _;
+  entries = subst (Appends (c.committed base) (c.committed base)) (sym no-entry-lines) (Appends-nil _);
+  writes = refl;
+  commits = refl;
 }
 
--- want of memory in the middle of a session
-pub ends-stopped : {C : Type 0} (c : Ghosts C) (config : Config) (members : ℕ) (base now : C) (session : Session)
-    (heard : List ℕ) (so_far : Answered)
-    → Speaks c base now session heard so_far → Starts so_far (answered config members (all_records heard))
-    → Ends c config members base now (Err fault.NoMemory)
-ends-stopped c config members base now session heard so_far h s = (
-  record {
-    heard = heard;
-    device = h.device;
-    began = began-on s (speaks-began c base now session heard so_far h);
-    reads = h.reads;
-  },
-  h.writes,
+all-nothing : (terms : SessionTerms) (start : RunningAuction) (session : Session) → IsNewSession session terms start
+    → HasAnsweredAll session terms start (lines_of []) (answered terms start []).text (answered terms start []).entries
+unfolding after_lines lines_after
+all-nothing terms start session new = record {
+  gathers = record {
+    terms_are = new.responder.terms_are;
+    auction = new.responder.auction;
+    records_are = new.responder.records_are;
+    ending = new.responder.ending;
+    text = new.responder.answers;
+    kept = [];
+    entries = refl;
+    lines = rw new.responder.entries holds-none;
+  };
+  waiting = new.waiting;
+  line = new.line;
+}
+
+pub ready-first : {C : Type 0} (c : Ghosts C) (terms : SessionTerms) (start : RunningAuction) (base : C)
+    (session : Session)
+    → c.Becomes base base → IsNewSession session terms start → IsReadyToRead c terms start base base session []
+ready-first c terms start base session same new = record {
+  device = record { same = same; read = Consumes-nil _ };
+  all = all-nothing terms start session new;
+  answered = answered-nothing c terms start base;
+  reads = refl;
+}
+
+pub ready-answered : {C : Type 0} (c : Ghosts C) (terms : SessionTerms) (start : RunningAuction) (base now : C)
+    (session : Session)
+    (heard : List ℕ) → IsReadyToRead c terms start base now session heard → IsAnswered c terms start base now
+ready-answered c terms start base now session heard h =
+    record { heard = heard; device = h.device; answered = h.answered; reads = h.reads }
+
+-- ---- a read
+
+pub just-read : {C : Type 0} (c : Ghosts C) (terms : SessionTerms) (start : RunningAuction) (base old new : C)
+    (session : Session)
+    (heard bytes : List ℕ) → IsReadyToRead c terms start base old session heard → c.Becomes base new
+    → Consumes (c.left old) (c.left new) bytes → c.written new ≡ c.written old → c.committed new ≡ c.committed old
+    → c.read_failures new ≡ c.read_failures old → c.write_failures new ≡ c.write_failures old
+    → c.commit_failures new ≡ c.commit_failures old → length bytes ≤ ROOM_OF_A_READ
+    → HasJustRead c terms start base new heard bytes
+just-read c terms start base old new session heard bytes h same read written committed reads writes commits short =
+    record {
+      device = record { same = same; read = Consumes-trans _ _ _ heard bytes h.device.read read };
+      answered = record {
+        text = rw written h.answered.text;
+        entries = rw committed h.answered.entries;
+        writes = writes ∙ h.answered.writes;
+        commits = commits ∙ h.answered.commits;
+      };
+      reads = reads ∙ h.reads;
+      short = short;
+    }
+
+pub ends-cut : {C : Type 0} (c : Ghosts C) (terms : SessionTerms) (start : RunningAuction) (base old new : C)
+    (session : Session)
+    (heard : List ℕ) → IsReadyToRead c terms start base old session heard → c.Becomes base new
+    → Keeps (c.left old) (c.left new) → c.written new ≡ c.written old → c.committed new ≡ c.committed old
+    → c.read_failures new ≡ c.read_failures old + 1 → c.write_failures new ≡ c.write_failures old
+    → c.commit_failures new ≡ c.commit_failures old → EndsSession c terms start base new (Err fault.ReadFailed)
+ends-cut c terms start base old new session heard h same left written committed reads writes commits = record {
+  heard = heard;
+  device = record { same = same; read = Consumes-kept _ _ _ heard h.device.read left };
+  answered = record {
+    text = rw written h.answered.text;
+    entries = rw committed h.answered.entries;
+    writes = writes ∙ h.answered.writes;
+    commits = commits ∙ h.answered.commits;
+  };
+  reads = reads ∙ ap (λ (n : ℕ). n + 1) h.reads;
+}
+
+-- ---- answers are given
+
+-- nothing more was written of more
+between-least : (a b : Option (List ℕ)) (least most more : List ℕ) → least ++ more ≡ most → Appends a b least
+    → AppendsBetween a b least most
+between-least a b least most more is h = (least, [], more, append-nil least, is, h)
+
+-- some of it was
+between-some : (a b d : Option (List ℕ)) (least text more most : List ℕ) → Appends a b least → AppendsBeginning b d text
+    → (least ++ text) ++ more ≡ most → AppendsBetween a d least most
+between-some a b d least text more most h (done, rest, parts, wrote) is = (
+  least ++ done,
+  done,
+  rest ++ more,
+  refl,
+  append_assoc least done (rest ++ more)
+      ∙ ap (λ (t : List ℕ). least ++ t) (sym (append_assoc done rest more) ∙ ap (λ (t : List ℕ). t ++ more) parts)
+      ∙ sym (append_assoc least text more) ∙ is,
+  appends-more a b d least done h wrote,
 )
 
--- an early end while records were answered
-pub ends-early : {C : Type 0} (c : Ghosts C) (config : Config) (members : ℕ) (base now : C) (session : Session)
-    (heard : List ℕ) (wanted : Answered) (f : LiveFault)
-    → Goes c base now session heard wanted (Err f) → Starts wanted (answered config members (all_records heard))
-    → Ends c config members base now (Err f)
-ends-early c config members base now session heard wanted (fault.Open e) h s = absurd h
-ends-early c config members base now session heard wanted fault.ReadFailed h s = absurd h
-ends-early c config members base now session heard wanted fault.WriteFailed h s =
-    (record { heard = heard; device = h.device; began = began-on s h.began; reads = h.reads }, h.writes)
-ends-early c config members base now session heard wanted (fault.RecordTooLong n) h s = absurd h
-ends-early c config members base now session heard wanted fault.NoMemory h s =
-    ends-stopped c config members base now session heard h.so_far h.speaks (starts-on _ _ _ h.starts s)
+-- all of it was
+between-all : (a b d : Option (List ℕ)) (least text more most : List ℕ) → Appends a b least → Appends b d text
+    → (least ++ text) ++ more ≡ most → AppendsBetween a d least most
+between-all a b d least text more most h k is =
+    between-some a b d least text more most h (text, [], append-nil text, k) is
 
--- ---- a turn
+module _ {C : Type 0} (c : Ghosts C) (terms : SessionTerms) (start : RunningAuction) (base now : C)
+    (heard bytes : List ℕ) where
+  abbrev before : Answered
+  before = answered terms start heard
 
--- the answers to what was brought
-brought : (config : Config) (members : ℕ) (held : Held) (heard now : List ℕ) (whole : ℕ) (front : List ℕ)
-    → Brings held heard now whole
-    → records default_config (strip_bom front) ≡ records default_config (strip_bom (take whole held.bytes.items))
-    → after_records members (answered config members (complete heard)) (records default_config (strip_bom front))
-    ≡ answered config members (complete now)
-brought config members held heard now whole front b same =
-    ap (after_records members (answered config members (complete heard))) same
-    ∙ sym
-    (after-both members (nothing_yet config) (complete heard)
-    (records default_config (strip_bom (take whole held.bytes.items))))
-    ∙ ap (answered config members) (sym b.rows)
+  abbrev whole : Answered
+  whole = answered_whole terms start (heard ++ bytes)
 
-pub answers-brought : (config : Config) (members : ℕ) (held : Held) (heard now : List ℕ) (whole : ℕ) (front : List ℕ)
-    → Brings held heard now whole
-    → front ≡ take whole held.bytes.items
-    → after_records members (answered config members (complete heard)) (records default_config (strip_bom front))
-    ≡ answered config members (complete now)
-answers-brought config members held heard now whole front b is =
-    brought config members held heard now whole front b (ap (λ (x : List ℕ). records default_config (strip_bom x)) is)
+  -- nothing of what has just come is answered
+  pub breaks-unanswered : HasJustRead c terms start base now heard bytes
+      → EndsSession c terms start base now (Err fault.NoMemory)
+  breaks-unanswered h =
+      let first = begins-all terms start heard bytes in
+      let entries = entries-begin before whole first in (
+        record {
+          before = heard;
+          last = bytes;
+          short = h.short;
+          device = h.device;
+          text = between-least _ _ before.text whole.text first.text.0 first.text.1 h.answered.text;
+          entries =
+              between-least _ _ (call_lines 0 before.entries) (call_lines 0 whole.entries) entries.0 entries.1
+              h.answered.entries;
+          reads = h.reads;
+        },
+        h.answered.writes,
+        h.answered.commits,
+      )
 
--- the answers to all that is held at the end
-pub answers-held : (config : Config) (members : ℕ) (held : Held) (heard text : List ℕ)
-    → all_records heard ≡ complete heard ++ records default_config (strip_bom text)
-    → after_records members (answered config members (complete heard)) (records default_config (strip_bom text))
-    ≡ answered config members (all_records heard)
-answers-held config members held heard text is =
-    sym (after-both members (nothing_yet config) (complete heard) (records default_config (strip_bom text)))
-    ∙ ap (answered config members) (sym is)
+  module _ (responder : Responder) (answers : Answered) (just : HasJustRead c terms start base now heard bytes)
+      (gathers : Gathers responder terms answers before.text before.entries) (becomes_on : (d : C) → c.Becomes now d
+      → c.Becomes base d) where
+    -- the lines of the entries that are gathered, behind those before
+    entry-lines : call_lines 0 before.entries ++ text_of responder.entries ≡ call_lines 0 answers.entries
+    entry-lines =
+        ap (λ (t : List ℕ). call_lines 0 before.entries ++ t) gathers.lines.0
+        ∙ sym (entries-both 0 0 before.entries gathers.kept) ∙ ap (call_lines 0) gathers.entries
 
-pub starts-complete : (config : Config) (members : ℕ) (heard : List ℕ)
-    → Starts (answered config members (complete heard)) (answered config members (all_records heard))
-starts-complete config members heard = let (rest, is) = complete-all heard in
-    starts-first config members (complete heard) rest (all_records heard) is
+    committed-all : (d : C) → Appends (c.committed now) (c.committed d) (text_of responder.entries)
+        → Appends (c.committed base) (c.committed d) (call_lines 0 answers.entries)
+    committed-all d h =
+        subst (Appends (c.committed base) (c.committed d)) entry-lines (appends-more _ _ _ _ _ just.answered.entries h)
 
-pub starts-before : (config : Config) (members : ℕ) (heard new : List ℕ) → is_too_long (taken heard).place ≡ false
-    → Starts (answered config members (complete heard)) (answered config members (all_records (heard ++ new)))
-starts-before config members heard new short =
-    let (rest, is) = complete-first heard new short in
-    starts-first config members (complete heard) rest (all_records (heard ++ new)) is
+    pub may-be-written : IsAnswerTo terms start (heard ++ bytes) answers → (d : C)
+        → IsCommitted c now d (text_of responder.entries)
+        → MayBeWritten c terms start base d (text_of responder.answers)
+    may-be-written is d h = record {
+      heard = heard ++ bytes;
+      device = record { same = becomes_on d h.same; read = rw h.left just.device.read };
+      answers = answers;
+      answers_are = is;
+      entries = committed-all d h.committed;
+      given = before.text;
+      text_is = gathers.text;
+      written = rw h.written just.answered.text;
+      commits = h.commits ∙ just.answered.commits;
+    }
 
--- a record is too long
-pub ends-long : {C : Type 0} (c : Ghosts C) (config : Config) (members : ℕ) (base now : C) (session : Session)
-    (heard : List ℕ) (number : ℕ)
-    → Speaks c base now session heard (answered config members (complete heard)) → session.page ≡ []
-    → is_too_long (taken heard).place ≡ true
-    → number ≡ session.count + 1 → Ends c config members base now (Err (fault.RecordTooLong number))
-ends-long c config members base now session heard number h empty long is = record {
-  heard = heard;
-  device = h.device;
-  long = long;
-  said = speaks-said c base now session heard _ h empty;
+    -- all was given
+    pub has-answered : (d : C) → HasGiven c now d (text_of responder.answers) (text_of responder.entries)
+        → HasAnswered c base d answers
+    has-answered d h = record {
+      text =
+          subst (Appends (c.written base) (c.written d)) gathers.text
+          (appends-more _ _ _ _ _ just.answered.text h.written);
+      entries = committed-all d h.committed;
+      writes = h.writes ∙ just.answered.writes;
+      commits = h.commits ∙ just.answered.commits;
+    }
+
+    pub has-read : (d : C) → IsUnread c now d → HasRead c base d (heard ++ bytes)
+    has-read d h = record { same = becomes_on d h.same; read = rw h.left just.device.read }
+
+    pub reads-same : (d : C) → IsUnread c now d → c.read_failures d ≡ c.read_failures base
+    reads-same d h = h.reads ∙ just.reads
+
+    module _ (first : IsBeginningOf answers whole) where
+      text-parts : (before.text ++ text_of responder.answers) ++ first.text.0 ≡ whole.text
+      text-parts = ap (λ (t : List ℕ). t ++ first.text.0) gathers.text ∙ first.text.1
+
+      entry-parts : (call_lines 0 before.entries ++ text_of responder.entries) ++ (entries-begin answers whole first).0
+          ≡ call_lines 0 whole.entries
+      entry-parts =
+          ap (λ (t : List ℕ). t ++ (entries-begin answers whole first).0) entry-lines
+          ∙ (entries-begin answers whole first).1
+
+      -- not all was given
+      pub breaks-giving : (d : C) (after : Responder) (f : LiveFault) → Gives c now d responder after (Err f)
+          → EndsSession c terms start base d (Err f)
+      breaks-giving d after fault.ReadFailed h = absurd h
+      breaks-giving d after fault.NoMemory h =
+          subst (λ (x : C). EndsSession c terms start base x (Err fault.NoMemory)) (sym h) (breaks-unanswered just)
+      breaks-giving d after fault.WriteFailed h = (
+        record {
+          before = heard;
+          last = bytes;
+          short = just.short;
+          device = has-read d h.unread;
+          text =
+              between-some _ _ _ before.text (text_of responder.answers) first.text.0 whole.text just.answered.text
+              h.written text-parts;
+          entries =
+              between-all _ _ _ (call_lines 0 before.entries) (text_of responder.entries) _ (call_lines 0 whole.entries)
+              just.answered.entries h.committed entry-parts;
+          reads = reads-same d h.unread;
+        },
+        rw just.answered.writes at h.writes,
+        h.commits ∙ just.answered.commits,
+      )
+      breaks-giving d after fault.CommitFailed h = (
+        record {
+          before = heard;
+          last = bytes;
+          short = just.short;
+          device = has-read d h.unread;
+          text =
+              between-least _ _ before.text whole.text _
+              (sym (append_assoc before.text (text_of responder.answers) first.text.0) ∙ text-parts)
+              (rw h.written just.answered.text);
+          entries =
+              between-some _ _ _ (call_lines 0 before.entries) (text_of responder.entries) _
+              (call_lines 0 whole.entries) just.answered.entries h.committed entry-parts;
+          reads = reads-same d h.unread;
+        },
+        h.writes ∙ just.answered.writes,
+        rw just.answered.commits at h.commits,
+      )
+
+-- memory was refused before anything was read
+pub ends-unheard : {C : Type 0} (c : Ghosts C) (terms : SessionTerms) (start : RunningAuction) (base : C)
+    → c.Becomes base base
+    → EndsSession c terms start base base (Err fault.NoMemory)
+ends-unheard c terms start base same = breaks-unanswered c terms start base base [] [] (record {
+  device = record { same = same; read = Consumes-nil _ };
+  answered = answered-nothing c terms start base;
+  reads = refl;
+  short = omega arith;
+})
+
+-- and between two reads
+pub ends-ready : {C : Type 0} (c : Ghosts C) (terms : SessionTerms) (start : RunningAuction) (base now : C)
+    (session : Session)
+    (heard : List ℕ) → IsReadyToRead c terms start base now session heard
+    → EndsSession c terms start base now (Err fault.NoMemory)
+ends-ready c terms start base now session heard h = breaks-unanswered c terms start base now heard [] (record {
+  device = subst (HasRead c base now) (sym (append-nil heard)) h.device;
+  answered = h.answered;
   reads = h.reads;
-  number_is = is ∙ ap (λ (n : ℕ). n + 1) h.count;
+  short = omega arith;
+})
+
+-- nothing is gathered any more
+pub gathers-emptied : (old new : Responder) (terms : SessionTerms) (answers : Answered) (given : List ℕ)
+    (committed : List Entry)
+    → Gathers old terms answers given committed → IsEmptied old new
+    → Gathers new terms answers answers.text answers.entries
+gathers-emptied old new terms answers given committed h e = record {
+  terms_are = e.terms_are ∙ h.terms_are;
+  auction = e.auction ∙ h.auction;
+  records_are = e.records_are ∙ h.records_are;
+  ending = e.ending ∙ h.ending;
+  text = ap (λ (t : List ℕ). answers.text ++ t) e.answers ∙ append-nil answers.text;
+  kept = [];
+  entries = append-nil answers.entries;
+  lines = rw e.entries holds-none;
 }
+
+-- what was heard behind what was answered
+pub heard-more : (session : Session) (terms : SessionTerms) (start : RunningAuction) (heard bytes given : List ℕ)
+    (committed : List Entry)
+    → HasAnsweredAll session terms start (lines_after (lines_of heard) bytes) given committed
+    → HasAnsweredAll session terms start (lines_of (heard ++ bytes)) given committed
+heard-more session terms start heard bytes given committed h =
+    subst (λ (l : Lines). HasAnsweredAll session terms start l given committed)
+    (sym (lines-append no_lines heard bytes)) h
 
 -- ---- the end of the input
 
@@ -156,110 +364,18 @@ all-read None b heard h e = tt
 all-read (Some xs) None heard h e = absurd h
 all-read (Some xs) (Some ys) heard h e = h ∙ ap (λ (y : List ℕ). heard ++ y) e ∙ append-nil heard
 
-pub ends-done : {C : Type 0} (c : Ghosts C) (config : Config) (members : ℕ) (base at now : C) (session : Session)
-    (heard : List ℕ)
-    → Speaks c base now session heard (answered config members (all_records heard)) → session.page ≡ []
-    → is_too_long (taken heard).place ≡ false
-    → Consumes (c.left base) (c.left at) heard → IsAtEnd (c.left at) → open_fault config ≡ None
-    → Ends c config members base now (Ok session.ending)
-ends-done c config members base at now session heard h empty short read end opens = (
-  record {
-    heard = heard;
-    device = h.device;
-    all = all-read _ _ heard read end;
-    short = short;
-    said = speaks-said c base now session heard _ h empty;
-    reads = h.reads;
-    ending_is = h.ending;
-  },
-  opens,
-)
-
--- ---- between two reads
-
--- a session that waits has answered all that has come
-pub waits-answered : {C : Type 0} (c : Ghosts C) (config : Config) (members : ℕ) (base now : C) (session : Session)
-    (held : Held) (heard : List ℕ)
-    → Waits c config members base now session held heard → IsAnswered c config members base now
-waits-answered c config members base now session held heard w = record {
+pub ends-done : {C : Type 0} (c : Ghosts C) (terms : SessionTerms) (start : RunningAuction) (base new : C)
+    (heard : List ℕ) (responder : Responder)
+    (given : List ℕ) (committed : List Entry)
+    → HasRead c base new heard → IsAtEnd (c.left new) → HasAnswered c base new (answered_whole terms start heard)
+    → c.read_failures new ≡ c.read_failures base
+    → Gathers responder terms (answered_whole terms start heard) given committed
+    → EndsSession c terms start base new (Ok responder.ending)
+ends-done c terms start base new heard responder given committed device end answered reads gathers = record {
   heard = heard;
-  device = w.speaks.device;
-  short = w.input.short;
-  said = speaks-said c base now session heard _ w.speaks w.page;
-  reads = w.speaks.reads;
+  device = device;
+  all = all-read _ _ heard device.read end;
+  answered = answered;
+  reads = reads;
+  ending_is = gathers.ending;
 }
-
--- what was said stays said while the device is read
-pub reads-on : {C : Type 0} (c : Ghosts C) (base old new : C) (session : Session) (heard bytes : List ℕ)
-    (so_far : Answered)
-    → Speaks c base old session heard so_far → c.Becomes base new → Consumes (c.left old) (c.left new) bytes
-    → c.written new ≡ c.written old → c.told new ≡ c.told old → c.read_failures new ≡ c.read_failures old
-    → c.write_failures new ≡ c.write_failures old
-    → Speaks c base new session (heard ++ bytes) so_far
-reads-on c base old new session heard bytes so_far h same read written told reads writes = record {
-  auction = h.auction;
-  count = h.count;
-  ending = h.ending;
-  device = record { same = same; read = Consumes-trans _ _ _ heard bytes h.device.read read };
-  text = rw written h.text;
-  faults = rw told h.faults;
-  reads = reads ∙ h.reads;
-  writes = writes ∙ h.writes;
-}
-
--- a session that has just begun
-tells-none : (a : Option (List FileFault)) → Tells a a []
-tells-none None = tt
-tells-none (Some before) = sym (append-nil before)
-
-pub begins : {C : Type 0} (c : Ghosts C) (config : Config) (members : ℕ) (base : C) (session : Session) (held : Held)
-    → c.Becomes base base → IsNew config members session → IsHeld held []
-    → Waits c config members base base session held []
-unfolding after_records
-begins c config members base session held same new input =
-    let none : answered config members (complete []) ≡ nothing_yet config =
-    ap (answered config members) begun-none.none in
-    record {
-      members_are = new.members_are;
-      input = input;
-      speaks = rw none (record {
-        auction = new.auction;
-        count = new.count;
-        ending = new.ending;
-        device = record { same = same; read = Consumes-nil _ };
-        text = ([], new.page, Appends-nil _);
-        faults = tells-none _;
-        reads = refl;
-        writes = refl;
-      });
-      page = new.page;
-    }
-
--- memory was refused before anything was read
-pub ends-unheld : {C : Type 0} (c : Ghosts C) (config : Config) (members : ℕ) (base : C) → c.Becomes base base
-    → Ends c config members base base (Err fault.NoMemory)
-ends-unheld c config members base same = (
-  record {
-    heard = [];
-    device = record { same = same; read = Consumes-nil _ };
-    began = record { text = ([], _, refl, Appends-nil _); faults = ([], _, refl, tells-none _) };
-    reads = refl;
-  },
-  refl,
-)
-
--- a read failed
-pub ends-cut : {C : Type 0} (c : Ghosts C) (config : Config) (members : ℕ) (base old new : C) (session : Session)
-    (held : Held) (heard : List ℕ)
-    → Waits c config members base old session held heard → c.Becomes base new → Keeps (c.left old) (c.left new)
-    → c.written new ≡ c.written old → c.told new ≡ c.told old → c.read_failures new ≡ c.read_failures old + 1
-    → c.write_failures new ≡ c.write_failures old
-    → Ends c config members base new (Err fault.ReadFailed)
-ends-cut c config members base old new session held heard w same left written told reads writes =
-    let said = speaks-said c base old session heard _ w.speaks w.page in
-    record {
-      heard = heard;
-      device = record { same = same; read = Consumes-kept _ _ _ heard w.speaks.device.read left };
-      said = record { text = rw written said.text; faults = rw told said.faults; writes = writes ∙ said.writes };
-      reads = reads ∙ ap (λ (n : ℕ). n + 1) w.speaks.reads;
-    }

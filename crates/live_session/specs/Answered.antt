@@ -1,69 +1,128 @@
 -- What a session answers to the records that come.
-use Rattle.std.specs.Prelude.{ℕ, ◌+◌, List, [], ◌∷◌, ◌++◌, nat_le, if◌then◌else◌, Result, Ok, Err}
+use Rattle.std.specs.Prelude.{◌==◌, ◌&&◌, ℕ, ◌+◌, List, [], ◌∷◌, ◌++◌, not, nat_le, Bool, if◌then◌else◌}
+use Rattle.std.specs.Prelude.{Option, Some, None, Result, Ok, Err}
 use Rattle.auction_terms.specs.declared.Call.{Call}
-use Rattle.auction_terms.specs.declared.Config.{Config}
+use Rattle.auction_terms.specs.declared.Entry.{Entry}
 use Rattle.auction_terms.specs.Day.{step}
-use Rattle.auction_terms.specs.Auxiliary.RunningAuction.{RunningAuction, auction_after_call, opened_auction}
-use Rattle.order_file.specs.Record.{numbered_call}
-use Rattle.order_file.specs.declared.fault.FileFault.{FileFault}
-use Rattle.order_file.specs.declared.fault.FileFault.TheVariants.{TooManyCommands}
+use Rattle.auction_terms.specs.Auxiliary.RunningAuction.{RunningAuction, auction_after_call}
+use Rattle.csv.specs.Reading.{default_config, records}
+use Rattle.order_file.specs.Record.{call_of}
+use Rattle.order_file.specs.declared.fault.RecordFault.{RecordFault}
 use Rattle.printed_lines.specs.ReplyLines.{line}
+use Rattle.live_session.specs.BadRecords.{bad_record_line}
+use Rattle.live_session.specs.InputLines.{Lines, is_quote_open, is_too_long, lines_of, record_text}
+use Rattle.live_session.specs.declared.fault.BadRecord.{BadRecord}
+use Rattle.live_session.specs.declared.fault.BadRecord.TheVariants as bad
 use Rattle.live_session.specs.declared.fault.Ending.{Ending}
 use Rattle.live_session.specs.declared.fault.Ending.TheVariants.{AllGood, SomeBad}
+use Rattle.live_session.specs.declared.terms.SessionTerms.{SessionTerms}
 
--- the auction after the records so far, how many they were, the lines of the good ones and the faults of the bad ones
+-- The auction after the records so far, how many they were, their answers, a line each, the entries of those that were
+-- calls, and the faults of the others.
 pub record Answered : Type 0 where
   pub auction : RunningAuction
-  pub count : ℕ
+  pub records : ℕ
   pub text : List ℕ
-  pub faults : List FileFault
+  pub entries : List Entry
+  pub faults : List BadRecord
 
-abbrev pub nothing_yet : Config → Answered
-nothing_yet config = record { auction = opened_auction config; count = 0; text = []; faults = [] }
+abbrev pub nothing_yet : RunningAuction → Answered
+nothing_yet start = record { auction = start; records = 0; text = []; entries = []; faults = [] }
 
--- the call of a record by its number, which is at fault where the auction takes no further command
-unfoldable pub live_call : ℕ → RunningAuction → ℕ → List (List ℕ) → Result Call FileFault
-live_call members auction number fields =
-    if nat_le auction.config.max_calls auction.calls then Err (TooManyCommands number)
-    else numbered_call members number fields
+-- a member's call would take one of the last calls of the day, which are the operator's
+abbrev pub is_reserved : SessionTerms → RunningAuction → Call → Bool
+is_reserved terms auction call =
+    not (call.member == 0) && nat_le auction.config.max_calls (auction.calls + terms.reserve)
 
--- a good record is a command, and its reply a line
+abbrev pub unless_reserved : SessionTerms → RunningAuction → Result Call RecordFault → Result Call BadRecord
+unless_reserved terms auction (Err fault) = Err (bad.Malformed fault)
+unless_reserved terms auction (Ok call) = if is_reserved terms auction call then Err bad.Reserved else Ok call
+
+-- The call of a record. It is at fault where the auction takes no further one, whatever the record holds.
+unfoldable pub live_call : SessionTerms → RunningAuction → List (List ℕ) → Result Call BadRecord
+live_call terms auction fields =
+    if nat_le auction.config.max_calls auction.calls then Err bad.TooManyCommands
+    else unless_reserved terms auction (call_of terms.members fields)
+
+-- a call, with the auction's reply
+abbrev pub entry_for : RunningAuction → Call → Entry
+entry_for auction call = record {
+  member = call.member;
+  command = call.command;
+  reply = (step auction.config auction.state call).1;
+}
+
+-- A good record is a call. Its line is the reply's, whose number is the call's place in the day.
 abbrev pub replied : Answered → Call → Answered
 replied so_far call = record {
   auction = auction_after_call so_far.auction call;
-  count = so_far.count + 1;
-  text = so_far.text ++ line (so_far.count + 1) (step so_far.auction.config so_far.auction.state call).1;
+  records = so_far.records + 1;
+  text = so_far.text ++ line (so_far.auction.calls + 1) (step so_far.auction.config so_far.auction.state call).1;
+  entries = so_far.entries ++ entry_for so_far.auction call ∷ [];
   faults = so_far.faults;
 }
 
--- a bad one runs nothing
-abbrev pub refused : Answered → FileFault → Answered
+-- A bad one runs nothing. Its line is its fault's, whose number is the record's place in the input.
+abbrev pub refused : Answered → BadRecord → Answered
 refused so_far fault = record {
   auction = so_far.auction;
-  count = so_far.count + 1;
-  text = so_far.text;
+  records = so_far.records + 1;
+  text = so_far.text ++ bad_record_line (so_far.records + 1) fault;
+  entries = so_far.entries;
   faults = so_far.faults ++ fault ∷ [];
 }
 
-abbrev pub answer_by : Answered → Result Call FileFault → Answered
+abbrev pub answer_by : Answered → Result Call BadRecord → Answered
 answer_by so_far (Ok call) = replied so_far call
 answer_by so_far (Err fault) = refused so_far fault
 
 -- after one more record
-abbrev pub after_record : ℕ → Answered → List (List ℕ) → Answered
-after_record members so_far fields =
-    answer_by so_far (live_call members so_far.auction (so_far.count + 1) fields)
+abbrev pub after_record : SessionTerms → Answered → List (List ℕ) → Answered
+after_record terms so_far fields = answer_by so_far (live_call terms so_far.auction fields)
 
 -- after these records, in their order
-unfoldable pub after_records : ℕ → Answered → List (List (List ℕ)) → Answered
-after_records members so_far [] = so_far
-after_records members so_far (r ∷ rs) = after_records members (after_record members so_far r) rs
+unfoldable pub after_records : SessionTerms → Answered → List (List (List ℕ)) → Answered
+after_records terms so_far [] = so_far
+after_records terms so_far (r ∷ rs) = after_records terms (after_record terms so_far r) rs
 
--- what a session answers to the records of its input
-abbrev pub answered : Config → ℕ → List (List (List ℕ)) → Answered
-answered config members = after_records members (nothing_yet config)
+-- ---- by lines
+
+-- why a line isn't read as a record
+abbrev pub line_fault : List ℕ → Option BadRecord
+line_fault line =
+    if is_too_long line then Some bad.TooLong else if is_quote_open line then Some bad.OpenQuote else None
+
+abbrev pub after_line_by : SessionTerms → Answered → List ℕ → Option BadRecord → Answered
+after_line_by terms so_far line (Some fault) = refused so_far fault
+after_line_by terms so_far line None = after_records terms so_far (records default_config (record_text line))
+
+-- After one more line: it is a record, or blank, and then passed over.
+abbrev pub after_line : SessionTerms → Answered → List ℕ → Answered
+after_line terms so_far line = after_line_by terms so_far line (line_fault line)
+
+-- after these lines, in their order
+unfoldable pub after_lines : SessionTerms → Answered → List (List ℕ) → Answered
+after_lines terms so_far [] = so_far
+after_lines terms so_far (l ∷ ls) = after_lines terms (after_line terms so_far l) ls
+
+-- what a session answers, from this auction on, to the lines that have ended
+abbrev pub answered_lines : SessionTerms → RunningAuction → Lines → Answered
+answered_lines terms start lines = after_lines terms (nothing_yet start) lines.ended
+
+-- the same, of the lines of what has come
+abbrev pub answered : SessionTerms → RunningAuction → List ℕ → Answered
+answered terms start heard = answered_lines terms start (lines_of heard)
+
+-- A line that the input ends in was cut off: it isn't read as a record.
+abbrev pub after_input_end : Answered → List ℕ → Answered
+after_input_end so_far [] = so_far
+after_input_end so_far (byte ∷ bytes) = refused so_far bad.CutOff
+
+-- what it answers to an input that has ended
+abbrev pub answered_whole : SessionTerms → RunningAuction → List ℕ → Answered
+answered_whole terms start heard = after_input_end (answered terms start heard) (lines_of heard).at_hand
 
 -- whether a record was bad
-abbrev pub ending_of : List FileFault → Ending
+abbrev pub ending_of : List BadRecord → Ending
 ending_of [] = AllGood
 ending_of (fault ∷ faults) = SomeBad

@@ -1,7 +1,8 @@
 pub mod Answered
-pub mod Arrival
-pub mod HeldInput
-pub mod Speaking
+pub mod BadRecords
+pub mod InputLines
+pub mod Gathered
+pub mod Giving
+pub mod Hearing
 pub mod Spot
 pub mod Talk
-pub mod ToldFaults

@@ -1,53 +1,43 @@
-//! A conversation over three ends.
+//! A conversation over two ends.
 
 ghost use Rattle.std.specs.Prelude.{◌≡◌, None, refl, ℕ};
 ghost use Rattle.std.proofs.Common.{◌∙◌};
 
-use crate::conversation::Conversation;
+use crate::conversation::{CommitFailed, Conversation};
 use byte_streams::{Sink, Source, SourceFailed, WriteFailed, write_all};
-use order_file::FileFault;
-use std::fmt::InlineText;
 
-/// A source of records, a sink for the lines of replies, and one for the lines of faults.
+/// A source of records, and a sink for their answers. Entries are kept nowhere.
 #[derive(Drop)]
-pub struct Channels<'a, R: Source, O: Sink, E: Sink> {
+pub struct Channels<'a, R: Source, O: Sink> {
     pub input: &'a mut R,
     pub output: &'a mut O,
-    pub errors: &'a mut E,
 }
 
-impl<'a, R: Source, O: Sink, E: Sink> Channels<'a, R, O, E> {
-    /// A conversation that reads records from `input`, writes lines to `output` and tells faults on `errors`.
-    pub fn new(input: &'a mut R, output: &'a mut O, errors: &'a mut E) -> Channels<'a, R, O, E>
-        ensures { result ≡ record { input = input.entry; output = output.entry; errors = errors.entry } }
+impl<'a, R: Source, O: Sink> Channels<'a, R, O> {
+    /// A conversation that reads records from `input` and writes answers to `output`.
+    pub fn new(input: &'a mut R, output: &'a mut O) -> Channels<'a, R, O>
+        ensures { result ≡ record { input = input.entry; output = output.entry } }
     {
-        Channels {
-            input,
-            output,
-            errors,
-        }
+        Channels { input, output }
     }
 }
 
-/// Writes a line. Where that fails there is nobody left to tell.
-fn write_line<E: Sink>(errors: &mut E, line: &str) {
-    if write_all(errors, line.as_bytes()).is_ok() {
-        let _ = write_all(errors, b"\n".as_slice());
-    }
-}
-
-impl<R: Source, O: Sink, E: Sink> Conversation for Channels<'_, R, O, E> {
+impl<R: Source, O: Sink> Conversation for Channels<'_, R, O> {
     ghost left = { λ c. R.left c.input.now };
 
     ghost written = { λ c. O.written c.output.now };
 
-    ghost told = { λ _. None };
+    ghost committed = { λ _. None };
 
     ghost read_failures = { λ c. R.failures c.input.now };
 
     ghost write_failures = { λ c. O.failures c.output.now };
 
+    ghost commit_failures = { λ _. 0 };
+
     ghost MayRead = { λ _. Unit {0} };
+
+    ghost MayWrite = { λ _ _. Unit {0} };
 
     ghost Becomes = { λ a b. (b.input.ghost_name ≡ a.input.ghost_name) × (b.output.ghost_name ≡ a.output.ghost_name) };
 
@@ -59,11 +49,11 @@ impl<R: Source, O: Sink, E: Sink> Conversation for Channels<'_, R, O, E> {
         self.input.read(buffer)
     }
 
-    fn write(&mut self, text: &[u8]) -> Result<(), WriteFailed> {
-        write_all(self.output, text)
+    fn commit(&mut self, _entries: &[u8]) -> Result<(), CommitFailed> {
+        Ok(())
     }
 
-    fn tell(&mut self, fault: FileFault) {
-        write_line(self.errors, InlineText::<64>::of(fault).as_str());
+    fn write(&mut self, text: &[u8]) -> Result<(), WriteFailed> {
+        write_all(self.output, text)
     }
 }

@@ -1,23 +1,26 @@
-//! A live session: each record of an input is answered as soon as it is complete.
+//! A live session: each record of an input is answered as soon as its line has ended.
 //!
-//! `run_live` reads an input record by record, as an order file is read, and answers each one before it reads on: a
-//! good record is a command, and its reply a line, as in the run of a file; a bad one runs nothing, and its fault is
-//! told. It talks with a `Conversation`, a device that is read and written to; `Channels` is one over three ends.
+//! `run_live` reads an input line by line, and answers each one before it reads on: a good record is a call, and its
+//! answer the reply's line, as in the run of a file; a bad one runs nothing, and its answer is its fault. It talks with
+//! a `Conversation`, a device that is read, committed and written to; `Channels` is one over two ends.
 #![tactic(auto)]
 
 mod channels;
 mod conversation;
 mod fault;
-mod held;
+mod line;
+mod responder;
 mod run;
 mod session;
 mod spot;
+mod terms;
 
 pub use channels::Channels;
-pub use conversation::Conversation;
-pub use fault::{Ending, LiveFault};
-pub use held::MAX_RECORD_BYTES;
-pub use run::run_live;
+pub use conversation::{CommitFailed, Conversation};
+pub use fault::{BadRecord, Ending, LiveFault};
+pub use line::MAX_RECORD_BYTES;
+pub use run::{ROOM_OF_A_READ, run_live};
+pub use terms::SessionTerms;
 
 #[cfg(test)]
 mod tests;

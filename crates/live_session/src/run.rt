@@ -1,91 +1,44 @@
 //! A live session from its beginning to its end.
 
-ghost use Rattle.std.specs.Prelude.{◌≡◌, ◌++◌, ℕ, List, None, Err, MatchResult};
-ghost use Rattle.std.specs.Io.KnownBytes.{IsAtEnd};
-ghost use Rattle.auction_terms.specs.declared.Config.{Config};
-ghost use Rattle.auction.specs.ConfigFault.{open_fault};
-ghost use Rattle.live_session.specs.Answered.{answered};
-ghost use Rattle.live_session.specs.Arrival.{complete};
-ghost use Rattle.live_session.specs.HeldInput.{IsHeld};
-ghost use Rattle.live_session.specs.Speaking.{Speaks, Waits};
-ghost use Rattle.live_session.specs.Talk.{Ends, IsAnswered};
+ghost use Rattle.std.specs.Prelude.{List, ℕ};
+ghost use Rattle.live_session.specs.Talk.{EndsSession, IsAnswered, MayBeWritten};
 
 use crate::conversation::Conversation;
 use crate::fault::{Ending, LiveFault};
-use crate::held::Held;
 use crate::session::Session;
-use auction::Config;
+use crate::terms::SessionTerms;
+use auction::Auction;
 use std::alloc::Global;
 
-// How many bytes are asked for at a time.
-const ROOM_OF_A_READ: usize = 65_536;
+/// How many bytes are read at a time at most.
+pub const ROOM_OF_A_READ: usize = 65_536;
 
-/// Takes in what was read, and answers the records that are complete by it.
-fn take_turn<C: Conversation>(
-    alloc: Global,
-    talk: &mut C,
-    session: &mut Session,
-    held: &mut Held,
-    bytes: &[u8],
-) -> Result<(), LiveFault>
-    requires { (heard : List ℕ) × IsHeld held.old heard }
-    ensures { (base : C) (config : Config) (heard : List ℕ) → IsHeld held.old heard
-        → Speaks C.Conversation base talk.old session.old (heard ++ bytes.now)
-        (answered config session.old.members (complete heard))
-        → MatchResult result
-        (λ _. Waits C.Conversation config session.old.members base talk.new session.new held.new (heard ++ bytes.now))
-        (λ f. Ends C.Conversation config session.old.members base talk.new (Err f)) }
-{
-    let Ok(whole) = held.take_in(bytes) else {
-        return Err(LiveFault::NoMemory);
-    };
-    session.answer_text(alloc, talk, held.front(whole))?;
-    if held.is_too_long() {
-        return Err(LiveFault::RecordTooLong {
-            number: session.next_number()?,
-        });
-    }
-    held.drop_whole(whole);
-    Ok(())
-}
-
-/// Answers the last records of an input, which has ended.
-fn end_with<C: Conversation>(
-    alloc: Global,
-    talk: &mut C,
-    session: &mut Session,
-    held: &Held,
-) -> Result<Ending, LiveFault>
-    ensures { (base : C) (config : Config) (heard : List ℕ) → IsHeld held.now heard
-        → Speaks C.Conversation base talk.old session.old heard (answered config session.old.members (complete heard))
-        → IsAtEnd (C.left talk.old) → open_fault config ≡ None
-        → Ends C.Conversation config session.old.members base talk.new result }
-{
-    session.answer_text(alloc, talk, held.as_slice())?;
-    Ok(session.ending())
-}
-
-/// Answers the records of an input one by one, each before it reads on.
+/// Answers the records of an input one by one on this auction, each before it reads on.
 ///
-/// Records are numbered from 1. A good one is a command, and its line is written; a bad one runs nothing, and its fault
-/// is told; once `config.max_calls` commands were run, each further record is bad. `members` is how many members there
-/// are. The records end as those of an order file do; a byte order mark at the start is dropped.
+/// A record is a line, without a byte order mark before it; blank lines are passed over. A good one is a call, and its
+/// answer the line of the reply, with the call's place in the day, from 1. A bad one runs nothing, and its answer is
+/// `record`, its place in the input, from 1, and its fault: a line of more than `MAX_RECORD_BYTES` bytes, a quote that
+/// isn't closed in it, the fault that it would have in an order file; a member's call where the day has no more calls
+/// than `reserve`, or any record where it has none; and the line that the input ends in, if it has no line end, which
+/// is never executed.
 ///
-/// Before the device is read, the answers to all records that have come are written and told (`reads`). A session ends
-/// with its input, at the first read or write that fails, at a record of more than `MAX_RECORD_BYTES` bytes, or for
-/// want of memory.
+/// Before the device is read, the answers to all lines that have ended are written (`reads`), and before they are
+/// written, the entries of their calls are committed (`writes`). A session ends with its input, at the first read,
+/// commit or write that fails, or for want of memory.
 pub fn run_live<C: Conversation>(
     alloc: Global,
     talk: &mut C,
-    config: Config,
-    members: u8,
+    auction: Auction,
+    terms: SessionTerms,
 ) -> Result<Ending, LiveFault>
     // The device has to let itself be read wherever all that has come is answered, and nowhere else.
-    requires reads { (now : C) → IsAnswered C.Conversation config members talk.old now → C.MayRead now }
-    ensures { Ends C.Conversation config members talk.old talk.new result }
+    requires reads { (now : C) → IsAnswered C.Conversation terms auction talk.old now → C.MayRead now }
+    // It has to let an answer be written wherever the entries up to it are committed, and nowhere else.
+    requires writes { (now : C) (text : List ℕ) → MayBeWritten C.Conversation terms auction talk.old now text
+        → C.MayWrite now text }
+    ensures { EndsSession C.Conversation terms auction talk.old talk.new result }
 {
-    let mut session = Session::open(alloc, config, members)?;
-    let Ok(mut held) = Held::new(alloc) else {
+    let Ok(mut session) = Session::new(alloc, auction, terms) else {
         return Err(LiveFault::NoMemory);
     };
     let mut chunk = [0u8; ROOM_OF_A_READ];
@@ -94,9 +47,16 @@ pub fn run_live<C: Conversation>(
             return Err(LiveFault::ReadFailed);
         };
         if count == 0 {
-            return end_with(alloc, talk, &mut session, &held);
+            let Ok(()) = session.end() else {
+                return Err(LiveFault::NoMemory);
+            };
+            session.responder.give(talk)?;
+            return Ok(session.responder.ending());
         }
-        take_turn(alloc, talk, &mut session, &mut held, &chunk[..count])?;
+        let Ok(()) = session.hear(alloc, &chunk[..count]) else {
+            return Err(LiveFault::NoMemory);
+        };
+        session.responder.give(talk)?;
     }
     Err(LiveFault::NoMemory)
 }

@@ -1,24 +1,33 @@
-//! Sessions with devices that look at what is answered before they are read.
+//! Sessions with devices that look at what is answered before they are read, and at what is committed before it is
+//! answered.
 
-use crate::{Conversation, Ending, LiveFault, MAX_RECORD_BYTES, run_live};
-use auction::Config;
+use crate::{
+    CommitFailed, Conversation, Ending, LiveFault, MAX_RECORD_BYTES, SessionTerms, run_live,
+};
+use auction::{Auction, Config, OpenFault};
 use byte_streams::{SourceFailed, WriteFailed};
-use order_file::FileFault;
+use std::alloc::Global;
 use std::process::Abort;
 
 mod long;
 mod rows;
 
-const MEMBERS: u8 = 4;
+const TERMS: SessionTerms = SessionTerms {
+    members: 4,
+    reserve: 0,
+};
 
-/// A day of so many commands.
-fn day_of(max_calls: u32) -> Config {
-    Config {
-        low: 1,
-        high: 1000,
-        reference: 200,
-        max_open: 8,
-        max_calls,
-        range: None,
-    }
+/// An auction of so many commands.
+fn auction_of(alloc: Global, max_calls: u32) -> Result<Auction, OpenFault> {
+    Auction::open(
+        alloc,
+        Config {
+            low: 1,
+            high: 1000,
+            reference: 200,
+            max_open: 8,
+            max_calls,
+            range: None,
+        },
+    )
 }

@@ -230,7 +230,7 @@ pub fn command_of(word: Word, fields: &ByteRecord) -> Result<Command, RecordFaul
 /// The call of a record, or its first fault.
 #[tactic(auto, unfolding(crate::specs::Record::call_of))]
 #[inline]
-fn call_of(fields: &ByteRecord, members: u8) -> Result<Call, RecordFault>
+pub fn call_of(fields: &ByteRecord, members: u8) -> Result<Call, RecordFault>
     ensures call { result ≡ call_of members (fields_of fields.now) }
     ensures below { IfOk result (λ call. call.member < members) }
 {

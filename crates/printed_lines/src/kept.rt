@@ -29,8 +29,8 @@ impl KeptText {
         }
     }
 
-    /// Moves what stands on the page behind the full ones.
-    fn turn_page(&mut self) -> Result<(), AllocError>
+    /// Moves what stands on the page behind the full ones. The error is that memory is refused.
+    pub fn turn_page(&mut self) -> Result<(), AllocError>
         ensures text { text_of self.new ≡ text_of self.old }
         ensures page { IfOk result (λ _. self.new.page ≡ []) }
     {

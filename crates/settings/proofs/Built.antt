@@ -39,7 +39,7 @@ versioned a = on_top (λ top. record top { has_version = true }) a
 -- the options in the order of the table, and then the six others
 pub whole : (a b c d e f g h : App) (numbers : List Number) (floor history print audit results live : Rule)
     → a ≡ versioned (new_app (codes "callboard")) → b ≡ with_rules a (map rule_for numbers)
-    → map rule_for numbers ≡ take 7 options → floor ≡ flag (codes "floor") → c ≡ with_rule b floor
+    → map rule_for numbers ≡ take 8 options → floor ≡ flag (codes "floor") → c ≡ with_rule b floor
     → history ≡ flag (codes "history") → d ≡ with_rule c history
     → print ≡ word (codes "print") → e ≡ with_rule d print → audit ≡ flag (codes "audit") → f ≡ with_rule e audit
     → results ≡ flag (codes "results") → g ≡ with_rule f results
@@ -48,7 +48,7 @@ unfolding callboard
 whole a b c d e f g h numbers floor history print audit results live start table rules is_floor more_floor is_history
     more_history is_print more_print is_audit more_audit is_results more_results is_live more_live =
     let d_is : d
-    ≡ with_rule (with_rule (with_rules (versioned (new_app (codes "callboard"))) (take 7 options))
+    ≡ with_rule (with_rule (with_rules (versioned (new_app (codes "callboard"))) (take 8 options))
     (flag (codes "floor"))) (flag (codes "history")) =
     more_history ∙ ap₂ with_rule (more_floor ∙ ap₂ with_rule (table ∙ ap₂ with_rules start rules) is_floor)
     is_history in

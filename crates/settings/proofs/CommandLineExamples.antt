@@ -7,6 +7,7 @@ use Rattle.clap.proofs.OnLiterals.{clap_on_literals}
 use Rattle.settings.specs.Options.{callboard}
 use Rattle.settings.specs.CommandLine.{AcceptsWords, RefusesWords, words_kinds}
 use Rattle.settings.specs.declared.fault.WordsFault.TheVariants.{AuditNotAlone, LiveNotAlone, ResultsWithoutAudit}
+use Rattle.settings.specs.declared.fault.WordsFault.TheVariants.{WithoutLive}
 use Rattle.settings.specs.declared.types.FloorForm.TheVariants as floor
 use Rattle.settings.specs.declared.types.Form.TheVariants.{Lines, Listing}
 use Rattle.settings.specs.declared.types.Listing.TheVariants.{Journal, Trades, Book}
@@ -37,9 +38,7 @@ no_words = (
     members = refl;
     task = refl;
   },
-  refl,
-  refl,
-  refl,
+  (refl, refl, refl, refl),
 )
 
 -- `--low 5 --floor`
@@ -59,9 +58,7 @@ low_and_floor = (
     members = refl;
     task = refl;
   },
-  refl,
-  refl,
-  refl,
+  (refl, refl, refl, refl),
 )
 
 -- `--range 0`
@@ -83,9 +80,7 @@ range_of_zero = (
     members = refl;
     task = refl;
   },
-  refl,
-  refl,
-  refl,
+  (refl, refl, refl, refl),
 )
 
 -- each option of a run
@@ -112,9 +107,7 @@ every_option = (
     members = refl;
     task = refl;
   },
-  refl,
-  refl,
-  refl,
+  (refl, refl, refl, refl),
 )
 
 -- `--print lines`
@@ -133,9 +126,7 @@ lines_asked_for = (
     members = refl;
     task = refl;
   },
-  refl,
-  refl,
-  refl,
+  (refl, refl, refl, refl),
 )
 
 -- `--print trades`
@@ -157,9 +148,7 @@ trades_asked_for = (
     members = refl;
     task = refl;
   },
-  refl,
-  refl,
-  refl,
+  (refl, refl, refl, refl),
 )
 
 -- `--floor --print book`
@@ -179,9 +168,7 @@ book_of_a_floor = (
     members = refl;
     task = refl;
   },
-  refl,
-  refl,
-  refl,
+  (refl, refl, refl, refl),
 )
 
 -- `--floor --history`
@@ -203,9 +190,7 @@ floor_and_history = (
     members = refl;
     task = refl;
   },
-  refl,
-  refl,
-  refl,
+  (refl, refl, refl, refl),
 )
 
 -- `--history` alone: without a board there is no history to print
@@ -224,9 +209,7 @@ history_alone = (
     members = refl;
     task = refl;
   },
-  refl,
-  refl,
-  refl,
+  (refl, refl, refl, refl),
 )
 
 -- `--audit`
@@ -246,9 +229,7 @@ audit_alone = (
     members = refl;
     task = refl;
   },
-  refl,
-  refl,
-  refl,
+  (refl, refl, refl, refl),
 )
 
 -- and its results too
@@ -269,15 +250,13 @@ audit_with_results = (
     members = refl;
     task = refl;
   },
-  refl,
-  refl,
-  refl,
+  (refl, refl, refl, refl),
 )
 
 -- `--live`, also with the lines
 live_asked_for : AcceptsWords (codes "callboard" ∷ codes "--live" ∷ codes "--print" ∷ codes "lines" ∷ codes "--range"
     ∷ codes "3" ∷ [])
-    (record plain { config = record plain.config { range = Some 3 }; task = Live })
+    (record plain { config = record plain.config { range = Some 3 }; task = Live 16 })
 unfolding callboard clap_on_literals
 live_asked_for = (
   refl,
@@ -292,9 +271,27 @@ live_asked_for = (
     members = refl;
     task = refl;
   },
+  (refl, refl, refl, refl),
+)
+
+-- `--live --reserve 3`
+reserve_asked_for : AcceptsWords (codes "callboard" ∷ codes "--live" ∷ codes "--reserve" ∷ codes "3" ∷ [])
+    (record plain { task = Live 3 })
+unfolding callboard clap_on_literals
+reserve_asked_for = (
   refl,
-  refl,
-  refl,
+  record {
+    low = refl;
+    high = refl;
+    reference = refl;
+    max_open = refl;
+    max_calls = refl;
+    range =
+        refl;
+    members = refl;
+    task = refl;
+  },
+  (refl, refl, refl, refl),
 )
 
 -- ---- words that are refused
@@ -387,3 +384,13 @@ live_and_journal = (refl, refl, refl)
 results_alone : RefusesWords (codes "callboard" ∷ codes "--results" ∷ []) ResultsWithoutAudit
 unfolding callboard clap_on_literals
 results_alone = (refl, refl, refl, refl)
+
+-- and calls kept for the operator without answers as records come
+reserve_alone : RefusesWords (codes "callboard" ∷ codes "--reserve" ∷ codes "0" ∷ []) WithoutLive
+unfolding callboard clap_on_literals
+reserve_alone = (refl, refl, refl, refl, refl)
+
+-- one call too many
+reserve_1048577 : faults (codes "--live" ∷ codes "--reserve" ∷ codes "1048577" ∷ []) ≡ kind.ValueValidation ∷ []
+unfolding callboard clap_on_literals
+reserve_1048577 = refl

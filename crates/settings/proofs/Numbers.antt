@@ -10,7 +10,7 @@ use Rattle.clap.specs.Lexer.{without_minus}
 use Rattle.clap.specs.Matches.{ReadsOne}
 use Rattle.clap.specs.Values.{IsSignedIn}
 use Rattle.settings.specs.OptionTexts.{IsNumberIn}
-use Rattle.settings.specs.CommandLine.{number_in}
+use Rattle.settings.specs.NumberTexts.{number_in}
 
 minus_off : (t : List ℕ) → without_minus t ≡ cond (starts_with_minus t) (drop 1 t) t
 minus_off [] = refl

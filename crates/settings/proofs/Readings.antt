@@ -17,7 +17,7 @@ use Rattle.clap.specs.declared.parser.matches.Found.{Found}
 use Rattle.clap.proofs.WalkLemmas.{one_text-rows}
 use Rattle.settings.specs.Options.{callboard, flag, number}
 use Rattle.settings.specs.OptionTexts.{HasFlag, HasNumber, IsNumberIn, IsParsed, MayHaveNumber}
-use Rattle.settings.specs.CommandLine.{number_at, number_in}
+use Rattle.settings.specs.NumberTexts.{number_at, number_in}
 use Rattle.settings.specs.Tasks.{is_given, is_yes}
 use Rattle.settings.proofs.Numbers.{number_read, passed_text}
 use Rattle.settings.proofs.Parsed.{IsOption, IsReadBy, option_text, option_there}
@@ -138,6 +138,7 @@ pub record HasOptions (rows : List Row) : Type 0 where
   pub max_calls : HasNumber 1 MAX_CALLS (codes "calls") rows
   pub range : MayHaveNumber 0 MAX_TICK (codes "range") rows
   pub members : HasNumber 1 MAX_MEMBERS (codes "members") rows
+  pub reserve : MayHaveNumber 0 MAX_CALLS (codes "reserve") rows
   pub floor : HasFlag (codes "floor") rows
   pub history : HasFlag (codes "history") rows
   pub audit : HasFlag (codes "audit") rows
@@ -154,11 +155,12 @@ has_options m parsed = record {
   max_calls = a_number m 4 (codes "calls") 1 MAX_CALLS (codes "65536") parsed refl refl;
   range = maybe_number m 5 (codes "range") 0 MAX_TICK parsed refl refl;
   members = a_number m 6 (codes "members") 1 MAX_MEMBERS (codes "4") parsed refl refl;
-  floor = a_flag m 7 (codes "floor") parsed refl refl;
-  history = a_flag m 8 (codes "history") parsed refl refl;
-  audit = a_flag m 10 (codes "audit") parsed refl refl;
-  results = a_flag m 11 (codes "results") parsed refl refl;
-  live = a_flag m 12 (codes "live") parsed refl refl;
+  reserve = maybe_number m 7 (codes "reserve") 0 MAX_CALLS parsed refl refl;
+  floor = a_flag m 8 (codes "floor") parsed refl refl;
+  history = a_flag m 9 (codes "history") parsed refl refl;
+  audit = a_flag m 11 (codes "audit") parsed refl refl;
+  results = a_flag m 12 (codes "results") parsed refl refl;
+  live = a_flag m 13 (codes "live") parsed refl refl;
 }
 
 -- ---- their ranges

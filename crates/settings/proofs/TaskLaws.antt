@@ -1,7 +1,8 @@
 -- What the words ask for, from what was read of the matches of a parse.
 use Rattle.std.proofs.Common.{◌≡◌, ◌∙◌, ap, Bool, true, false, refl, sym, subst, List, [], ◌∷◌, Option, Some, None}
-use Rattle.std.proofs.Common.{codes, inl, inr}
-use Rattle.std.specs.Prelude.{if◌then◌else◌, Result, Ok, Err, IfErr, IsErrAnd, is_some, option_map}
+use Rattle.std.proofs.Common.{codes, inl, inr, ℕ, ◌≤◌, arith}
+use Rattle.std.specs.Prelude.{if◌then◌else◌, Result, Ok, Err, IfErr, IfSome, IsErrAnd, is_some, option_map, unwrap_or}
+use Rattle.auction_terms.specs.declared.limits.TheConstants.{MAX_CALLS}
 use Rattle.std.specs.Borrow.{Bor}
 use Rattle.clap.specs.Faults.{fault_of, is_simple_and_free}
 use Rattle.clap.specs.Kinds.{HasKind, Kinds, or_else}
@@ -10,18 +11,24 @@ use Rattle.clap.specs.Simple.{app_of, matches_of}
 use Rattle.clap.specs.Walk.{Row, Text, rows_of}
 use Rattle.clap.specs.declared.builder.command.Command.{Command}
 use Rattle.clap.specs.declared.error.Error.{Error}
+use Rattle.clap.specs.declared.error.kind.ErrorKind.TheVariants.{InvalidValue}
 use Rattle.clap.specs.declared.parser.matches.Found.{Found}
 use Rattle.clap.proofs.WalkLemmas.{first_value-rows}
 use Rattle.settings.specs.Options.{callboard}
 use Rattle.settings.specs.CommandLine.{RefusesWords}
+use Rattle.settings.specs.NumberTexts.{number_at}
+use Rattle.settings.specs.OptionTexts.{MayHaveNumber}
+use Rattle.settings.specs.Ranges.{HasReserveInRange}
 use Rattle.settings.specs.Tasks.{RefusesTask, wanted_form, form_kinds, is_given, is_live_mixed, is_audit_mixed, run_of}
-use Rattle.settings.specs.Tasks.{is_results_alone, task_at, word_in}
+use Rattle.settings.specs.Tasks.{is_live_missing, is_results_alone, reserve_at, task_at, word_in}
 use Rattle.settings.specs.declared.fault.WordsFault.{WordsFault}
 use Rattle.settings.specs.declared.fault.WordsFault.TheVariants.{Parse, AuditNotAlone, LiveNotAlone}
-use Rattle.settings.specs.declared.fault.WordsFault.TheVariants.{ResultsWithoutAudit}
+use Rattle.settings.specs.declared.fault.WordsFault.TheVariants.{ResultsWithoutAudit, WithoutLive}
 use Rattle.settings.specs.declared.types.Form.{Form}
+use Rattle.settings.specs.declared.types.Task.{Task}
 use Rattle.settings.specs.declared.types.Task.TheVariants.{Audit, Live}
-use Rattle.settings.proofs.Readings.{free_command}
+use Rattle.settings.specs.declared.types.TheConstants.{USUAL_RESERVE}
+use Rattle.settings.proofs.Readings.{at_most_if_some, free_command}
 
 -- what a `?` hands on
 pub handed_on : {T E : Type 0} (P : E → Type 0) (r : Result T E) (e : E) → P e → IsErrAnd r (λ x. x ≡ e) → IfErr r P
@@ -50,9 +57,46 @@ pub task_at-run : (rows : List Row) (word : Option Text) (floor history : Bool) 
     → is_given (codes "audit") rows ≡ false
     → is_given (codes "live") rows ≡ false → task_at rows ≡ Some (run_of floor history form)
 task_at-run rows word floor history form same asked is_floor is_history no_audit no_live =
-    (λ i. if no_live i then Some Live else if no_audit i then Some (Audit (is_given (codes "results") rows))
+    (λ i. if no_live i then Some (Live (reserve_at rows))
+    else if no_audit i then Some (Audit (is_given (codes "results") rows))
     else option_map (run_of (is_floor i) (is_history i)) (wanted_form (same i)))
     ∙ ap (option_map (run_of floor history)) asked
+
+-- the form that is wanted is one
+pub no_kinds : (word : Option Text) (form : Form) → wanted_form word ≡ Some form → form_kinds word ≡ []
+no_kinds word form is = ap (λ (w : Option Form). if is_some w then [] else InvalidValue ∷ []) is
+
+-- ---- the calls that are kept for the operator
+
+usual_or_less : (given : Option ℕ) → IfSome given (λ n. n ≤ MAX_CALLS) → unwrap_or given USUAL_RESERVE ≤ MAX_CALLS
+usual_or_less None h = omega arith
+usual_or_less (Some n) h = h
+
+-- no other task keeps any
+others_keep_none : (audit results floor history : Bool) (form : Option Form) (task : Task)
+    → (if audit then Some (Audit results) else option_map (run_of floor history) form) ≡ Some task
+    → HasReserveInRange task
+others_keep_none true results floor history form task is =
+    subst HasReserveInRange (ap (λ (t : Option Task). unwrap_or t task) is) tt
+others_keep_none false results floor history None task is = absurd (cc (is))
+others_keep_none false results true history (Some form) task is =
+    subst HasReserveInRange (ap (λ (t : Option Task). unwrap_or t task) is) tt
+others_keep_none false results false history (Some form) task is =
+    subst HasReserveInRange (ap (λ (t : Option Task). unwrap_or t task) is) tt
+
+pub reserve_in_range : (rows : List Row) (task : Task) → MayHaveNumber 0 MAX_CALLS (codes "reserve") rows
+    → task_at rows ≡ Some task → HasReserveInRange task
+reserve_in_range rows task has is = go (is_given (codes "live") rows) refl
+  where
+    go : (live : Bool) → is_given (codes "live") rows ≡ live → HasReserveInRange task
+    go true e =
+        let same : Live (reserve_at rows) ≡ task = ap (λ (t : Option Task). unwrap_or t task) (rw e at is) in
+        subst HasReserveInRange same (usual_or_less (number_at (codes "reserve") rows)
+        (at_most_if_some 0 MAX_CALLS (codes "reserve") rows (number_at (codes "reserve") rows) has refl))
+    go false e =
+        others_keep_none (is_given (codes "audit") rows) (is_given (codes "results") rows)
+        (is_given (codes "floor") rows) (is_given (codes "history") rows) (wanted_form (word_in rows)) task
+        (rw e at is)
 
 -- ---- why words are refused
 
@@ -91,4 +135,12 @@ refused_task words rows ResultsWithoutAudit none same alone = (
   ap is_audit_mixed (sym same) ∙ alone.1,
   ap is_live_mixed (sym same) ∙ alone.2,
   ap is_results_alone (sym same) ∙ alone.3,
+)
+refused_task words rows WithoutLive none same missing = (
+  (λ i. or_else (none i) (form_kinds (word_in (matches_of callboard words))))
+      ∙ ap (λ rs. form_kinds (word_in rs)) (sym same) ∙ missing.0,
+  ap is_audit_mixed (sym same) ∙ missing.1,
+  ap is_live_mixed (sym same) ∙ missing.2,
+  ap is_results_alone (sym same) ∙ missing.3,
+  ap is_live_missing (sym same) ∙ missing.4,
 )

@@ -8,7 +8,7 @@ use Rattle.clap.specs.Walk.{Row, Text, one_of, rows_of}
 use Rattle.clap.specs.declared.builder.command.Command.{Command}
 use Rattle.clap.specs.declared.parser.matches.ArgMatches.{ArgMatches}
 use Rattle.settings.specs.Options.{callboard}
-use Rattle.settings.specs.CommandLine.{number_in}
+use Rattle.settings.specs.NumberTexts.{number_in}
 
 -- the options in the matches of a parse, with their texts
 abbrev pub rows_in : ArgMatches → List Row

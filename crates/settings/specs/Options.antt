@@ -43,6 +43,7 @@ options = number (codes "low") 1 MAX_TICK (Some (codes "1"))
     ∷ number (codes "calls") 1 MAX_CALLS (Some (codes "65536"))
     ∷ number (codes "range") 0 MAX_TICK None
     ∷ number (codes "members") 1 MAX_MEMBERS (Some (codes "4"))
+    ∷ number (codes "reserve") 0 MAX_CALLS None
     ∷ flag (codes "floor")
     ∷ flag (codes "history")
     ∷ word (codes "print")

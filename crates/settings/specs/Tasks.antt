@@ -1,20 +1,22 @@
 -- What the words ask to be done with the input.
 use Rattle.std.specs.Prelude.{◌≡◌, ◌||◌, ◌&&◌, Bool, true, false, List, [], ◌∷◌, Option, Some, None, codes, is_some}
-use Rattle.std.specs.Prelude.{if◌then◌else◌, not, option_map}
+use Rattle.std.specs.Prelude.{ℕ, if◌then◌else◌, not, option_map, unwrap_or}
 use Rattle.std.specs.Option.{option_map_or}
 use Rattle.std.specs.Str.{bytes_eq}
 use Rattle.clap.specs.Kinds.{HasKind, Kinds}
 use Rattle.clap.specs.Walk.{Row, Text, first_of, one_of}
 use Rattle.clap.specs.declared.error.kind.ErrorKind.TheVariants.{InvalidValue}
+use Rattle.settings.specs.NumberTexts.{number_at}
 use Rattle.settings.specs.declared.fault.WordsFault.{WordsFault}
 use Rattle.settings.specs.declared.fault.WordsFault.TheVariants.{Parse, AuditNotAlone, LiveNotAlone}
-use Rattle.settings.specs.declared.fault.WordsFault.TheVariants.{ResultsWithoutAudit}
+use Rattle.settings.specs.declared.fault.WordsFault.TheVariants.{ResultsWithoutAudit, WithoutLive}
 use Rattle.settings.specs.declared.types.FloorForm.{FloorForm}
 use Rattle.settings.specs.declared.types.FloorForm.TheVariants as floor
 use Rattle.settings.specs.declared.types.Form.{Form}
 use Rattle.settings.specs.declared.types.Form.TheVariants.{Lines, Listing}
 use Rattle.settings.specs.declared.types.Listing.TheVariants.{Journal, Trades, Book}
 use Rattle.settings.specs.declared.types.Task.{Task}
+use Rattle.settings.specs.declared.types.TheConstants.{USUAL_RESERVE}
 use Rattle.settings.specs.declared.types.Task.TheVariants.{Run, Floor, Audit, Live}
 
 -- the text of a flag, if it has one, says that it was given
@@ -57,10 +59,14 @@ abbrev pub run_of : Bool → Bool → Form → Task
 run_of true history form = Floor (floor_form history form)
 run_of false history form = Run form
 
+-- how many of the last calls are the operator's: as many as an option says, and else the usual number
+abbrev pub reserve_at : List Row → ℕ
+reserve_at rows = unwrap_or (number_at (codes "reserve") rows) USUAL_RESERVE
+
 -- what is to be done: the answers as records come or an audit, where they are asked for, and else a run
 abbrev pub task_at : List Row → Option Task
 task_at rows =
-    if is_given (codes "live") rows then Some Live
+    if is_given (codes "live") rows then Some (Live (reserve_at rows))
     else if is_given (codes "audit") rows then Some (Audit (is_given (codes "results") rows))
     else option_map (run_of (is_given (codes "floor") rows) (is_given (codes "history") rows))
     (wanted_form (word_in rows))
@@ -87,8 +93,17 @@ is_live_mixed rows = is_given (codes "live") rows && (is_given (codes "audit") r
 abbrev pub is_results_alone : List Row → Bool
 is_results_alone rows = is_given (codes "results") rows && not (is_given (codes "audit") rows)
 
+-- something that goes with answers as records come alone was asked for without them
+abbrev pub is_live_missing : List Row → Bool
+is_live_missing rows = is_some (number_at (codes "reserve") rows) && not (is_given (codes "live") rows)
+
+-- An audit stands alone, and so do answers as records come; what goes with either isn't asked for without it.
+abbrev pub IsWellMixed : List Row → Type 0
+IsWellMixed rows = (is_audit_mixed rows ≡ false) × (is_live_mixed rows ≡ false) × (is_results_alone rows ≡ false)
+    × (is_live_missing rows ≡ false)
+
 -- Why options that have no fault of their own say no task. The form comes first, then what stands beside an audit, then
--- what stands beside answers as records come.
+-- what stands beside answers as records come, then what goes with either and was asked for without it.
 abbrev pub RefusesTask : List Row → WordsFault → Type 0
 RefusesTask rows (Parse error) = HasKind (form_kinds (word_in rows)) error
 RefusesTask rows AuditNotAlone = (form_kinds (word_in rows) ≡ []) × (is_audit_mixed rows ≡ true)
@@ -96,3 +111,5 @@ RefusesTask rows LiveNotAlone =
     (form_kinds (word_in rows) ≡ []) × (is_audit_mixed rows ≡ false) × (is_live_mixed rows ≡ true)
 RefusesTask rows ResultsWithoutAudit = (form_kinds (word_in rows) ≡ []) × (is_audit_mixed rows ≡ false)
     × (is_live_mixed rows ≡ false) × (is_results_alone rows ≡ true)
+RefusesTask rows WithoutLive = (form_kinds (word_in rows) ≡ []) × (is_audit_mixed rows ≡ false)
+    × (is_live_mixed rows ≡ false) × (is_results_alone rows ≡ false) × (is_live_missing rows ≡ true)

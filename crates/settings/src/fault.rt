@@ -21,6 +21,8 @@ pub enum WordsFault {
     LiveNotAlone,
     /// `--results` was given without `--audit`. The text is one line.
     ResultsWithoutAudit,
+    /// `--reserve` was given without `--live`. The text is one line.
+    WithoutLive,
 }
 
 impl From<Error> for WordsFault {
@@ -44,6 +46,7 @@ impl Display for WordsFault {
                 f.write_str("--live prints lines, without --floor, --history or --audit")
             }
             WordsFault::ResultsWithoutAudit => f.write_str("--results goes with --audit"),
+            WordsFault::WithoutLive => f.write_str("--reserve goes with --live"),
         }
     }
 }

@@ -1,11 +1,12 @@
 //! The command line of a call auction board: its options, their ranges and their defaults.
 #![tactic(auto)]
 
-ghost use Rattle.std.specs.Prelude.{◌≡◌, IfErr, IfOk, Some, codes};
+ghost use Rattle.std.specs.Prelude.{◌≡◌, IfErr, IfOk, Some};
 ghost use Rattle.clap.specs.Walk.{texts};
 ghost use Rattle.settings.specs.Ranges.{IsInRange};
 ghost use Rattle.settings.specs.OptionTexts.{HasU32, IsParsed, MayHaveU32, rows_in};
-ghost use Rattle.settings.specs.CommandLine.{AcceptsWords, RefusesWords, MatchesOptions, number_at};
+ghost use Rattle.settings.specs.NumberTexts.{number_at};
+ghost use Rattle.settings.specs.CommandLine.{AcceptsWords, RefusesWords, MatchesOptions};
 ghost use Rattle.settings.specs.Tasks.{task_at};
 
 mod fault;
@@ -18,7 +19,7 @@ use clap::ArgMatches;
 pub use fault::WordsFault;
 use std::alloc::Global;
 use task::task_of;
-pub use types::{FloorForm, Form, Listing, Settings, Task};
+pub use types::{FloorForm, Form, Listing, Settings, Task, USUAL_RESERVE};
 
 /// The number of an option that has a default.
 fn number_of(matches: &ArgMatches<'_>, name: &str) -> u32
@@ -28,12 +29,12 @@ fn number_of(matches: &ArgMatches<'_>, name: &str) -> u32
     matches.get_one::<u32>(name).unwrap()
 }
 
-/// The range, which may be left out.
-fn range_of(matches: &ArgMatches<'_>) -> Option<u32>
-    requires { MayHaveU32 (codes "range") (rows_in matches.now) }
-    ensures { number_at (codes "range") (rows_in matches.now) ≡ result }
+/// The number of an option that may be left out.
+fn number_if_given(matches: &ArgMatches<'_>, name: &str) -> Option<u32>
+    requires { MayHaveU32 name.now (rows_in matches.now) }
+    ensures { number_at name.now (rows_in matches.now) ≡ result }
 {
-    matches.get_one::<u32>("range")
+    matches.get_one::<u32>(name)
 }
 
 /// The settings with this task in the matches of a parse of the command.
@@ -48,7 +49,7 @@ fn settings_of(matches: &ArgMatches<'_>, task: Task) -> Settings
     let reference = number_of(matches, "reference");
     let max_open = number_of(matches, "open");
     let max_calls = number_of(matches, "calls");
-    let range = range_of(matches);
+    let range = number_if_given(matches, "range");
     let members = number_of(matches, "members");
     Settings {
         config: Config {
@@ -70,7 +71,8 @@ fn settings_of(matches: &ArgMatches<'_>, task: Task) -> Settings
 /// is in its option's range; what two options say together is for the auction to judge. An error is
 /// clap's own: its text for the help that was asked for, for words that are none of these options, a
 /// number out of its range or a form that there is not, and for want of memory. Where none of these
-/// is so, it is that `--audit` doesn't stand alone, and where that does, that `--live` doesn't.
+/// is so, it is that options don't go together: that `--audit` doesn't stand alone, or that `--live`
+/// doesn't, or that `--results` was given without `--audit`, or `--reserve` without `--live`.
 pub fn settings<'a>(alloc: Global, words: &'a [&'a str]) -> Result<Settings, WordsFault>
     ensures refused { IfErr result (RefusesWords (texts words.now)) }
     ensures words { IfOk result (AcceptsWords (texts words.now)) }

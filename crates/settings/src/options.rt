@@ -48,7 +48,7 @@ struct Number {
     default: Option<&'static str>,
 }
 
-static NUMBERS: [Number; 7] = [
+static NUMBERS: [Number; 8] = [
     Number {
         name: "low",
         help: "The lowest tick, from 1 to 1000000",
@@ -97,6 +97,13 @@ static NUMBERS: [Number; 7] = [
         least: 1,
         most: MAX_MEMBERS as u32,
         default: Some("4"),
+    },
+    Number {
+        name: "reserve",
+        help: "With --live, how many of the last commands only member 0 may make, from 0 to 1048576 [default: 16]",
+        least: 0,
+        most: MAX_CALLS,
+        default: None,
     },
 ];
 

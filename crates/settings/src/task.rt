@@ -1,17 +1,19 @@
 //! What is done with the input.
 
-ghost use Rattle.std.specs.Prelude.{◌≡◌, ◌⊎◌, Some, IfErr, IfOk, codes, false, is_some, option_map};
+ghost use Rattle.std.specs.Prelude.{◌≡◌, ◌⊎◌, Some, IfErr, IfOk, codes, is_some, option_map};
 ghost use Rattle.clap.specs.Kinds.{FailsBy};
 ghost use Rattle.clap.specs.Values.{kind_of};
 ghost use Rattle.clap.specs.declared.error.kind.ErrorKind.TheVariants.{InvalidValue, OutOfMemory};
+ghost use Rattle.settings.specs.NumberTexts.{number_at};
 ghost use Rattle.settings.specs.OptionTexts.{HasFlag, IsParsed, rows_in};
-ghost use Rattle.settings.specs.Tasks.{RefusesTask, floor_form, wanted_form, form_kinds, form_of, is_given};
-ghost use Rattle.settings.specs.Tasks.{is_live_mixed, is_audit_mixed};
-ghost use Rattle.settings.specs.Tasks.{is_results_alone, task_at, word_in};
+ghost use Rattle.settings.specs.Tasks.{IsWellMixed, RefusesTask, floor_form, wanted_form, form_kinds, form_of};
+ghost use Rattle.settings.specs.Tasks.{is_audit_mixed, is_given, is_live_missing, is_live_mixed, is_results_alone};
+ghost use Rattle.settings.specs.Tasks.{reserve_at, task_at, word_in};
+ghost use Rattle.settings.specs.declared.types.Task.TheVariants.{Live};
 
 use crate::fault::WordsFault;
-use crate::options;
-use crate::types::{FloorForm, Form, Listing, Task};
+use crate::types::{FloorForm, Form, Listing, Task, USUAL_RESERVE};
+use crate::{number_if_given, options};
 use clap::error::ErrorKind;
 use clap::{ArgMatches, Error};
 use std::alloc::Global;
@@ -109,6 +111,49 @@ fn is_results_alone(matches: &ArgMatches<'_>) -> bool
     results && !audit
 }
 
+/// Whether something that goes with answers as records come alone was asked for without them.
+fn is_live_missing(matches: &ArgMatches<'_>) -> bool
+    requires { IsParsed matches.now }
+    ensures { is_live_missing (rows_in matches.now) ≡ result }
+{
+    let reserve = number_if_given(matches, "reserve");
+    let live = flag_of(matches, "live");
+    reserve.is_some() && !live
+}
+
+/// Refuses options that don't go together.
+fn refuse_mix(matches: &ArgMatches<'_>, form: Form) -> Result<(), WordsFault>
+    requires parsed { IsParsed matches.now }
+    requires form { wanted_form (word_in (rows_in matches.now)) ≡ Some form }
+    ensures refused { IfErr result (RefusesTask (rows_in matches.now)) }
+    ensures mixed { IfOk result (λ _. IsWellMixed (rows_in matches.now)) }
+{
+    if is_audit_mixed(matches) {
+        return Err(WordsFault::AuditNotAlone);
+    }
+    if is_live_mixed(matches, form) {
+        return Err(WordsFault::LiveNotAlone);
+    }
+    if is_results_alone(matches) {
+        return Err(WordsFault::ResultsWithoutAudit);
+    }
+    if is_live_missing(matches) {
+        return Err(WordsFault::WithoutLive);
+    }
+    Ok(())
+}
+
+/// The answers as records come, with as many calls kept for the operator as an option says, or as usual.
+fn live_task(matches: &ArgMatches<'_>) -> Task
+    requires { IsParsed matches.now }
+    ensures { Live (reserve_at (rows_in matches.now)) ≡ result }
+{
+    let given = number_if_given(matches, "reserve");
+    Task::Live {
+        reserve: given.unwrap_or(USUAL_RESERVE),
+    }
+}
+
 /// What is printed of a board's day in this form, and with its history where that is asked for. A listing has it.
 fn floor_form(form: Form, history: bool) -> FloorForm
     ensures { result ≡ floor_form history form }
@@ -120,33 +165,22 @@ fn floor_form(form: Form, history: bool) -> FloorForm
     }
 }
 
-/// What the matches of a parse ask for. An audit stands alone, and so do answers as records come; the results of a day
-/// go with an audit.
+/// What the matches of a parse ask for.
 pub fn task_of(alloc: Global, matches: &ArgMatches<'_>) -> Result<Task, WordsFault>
     requires { IsParsed matches.now }
     ensures refused { IfErr result (RefusesTask (rows_in matches.now)) }
     ensures task { IfOk result (λ task. task_at (rows_in matches.now) ≡ Some task) }
-    ensures alone { IfOk result (λ _. is_audit_mixed (rows_in matches.now) ≡ false) }
-    ensures live_alone { IfOk result (λ _. is_live_mixed (rows_in matches.now) ≡ false) }
-    ensures results { IfOk result (λ _. is_results_alone (rows_in matches.now) ≡ false) }
+    ensures mixed { IfOk result (λ _. IsWellMixed (rows_in matches.now)) }
 {
     let form = wanted_form(alloc, matches.get_str("print"))?;
-    if is_audit_mixed(matches) {
-        return Err(WordsFault::AuditNotAlone);
-    }
-    if is_live_mixed(matches, form) {
-        return Err(WordsFault::LiveNotAlone);
-    }
-    if is_results_alone(matches) {
-        return Err(WordsFault::ResultsWithoutAudit);
-    }
+    refuse_mix(matches, form)?;
     let live = flag_of(matches, "live");
     let audit = flag_of(matches, "audit");
     let results = flag_of(matches, "results");
     let floor = flag_of(matches, "floor");
     let history = flag_of(matches, "history");
     if live {
-        return Ok(Task::Live);
+        return Ok(live_task(matches));
     }
     if audit {
         return Ok(Task::Audit { results });

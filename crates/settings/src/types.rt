@@ -2,6 +2,9 @@
 
 use auction_terms::Config;
 
+/// How many of a session's last calls are the operator's where no option says so.
+pub const USUAL_RESERVE: u32 = 16;
+
 /// A listing of a whole day, printed when its last command has been replied to.
 #[derive(Clone, Copy, Debug, PartialEq, Eq)]
 pub enum Listing {
@@ -46,7 +49,10 @@ pub enum Task {
         results: bool,
     },
     /// Each of its records is answered as it comes.
-    Live,
+    Live {
+        /// How many of the day's last calls are the operator's alone.
+        reserve: u32,
+    },
 }
 
 /// What the command line says: what an auction is opened with and how many members it has, where the

@@ -128,13 +128,19 @@ fn answers_as_records_come_stand_alone(rt: HostRuntime) -> Result<(), Fail> {
     let wanted = Settings {
         config: DAY,
         members: 4,
-        task: Task::Live,
+        task: Task::Live { reserve: 16 },
+    };
+    let none = Settings {
+        config: DAY,
+        members: 4,
+        task: Task::Live { reserve: 0 },
     };
     assert_eq!(rt; settings(rt.alloc(), &["callboard", "--live"])?, wanted);
     assert_eq!(rt;
         settings(rt.alloc(), &["callboard", "--live", "--print=lines"])?,
         wanted
     );
+    assert_eq!(rt; settings(rt.alloc(), &["callboard", "--reserve=0", "--live"])?, none);
     for other in ["--floor", "--history", "--audit", "--print=book"] {
         let Err(WordsFault::LiveNotAlone) = settings(rt.alloc(), &["callboard", "--live", other])
         else {

@@ -28,23 +28,56 @@ const ROWS: &[Row] = &[
     ),
     (
         LIVE,
-        b"1,enter,bid,500,200\n1,sell\n2,enter,ask,300,199\r\n0,uncross",
-        "1: entered 1\n3: entered 2\n4: opening price 200 volume 300 surplus 200 bid trades 1\n",
-        "record 2: bad command\n",
+        b"1,enter,bid,500,200\n1,sell\n2,enter,ask,300,199\r\n\n0,uncross\n",
+        "1: entered 1\nrecord 2: bad command\n2: entered 2\n\
+        3: opening price 200 volume 300 surplus 200 bid trades 1\n",
+        "",
         1,
     ),
     (
-        &["callboard", "--live", "--calls", "1"],
+        LIVE,
+        b"1,ask\n0,uncross",
+        "1: no price bid - ask -\nrecord 2: cut off\n",
+        "",
+        1,
+    ),
+    (
+        LIVE,
+        b"1,\"ask\n1,ask\n\"1\",\"ask\"\n",
+        "record 1: quote not closed\n1: no price bid - ask -\n2: no price bid - ask -\n",
+        "",
+        1,
+    ),
+    (
+        &["callboard", "--live", "--calls", "1", "--reserve=0"],
         b"1,sell\n1,ask\n1,ask\n1,sell\n",
-        "2: no price bid - ask -\n",
-        "record 1: bad command\nrecord 3: too many commands\nrecord 4: too many commands\n",
+        "record 1: bad command\n1: no price bid - ask -\n\
+        record 3: too many commands\nrecord 4: too many commands\n",
+        "",
         1,
     ),
     (
         LIVE,
         b"day,1,1000,200,4,4096,65536,\n1,ask,no price bid - ask -\n",
-        "",
         "record 1: bad member\nrecord 2: wrong number of fields\n",
+        "",
+        1,
+    ),
+    (
+        &["callboard", "--live", "--calls", "3", "--reserve", "2"],
+        b"1,ask\n1,ask\n0,ask\n2,ask\n0,uncross\n0,ask\n",
+        "1: no price bid - ask -\nrecord 2: calls are reserved for the operator\n\
+        2: no price bid - ask -\nrecord 4: calls are reserved for the operator\n\
+        3: opening no price\nrecord 6: too many commands\n",
+        "",
+        1,
+    ),
+    (
+        &["callboard", "--live", "--calls", "17"],
+        b"1,ask\n1,ask\n0,ask\n",
+        "1: no price bid - ask -\nrecord 2: calls are reserved for the operator\n\
+        2: no price bid - ask -\n",
+        "",
         1,
     ),
     (
@@ -67,6 +100,11 @@ fn live_goes_with_lines_alone(rt: HostRuntime) {
     for words in MIXED {
         each_gives(&rt, &[(words, b"1,ask\n", "", line, 2)]);
     }
+    let alone = &["callboard", "--reserve", "16"];
+    each_gives(
+        &rt,
+        &[(alone, b"1,ask\n", "", "--reserve goes with --live\n", 2)],
+    );
 }
 
 /// The lines of the records that are complete in so many bytes of the input.

@@ -1,29 +1,30 @@
-//! Records as long as they may be, and longer.
+//! Lines as long as they may be, and longer.
 
 ghost use Rattle.std.specs.Prelude.{None};
 
 use super::*;
 
-/// Hands out a good record, and then one of this byte, of so many bytes, and its line end.
+/// Hands out a good record, then a line of this byte, of so many bytes, and a good record again, and keeps the last
+/// bytes of what is answered.
 #[derive(Drop)]
-struct LongRecord {
+struct LongLine {
     front: &'static [u8],
     byte: u8,
     left: usize,
-    is_ended: bool,
-    lines: usize,
-    told: Option<FileFault>,
+    behind: &'static [u8],
+    answers: [u8; 128],
+    len: usize,
 }
 
-impl LongRecord {
-    fn new(byte: u8, count: usize) -> LongRecord {
-        LongRecord {
+impl LongLine {
+    fn new(byte: u8, count: usize) -> LongLine {
+        LongLine {
             front: b"1,ask\n",
             byte,
             left: count,
-            is_ended: false,
-            lines: 0,
-            told: None,
+            behind: b"\n1,ask\n",
+            answers: [0; 128],
+            len: 0,
         }
     }
 
@@ -37,26 +38,35 @@ impl LongRecord {
             self.left -= 1;
             return Some(self.byte);
         }
-        if self.is_ended {
+        let [byte, rest @ ..] = self.behind else {
             return None;
-        }
-        self.is_ended = true;
-        Some(b'\n')
+        };
+        self.behind = rest;
+        Some(*byte)
+    }
+
+    /// What was answered, if it is no more than there is room for.
+    fn answers(&self) -> Option<&[u8]> {
+        self.answers.get(..self.len)
     }
 }
 
-impl Conversation for LongRecord {
+impl Conversation for LongLine {
     ghost left = { λ _. None };
 
     ghost written = { λ _. None };
 
-    ghost told = { λ _. None };
+    ghost committed = { λ _. None };
 
     ghost read_failures = { λ _. 0 };
 
     ghost write_failures = { λ _. 0 };
 
+    ghost commit_failures = { λ _. 0 };
+
     ghost MayRead = { λ _. Unit {0} };
+
+    ghost MayWrite = { λ _ _. Unit {0} };
 
     ghost Becomes = { λ a b. Unit {0} };
 
@@ -74,36 +84,51 @@ impl Conversation for LongRecord {
         Ok(buffer.len())
     }
 
-    fn write(&mut self, text: &[u8]) -> Result<(), WriteFailed> {
-        self.lines = self
-            .lines
-            .saturating_add(text.iter().filter(|byte| **byte == b'\n').count());
+    fn commit(&mut self, _entries: &[u8]) -> Result<(), CommitFailed> {
         Ok(())
     }
 
-    fn tell(&mut self, fault: FileFault) {
-        self.told = Some(fault);
+    fn write(&mut self, text: &[u8]) -> Result<(), WriteFailed> {
+        for byte in text {
+            if let Some(slot) = self.answers.get_mut(self.len) {
+                *slot = *byte;
+            }
+            self.len = self.len.saturating_add(1);
+        }
+        Ok(())
     }
 }
 
+/// A session with such a line gives these answers.
+fn gives<T: Abort + AllocGlobal>(
+    rt: &T,
+    byte: u8,
+    count: usize,
+    answers: &[u8],
+) -> Result<(), OpenFault> {
+    let mut line = LongLine::new(byte, count);
+    let auction = auction_of(rt.alloc(), 8)?;
+    let ended = run_live(rt.alloc(), &mut line, auction, TERMS);
+    assert_eq!(rt; ended, Ok(Ending::SomeBad));
+    assert!(rt; line.answers() == Some(answers));
+    Ok(())
+}
+
 #[test]
-fn the_longest_record_is_answered(rt: HostRuntime) -> Result<(), LiveFault> {
+fn the_longest_line_is_read(rt: HostRuntime) -> Result<(), OpenFault> {
+    let answers = b"1: no price bid - ask -\nrecord 2: bad member\n2: no price bid - ask -\n";
     for byte in [b'7', b'x', b','] {
-        let mut record = LongRecord::new(byte, MAX_RECORD_BYTES);
-        let ending = run_live(rt.alloc(), &mut record, day_of(8), MEMBERS)?;
-        assert_eq!(rt; ending, Ending::SomeBad);
-        assert!(rt; record.lines == 1 && record.is_ended);
-        assert!(rt; record.told == Some(FileFault::BadMember { number: 2 }));
+        gives(&rt, byte, MAX_RECORD_BYTES, answers)?;
     }
     Ok(())
 }
 
 #[test]
-fn a_record_that_is_too_long_ends_the_session(rt: HostRuntime) {
+fn a_line_that_is_too_long_is_passed_over(rt: HostRuntime) -> Result<(), OpenFault> {
+    let answers = b"1: no price bid - ask -\nrecord 2: record too long\n2: no price bid - ask -\n";
     for byte in [b'7', b'x', b',', b'"'] {
-        let mut record = LongRecord::new(byte, MAX_RECORD_BYTES.saturating_add(1));
-        let ended = run_live(rt.alloc(), &mut record, day_of(8), MEMBERS);
-        assert!(rt; ended == Err(LiveFault::RecordTooLong { number: 2 }));
-        assert!(rt; record.lines == 1 && record.told.is_none());
+        gives(&rt, byte, MAX_RECORD_BYTES.saturating_add(1), answers)?;
+        gives(&rt, byte, MAX_RECORD_BYTES.saturating_add(70_000), answers)?;
     }
+    Ok(())
 }

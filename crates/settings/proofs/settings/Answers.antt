@@ -1,9 +1,9 @@
 -- Answers of `settings` (src/lib.rt): what the prover left open; rt looks here.
-use Rattle.std.proofs.Common.{◌∙◌, ap, inl, subst, sym}
+use Rattle.std.proofs.Common.{inl, subst}
 use Rattle.clap.specs.Walk.{texts}
 use Rattle.settings.specs.CommandLine.{RefusesWords, MatchesOptions}
 use Rattle.settings.specs.OptionTexts.{rows_in}
-use Rattle.settings.specs.Tasks.{is_live_mixed, is_audit_mixed, is_results_alone}
+use Rattle.settings.specs.Tasks.{IsWellMixed}
 use Rattle.settings.specs.declared.fault.WordsFault.TheVariants.{Parse}
 use Rattle.settings.proofs.Readings.{no_fault, rows_are}
 use Rattle.settings.proofs.TaskLaws.{handed_on, refused_task, refused_words}
@@ -41,7 +41,5 @@ returns-clause-words c =
     c.in_ok-matches.ensures.matches in (
       no_fault c.in_ok-command.command words c.in_ok-command.ensures.options c.in_ok-matches.ensures.kinds,
       subst (λ rs. MatchesOptions rs c.settings_of.result) rows c.settings_of.ensures.words,
-      ap is_audit_mixed (sym rows) ∙ c.in_ok-task.ensures.alone,
-      ap is_live_mixed (sym rows) ∙ c.in_ok-task.ensures.live_alone,
-      ap is_results_alone (sym rows) ∙ c.in_ok-task.ensures.results,
+      subst IsWellMixed rows c.in_ok-task.ensures.mixed,
     )

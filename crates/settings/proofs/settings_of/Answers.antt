@@ -4,6 +4,7 @@ use Rattle.auction_terms.specs.declared.limits.TheConstants.{MAX_CALLS, MAX_MEMB
 use Rattle.clap.specs.Matches.{found_of}
 use Rattle.clap.specs.Walk.{rows_of}
 use Rattle.settings.proofs.Readings.{at_most_if_some, between, has_options, wider, wider_or_none}
+use Rattle.settings.proofs.TaskLaws.{reserve_in_range}
 use Rattle.settings.proofs.settings_of.Goals as goal
 
 pub number_of-low-requires : goal.number_of-low-requires
@@ -36,8 +37,8 @@ number_of-members-requires c =
     wider 1 MAX_MEMBERS (codes "members") (rows_of (found_of c.args.matches.now)) (omega arith)
     (has_options c.args.matches.now c.requires.parsed).members
 
-pub range_of-range-requires : goal.range_of-range-requires
-range_of-range-requires c =
+pub number_if_given-range-requires : goal.number_if_given-range-requires
+number_if_given-range-requires c =
     wider_or_none 0 MAX_TICK (codes "range") (rows_of (found_of c.args.matches.now)) (omega arith)
     (has_options c.args.matches.now c.requires.parsed).range
 
@@ -71,6 +72,7 @@ returns-clause-ranges c =
           between 1 MAX_CALLS (codes "calls") (rows_of (found_of c.args.matches.now)) c.number_of-max_calls.result
           has.max_calls c.number_of-max_calls.ensures;
       range =
-          at_most_if_some 0 MAX_TICK (codes "range") (rows_of (found_of c.args.matches.now)) c.range_of-range.result
-          has.range c.range_of-range.ensures;
+          at_most_if_some 0 MAX_TICK (codes "range") (rows_of (found_of c.args.matches.now)) c.number_if_given-range.result
+          has.range c.number_if_given-range.ensures;
+      reserve = reserve_in_range (rows_of (found_of c.args.matches.now)) c.args.task has.reserve c.requires.task;
     }

@@ -1,105 +1,217 @@
 -- Answers of `run_live` (src/run.rt): what the prover left open; rt looks here.
-use Rattle.std.proofs.Common.{◌≡◌, ◌++◌, [], ℕ, List, take, Err, ap, subst, sym, arith, ◌∙◌}
+-- Of `run_live`: each of its turns, in the form that `rt` wants.
+use Rattle.std.proofs.Common.{◌≡◌, ◌++◌, List, [], ℕ, take, ap, arith, inl, inr, refl, subst, sym, ◌∙◌}
 use Rattle.std.proofs.lemmas.List.{append-nil}
 use Rattle.std.proofs.lemmas.Result.{err_from_is_err_and}
-use Rattle.live_session.specs.Answered.{answered}
-use Rattle.live_session.specs.Arrival.{complete}
-use Rattle.live_session.specs.Speaking.{Speaks, Waits}
-use Rattle.live_session.specs.Talk.{Ends}
-use Rattle.live_session.proofs.TurnLaws.{begins, ends-cut, ends-stopped, ends-unheld, reads-on, starts-complete}
-use Rattle.live_session.proofs.TurnLaws.{waits-answered}
+use Rattle.live_session.specs.Answered.{answered, answered_whole}
+use Rattle.live_session.specs.Talk.{HasRead}
+use Rattle.live_session.proofs.ResponderLaws.{IsBeginningOf, begins-same, begins-whole}
+use Rattle.live_session.proofs.InputLineLaws.{take-short}
+use Rattle.live_session.proofs.TurnLaws.{all-heard, breaks-giving, breaks-unanswered, ends-cut, ends-done, ends-ready}
+use Rattle.live_session.proofs.TurnLaws.{ends-unheard, gathers-emptied, has-answered, has-read, heard-more, just-read}
+use Rattle.live_session.proofs.TurnLaws.{may-be-written, ready-first, reads-same}
 use Rattle.live_session.proofs.run.run_live.Goals as goal
 
 pub returns-in_default : goal.returns-in_default
 returns-in_default g c =
-    ends-unheld g.C.Conversation c.args.config c.args.members c.args.talk.now
+    ends-unheard g.C.Conversation c.args.terms c.args.auction c.args.talk.now
     (g.met.C.Conversation.becomes_itself c.args.talk.now)
 
 pub turns-init : goal.turns-init
 turns-init g c = (
   [],
-  begins g.C.Conversation c.args.config c.args.members c.args.talk.now c.in_ok-session.session c.in-Ok.held
-      (g.met.C.Conversation.becomes_itself c.args.talk.now)
-      c.in_ok-session.ensures c.in-Ok.ensures,
-  c.in_ok-session.ensures.opens,
+  ready-first g.C.Conversation c.args.terms c.args.auction c.args.talk.now c.in-Ok.session
+      (g.met.C.Conversation.becomes_itself c.args.talk.now) c.in-Ok.ensures,
 )
-
-pub read-requires : goal.read-requires
-read-requires g c =
-    let (heard, waits, opens) = c.turns.invariant in
-    c.requires.reads c.turns.talk
-    (waits-answered g.C.Conversation c.args.config c.args.members c.args.talk.now c.turns.talk c.turns.session
-    c.turns.held heard waits)
 
 pub returns-in_default-read : goal.returns-in_default-read
 returns-in_default-read g c =
-    let (heard, waits, opens) = c.turns.invariant in
+    let (heard, ready) = c.turns.invariant in
     let r = c.in_default-read.ensures in
-    ends-cut g.C.Conversation c.args.config c.args.members c.args.talk.now c.turns.talk c.read.new.self c.turns.session
-    c.turns.held heard waits
-    (g.met.C.Conversation.becomes_on _ _ _ waits.speaks.device.same r.same) r.bytes r.written r.told r.failures r.writes
+    ends-cut g.C.Conversation c.args.terms c.args.auction c.args.talk.now c.turns.talk c.read.new.self c.turns.session
+    heard ready
+    (g.met.C.Conversation.becomes_on _ _ _ ready.device.same r.same) r.bytes r.written r.committed r.failures r.writes
+    r.commits
+
+pub returns-in_default-end : goal.returns-in_default-end
+returns-in_default-end g c =
+    let (heard, ready) = c.turns.invariant in
+    let r = c.in-Ok-read.ensures in
+    let bytes = take c.in-Ok-read.count c.read.new.buffer in
+    breaks-unanswered g.C.Conversation c.args.terms c.args.auction c.args.talk.now c.read.new.self heard bytes
+    (just-read g.C.Conversation c.args.terms c.args.auction c.args.talk.now c.turns.talk c.read.new.self c.turns.session
+    heard bytes ready
+    (g.met.C.Conversation.becomes_on _ _ _ ready.device.same r.same) r.bytes.0 r.written r.committed r.failures r.writes
+    r.commits
+    (omega (arith, take-short c.in-Ok-read.count c.read.new.buffer, r.count)))
+
+pub give-requires : goal.give-requires
+give-requires g c =
+    let (heard, ready) = c.turns.invariant in
+    let r = c.in-Ok-read.ensures in
+    let bytes = take c.in-Ok-read.count c.read.new.buffer in
+    let just =
+    just-read g.C.Conversation c.args.terms c.args.auction c.args.talk.now c.turns.talk c.read.new.self
+    c.turns.session heard bytes ready
+    (g.met.C.Conversation.becomes_on _ _ _ ready.device.same r.same) r.bytes.0 r.written r.committed r.failures r.writes
+    r.commits
+    (omega (arith, take-short c.in-Ok-read.count c.read.new.buffer, r.count)) in
+    let none : heard ++ bytes ≡ heard =
+    ap (λ (n : ℕ). heard ++ take n c.read.new.buffer) c.if-count-eq0.true ∙ append-nil heard in
+    λ now h. c.requires.writes now _
+    (may-be-written g.C.Conversation c.args.terms c.args.auction c.args.talk.now c.read.new.self heard bytes
+    c.end.new.self.responder
+    (answered_whole c.args.terms c.args.auction heard) just (c.in-Ok-end.ensures _ _ _ _ _ ready.all)
+    (λ d k. g.met.C.Conversation.becomes_on _ _ _ just.device.same k)
+    (inr (ap (λ (h : List ℕ). answered_whole c.args.terms c.args.auction h) (sym none))) now h)
+
+pub returns-in_err-give : goal.returns-in_err-give
+returns-in_err-give g c =
+    let (heard, ready) = c.turns.invariant in
+    let r = c.in-Ok-read.ensures in
+    let p = err_from_is_err_and c.from_residual.result c.from_residual.ensures.1 in
+    let bytes = take c.in-Ok-read.count c.read.new.buffer in
+    let just =
+    just-read g.C.Conversation c.args.terms c.args.auction c.args.talk.now c.turns.talk c.read.new.self
+    c.turns.session heard bytes ready
+    (g.met.C.Conversation.becomes_on _ _ _ ready.device.same r.same) r.bytes.0 r.written r.committed r.failures r.writes
+    r.commits
+    (omega (arith, take-short c.in-Ok-read.count c.read.new.buffer, r.count)) in
+    let none : heard ++ bytes ≡ heard =
+    ap (λ (n : ℕ). heard ++ take n c.read.new.buffer) c.if-count-eq0.true ∙ append-nil heard in
+    let answers = answered_whole c.args.terms c.args.auction heard in
+    rw (p.1, p.2) (breaks-giving g.C.Conversation c.args.terms c.args.auction c.args.talk.now c.read.new.self heard
+    bytes c.end.new.self.responder
+    answers just (c.in-Ok-end.ensures _ _ _ _ _ ready.all)
+    (λ d k. g.met.C.Conversation.becomes_on _ _ _ just.device.same k)
+    (subst (λ (h : List ℕ). IsBeginningOf answers (answered_whole c.args.terms c.args.auction h)) (sym none)
+    (begins-same answers))
+    c.give.new.talk c.give.new.self c.in_err-give.field-0.0 c.in_err-give.ensures)
 
 pub returns-then-count-eq0 : goal.returns-then-count-eq0
 returns-then-count-eq0 g c =
-    let (heard, waits, opens) = c.turns.invariant in
+    let (heard, ready) = c.turns.invariant in
     let r = c.in-Ok-read.ensures in
-    let speaks =
-    reads-on g.C.Conversation c.args.talk.now c.turns.talk c.read.new.self c.turns.session heard _ _ waits.speaks
-    (g.met.C.Conversation.becomes_on _ _ _ waits.speaks.device.same r.same) r.bytes.0 r.written r.told r.failures
-    r.writes in
-    let none : heard ++ take c.in-Ok-read.count c.read.new.buffer ≡ heard =
+    let bytes = take c.in-Ok-read.count c.read.new.buffer in
+    let just =
+    just-read g.C.Conversation c.args.terms c.args.auction c.args.talk.now c.turns.talk c.read.new.self
+    c.turns.session heard bytes ready
+    (g.met.C.Conversation.becomes_on _ _ _ ready.device.same r.same) r.bytes.0 r.written r.committed r.failures r.writes
+    r.commits
+    (omega (arith, take-short c.in-Ok-read.count c.read.new.buffer, r.count)) in
+    let none : heard ++ bytes ≡ heard =
     ap (λ (n : ℕ). heard ++ take n c.read.new.buffer) c.if-count-eq0.true ∙ append-nil heard in
-    let same =
-    subst (λ (h : List ℕ). Speaks g.C.Conversation c.args.talk.now c.read.new.self c.turns.session h
-    (answered c.args.config c.args.members (complete heard))) none speaks in
-    subst (λ (m : ℕ). Ends g.C.Conversation c.args.config m c.args.talk.now c.end_with.new.talk c.end_with.result)
-    waits.members_are
-    (c.end_with.ensures c.args.talk.now c.args.config heard waits.input
-    (subst (λ (m : ℕ). Speaks g.C.Conversation c.args.talk.now c.read.new.self c.turns.session heard
-    (answered c.args.config m (complete heard))) (sym waits.members_are) same)
-    (r.bytes.1 c.if-count-eq0.true (omega arith)) opens)
+    let answers = answered_whole c.args.terms c.args.auction heard in
+    let gathers = c.in-Ok-end.ensures _ _ _ _ _ ready.all in
+    let on =
+    λ (d : g.row.C.Denot) (k : g.C.Conversation.Becomes c.read.new.self d). g.met.C.Conversation.becomes_on _ _ _
+    just.device.same k in
+    let given = c.in_ok-give.ensures in
+    rw c.ending.ensures (ends-done g.C.Conversation c.args.terms c.args.auction c.args.talk.now c.give.new.talk heard
+    c.give.new.self _ _
+    (subst (HasRead g.C.Conversation c.args.talk.now c.give.new.talk) none
+    (has-read g.C.Conversation c.args.terms c.args.auction c.args.talk.now c.read.new.self heard bytes
+    c.end.new.self.responder answers just gathers on
+    c.give.new.talk given.0.unread))
+    (rw given.0.unread.left (r.bytes.1 c.if-count-eq0.true (omega arith)))
+    (has-answered g.C.Conversation c.args.terms c.args.auction c.args.talk.now c.read.new.self heard bytes
+    c.end.new.self.responder answers just gathers on
+    c.give.new.talk given.0)
+    (reads-same g.C.Conversation c.args.terms c.args.auction c.args.talk.now c.read.new.self heard bytes
+    c.end.new.self.responder answers just gathers on
+    c.give.new.talk given.0.unread)
+    (gathers-emptied _ _ c.args.terms answers _ _ gathers given.1))
 
-pub take_turn-requires : goal.take_turn-requires
-take_turn-requires g c = let (heard, waits, opens) = c.turns.invariant in (heard, waits.input)
-
-pub returns-in_err-take_turn : goal.returns-in_err-take_turn
-returns-in_err-take_turn g c =
-    let (heard, waits, opens) = c.turns.invariant in
+pub returns-in_default-hear : goal.returns-in_default-hear
+returns-in_default-hear g c =
+    let (heard, ready) = c.turns.invariant in
     let r = c.in-Ok-read.ensures in
-    let p = err_from_is_err_and c.from_residual-in_err-take_turn.result c.from_residual-in_err-take_turn.ensures.1 in
-    let speaks =
-    reads-on g.C.Conversation c.args.talk.now c.turns.talk c.read.new.self c.turns.session heard _ _ waits.speaks
-    (g.met.C.Conversation.becomes_on _ _ _ waits.speaks.device.same r.same) r.bytes.0 r.written r.told r.failures
-    r.writes in
-    let now = heard ++ take c.in-Ok-read.count c.read.new.buffer in
-    rw (p.1, p.2)
-    (subst (λ (m : ℕ). Ends g.C.Conversation c.args.config m c.args.talk.now c.take_turn.new.talk
-    (Err c.in_err-take_turn.field-0.0)) waits.members_are
-    (c.in_err-take_turn.ensures c.args.talk.now c.args.config heard waits.input
-    (subst (λ (m : ℕ). Speaks g.C.Conversation c.args.talk.now c.read.new.self c.turns.session now
-    (answered c.args.config m (complete heard))) (sym waits.members_are) speaks)))
+    let bytes = take c.in-Ok-read.count c.read.new.buffer in
+    breaks-unanswered g.C.Conversation c.args.terms c.args.auction c.args.talk.now c.read.new.self heard bytes
+    (just-read g.C.Conversation c.args.terms c.args.auction c.args.talk.now c.turns.talk c.read.new.self c.turns.session
+    heard bytes ready
+    (g.met.C.Conversation.becomes_on _ _ _ ready.device.same r.same) r.bytes.0 r.written r.committed r.failures r.writes
+    r.commits
+    (omega (arith, take-short c.in-Ok-read.count c.read.new.buffer, r.count)))
+
+pub give-requires-in-turns : goal.give-requires-in-turns
+give-requires-in-turns g c =
+    let (heard, ready) = c.turns.invariant in
+    let r = c.in-Ok-read.ensures in
+    let bytes = take c.in-Ok-read.count c.read.new.buffer in
+    let just =
+    just-read g.C.Conversation c.args.terms c.args.auction c.args.talk.now c.turns.talk c.read.new.self
+    c.turns.session heard bytes ready
+    (g.met.C.Conversation.becomes_on _ _ _ ready.device.same r.same) r.bytes.0 r.written r.committed r.failures r.writes
+    r.commits
+    (omega (arith, take-short c.in-Ok-read.count c.read.new.buffer, r.count)) in
+    let all = heard-more _ _ _ heard bytes _ _ (c.in-Ok-hear.ensures _ _ _ _ _ (all-heard _ _ _ _ _ _ ready.all)) in
+    λ now h. c.requires.writes now _
+    (may-be-written g.C.Conversation c.args.terms c.args.auction c.args.talk.now c.read.new.self heard bytes
+    c.hear.new.self.responder
+    (answered c.args.terms c.args.auction (heard ++ bytes)) just all.gathers
+    (λ d k. g.met.C.Conversation.becomes_on _ _ _ just.device.same k) (inl refl) now h)
+
+pub returns-in_err-give-2 : goal.returns-in_err-give-2
+returns-in_err-give-2 g c =
+    let (heard, ready) = c.turns.invariant in
+    let r = c.in-Ok-read.ensures in
+    let p = err_from_is_err_and c.from_residual-in_err-give-2.result c.from_residual-in_err-give-2.ensures.1 in
+    let bytes = take c.in-Ok-read.count c.read.new.buffer in
+    let just =
+    just-read g.C.Conversation c.args.terms c.args.auction c.args.talk.now c.turns.talk c.read.new.self
+    c.turns.session heard bytes ready
+    (g.met.C.Conversation.becomes_on _ _ _ ready.device.same r.same) r.bytes.0 r.written r.committed r.failures r.writes
+    r.commits
+    (omega (arith, take-short c.in-Ok-read.count c.read.new.buffer, r.count)) in
+    let all = heard-more _ _ _ heard bytes _ _ (c.in-Ok-hear.ensures _ _ _ _ _ (all-heard _ _ _ _ _ _ ready.all)) in
+    rw (p.1, p.2) (breaks-giving g.C.Conversation c.args.terms c.args.auction c.args.talk.now c.read.new.self heard
+    bytes c.hear.new.self.responder
+    (answered c.args.terms c.args.auction (heard ++ bytes)) just all.gathers
+    (λ d k. g.met.C.Conversation.becomes_on _ _ _ just.device.same k)
+    (begins-whole c.args.terms c.args.auction (heard ++ bytes)) c.give-in-turns.new.talk c.give-in-turns.new.self
+    c.in_err-give-2.field-0.0 c.in_err-give-2.ensures)
 
 pub turns-preserved : goal.turns-preserved
 turns-preserved g c =
-    let (heard, waits, opens) = c.turns.invariant in
+    let (heard, ready) = c.turns.invariant in
     let r = c.in-Ok-read.ensures in
-    let speaks =
-    reads-on g.C.Conversation c.args.talk.now c.turns.talk c.read.new.self c.turns.session heard _ _ waits.speaks
-    (g.met.C.Conversation.becomes_on _ _ _ waits.speaks.device.same r.same) r.bytes.0 r.written r.told r.failures
-    r.writes in
-    let now = heard ++ take c.in-Ok-read.count c.read.new.buffer in (
-      now,
-      subst (λ (m : ℕ). Waits g.C.Conversation c.args.config m c.args.talk.now c.take_turn.new.talk
-          c.take_turn.new.session c.take_turn.new.held now) waits.members_are
-          (c.in_ok-take_turn.ensures c.args.talk.now c.args.config heard waits.input
-          (subst (λ (m : ℕ). Speaks g.C.Conversation c.args.talk.now c.read.new.self c.turns.session now
-          (answered c.args.config m (complete heard))) (sym waits.members_are) speaks)),
-      opens,
+    let bytes = take c.in-Ok-read.count c.read.new.buffer in
+    let just =
+    just-read g.C.Conversation c.args.terms c.args.auction c.args.talk.now c.turns.talk c.read.new.self
+    c.turns.session heard bytes ready
+    (g.met.C.Conversation.becomes_on _ _ _ ready.device.same r.same) r.bytes.0 r.written r.committed r.failures r.writes
+    r.commits
+    (omega (arith, take-short c.in-Ok-read.count c.read.new.buffer, r.count)) in
+    let all = heard-more _ _ _ heard bytes _ _ (c.in-Ok-hear.ensures _ _ _ _ _ (all-heard _ _ _ _ _ _ ready.all)) in
+    let answers = answered c.args.terms c.args.auction (heard ++ bytes) in
+    let on =
+    λ (d : g.row.C.Denot) (k : g.C.Conversation.Becomes c.read.new.self d). g.met.C.Conversation.becomes_on _ _ _
+    just.device.same k in
+    let given = c.in_ok-give-2.ensures in (
+      heard ++ bytes,
+      record {
+        device =
+            has-read g.C.Conversation c.args.terms c.args.auction c.args.talk.now c.read.new.self heard bytes
+            c.hear.new.self.responder answers just
+            all.gathers on c.give-in-turns.new.talk given.0.unread;
+        all = record {
+          gathers = gathers-emptied _ _ c.args.terms answers _ _ all.gathers given.1;
+          waiting = all.waiting;
+          line = all.line;
+        };
+        answered =
+            has-answered g.C.Conversation c.args.terms c.args.auction c.args.talk.now c.read.new.self heard bytes
+            c.hear.new.self.responder answers just
+            all.gathers on c.give-in-turns.new.talk given.0;
+        reads =
+            reads-same g.C.Conversation c.args.terms c.args.auction c.args.talk.now c.read.new.self heard bytes
+            c.hear.new.self.responder answers just
+            all.gathers on c.give-in-turns.new.talk given.0.unread;
+      },
     )
 
 pub returns : goal.returns
 returns g c =
-    let (heard, waits, opens) = c.turns.invariant in
-    ends-stopped g.C.Conversation c.args.config c.args.members c.args.talk.now c.turns.talk c.turns.session heard _
-    waits.speaks
-    (starts-complete c.args.config c.args.members heard)
+    let (heard, ready) = c.turns.invariant in
+    ends-ready g.C.Conversation c.args.terms c.args.auction c.args.talk.now c.turns.talk c.turns.session heard ready

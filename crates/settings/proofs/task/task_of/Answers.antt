@@ -32,34 +32,10 @@ returns-in_err-form-clause-refused c =
     (subst (λ w. HasKind (form_kinds w) c.in_err-form.field-0.0) (sym word) c.in_err-form.ensures.refused)
     c.from_residual.ensures.1
 
-pub is_live_mixed-requires-clause-form : goal.is_live_mixed-requires-clause-form
-is_live_mixed-requires-clause-form c =
+pub refuse_mix-requires-clause-form : goal.refuse_mix-requires-clause-form
+refuse_mix-requires-clause-form c =
     ap wanted_form (word_in-first_value (found_of c.args.matches.now) c.get_str.result c.get_str.ensures)
     ∙ c.in_ok-form.ensures.form
-
-pub returns-then-is_audit_mixed-clause-refused : goal.returns-then-is_audit_mixed-clause-refused
-returns-then-is_audit_mixed-clause-refused c = (
-  ap form_kinds (word_in-first_value (found_of c.args.matches.now) c.get_str.result c.get_str.ensures)
-      ∙ c.in_ok-form.ensures.refused,
-  c.is_audit_mixed.ensures ∙ c.if-is_audit_mixed.true,
-)
-
-pub returns-then-is_live_mixed-clause-refused : goal.returns-then-is_live_mixed-clause-refused
-returns-then-is_live_mixed-clause-refused c = (
-  ap form_kinds (word_in-first_value (found_of c.args.matches.now) c.get_str.result c.get_str.ensures)
-      ∙ c.in_ok-form.ensures.refused,
-  c.is_audit_mixed.ensures ∙ c.if-is_audit_mixed.false,
-  c.is_live_mixed.ensures ∙ c.if-is_live_mixed.true,
-)
-
-pub returns-then-is_results_alone-clause-refused : goal.returns-then-is_results_alone-clause-refused
-returns-then-is_results_alone-clause-refused c = (
-  ap form_kinds (word_in-first_value (found_of c.args.matches.now) c.get_str.result c.get_str.ensures)
-      ∙ c.in_ok-form.ensures.refused,
-  c.is_audit_mixed.ensures ∙ c.if-is_audit_mixed.false,
-  c.is_live_mixed.ensures ∙ c.if-is_live_mixed.false,
-  c.is_results_alone.ensures ∙ c.if-is_results_alone.true,
-)
 
 pub returns-then-floor-clause-task : goal.returns-then-floor-clause-task
 returns-then-floor-clause-task c =

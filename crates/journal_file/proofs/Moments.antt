@@ -1,0 +1,58 @@
+-- How a run of device calls goes on.
+use Rattle.std.proofs.Common.{inl, inr, ⊎_elim, ℕ, List, arith}
+use Rattle.journal_file.specs.Device.{HasElapsed, LeavesOnly}
+
+module _ {D : Type 0} (moment : D → ℕ) (left_since : D → ℕ → List ℕ → Type 0) where
+  -- before the first call
+  pub started : (old : D) (P : List ℕ → Type 0) → ((c : List ℕ) → left_since old (moment old) c → P c)
+      → LeavesOnly moment left_since old old P
+  started old P here = record { later = omega arith; each = here; before = λ t c le left. inl left }
+
+  -- one call more, after which a crash leaves what has P
+  pub goes_on : (old mid new : D) (P may_leave : List ℕ → Type 0) → LeavesOnly moment left_since old mid P
+      → HasElapsed (moment mid) (moment new) (left_since mid) (left_since new) may_leave
+      → ((c : List ℕ) → may_leave c → P c) → LeavesOnly moment left_since old new P
+  goes_on old mid new P may_leave so_far time here = record {
+    later = omega (arith, so_far.later, time.later);
+    each = λ c left. ⊎_elim (so_far.each c) (here c) (time.nothing_else (moment old) c so_far.later left);
+    before =
+        λ t c le left. ⊎_elim (so_far.before t c le) (λ now. inr (here c now))
+        (time.nothing_else t c (omega (arith, le, so_far.later)) left);
+  }
+
+  -- One run behind another. What each leaves has R.
+  pub then : (old mid new : D) (P Q R : List ℕ → Type 0) → LeavesOnly moment left_since old mid P
+      → LeavesOnly moment left_since mid new Q
+      → ((c : List ℕ) → P c → R c) → ((c : List ℕ) → Q c → R c) → LeavesOnly moment left_since old new R
+  then old mid new P Q R first second from_first from_second = record {
+    later = omega (arith, first.later, second.later);
+    each =
+        λ c left. ⊎_elim (λ past. from_first c (first.each c past)) (from_second c)
+        (second.before (moment old) c first.later left);
+    before =
+        λ t c le left. ⊎_elim (λ past. ⊎_elim inl (λ p. inr (from_first c p)) (first.before t c le past))
+        (λ q. inr (from_second c q)) (second.before t c (omega (arith, le, first.later)) left);
+  }
+
+  -- A run of two calls. After each, and so at each moment, a crash leaves what has P.
+  pub two : (may_leave : D → List ℕ → Type 0) (only_now : (d : D) (c : List ℕ) → left_since d (moment d) c
+      → may_leave d c) (old mid new : D) (P : List ℕ → Type 0)
+      → ((c : List ℕ) → may_leave old c → P c)
+      → HasElapsed (moment old) (moment mid) (left_since old) (left_since mid) (may_leave mid)
+      → ((c : List ℕ) → may_leave mid c → P c)
+      → HasElapsed (moment mid) (moment new) (left_since mid) (left_since new) (may_leave new)
+      → ((c : List ℕ) → may_leave new c → may_leave mid c)
+      → LeavesOnly moment left_since old new P
+  two may_leave only_now old mid new P here first after second behind =
+      goes_on old mid new P (may_leave new)
+      (goes_on old old mid P (may_leave mid) (started old P (λ c left. here c (only_now old c left))) first after)
+      second (λ c now. after c (behind c now))
+
+  pub one : (may_leave : D → List ℕ → Type 0) (only_now : (d : D) (c : List ℕ) → left_since d (moment d) c
+      → may_leave d c) (old mid : D) (P : List ℕ → Type 0)
+      → ((c : List ℕ) → may_leave old c → P c)
+      → HasElapsed (moment old) (moment mid) (left_since old) (left_since mid) (may_leave mid)
+      → ((c : List ℕ) → may_leave mid c → P c)
+      → LeavesOnly moment left_since old mid P
+  one may_leave only_now old mid P here first after =
+      goes_on old old mid P (may_leave mid) (started old P (λ c left. here c (only_now old c left))) first after

@@ -1,0 +1,222 @@
+-- The lines of an input, and what is held of a line.
+use Rattle.std.proofs.Common.{◌≡◌, ◌<◌, ◌≤◌, ◌+◌, ◌-◌, ℕ, zero, suc, List, [], ◌∷◌, ◌++◌, length, take, drop, get_or}
+use Rattle.std.proofs.Common.{Option, Some, None, Bool, true, false, refl, ap, sym, arith, rules, add-one, drop-cons}
+use Rattle.std.proofs.Common.{append_assoc, ◌∙◌}
+use Rattle.std.specs.Prelude.{min, nat_lt, slice_index}
+use Rattle.std.proofs.lemmas.Bool.{true≢false}
+use Rattle.std.proofs.lemmas.List.{append-nil, drop_all, take_all, take_min}
+use Rattle.std.proofs.Math.Seq.{take-append-add}
+use Rattle.csv.specs.Machine.{ends_at_end, step}
+use Rattle.csv.specs.Reading.{default_config, strip_bom}
+use Rattle.csv.specs.declared.parser.State.{State}
+use Rattle.csv.specs.declared.parser.State.TheVariants as st
+use Rattle.memchr.specs.Find.{IsFirstByte, is_byte2}
+use Rattle.live_session.specs.Answered.{line_fault}
+use Rattle.live_session.specs.InputLines.{HasNoLineEnd, IsFirstLineEnd, Lines, is_line_end, is_marked, is_quote_open}
+use Rattle.live_session.specs.InputLines.{is_too_long}
+use Rattle.live_session.specs.InputLines.{line_ended, line_longer, lines_after, next_byte, state_after}
+use Rattle.live_session.specs.declared.line.TheConstants.{MAX_RECORD_BYTES}
+use Rattle.live_session.proofs.RecordTextLaws.{state-append}
+
+-- ---- lines, as more bytes come
+
+pub lines-append : (lines : Lines) (xs ys : List ℕ)
+    → lines_after lines (xs ++ ys) ≡ lines_after (lines_after lines xs) ys
+unfolding lines_after
+lines-append lines [] ys = refl
+lines-append lines (x ∷ xs) ys = lines-append (next_byte lines x) xs ys
+
+pub lines-longer : (lines : Lines) (bytes : List ℕ) → HasNoLineEnd bytes
+    → lines_after lines bytes ≡ line_longer bytes lines
+unfolding lines_after
+lines-longer lines [] h =
+    ap (λ (x : List ℕ). record { ended = lines.ended; at_hand = x }) (sym (append-nil lines.at_hand))
+lines-longer lines (b ∷ bs) h =
+    let here : next_byte lines b ≡ line_longer (b ∷ []) lines = rw h.0 refl in
+    ap (λ (l : Lines). lines_after l bs) here ∙ lines-longer (line_longer (b ∷ []) lines) bs h.1
+    ∙ ap (λ (x : List ℕ). record { ended = lines.ended; at_hand = x }) (append_assoc lines.at_hand (b ∷ []) bs)
+
+one-end : (lines : Lines) (b : ℕ) (more : List ℕ) → is_line_end b ≡ true
+    → lines_after lines (b ∷ more) ≡ lines_after (line_ended lines) more
+unfolding lines_after
+one-end lines b more is =
+    let here : next_byte lines b ≡ line_ended lines = rw is refl in ap (λ (l : Lines). lines_after l more) here
+
+pub lines-ended : (lines : Lines) (front more : List ℕ) (b : ℕ) → HasNoLineEnd front → is_line_end b ≡ true
+    → lines_after lines (front ++ b ∷ more) ≡ lines_after (line_ended (line_longer front lines)) more
+lines-ended lines front more b none is =
+    lines-append lines front (b ∷ more) ∙ ap (λ (l : Lines). lines_after l (b ∷ more)) (lines-longer lines front none)
+    ∙ one-end (line_longer front lines) b more is
+
+pub lines-none : (lines : Lines) → lines_after lines [] ≡ lines
+unfolding lines_after
+lines-none lines = refl
+
+-- ---- the first line end
+
+is-false : (x : Bool) → (x ≡ true → ⊥) → x ≡ false
+is-false x never = by x refl
+  where
+    by : (y : Bool) → x ≡ y → x ≡ false
+    by true e = absurd (never e)
+    by false e = e
+
+no-end : (bytes : List ℕ) → ((k : ℕ) → k < length bytes → is_line_end (slice_index bytes k) ≡ true → ⊥)
+    → HasNoLineEnd bytes
+no-end [] none = tt
+no-end (b ∷ bs) none =
+    (is-false (is_line_end b) (none 0 (omega arith)), no-end bs (λ k lt is. none (suc k) (omega arith) is))
+
+no-end-before : (bytes : List ℕ) (place : ℕ) → place ≤ length bytes
+    → ((k : ℕ) → k < place → is_line_end (slice_index bytes k) ≡ true → ⊥) → HasNoLineEnd (take place bytes)
+no-end-before bytes zero le none = tt
+no-end-before [] (suc place) le none = absurd (omega arith)
+no-end-before (b ∷ bs) (suc place) le none = (
+  is-false (is_line_end b) (none 0 (omega arith)),
+  no-end-before bs place (omega arith) (λ k lt is. none (suc k) (omega arith) is),
+)
+
+pub first-line-end : (bytes : List ℕ) (r : Option ℕ) → IsFirstByte (is_byte2 10 13) bytes r → IsFirstLineEnd bytes r
+first-line-end bytes None h = no-end bytes (λ k lt is. h k (omega arith) lt is)
+first-line-end bytes (Some place) h =
+    (h.0.high, h.1, no-end-before bytes place (omega (arith, h.0.high)) (λ k lt is. h.0.before k (omega arith) lt is))
+
+-- the bytes before a place, the one there, and those behind it
+pub split-there : (bytes : List ℕ) (place : ℕ) → place < length bytes
+    → take place bytes ++ slice_index bytes place ∷ drop 1 (drop place bytes) ≡ bytes
+split-there [] place lt = absurd (omega arith)
+split-there (b ∷ bs) zero lt = refl
+split-there (b ∷ bs) (suc place) lt = ap (λ (l : List ℕ). b ∷ l) (split-there bs place (omega arith))
+
+-- ---- what is held of a line
+
+-- as many as there is room for
+added : (most room : ℕ) (old more : List ℕ) → length old + room ≡ most
+    → old ++ take (min room (length more)) more ≡ take most (old ++ more)
+added most room old more is =
+    ap (λ bytes. old ++ bytes) (take_min room more) ∙ sym (take-append-add old more room)
+    ∙ ap (λ n. take n (old ++ more)) is
+
+pub filled : (most room n : ℕ) (old more front : List ℕ) → length old ≤ most → room ≡ most - length old
+    → n ≡ min room (length more) → front ≡ take n more → old ++ front ≡ take most (old ++ more)
+filled most room n old more front le is_room is_n is =
+    ap (λ (x : List ℕ). old ++ x) (is ∙ ap (λ (m : ℕ). take m more) is_n)
+    ∙ added most room old more (omega (arith, le, is_room))
+
+take-more : (n : ℕ) (b : ℕ) (bs : List ℕ) → take (n + 1) (b ∷ bs) ≡ b ∷ take n bs
+take-more n b bs = rw (add-one n) refl
+
+pub take-twice : (n : ℕ) (xs ys : List ℕ) → take n (take n xs ++ ys) ≡ take n (xs ++ ys)
+take-twice zero xs ys = refl
+take-twice (suc n) [] ys = refl
+take-twice (suc n) (x ∷ xs) ys = ap (λ (l : List ℕ). x ∷ l) (take-twice n xs ys)
+
+pub take-short : (n : ℕ) (xs : List ℕ) → length (take n xs) ≤ n
+take-short zero xs = omega arith
+take-short (suc n) [] = omega arith
+take-short (suc n) (x ∷ xs) = omega (arith, take-short n xs)
+
+take-length : (n : ℕ) (xs : List ℕ) → length xs ≤ length (take (n + 1) xs) → length (take (n + 1) xs) ≤ n
+    → take (n + 1) xs ≡ xs
+take-length n xs all short = take_all (n + 1) xs (omega arith)
+
+-- a line is too long where what is held of it is
+take-long : (n : ℕ) (xs : List ℕ) → n < length xs → length (take (n + 1) xs) ≡ n + 1
+take-long zero [] lt = absurd (omega arith)
+take-long zero (x ∷ xs) lt = ap length (take-more 0 x xs)
+take-long (suc n) [] lt = absurd (omega arith)
+take-long (suc n) (x ∷ xs) lt = omega (
+  arith,
+  ap length (take-more (suc n) x xs),
+  ap (λ (m : ℕ). length (take m xs)) (add-one n),
+  take-long n xs (omega arith),
+)
+
+-- the fault of a line is that of what is held of it, and what has none is held whole
+pub record IsHeldOf (held line : List ℕ) : Type 0 where
+  pub fault : line_fault held ≡ line_fault line
+  pub whole : is_too_long held ≡ false → held ≡ line
+
+is-long : (n : ℕ) (xs : List ℕ) → n < length xs → nat_lt n (length xs) ≡ true
+is-long n xs lt = search rules
+
+is-short : (n : ℕ) (xs : List ℕ) → length xs ≤ n → nat_lt n (length xs) ≡ false
+is-short n xs le = search rules
+
+held-short : (held line : List ℕ) → held ≡ line → IsHeldOf held line
+held-short held line is = record { fault = ap line_fault is; whole = λ _. is }
+
+held-long : (held line : List ℕ) → is_too_long held ≡ true → is_too_long line ≡ true → IsHeldOf held line
+held-long held line h l = record { fault = rw (h, l) refl; whole = λ short. absurd (true≢false (sym h ∙ short)) }
+
+pub held-line : (line : List ℕ) → IsHeldOf (take (MAX_RECORD_BYTES + 1) line) line
+held-line line = by (is_too_long line) refl
+  where
+    by : (b : Bool) → is_too_long line ≡ b → IsHeldOf (take (MAX_RECORD_BYTES + 1) line) line
+    by true e =
+        let long : MAX_RECORD_BYTES < length line = search rules in
+        held-long _ line
+        (is-long MAX_RECORD_BYTES (take (MAX_RECORD_BYTES + 1) line)
+        (omega (arith, take-long MAX_RECORD_BYTES line long))) e
+    by false e =
+        let short : length line ≤ MAX_RECORD_BYTES = search rules in
+        held-short _ line (take_all (MAX_RECORD_BYTES + 1) line (omega (arith, short)))
+
+pub held-none : (line : List ℕ) → take (MAX_RECORD_BYTES + 1) line ≡ [] → line ≡ []
+held-none [] is = refl
+held-none (b ∷ bs) is = absurd (cc (sym (take-more MAX_RECORD_BYTES b bs) ∙ is))
+
+pub held-some : (b : ℕ) (bs : List ℕ) → take (MAX_RECORD_BYTES + 1) (b ∷ bs) ≡ b ∷ take MAX_RECORD_BYTES bs
+held-some b bs = take-more MAX_RECORD_BYTES b bs
+
+-- ---- the byte order mark
+
+pub strip-marked : (line : List ℕ) → is_marked line ≡ true → strip_bom line ≡ drop 3 line
+unfolding strip_bom
+strip-marked [] e = absurd (true≢false (sym e))
+strip-marked (a ∷ []) e = absurd (true≢false (sym e))
+strip-marked (a ∷ b ∷ []) e = absurd (true≢false (sym e))
+strip-marked (a ∷ b ∷ c ∷ rest) e = rw e refl
+
+pub marked-long : (line : List ℕ) → is_marked line ≡ true → 3 ≤ length line
+marked-long [] e = absurd (true≢false (sym e))
+marked-long (a ∷ []) e = absurd (true≢false (sym e))
+marked-long (a ∷ b ∷ []) e = absurd (true≢false (sym e))
+marked-long (a ∷ b ∷ c ∷ rest) e = omega arith
+
+pub strip-unmarked : (line : List ℕ) → is_marked line ≡ false → strip_bom line ≡ line
+unfolding strip_bom
+strip-unmarked [] e = refl
+strip-unmarked (a ∷ []) e = refl
+strip-unmarked (a ∷ b ∷ []) e = refl
+strip-unmarked (a ∷ b ∷ c ∷ rest) e = rw e refl
+
+-- ---- the state of the reader of records
+
+pub quote-open : (line text : List ℕ) (s t : State) (r : Bool) → text ≡ strip_bom line
+    → s ≡ state_after st.StartRecord text
+    → t ≡ (step default_config s 10).0 → r ≡ ends_at_end t → r ≡ is_quote_open line
+unfolding state_after
+quote-open line text s t r text_is s_is t_is is =
+    is
+    ∙ ap ends_at_end
+    (t_is ∙ ap (λ (u : State). (step default_config u 10).0) (s_is ∙ ap (state_after st.StartRecord) text_is)
+    ∙ sym (state-append st.StartRecord (strip_bom line) (10 ∷ [])))
+
+pub state-next : (s : State) (text : List ℕ) (i d : ℕ) (t : State) → i < length text
+    → t ≡ (step default_config s (get_or text i d)).0
+    → state_after s (drop i text) ≡ state_after t (drop (i + 1) text)
+unfolding state_after
+state-next s text i d t lt is =
+    let parts : drop i text ≡ get_or text i d ∷ drop (i + 1) text =
+    drop-cons text i d lt ∙ ap (λ (m : ℕ). get_or text i d ∷ drop m text) (sym (add-one i)) in
+    rw parts (ap (λ (u : State). state_after u (drop (i + 1) text)) (sym is))
+
+pub state-end : (s : State) (text : List ℕ) (i : ℕ) → length text ≤ i → state_after s (drop i text) ≡ s
+unfolding state_after
+state-end s text i le = rw (drop_all i text le) refl
+
+-- no byte is left
+pub no-bytes : (bytes : List ℕ) → length bytes ≡ 0 → bytes ≡ []
+no-bytes [] is = refl
+no-bytes (b ∷ bs) is = absurd (omega (arith, is))

@@ -1,0 +1,110 @@
+-- An input that is answered line by line.
+use Rattle.std.proofs.Common.{◌≡◌, ◌≢◌, ◌+◌, ℕ, List, [], ◌∷◌, ◌++◌, take, drop, Some, None, Bool, true, false}
+use Rattle.std.proofs.Common.{refl, ap, sym, subst, append_assoc, ◌∙◌}
+use Rattle.std.specs.Prelude.{slice_index}
+use Rattle.auction_terms.specs.declared.Entry.{Entry}
+use Rattle.auction_terms.specs.Auxiliary.RunningAuction.{RunningAuction}
+use Rattle.csv.specs.Reading.{default_config, strip_bom}
+use Rattle.order_file.proofs.RowLaws.{records_from-done}
+use Rattle.live_session.specs.Answered.{Answered, after_input_end, answered_lines, line_fault, refused}
+use Rattle.live_session.specs.Gathered.{Gathers}
+use Rattle.live_session.specs.Hearing.{HasHeard}
+use Rattle.live_session.specs.InputLines.{IsFirstLineEnd, Lines, is_quote_open, is_too_long, line_ended, line_longer}
+use Rattle.live_session.specs.InputLines.{lines_after, record_text}
+use Rattle.live_session.specs.declared.fault.BadRecord.{BadRecord}
+use Rattle.live_session.specs.declared.fault.BadRecord.TheVariants as bad
+use Rattle.live_session.specs.declared.line.TheConstants.{MAX_RECORD_BYTES}
+use Rattle.live_session.specs.declared.responder.Responder.{Responder}
+use Rattle.live_session.specs.declared.session.Session.{Session}
+use Rattle.live_session.specs.declared.terms.SessionTerms.{SessionTerms}
+use Rattle.live_session.proofs.ResponderLaws.{line-refused, none-waiting, waiting-more}
+use Rattle.live_session.proofs.InputLineLaws.{held-line, held-none, lines-ended, split-there}
+use Rattle.live_session.proofs.RecordTextLaws.{closed-both, closed-none}
+
+-- a line without a fault
+pub not-faulty : (line : List ℕ) → line_fault line ≡ None → (is_too_long line ≡ false) × (is_quote_open line ≡ false)
+not-faulty line e = by (is_too_long line) (is_quote_open line) refl refl
+  where
+    by : (x y : Bool) → is_too_long line ≡ x → is_quote_open line ≡ y → (is_too_long line ≡ false)
+        × (is_quote_open line ≡ false)
+    by true y p q = absurd (cc (rw p at e))
+    by false true p q = absurd (cc (rw (p, q) at e))
+    by false false p q = (p, q)
+
+-- a line that isn't read as a record was answered
+pub refused-line : (session : Session) (terms : SessionTerms) (start : RunningAuction) (lines : Lines) (given : List ℕ)
+    (committed : List Entry) (fault : BadRecord) → line_fault lines.at_hand ≡ Some fault
+    → Gathers session.responder terms (refused (answered_lines terms start lines) fault) given committed
+    → session.waiting.items ≡ 10 ∷ [] → session.line.items ≡ []
+    → HasHeard session terms start (line_ended lines) given committed
+refused-line session terms start lines given committed fault is gathers waiting line = record {
+  applied = refused (answered_lines terms start lines) fault;
+  gathers = gathers;
+  text = [];
+  waiting = waiting;
+  closed = closed-none;
+  answers = none-waiting terms _ (records_from-done default_config 1) ∙ sym (line-refused terms start lines fault is);
+  line = line;
+}
+
+-- a line that is read as one waits
+pub kept-line : (old new : Session) (terms : SessionTerms) (start : RunningAuction) (lines : Lines) (given : List ℕ)
+    (committed : List Entry) → HasHeard old terms start lines given committed → line_fault old.line.items ≡ None
+    → new.responder ≡ old.responder → new.waiting.items ≡ (old.waiting.items ++ strip_bom old.line.items) ++ 10 ∷ []
+    → new.line.items ≡ [] → HasHeard new terms start (line_ended lines) given committed
+kept-line old new terms start lines given committed h fine same waiting line =
+    let held = held-line lines.at_hand in
+    let good : line_fault lines.at_hand ≡ None = sym held.fault ∙ ap line_fault (sym h.line) ∙ fine in
+    let whole : old.line.items ≡ lines.at_hand =
+    h.line ∙ held.whole (ap is_too_long (sym h.line) ∙ (not-faulty old.line.items fine).0) in
+    record {
+      applied = h.applied;
+      gathers = subst (λ (r : Responder). Gathers r terms h.applied given committed) (sym same) h.gathers;
+      text = h.text ++ record_text lines.at_hand;
+      waiting =
+          waiting ∙ ap (λ (x : List ℕ). (x ++ strip_bom old.line.items) ++ 10 ∷ []) h.waiting
+          ∙ ap (λ (x : List ℕ). ((10 ∷ h.text) ++ strip_bom x) ++ 10 ∷ []) whole
+          ∙ append_assoc (10 ∷ h.text) (strip_bom lines.at_hand) (10 ∷ []);
+      closed = closed-both h.text (record_text lines.at_hand) h.closed (not-faulty lines.at_hand good).1;
+      answers = waiting-more terms start lines h.applied h.text h.closed h.answers good;
+      line = line;
+    }
+
+-- the next line of what is left
+pub next-line : (now : Lines) (rest line behind more : List ℕ) (place : ℕ) → IsFirstLineEnd rest (Some place)
+    → line ≡ take place rest → behind ≡ drop place rest → more ≡ drop 1 behind
+    → lines_after (line_ended (line_longer line now)) more ≡ lines_after now rest
+next-line now rest line behind more place h line_is behind_is more_is =
+    let more_same : more ≡ drop 1 (drop place rest) = more_is ∙ ap (drop 1) behind_is in
+    ap (λ (x : List ℕ). lines_after (line_ended (line_longer x now)) more) line_is
+    ∙ ap (λ (x : List ℕ). lines_after (line_ended (line_longer (take place rest) now)) x) more_same
+    ∙ sym (lines-ended now (take place rest) (drop 1 (drop place rest)) (slice_index rest place) h.2 h.1)
+    ∙ ap (lines_after now) (split-there rest place h.0)
+
+-- ---- the line that an input ends in
+
+pub end-blank : (responder : Responder) (terms : SessionTerms) (so_far : Answered) (at_hand items : List ℕ)
+    (given : List ℕ)
+    (committed : List Entry) → items ≡ take (MAX_RECORD_BYTES + 1) at_hand → items ≡ []
+    → Gathers responder terms so_far given committed
+    → Gathers responder terms (after_input_end so_far at_hand) given committed
+end-blank responder terms so_far at_hand items given committed held none gathers =
+    rw (held-none at_hand (sym held ∙ none)) gathers
+
+open-end : (so_far : Answered) (at_hand : List ℕ) → at_hand ≢ []
+    → after_input_end so_far at_hand ≡ refused so_far bad.CutOff
+open-end so_far [] some = absurd (some refl)
+open-end so_far (b ∷ bs) some = refl
+
+pub end-open : (so_far : Answered) (at_hand items : List ℕ) → items ≡ take (MAX_RECORD_BYTES + 1) at_hand → items ≢ []
+    → refused so_far bad.CutOff ≡ after_input_end so_far at_hand
+end-open so_far at_hand items held some =
+    sym (open-end so_far at_hand (λ none. some (held ∙ ap (take (MAX_RECORD_BYTES + 1)) none)))
+
+-- ---- a line on a page
+
+pub put-text : (given full page line text : List ℕ) → given ++ (full ++ page) ≡ text
+    → given ++ (full ++ (page ++ line)) ≡ text ++ line
+put-text given full page line text is =
+    ap (λ (x : List ℕ). given ++ x) (sym (append_assoc full page line)) ∙ sym (append_assoc given (full ++ page) line)
+    ∙ ap (λ (x : List ℕ). x ++ line) is

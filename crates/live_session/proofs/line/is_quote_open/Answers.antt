@@ -1,0 +1,7 @@
+-- Answers of `is_quote_open` (src/line.rt): what the prover left open; rt looks here.
+-- Of `is_quote_open`: the line end comes behind the line, in the form that `rt` wants.
+use Rattle.live_session.proofs.InputLineLaws.{quote-open}
+use Rattle.live_session.proofs.line.is_quote_open.Goals as goal
+
+pub returns : goal.returns
+returns c = quote-open _ _ _ _ _ c.without_mark.ensures c.spot_behind.ensures c.after.ensures c.is_open.ensures

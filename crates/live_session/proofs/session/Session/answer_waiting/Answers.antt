@@ -1,0 +1,16 @@
+-- Answers of `Session::answer_waiting` (src/session.rt): what the prover left open; rt looks here.
+-- Of `Session::answer_waiting`: the lines behind the line end are answered, in the form that `rt` wants.
+use Rattle.std.proofs.Common.{take, ap, subst, ◌∙◌}
+use Rattle.live_session.specs.Answered.{Answered}
+use Rattle.live_session.specs.Gathered.{Gathers}
+use Rattle.live_session.proofs.ResponderLaws.{waiting-answered}
+use Rattle.live_session.proofs.session.Session.answer_waiting.Goals as goal
+
+pub returns : goal.returns
+returns c = λ terms start lines given committed h. record {
+  gathers = subst (λ (a : Answered). Gathers c.answer_text.new.self terms a given committed)
+      (waiting-answered terms start lines h.applied _ h.text (c.as_slice.ensures.value ∙ h.waiting) h.answers)
+      (c.in_ok-answer_text.ensures terms h.applied given committed h.gathers);
+  waiting = c.truncate.ensures.items ∙ ap (take 1) h.waiting;
+  line = h.line;
+}

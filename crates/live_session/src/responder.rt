@@ -1,0 +1,195 @@
+//! The answers to records.
+
+ghost use Rattle.std.specs.Prelude.{◌≡◌, ◌<◌, ◌+◌, IfOk};
+ghost use Rattle.csv.specs.Reading.{default_config, records, strip_bom};
+ghost use Rattle.csv.specs.Records.{fields_of};
+ghost use Rattle.order_file.specs.Rows.{IsRecordReader, rows_left};
+ghost use Rattle.printed_lines.specs.KeptText.{text_of};
+ghost use Rattle.live_session.specs.Answered.{after_record, after_records, is_reserved, live_call, refused, replied};
+ghost use Rattle.live_session.specs.Gathered.{AddsAnswers, IsCommitted};
+ghost use Rattle.live_session.specs.Giving.{Gives, IsGatheredAs, IsNew};
+
+use crate::conversation::Conversation;
+use crate::fault::{BadRecord, Ending, LiveFault, put_bad_line};
+use crate::terms::SessionTerms;
+use auction::Auction;
+use auction_terms::{Call, Entry};
+use csv::{ByteRecord, Reader};
+use journal::keep_entry;
+use order_file::{call_of, next_row, reader_of};
+use printed_lines::{KeptText, put_line};
+use std::alloc::{AllocError, Global};
+
+/// Whether a call would take one of the day's last calls, which are the operator's.
+fn is_reserved(auction: &Auction, terms: SessionTerms, call: Call) -> bool
+    ensures { result ≡ is_reserved terms auction.now call }
+{
+    let calls = u64::from(auction.calls()) + u64::from(terms.reserve);
+    call.member != 0 && u64::from(auction.config().max_calls) <= calls
+}
+
+/// The call of a record, or its fault.
+#[tactic(auto, unfolding(crate::specs::Answered::live_call))]
+fn live_call(auction: &Auction, terms: SessionTerms, row: &ByteRecord) -> Result<Call, BadRecord>
+    ensures call { result ≡ live_call terms auction.now (fields_of row.now) }
+    ensures room { IfOk result (λ _. auction.now.calls < auction.now.config.max_calls) }
+{
+    if auction.calls() >= auction.config().max_calls {
+        return Err(BadRecord::TooManyCommands);
+    }
+    let call = match call_of(row, terms.members) {
+        Ok(call) => call,
+        Err(fault) => return Err(BadRecord::Malformed(fault)),
+    };
+    if is_reserved(auction, terms, call) {
+        return Err(BadRecord::Reserved);
+    }
+    Ok(call)
+}
+
+/// Answers records on an auction, and gathers what is to be written: the answers, and the entries of the calls.
+#[derive(Drop)]
+pub(crate) struct Responder {
+    auction: Auction,
+    terms: SessionTerms,
+    // How many records have come.
+    records: u64,
+    ending: Ending,
+    answers: KeptText,
+    entries: KeptText,
+}
+
+impl Responder {
+    /// A responder on this auction, with nothing answered so far.
+    pub(crate) fn new(alloc: Global, auction: Auction, terms: SessionTerms) -> Responder
+        ensures { IsNew result terms auction }
+    {
+        Responder {
+            auction,
+            terms,
+            records: 0,
+            ending: Ending::AllGood,
+            answers: KeptText::new(alloc),
+            entries: KeptText::new(alloc),
+        }
+    }
+
+    /// How the session ends if its input has ended.
+    pub(crate) fn ending(&self) -> Ending
+        ensures { result ≡ self.now.ending }
+    {
+        self.ending
+    }
+
+    /// The number of the next record. The error is that it is no `u64`.
+    fn next_number(&self) -> Result<u64, AllocError>
+        ensures { IfOk result (λ number. number ≡ self.now.records + 1) }
+    {
+        self.records.checked_add(1).ok_or(AllocError)
+    }
+
+    /// Applies the call of a good record, and gathers its answer and its entry.
+    fn reply(&mut self, call: Call) -> Result<(), AllocError>
+        requires { self.old.auction.calls < self.old.auction.config.max_calls }
+        ensures { AddsAnswers self.old self.new (λ _ so_far. replied so_far call) result }
+    {
+        let number = self.next_number()?;
+        self.answers.make_room()?;
+        let reply = self.auction.apply_call(&call);
+        put_line(
+            &mut self.answers.page,
+            u64::from(self.auction.calls()),
+            reply,
+        );
+        self.records = number;
+        let Call { member, command } = call;
+        let entry = Entry {
+            member,
+            command,
+            reply,
+        };
+        keep_entry(&mut self.entries, entry)?;
+        Ok(())
+    }
+
+    /// Gathers the answer to a bad record.
+    pub(crate) fn refuse(&mut self, fault: BadRecord) -> Result<(), AllocError>
+        ensures { AddsAnswers self.old self.new (λ _ so_far. refused so_far fault) result }
+    {
+        let number = self.next_number()?;
+        self.answers.make_room()?;
+        put_bad_line(&mut self.answers.page, number, fault);
+        self.ending = Ending::SomeBad;
+        self.records = number;
+        Ok(())
+    }
+
+    /// Answers the next record.
+    fn answer_row(&mut self, row: &ByteRecord) -> Result<(), AllocError>
+        ensures { AddsAnswers self.old self.new (λ terms so_far. after_record terms so_far (fields_of row.now)) result }
+    {
+        match live_call(&self.auction, self.terms, row) {
+            Ok(call) => self.reply(call),
+            Err(fault) => self.refuse(fault),
+        }
+    }
+
+    /// Answers the records that are left.
+    fn answer_rows(&mut self, alloc: Global, rows: &mut Reader<&[u8]>) -> Result<(), AllocError>
+        requires { IsRecordReader rows.old }
+        ensures { AddsAnswers self.old self.new
+            (λ terms so_far. after_records terms so_far (rows_left rows.old)) result }
+    {
+        let mut row = ByteRecord::new(alloc);
+        'rows: for _ in 0..u64::MAX {
+            let Ok(found) = next_row(rows, &mut row) else {
+                return Err(AllocError);
+            };
+            if !found {
+                return Ok(());
+            }
+            self.answer_row(&row)?;
+        }
+        Err(AllocError)
+    }
+
+    /// Answers the records of a text.
+    pub(crate) fn answer_text(&mut self, alloc: Global, text: &[u8]) -> Result<(), AllocError>
+        ensures { AddsAnswers self.old self.new
+            (λ terms so_far. after_records terms so_far (records default_config (strip_bom text.now))) result }
+    {
+        let Ok(mut rows) = reader_of(alloc, text) else {
+            return Err(AllocError);
+        };
+        self.answer_rows(alloc, &mut rows)
+    }
+
+    /// Puts each text in one piece. The error is that memory is refused.
+    fn turn_pages(&mut self) -> Result<(), AllocError>
+        ensures { IsGatheredAs self.old self.new result }
+    {
+        self.entries.turn_page()?;
+        self.answers.turn_page()?;
+        Ok(())
+    }
+
+    /// Commits the gathered entries, and then writes the gathered answers.
+    pub(crate) fn give<C: Conversation>(&mut self, talk: &mut C) -> Result<(), LiveFault>
+        requires { (now : C) → IsCommitted C.Conversation talk.old now (text_of self.old.entries)
+            → C.MayWrite now (text_of self.old.answers) }
+        ensures { Gives C.Conversation talk.old talk.new self.old self.new result }
+    {
+        let Ok(()) = self.turn_pages() else {
+            return Err(LiveFault::NoMemory);
+        };
+        let Ok(()) = talk.commit(self.entries.full.as_slice()) else {
+            return Err(LiveFault::CommitFailed);
+        };
+        let Ok(()) = talk.write(self.answers.full.as_slice()) else {
+            return Err(LiveFault::WriteFailed);
+        };
+        self.entries.full.clear();
+        self.answers.full.clear();
+        Ok(())
+    }
+}
