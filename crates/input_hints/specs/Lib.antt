@@ -1,1 +1,4 @@
+pub mod FieldLooks
 pub mod Hints
+pub mod InputHints
+pub mod RecordHints

@@ -1,22 +1,36 @@
-//! The likely cause of a fault.
+//! What a fault is likely to come from.
 
-ghost use Rattle.std.specs.Prelude.{◌≡◌, Some};
-ghost use Rattle.input_hints.specs.Hints.{has_byte, has_letter_first, hint_by, hint_of, hint_text, is_like_file};
-ghost use Rattle.input_hints.specs.Hints.{is_utf_16};
+ghost use Rattle.std.specs.Prelude.{◌≡◌, ◌≤◌, ◌+◌, ◌++◌, Some, length};
+ghost use Rattle.printed_lines.specs.declared.page.TheConstants.{ROOM};
+ghost use Rattle.input_hints.specs.Hints.{hint_text};
 
-use order_file::FileFault;
+use printed_lines::{Page, ROOM};
 use std::fmt;
 use std::fmt::{Display, Formatter};
 
-/// What a fault of an input's first record is likely to come from; its text is the line that the program prints.
+/// What a fault is likely to come from; its text is that which the program prints.
 #[derive(Clone, Copy, Debug, PartialEq, Eq)]
 pub enum Hint {
-    /// The text is in UTF-16: it begins with that byte order mark, or with a NUL in its first two bytes.
+    /// The text is in UTF-16: the record begins with that byte order mark, or with a NUL in its first two bytes.
     Utf16,
     /// Fields are parted by semicolons: there is one, and no comma.
     Semicolons,
-    /// The first record is a header: its first byte is a letter.
+    /// Fields are parted by tabs: there is one, and no comma.
+    Tabs,
+    /// The first record is a header: its first five fields begin with letters, and the second is no command word.
     Header,
+    /// The field begins or ends with a space or a tab.
+    Spaces,
+    /// The field is a word that may stand there, but for capital letters.
+    Capitals,
+    /// The field is `buy` or `sell`, in place of `bid` or `ask`.
+    BuyOrSell,
+    /// The field is a number with a decimal point.
+    DecimalPoint,
+    /// The field is a whole number, and no member of the day.
+    NoSuchMember { members: u8 },
+    /// The field is a whole number that is no limit of any day.
+    OutOfBounds { low: u32, high: u32 },
 }
 
 impl Display for Hint {
@@ -28,72 +42,58 @@ impl Display for Hint {
             Hint::Semicolons => {
                 f.write_str("the input has semicolons: fields are parted by commas")
             }
+            Hint::Tabs => f.write_str("the input has tabs: fields are parted by commas"),
             Hint::Header => f.write_str("the first record looks like a header: leave it out"),
+            Hint::Spaces => f.write_str("a field has no spaces around it"),
+            Hint::Capitals => f.write_str("words are in lower case"),
+            Hint::BuyOrSell => f.write_str("a side is bid or ask"),
+            Hint::DecimalPoint => f.write_str("numbers are whole, prices in ticks"),
+            Hint::NoSuchMember { members } => {
+                write!(f, "members are numbered from 0, and there are {members}")
+            }
+            Hint::OutOfBounds { low, high } => write!(f, "limits are ticks from {low} to {high}"),
         }
     }
 }
 
-/// Whether the bytes have this one among them.
-fn has_byte(bytes: &[u8], wanted: u8) -> bool
-    ensures { result ≡ has_byte wanted bytes.now }
+/// Puts the bounds on the page.
+fn put_bounds(page: &mut Page, low: u32, high: u32)
+    requires { length page.old + 70 ≤ ROOM }
+    ensures text { page.new ≡ page.old ++ hint_text (Hint.OutOfBounds low high) }
+    ensures longer { length page.new ≤ length page.old + 70 }
 {
-    bytes.contains(&wanted)
+    page.put("limits are ticks from ");
+    page.put_number(u64::from(low));
+    page.put(" to ");
+    page.put_number(u64::from(high));
 }
 
-/// Whether the bytes begin as a text in UTF-16 does.
-fn is_utf_16(bytes: &[u8]) -> bool
-    ensures { result ≡ is_utf_16 bytes.now }
+/// Puts how many members there are on the page.
+fn put_count(page: &mut Page, members: u8)
+    requires { length page.old + 70 ≤ ROOM }
+    ensures text { page.new ≡ page.old ++ hint_text (Hint.NoSuchMember members) }
+    ensures longer { length page.new ≤ length page.old + 70 }
 {
-    match bytes {
-        [0xff, 0xfe, ..] | [0xfe, 0xff, ..] | [0, _, ..] | [_, 0, ..] => true,
-        _ => false,
-    }
+    page.put("members are numbered from 0, and there are ");
+    page.put_number(u64::from(members));
 }
 
-/// Whether the first byte is a letter.
-fn has_letter_first(bytes: &[u8]) -> bool
-    ensures { result ≡ has_letter_first bytes.now }
+/// Puts the text of a likely cause on the page, at most 70 bytes.
+pub fn put_hint(page: &mut Page, hint: Hint)
+    requires { length page.old + 70 ≤ ROOM }
+    ensures text { page.new ≡ page.old ++ hint_text hint }
+    ensures longer { length page.new ≤ length page.old + 70 }
 {
-    match bytes {
-        [b'A'..=b'Z', ..] | [b'a'..=b'z', ..] => true,
-        _ => false,
+    match hint {
+        Hint::Utf16 => page.put("the input looks like UTF-16: save it as UTF-8"),
+        Hint::Semicolons => page.put("the input has semicolons: fields are parted by commas"),
+        Hint::Tabs => page.put("the input has tabs: fields are parted by commas"),
+        Hint::Header => page.put("the first record looks like a header: leave it out"),
+        Hint::Spaces => page.put("a field has no spaces around it"),
+        Hint::Capitals => page.put("words are in lower case"),
+        Hint::BuyOrSell => page.put("a side is bid or ask"),
+        Hint::DecimalPoint => page.put("numbers are whole, prices in ticks"),
+        Hint::NoSuchMember { members } => put_count(page, members),
+        Hint::OutOfBounds { low, high } => put_bounds(page, low, high),
     }
-}
-
-/// The likely cause by the beginning of the input.
-fn hint_by(start: &[u8]) -> Option<Hint>
-    ensures { result ≡ hint_by start.now }
-{
-    if is_utf_16(start) {
-        return Some(Hint::Utf16);
-    }
-    if has_byte(start, b';') && !has_byte(start, b',') {
-        return Some(Hint::Semicolons);
-    }
-    if has_letter_first(start) {
-        return Some(Hint::Header);
-    }
-    None
-}
-
-/// The likely cause of this fault in an input that begins so: of a bad member in the first record, or of an audit's
-/// first record that isn't that of a day. Other faults have none.
-pub fn hint_of(fault: FileFault, start: &[u8]) -> Option<Hint>
-    ensures { result ≡ hint_of fault start.now }
-{
-    match fault {
-        FileFault::BadMember { number: 1 } | FileFault::NotADay => hint_by(start),
-        _ => None,
-    }
-}
-
-/// Whether a word looks like the name of a file: it has a dot or a slash, and doesn't begin with a dash.
-pub fn is_like_file(word: &str) -> bool
-    ensures { result ≡ is_like_file word.now }
-{
-    let bytes = word.as_bytes();
-    if bytes.first() == Some(&b'-') {
-        return false;
-    }
-    has_byte(bytes, b'.') || has_byte(bytes, b'/')
 }

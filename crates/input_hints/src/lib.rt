@@ -2,10 +2,16 @@
 //! first record, by that beginning.
 #![tactic(auto)]
 
+mod field;
 mod hint;
+mod input;
+mod record;
 mod start;
 mod start_keeper;
 
-pub use hint::{Hint, hint_of, is_like_file};
+pub use field::is_like_file;
+pub use hint::{Hint, put_hint};
+pub use input::hint_of;
+pub use record::{DayTerms, hint_of_record};
 pub use start::{ROOM, Start};
 pub use start_keeper::{KeepsStart, StartKeeper};

@@ -6,7 +6,7 @@ ghost use Rattle.input_hints.specs.declared.start.TheConstants.{ROOM};
 use std::marker::Model;
 
 /// How many bytes are kept.
-pub const ROOM: usize = 64;
+pub const ROOM: usize = 16_384;
 
 /// The first bytes of an input, at most `ROOM` of them. It takes no memory.
 #[derive(Drop)]

@@ -13,7 +13,7 @@ pub trait KeepsStart: Source {
     // The first bytes that were read.
     ghost begun: { Self → List ℕ };
 
-    /// The first bytes that were read, at most 64 of them.
+    /// The first bytes that were read, at most `ROOM` of them.
     fn start(&self) -> &[u8]
         ensures { result.now ≡ begun self.now };
 }
