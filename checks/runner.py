@@ -72,7 +72,8 @@ PARTS = [
         "the package for Python: types, tests",
         FROM_PYTHON,
         "cc",
-        "cffi numpy Python.h pytest hypothesis mypy pandas matplotlib tqdm nbclient ipykernel",
+        "cffi numpy Python.h pytest hypothesis mypy pandas matplotlib tqdm nbclient ipykernel "
+        "ipywidgets",
     ),
     Part(
         "report",

@@ -27,9 +27,12 @@ if TYPE_CHECKING:
         NotAppliedError,
         RefusedError,
     )
+    from callauction.gains import Gains, surplus
+    from callauction.outcomes import Played
     from callauction.reading import reply_of
     from callauction.reasons import explain
     from callauction.recording import RecordedAuction
+    from callauction.refused import refusals
     from callauction.tables import audit, read_book, read_journal, read_trades
     from callauction.verdict import audit_auction, audit_events
     from callauction.words import (
@@ -82,6 +85,7 @@ __all__ = [
     "Entered",
     "Restriction",
     "FullError",
+    "Gains",
     "Interrupted",
     "AuctionKind",
     "Market",
@@ -90,6 +94,7 @@ __all__ = [
     "NoPrice",
     "NotAppliedError",
     "ORDER",
+    "Played",
     "Price",
     "REPLY",
     "Receipt",
@@ -117,8 +122,10 @@ __all__ = [
     "read_book",
     "read_journal",
     "read_trades",
+    "refusals",
     "reply_of",
     "report",
+    "surplus",
     "verdict",
 ]
 
@@ -126,6 +133,8 @@ __version__ = "2026.11.24"
 
 _MODULES = ("journal", "plot", "report", "verdict")
 _LATER = {
+    "Gains": "gains",
+    "Played": "outcomes",
     "RecordedAuction": "recording",
     "audit": "tables",
     "audit_auction": "verdict",
@@ -134,6 +143,8 @@ _LATER = {
     "read_book": "tables",
     "read_journal": "tables",
     "read_trades": "tables",
+    "refusals": "refused",
+    "surplus": "gains",
 }
 _PLACES = ("words", "arrays", "errors", "reading", "auction", "board")
 

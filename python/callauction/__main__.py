@@ -85,7 +85,7 @@ def _parser() -> argparse.ArgumentParser:
         for name, text in (
             ("report", "write the report of an order file, a journal or an extract as an HTML file"),
             ("audit", "say whether what was published is lawful: of a journal or an extract"),
-            ("plot", "draw the book before an uncross, or the course of the day"),
+            ("plot", "draw a book, the course of the day, or who trades with whom"),
             ("convert", "make a journal of a CSV file of order events"),
         )
     }
@@ -98,7 +98,13 @@ def _parser() -> argparse.ArgumentParser:
     _add_day(made["plot"], OPTIONS)
     _add_day(made["report"], [name for name in OPTIONS if name not in CONVERTED])
     made["plot"].add_argument("--command", type=int, help="the uncross, by its number")
-    made["plot"].add_argument("--course", action="store_true", help="draw the course of the day")
+    pictures = made["plot"].add_mutually_exclusive_group()
+    pictures.add_argument("--course", action="store_true", help="draw the course of the day")
+    pictures.add_argument("--allocation", action="store_true", help="draw who trades with whom")
+    made["plot"].add_argument("--tick-size", help="the step between two prices, for prices as axes")
+    made["report"].add_argument(
+        "--worth", help="of a day: a CSV file with the columns order and value, in ticks"
+    )
     for name in ("audit", "report"):
         command.add_options(made[name])
     made["audit"].add_argument("-o", "--output", help="write a row for each instrument, as CSV")
@@ -152,11 +158,24 @@ def _report(asked: argparse.Namespace) -> int:
     title = "A day of call auctions" if asked.file == "-" else pathlib.Path(asked.file).name
     content, watch = _content(asked.file), _watch("auctions")
     if command.is_recorded(content):
-        text = report.html_of(_day(asked, content), title, watch)
+        values, size = _values(asked.worth), asked.tick_size
+        text = report.html_of(_day(asked, content), title, watch, values=values, tick_size=size)
     else:
         text = page.html_of(command.verdict_of(content, asked), title, watch)
     pathlib.Path(asked.output).write_text(text, encoding="utf-8")
     return DONE
+
+
+def _values(file: str | None) -> dict[int, float] | None:
+    """What a file of values says. Raises ValueError where it has other columns."""
+    import pandas
+
+    if file is None:
+        return None
+    found = pandas.read_csv(file)
+    if not {"order", "value"} <= {*found.columns}:
+        raise ValueError("worth: the columns are order and value")
+    return dict(zip(found["order"].astype(int), found["value"].astype(float)))
 
 
 def _watch(unit: str) -> "Watch":
@@ -170,15 +189,18 @@ def _plot(asked: argparse.Namespace) -> int:
     from callauction import plot
     from callauction.course import course_of, references_of
 
-    day = _day(asked, _content(asked.file))
+    day, size = _day(asked, _content(asked.file)), asked.tick_size
     figure = Figure(figsize=plot.SIZE, layout="constrained")
+    axes = figure.subplots()
     if asked.course:
-        plot.indicative(course_of(day, _watch("steps")), ax=figure.subplots())
+        plot.indicative(course_of(day, _watch("steps")), tick_size=size, ax=axes)
+    elif asked.allocation:
+        plot.allocation(day, asked.command, tick_size=size, ax=axes)
     else:
         book = book_at(books_of(day), asked.command)
         number = int(book["command"].iloc[0])
         reference = references_of(journal_of(day), [number])[number]
-        plot.book(book, reference=reference, ax=figure.subplots())
+        plot.book(book, reference=reference, tick_size=size, ax=axes)
     figure.savefig(asked.output)
     return DONE
 

@@ -13,6 +13,7 @@ from callauction.arrays import COMMAND, Shares, Structs, whole
 from callauction.auction import Auction
 from callauction.course import Course, course_of, references_of
 from callauction.errors import NotAppliedError, RefusedError
+from callauction.outcomes import outcomes_of
 from callauction.reasons import Explanation, explain
 from callauction.program import Day
 from callauction.reading import number, reply_of
@@ -285,6 +286,10 @@ class RecordedAuction:
     def trades(self) -> pandas.DataFrame:
         """The trades of the day so far, with the members of the orders (tables.TRADES)."""
         return trades_of(self.day())
+
+    def outcomes(self) -> pandas.DataFrame:
+        """The accepted orders of the day, and what became of each (outcomes.OUTCOMES)."""
+        return outcomes_of(self.day())
 
     def books(self) -> pandas.DataFrame:
         """The book before each uncross, and the book now unless the day is over (tables.BOOK)."""

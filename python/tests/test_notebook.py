@@ -1,65 +1,164 @@
-"""The lesson runs, and its exercises are checked."""
+"""The lessons run, and the exercises and their solutions are checked."""
 import json
+import re
+from pathlib import Path
 
 import nbformat
 import pytest
 from nbclient.client import NotebookClient
 from printed import TOP
 
-NOTEBOOK = TOP / "python/notebooks/how_a_price_is_found.ipynb"
-RULES = ("single", "highest", "lowest", "reference", "market")
+FOLDER = TOP / "python/notebooks"
+PRICE, DESIGN = FOLDER / "how_a_price_is_found.ipynb", FOLDER / "how_an_auction_is_designed.ipynb"
+FOLDED = re.compile(r"<details><summary>(.*?)</summary>\n\n```python\n(.*?)```", re.S)
 
 
-@pytest.fixture(scope="module", name="ran")
-def _ran() -> nbformat.NotebookNode:
-    """The notebook after all of its cells ran; a cell that fails raises CellExecutionError."""
+def folded(read: nbformat.NotebookNode) -> list[str]:
+    """The code that is folded away, in its order."""
+    texts = [cell.source for cell in read.cells if cell.cell_type == "markdown"]
+    return [code for text in texts for _, code in FOLDED.findall(text)]
+
+
+def ran(path: Path) -> nbformat.NotebookNode:
+    """A notebook after its cells, and then the folded code, ran; a cell that fails raises
+    CellExecutionError.
+    """
     read: nbformat.NotebookNode = nbformat.read(  # type: ignore[no-untyped-call]
-        NOTEBOOK, as_version=4
+        path, as_version=4
     )
-    place = {"metadata": {"path": str(NOTEBOOK.parent)}}
-    NotebookClient(read, timeout=120, kernel_name="python3", resources=place).execute()
+    for code in folded(read):
+        read.cells.append(nbformat.v4.new_code_cell(code))  # type: ignore[no-untyped-call]
+    place = {"metadata": {"path": str(path.parent)}}
+    client = NotebookClient(read, timeout=300, kernel_name="python3", resources=place)
+    # It wants the state of a slider with its opening, and this ipywidgets tells it later.
+    opened: list[object] = []
+    client.comm_open_handlers["jupyter.widget"] = lambda message: opened.append(message)
+    client.execute()
+    read.metadata["widgets_opened"] = len(opened)
     return read
 
 
-def texts(ran: nbformat.NotebookNode) -> list[str]:
+def texts(cells: list[nbformat.NotebookNode]) -> list[str]:
     """What the cells of code show as text."""
     return [
         output.get("text") or output["data"]["text/plain"]
-        for cell in ran.cells
+        for cell in cells
         if cell.cell_type == "code"
         for output in cell.outputs
         if "text" in output or "text/plain" in output.get("data", {})
     ]
 
 
+def pictures(read: nbformat.NotebookNode) -> int:
+    outputs = [output for cell in read.cells for output in cell.get("outputs", [])]
+    return sum("image/png" in output.get("data", {}) for output in outputs)
+
+
+@pytest.fixture(scope="module", name="price")
+def _price() -> nbformat.NotebookNode:
+    return ran(PRICE)
+
+
+@pytest.fixture(scope="module", name="design")
+def _design() -> nbformat.NotebookNode:
+    return ran(DESIGN)
+
+
+def part(read: nbformat.NotebookNode, number: int) -> str:
+    """What the cells of a part show as text."""
+    heads = [
+        int(found[1]) if (found := re.search(r"^## (\d+)\.", cell.source, re.M)) else None
+        for cell in read.cells
+    ]
+    begin = heads.index(number)
+    rest = [place for place, head in enumerate(heads) if head and place > begin]
+    return "\n".join(texts(read.cells[begin : rest[0] if rest else None]))
+
+
+RULES = ("It is the one best limit", "Both leave a surplus", "The reference")
+
+
 @pytest.mark.filterwarnings("ignore")
-def test_each_rule_is_shown_by_a_book(ran: nbformat.NotebookNode) -> None:
-    shown = "\n".join(texts(ran))
-    for sentence in (
-        "It is the one best limit, so 201 is the price",
-        "leave the least surplus, 20",
-        "so the highest, 201, is the price",
-        "so the lowest, 199, is the price",
-        "The reference, 200, lies between them",
-        "The reference, 215, is at or above the higher",
-        "The reference, 185, is at or below the lower",
-        "Neither leaves a surplus",
-        "There are market orders alone, 900 bid and 800 offered",
-        "so the limits decide",
-        "Shown in its place: the highest bid limit, 199, and the lowest ask limit, 201.",
-    ):
+@pytest.mark.parametrize("number, rule, sentences", [
+    (1, RULES[0], ["Limit 200 executes most, 500."]),
+    (2, RULES[0], ["Limit 201 executes most, 300."]),
+    (3, RULES[0], ["Of these, 202 leaves the least surplus, 20."]),
+    (4, RULES[1], ["the highest, 201, is the price", "the lowest, 199, is the price"]),
+    (5, RULES[2], ["200, lies between them", "215, is at or above the higher",
+                   "185, is at or below the lower", "Neither leaves a surplus"]),
+    (6, "", ["There are market orders alone, 900 bid and 800 offered", "so the limits decide",
+             "so 1 is the price, whatever its surplus"]),
+    (7, "", ["Shown in its place: the highest bid limit, 199, and the lowest ask limit, 201."]),
+])
+def test_each_part_shows_its_rule_alone(
+    price: nbformat.NotebookNode, number: int, rule: str, sentences: list[str]
+) -> None:
+    shown = part(price, number)
+    for sentence in sentences:
         assert sentence in shown
-    outputs = [output for cell in ran.cells for output in cell.get("outputs", [])]
-    assert sum("image/png" in output.get("data", {}) for output in outputs) >= 9
+    if number in (1, 2):
+        assert "least surplus" not in shown
+    if rule:
+        assert [other for other in RULES if other in shown] == [rule]
 
 
 @pytest.mark.filterwarnings("ignore")
-def test_exercises_are_open_and_their_solutions_solved(ran: nbformat.NotebookNode) -> None:
-    shown = texts(ran)
-    assert [text.splitlines()[0] for text in shown[-4:-1]] == ["not yet:"] * 3
-    assert shown[-1] == "['solved', 'solved', 'solved']"
+@pytest.mark.parametrize("number, texts_of_part", [
+    (10, ["Refused(refusal=<Refusal.NOT_OPERATOR: 6>)", "volume=500, surplus=200", "trades=3"]),
+    (12, ["Changed(kept=True)", "Changed(kept=False)"]),
+    (14, ["visible=100"]),
+    (15, ["Price(tick=205, volume=60, surplus=40", "lapsed"]),
+    (16, ["Interrupted(price=Price(tick=212", "Uncrossed(auction=<AuctionKind.OPENING: 1>, "
+          "price=Price(tick=203"]),
+    (18, ["gain 700 of 1,100 possible, efficiency 63.6%"]),
+])
+def test_the_execution_is_as_it_is_told(
+    price: nbformat.NotebookNode, number: int, texts_of_part: list[str]
+) -> None:
+    shown = part(price, number)
+    for text in texts_of_part:
+        assert text in shown
 
 
-def test_it_is_stored_without_results() -> None:
-    stored = json.loads(NOTEBOOK.read_text(encoding="utf-8"))
+@pytest.mark.filterwarnings("ignore")
+def test_a_lesson_draws_what_it_tells_of(price: nbformat.NotebookNode) -> None:
+    assert pictures(price) >= 17
+    assert price.metadata["widgets_opened"], "the slider of part 8"
+    assert "python3-ipywidgets" not in part(price, 8)
+    told = "\n".join(cell.source for cell in price.cells)
+    assert told.count("**The board's choice.**") == 4
+
+
+@pytest.mark.filterwarnings("ignore")
+def test_exercises_are_open_and_their_solutions_solve_them(price: nbformat.NotebookNode) -> None:
+    solutions = folded(price)
+    own = price.cells[: -len(solutions)]
+    asked = [text for text in texts(own) if text.startswith("not yet")]
+    assert len(asked) == len(solutions) == 7
+    assert texts(price.cells[-len(solutions) :]) == ["'solved'"] * 7
+
+
+@pytest.mark.filterwarnings("ignore")
+def test_no_solution_stands_in_what_was_shown(price: nbformat.NotebookNode) -> None:
+    own = price.cells[: -len(folded(price))]
+    code = "\n".join(cell.source for cell in own if cell.cell_type == "code")
+    for solution in folded(price):
+        [added] = re.findall(r"check\((.*)\)", solution)
+        assert added not in code
+
+
+@pytest.mark.filterwarnings("ignore")
+def test_the_course_on_design_runs(design: nbformat.NotebookNode) -> None:
+    shown = "\n".join(texts(design.cells))
+    assert "101,000 commands, 0 refused" in shown
+    assert re.search(r"gain [\d,.]+ of [\d,.]+ possible, efficiency \d", shown)
+    assert "of 100 days are interrupted" in shown
+    assert pictures(design) >= 5
+
+
+@pytest.mark.parametrize("path", [PRICE, DESIGN])
+def test_they_are_stored_without_results(path: Path) -> None:
+    stored = json.loads(path.read_text(encoding="utf-8"))
     assert all(not cell.get("outputs") for cell in stored["cells"])
+    minutes = re.findall(r"(?<=\| )\d+(?= \|)", "".join(stored["cells"][0]["source"]))
+    assert sum(map(int, minutes)) == 90

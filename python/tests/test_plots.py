@@ -5,9 +5,12 @@ from typing import Any
 
 import matplotlib.pyplot as pyplot
 import numpy
+import pandas
 import pytest
 from callauction import Side, plot
 from callauction.course import INDICATIVE, UNCROSSES, course_of
+from callauction.outcomes import queue_of
+from callauction.plot import parts
 from callauction.program import Day
 from callauction.recording import RecordedAuction
 from callauction.tables import BOOK, book_at, books_of, journal_of, table_of
@@ -49,22 +52,43 @@ def points(axes: Axes, label: str) -> list[tuple[int, int]]:
     return [*zip(line.get_xdata(), line.get_ydata())]
 
 
+def ticks(axes: Axes) -> list[str]:
+    return [text.get_text() for text in axes.get_xticklabels()]
+
+
+def stored(name: str) -> pandas.DataFrame:
+    return table_of(form_of(Path(name), "book"), BOOK)
+
+
+def example(name: str) -> Day:
+    return day_of(next(file for file in EXAMPLES if file.stem == name))
+
+
+# ---- a book
+
+
 def test_a_book_is_drawn_by_its_table() -> None:
-    axes = plot.book(table_of(form_of(Path("surplus_bid"), "book"), BOOK), reference=200)
+    axes = plot.book(stored("surplus_bid"), reference=200)
     demand, supply = steps(axes, "demand"), steps(axes, "supply")
-    assert demand == ([600, 600, 600, 400, 0], [197, 198.5, 199.5, 201.5, 202.5, 203])
-    assert supply == ([0, 200, 500, 500, 500], [197, 197.5, 198.5, 200.5, 201.5, 203])
+    assert demand == ([600, 600, 600, 400, 0], [197, 198, 199, 201, 202, 203])
+    assert supply == ([0, 200, 500, 500, 500], [197, 198, 199, 201, 202, 203])
     assert bars(axes, "executable volume") == [
         (198, 0, 200), (199, 0, 500), (201, 0, 500), (202, 0, 400)
     ]
     assert points(axes, "best limits") == [(199, 500), (201, 500)]
     assert points(axes, "price 201") == [(201, 500)]
     assert bars(axes, "surplus") == [(201, 500, 600)]
-    assert named(axes, "reference 200").get_xdata() == [200, 200]
+    [(tick, low, high)] = bars(axes, "reference 200")
+    assert (tick, low) == (200, 0) and high > 600
     assert axes.get_title(loc="left") == (
         "opening, before command 6\nprice 201, volume 500, surplus 100 bid"
     )
     assert (axes.get_xlabel(), axes.get_ylabel()) == ("limit (ticks)", "quantity (shares)")
+    assert {"199", "201"} <= {*ticks(axes)}
+    assert labels(axes) == [
+        "demand", "supply", "executable volume", "best limits", "surplus", "price 201",
+        "reference 200",
+    ]
 
 
 @pytest.mark.parametrize("file", EXAMPLES, ids=[file.stem for file in EXAMPLES])
@@ -76,24 +100,32 @@ def test_each_example_is_drawn_by_its_table(file: Path) -> None:
         market, rising = book.iloc[0], book.iloc[:0:-1]
         assert steps(axes, "demand")[0] == [*rising["demand"], market["bid"]]
         assert steps(axes, "supply")[0] == [market["ask"], *rising["supply"]]
-        assert bars(axes, "executable volume") == [
-            (row.limit, 0, row.volume) for row in rising.itertuples()
-        ]
+        listed = {"demand", "supply"}
+        if rising["volume"].gt(0).any():
+            listed.add("executable volume")
+            assert bars(axes, "executable volume") == [
+                (row.limit, 0, row.volume) for row in rising.itertuples()
+            ]
         best = rising[rising["best"] == 1]
-        assert ("best limits" in labels(axes)) == bool(len(best))
         if len(best):
+            listed.add("best limits")
             assert points(axes, "best limits") == [*zip(best["limit"], best["volume"])]
         for price in rising[rising["price"] != ""].itertuples():
+            listed.add(f"price {price.limit}")
+            assert str(price.limit) in ticks(axes)
             assert points(axes, f"price {price.limit}") == [(price.limit, price.volume)]
-            assert bars(axes, "surplus") == [
-                (price.limit, price.volume, price.volume + price.surplus)
-            ]
+            if price.surplus:
+                listed.add("surplus")
+                assert bars(axes, "surplus") == [
+                    (price.limit, price.volume, price.volume + price.surplus)
+                ]
+        assert {*labels(axes)} == listed
         pyplot.close(axes.figure)
 
 
 def test_a_picture_is_drawn_where_one_likes() -> None:
     _, (left, right) = pyplot.subplots(1, 2)
-    books = table_of(form_of(Path("opening"), "book"), BOOK)
+    books = stored("opening")
     assert plot.book(books, 8, ax=right) is right
     assert not left.get_children()[0].get_label().startswith("demand") and not left.get_legend()
     assert plot.indicative(day_of(EXAMPLES[0]), ax=left)[0] is left
@@ -102,12 +134,44 @@ def test_a_picture_is_drawn_where_one_likes() -> None:
 
 
 def test_a_book_without_limits_is_drawn() -> None:
-    books = table_of(form_of(Path("market_orders"), "book"), BOOK)
+    books = stored("market_orders")
     axes = plot.book(books, 7)
     assert steps(axes, "demand")[0] == [100] and steps(axes, "supply")[0] == [0]
     assert axes.get_title(loc="left").endswith("no price")
     axes = plot.book(books, 7, reference=200)
     assert steps(axes, "demand") == ([100], [199, 201])
+
+
+@pytest.mark.parametrize("reference, side", [(1, "left"), (188, ""), (212, ""), (900, "right")])
+def test_a_far_reference_is_an_arrow_at_the_edge(reference: int, side: str) -> None:
+    axes = plot.book(stored("surplus_bid"), reference=reference)
+    low, high = axes.get_xlim()
+    if not side:
+        assert f"reference {reference}" in labels(axes) and low < reference < high
+        return
+    assert (low, high) == (197, 203) and f"reference {reference}" not in labels(axes)
+    [arrow] = axes.texts
+    assert arrow.get_text() == f"reference {reference}" and arrow.arrow_patch is not None
+    assert arrow.xy[0] == (0 if side == "left" else 1)
+
+
+def test_prices_are_decimals_where_a_tick_size_is_known() -> None:
+    axes = plot.book(stored("surplus_bid"), reference=200, tick_size="0.05")
+    assert axes.get_xlabel() == "limit (price, tick size 0.05)"
+    assert {"9.95", "10.05"} <= {*ticks(axes)} and "price 10.05" in labels(axes)
+    assert "price 10.05, volume 500" in axes.get_title(loc="left")
+    axes = plot.book(stored("surplus_bid"), named=lambda tick: f"at {tick}")
+    assert axes.get_xlabel() == "limit (price)" and "at 201" in ticks(axes)
+    with pytest.raises(ValueError, match="tick_size 0 isn't above 0"):
+        plot.book(stored("surplus_bid"), tick_size=0)
+
+
+def test_a_price_is_seen_within_its_best_limit() -> None:
+    axes = plot.book(stored("surplus_bid"))
+    best, price = named(axes, "best limits"), named(axes, "price 201")
+    assert best.get_markerfacecolor() == "none"
+    assert price.get_markersize() < best.get_markersize() / 2
+    assert price.get_zorder() > best.get_zorder()
 
 
 def test_a_recorded_auction_knows_its_reference() -> None:
@@ -124,9 +188,22 @@ def test_a_recorded_auction_knows_its_reference() -> None:
         assert points(plot.indicative(auction)[0], "auction price") == [(3, 150), (6, 170)]
 
 
-def drawn(axes: Axes, folder: Path) -> bytes:
-    """The picture as a file, and that all of its texts lie within it, without one over another
-    along an axis.
+# ---- what is kept of a picture
+
+
+def lies_within(inner: Any, outer: Any) -> bool:
+    """Whether a box of the screen lies within another one, but for a point's breadth."""
+    return bool(
+        inner.x0 >= outer.x0 - 1
+        and inner.y0 >= outer.y0 - 1
+        and inner.x1 <= outer.x1 + 1
+        and inner.y1 <= outer.y1 + 1
+    )
+
+
+def drawn(axes: Axes, folder: Path, least: int = 2) -> bytes:
+    """The picture as a file, and that its texts lie within it, the legend within its axes, without
+    one tick's text over another's.
     """
     figure = axes.figure
     figure.savefig(folder / "picture.svg")
@@ -136,10 +213,40 @@ def drawn(axes: Axes, folder: Path) -> bytes:
         boxes = [text.get_window_extent(renderer).get_points()[:, along] for text in texts]
         boxes = sorted(boxes, key=lambda box: float(box[0]))
         assert all(first[1] < second[0] for first, second in zip(boxes, boxes[1:]))
-        assert 2 <= len(texts) <= 12
-    assert figure.bbox.contains(*axes.get_legend().get_window_extent(renderer).min)
-    assert figure.bbox.contains(*axes.get_legend().get_window_extent(renderer).max)
+        assert least <= len(texts) <= 12
+    if axes.get_legend():
+        legend = axes.get_legend().get_window_extent(renderer)
+        assert lies_within(legend, axes.get_window_extent(renderer))
+    for text in (*axes.texts, axes._left_title):
+        assert lies_within(text.get_window_extent(renderer), figure.bbox)
     return (folder / "picture.svg").read_bytes()
+
+
+SIZES = [(3.0, 2.4), plot.SIZE, (12.0, 8.0)]
+
+
+@pytest.mark.parametrize("size", SIZES)
+@pytest.mark.parametrize("layout", ["constrained", "tight", None])
+def test_what_is_drawn_is_kept_at_each_size(
+    size: tuple[float, float], layout: str | None, tmp_path: Path
+) -> None:
+    for name in ("surplus_bid", "far_limit"):
+        figure, axes = pyplot.subplots(figsize=size, layout=layout)
+        plot.book(stored(name), reference=200, ax=axes)
+        top = axes.transData.transform((0, max(max(steps(axes, "demand")[0]), 1)))[1]
+        assert drawn(axes, tmp_path, 1 if size[0] < 4 else 2)
+        # No curve runs behind the legend.
+        assert top <= axes.get_legend().get_window_extent().y0 + 1
+        pyplot.close(figure)
+
+
+def test_pictures_side_by_side_keep_their_legends(tmp_path: Path) -> None:
+    figure, panels = pyplot.subplots(2, 2, figsize=(9, 6))
+    for axes in panels.flat:
+        plot.book(stored("surplus_bid"), reference=200, ax=axes)
+    figure.savefig(tmp_path / "four.png")
+    for axes in panels.flat:
+        assert lies_within(axes.get_legend().get_window_extent(), axes.get_window_extent())
 
 
 def wide_day() -> Day:
@@ -163,10 +270,35 @@ def test_65536_ticks_are_readable(tmp_path: Path) -> None:
     rising = books[books["limit"].notna()][::-1]
     assert len(rising) == 65_536
     assert steps(axes, "demand")[0][:-1] == rising["demand"].tolist()
-    assert numpy.array_equal(
-        numpy.array(bars(axes, "executable volume"))[:, 2], rising["volume"].to_numpy()
-    )
     assert len(drawn(axes, tmp_path)) < 1_000_000
+
+
+@pytest.mark.parametrize("count, is_area", [(200, False), (201, True)])
+def test_the_volume_of_many_limits_is_one_area(count: int, is_area: bool) -> None:
+    orders = [f"1,enter,{'bid' if k % 3 else 'ask'},{k % 7 + 1},{k + 1}\n" for k in range(count)]
+    books = books_of(Day("".join(orders).encode("ascii")))
+    axes = plot.book(books, reference=100)
+    found = named(axes, "executable volume")
+    assert (found.get_alpha() or 1) == 1
+    if not is_area:
+        assert len(found.get_segments()) == count
+        return
+    rising = books[books["limit"].notna()][::-1]
+    demand, supply = rising["demand"].tolist(), rising["supply"].tolist()
+    # Between two limits the demand is that of the upper one, the supply that of the lower one.
+    wanted = [min(demand[k + 1], supply[k]) for k in range(count - 1)]
+    assert steps(axes, "executable volume") == (wanted, rising["limit"].tolist())
+    assert found.get_fill()
+
+
+def test_lines_and_words_have_contrast() -> None:
+    for color in (parts.DEMAND, parts.SUPPLY, parts.VOLUME, parts.PRICE, parts.REFERENCE):
+        assert parts.contrast(color) >= 4.5
+    assert parts.contrast("#ffffff") == 1 and round(parts.contrast("#000000")) == 21
+    assert round(parts.contrast("#767676"), 2) == 4.54
+
+
+# ---- a course
 
 
 @pytest.mark.parametrize("name", ["interruption", "day", "opening", "refusals"])
@@ -188,7 +320,7 @@ def test_a_course_is_what_asking_after_each_command_shows(name: str) -> None:
 
 
 def test_uncrosses_are_those_of_the_journal() -> None:
-    course = course_of(day_of(next(file for file in EXAMPLES if file.stem == "interruption")))
+    course = course_of(example("interruption"))
     shown = course.uncrosses.astype("object").where(course.uncrosses.notna(), None)
     assert shown.to_numpy().tolist() == [
         [3, "interrupted", 206, 100, 0, "none", 0],
@@ -201,7 +333,7 @@ def test_uncrosses_are_those_of_the_journal() -> None:
 
 
 def test_a_course_is_drawn_by_its_data(tmp_path: Path) -> None:
-    course = course_of(day_of(next(file for file in EXAMPLES if file.stem == "interruption")))
+    course = course_of(example("interruption"))
     axes, volume_axes = plot.indicative(course)
     line = named(axes, "indicative price")
     wanted = course.indicative["price"].astype("float64").to_numpy()
@@ -212,13 +344,126 @@ def test_a_course_is_drawn_by_its_data(tmp_path: Path) -> None:
     [area] = [artist for artist in volume_axes.collections]
     assert area.get_paths()[0].vertices[:, 1].max() == 100
     assert [text.get_text() for text in axes.texts] == [
-        "interrupted", "opening", "interrupted", "intraday"
+        "interrupted 206", "opening no price", "interrupted 206", "intraday 206"
     ]
     assert (axes.get_ylabel(), volume_axes.get_ylabel()) == ("price (ticks)", "volume (shares)")
+    assert labels(axes) == ["indicative price", "auction price", "price of an interrupted uncross"]
+    assert drawn(axes, tmp_path, 0) and drawn(volume_axes, tmp_path)
+
+
+@pytest.mark.parametrize("size", SIZES)
+@pytest.mark.parametrize("way", ["constrained", "none", "free"])
+def test_the_panels_of_a_course_share_the_calls(
+    size: tuple[float, float], way: str, tmp_path: Path
+) -> None:
+    figure = pyplot.figure(figsize=size, layout="constrained" if way == "constrained" else None)
+    given = figure.add_axes([0.2, 0.2, 0.7, 0.6]) if way == "free" else figure.subplots()
+    axes, volume_axes = plot.indicative(example("interruption"), ax=given, tick_size="0.01")
+    figure.savefig(tmp_path / "course.png")
+    assert axes is given and axes.get_shared_x_axes().joined(axes, volume_axes)
+    upper, lower = axes.get_window_extent(), volume_axes.get_window_extent()
+    assert (upper.x0, upper.x1) == pytest.approx((lower.x0, lower.x1)) and upper.y0 > lower.y1
+    assert axes.get_ylabel() == "price (price, tick size 0.01)"
+    assert axes.texts[0].get_text() == "interrupted 2.06"
+    boxes = [text.get_window_extent() for text in axes.texts]
+    for place, box in enumerate(boxes):
+        assert lies_within(box, figure.bbox)
+        assert not any(box.overlaps(other) for other in boxes[place + 1 :])
+
+
+@pytest.mark.parametrize("content", [b"", b"1,enter,bid,5,200\n0,uncross\n"])
+def test_a_day_without_prices_has_no_axis_of_prices(content: bytes) -> None:
+    course = course_of(Day(content))
+    assert course.indicative["price"].isna().all()
+    for axes in plot.indicative(course):
+        assert not axes.yaxis.get_visible() and not axes.get_legend()
+    words = [text.get_text() for text in pyplot.gcf().axes[0].texts]
+    assert words == ["no price on this day", *["opening no price"] * bool(content)]
+
+
+# ---- orders
+
+
+def test_a_queue_is_drawn_in_its_priority(tmp_path: Path) -> None:
+    day = example("time_priority")
+    wanted = queue_of(day)
+    axes = plot.queue(day, Side.BID)
+    bids = wanted.orders[wanted.orders["side"] == "bid"]
+    opened, executed = axes.containers
+    assert [bar.get_width() for bar in opened] == bids["quantity"].tolist()
+    assert [bar.get_width() for bar in executed] == bids["executed"].tolist()
+    assert drawn(axes, tmp_path, 1)
+
+
+def queued() -> RecordedAuction:
+    """Bids at market, at 201 and at 200, of which an ask of 260 takes some."""
+    auction = RecordedAuction()
+    auction.enter(1, Side.BID, 100, 200)
+    auction.enter(2, Side.BID, 100, 201, peak=40)
+    auction.enter(3, Side.BID, 50)
+    auction.enter(4, Side.BID, 60, 201)
+    auction.enter(5, Side.ASK, 180, 201)
+    return auction
+
+
+def test_a_queue_has_the_fills_of_its_orders(tmp_path: Path) -> None:
+    with queued() as auction:
+        axes = plot.queue(auction, Side.BID)
+        words = [text.get_text() for text in axes.get_yticklabels()]
+        assert words == [
+            "order 3, member 3, market",
+            "order 2, member 2, at 201, shows 40",
+            "order 4, member 4, at 201",
+            "order 1, member 1, at 200",
+        ]
+        opened, executed = axes.containers
+        assert [bar.get_width() for bar in opened] == [50, 100, 60, 100]
+        assert [bar.get_width() for bar in executed] == [50, 100, 30, 0]
+        heights = [bar.get_y() for bar in opened]
+        assert heights == sorted(heights, reverse=True)
+        assert axes.get_title(loc="left") == (
+            "opening, bids in their priority\n180 of 310 shares executed"
+        )
+        assert drawn(axes, tmp_path, 1)
+        at = plot.queue(auction, Side.BID, limit=201, tick_size="0.1")
+        assert [bar.get_width() for bar in at.containers[1]] == [100, 30]
+        assert "bids at 20.1 in their priority" in at.get_title(loc="left")
+        market = plot.queue(auction, Side.BID, limit="market")
+        assert [bar.get_width() for bar in market.containers[0]] == [50]
+        with pytest.raises(ValueError, match="no ask stands there before command 6"):
+            plot.queue(auction, Side.ASK, limit=200)
+
+
+def test_a_long_queue_is_shown_around_its_last_fill(tmp_path: Path) -> None:
+    orders = "".join(f"1,enter,bid,{k + 1},200\n" for k in range(100))
+    axes = plot.queue(Day(f"{orders}2,enter,ask,2000,200\n".encode("ascii")), Side.BID)
+    # 1 + .. + 62 are 1,953, so order 63 gets 47.
+    executed = [bar.get_width() for bar in axes.containers[1]]
+    assert len(executed) == 40 and executed[19:22] == [62, 47, 0]
+    assert "40 of 100\n2,000 of 5,050 shares executed" in axes.get_title(loc="left")
+
+
+def test_an_allocation_has_a_span_for_each_fill_and_trade(tmp_path: Path) -> None:
+    with queued() as auction:
+        auction.enter(6, Side.ASK, 30, 200)
+        auction.uncross()
+        axes = plot.allocation(auction, 7)
+        trades = auction.trades()
+    bids, asks, made = axes.containers
+    assert [bar.get_width() for bar in bids] == [50, 100, 60]
+    assert [bar.get_x() for bar in bids] == [0, 50, 150]
+    assert [bar.get_width() for bar in asks] == [30, 180]
+    assert [bar.get_width() for bar in made] == [30, 20, 100, 60] == trades["quantity"].tolist()
+    words = [text.get_text() for text in axes.texts]
+    assert words[1] == "bid 2\nmember 2\n100" and "180" in words[-5]
+    assert axes.get_title(loc="left") == "opening, who trades with whom\n4 trades at 201"
     assert drawn(axes, tmp_path)
+    for size in SIZES:
+        figure, small = pyplot.subplots(figsize=size, layout="constrained")
+        plot.allocation(example("opening"), 8, ax=small)
+        assert drawn(small, tmp_path, 1)
 
 
-def test_a_day_without_calls_has_an_empty_course() -> None:
-    course = course_of(Day(b""))
-    assert len(course.indicative) == len(course.uncrosses) == 0
-    plot.indicative(course)
+def test_without_trades_there_is_no_allocation() -> None:
+    with pytest.raises(ValueError, match="nothing is executed by command 3"):
+        plot.allocation(example("interruption"), 3)

@@ -6,7 +6,7 @@ from pathlib import Path
 from typing import Any
 
 import pytest
-from callauction import program, report
+from callauction import pages, program, report
 from callauction.__main__ import Watched, main
 from callauction.program import Day
 from callauction.tables import read_journal
@@ -31,8 +31,9 @@ def sections(text: str) -> list[str]:
 def test_a_report_has_each_part(file: Path) -> None:
     text = report.html_of(day_of(file))
     heads = sections(text)
-    assert heads[:2] == ["Config", "Course of the day"] and heads[-1] == "Refused commands"
-    commands = [re.search(r"command (\d+)", head)[1] for head in heads[2:-1]]  # type: ignore[index]
+    assert heads[0] == "Result"
+    assert heads[-4:] == ["Members", "Orders", "Refused commands", "Config"]
+    commands = [re.search(r"command (\d+)", head)[1] for head in heads[1:-4]]  # type: ignore[index]
     books = day_of(file).printed("book").splitlines()[1:]
     assert commands == [*dict.fromkeys(line.split(",")[0] for line in books)]
     assert text.count("<img ") == 1 + len(commands) == text.count("data:image/svg+xml;base64,")
@@ -41,7 +42,8 @@ def test_a_report_has_each_part(file: Path) -> None:
 
 def test_the_audit_of_a_journal_comes_first() -> None:
     text = report.html_of(Day.read(CHANGED))
-    assert sections(text)[0] == "Audit"
+    assert sections(text)[:2] == ["Audit", "Result"]
+    assert "<span>4 replies that aren&#x27;t lawful<" in text
     assert "<strong>not legal</strong>: of 8 entries 8 have a recorded reply, and 4 of" in text
     assert "entered 66" in text
 
@@ -61,9 +63,56 @@ def test_texts_are_escaped() -> None:
 def test_a_long_book_is_shown_near_its_price() -> None:
     text = report.html_of(wide_day())
     [table] = re.findall(r'<table id="book-65537">.*?</table>', text, re.S)
-    assert table.count("<tr") == report.MOST_ROWS + 1 and 'class="price"' in table
-    assert f"{report.MOST_ROWS} of 65,537 rows" in table
+    assert table.count("<tr") == pages.MOST_ROWS + 1 and 'class="price"' in table
+    caption = "Book of 65,536 limits: limits in ticks, quantities in shares; the 300 rows nearest"
+    assert caption in table and re.search(r"<td>\d{3},\d{3}</td>", table)
     assert len(text) < 3_000_000
+
+
+def table(text: str, name: str) -> list[list[str]]:
+    """The rows of a table, its caption being the first one."""
+    [found] = re.findall(rf'<table id="{name}">.*?</table>', text, re.S)
+    rows = re.findall(r"<tr.*?</tr>", found)
+    cells = [re.findall(r"<t[hd][^>]*>(.*?)</t[hd]>", row) for row in rows]
+    [caption] = re.findall(r"<caption><span>(.*?)</span></caption>", found)
+    return [[re.sub(r"<.*?>", "", caption)], *cells]
+
+
+def test_members_and_orders_are_listed() -> None:
+    text = report.html_of(day_of(next(file for file in EXAMPLES if file.stem == "day")))
+    caption, _, *rows = table(text, "members")
+    assert caption[0].startswith("2 members: shares entered, bought and sold; better: how much")
+    assert rows == [["1", "2", "130", "120", "0", "400"], ["2", "2", "120", "0", "120", "0"]]
+    caption, head, *rows = table(text, "orders")
+    assert caption[0].startswith("4 orders: ") and head[-1] == "became"
+    assert rows[2] == ["3", "1", "bid", "30", "market", "20", "10", "left"]
+    caption, _, *rows = table(text, "uncrosses")
+    assert caption[0].startswith("3 uncrosses: ") and len(rows) == 3
+    assert table(text, "trades-3")[0][0].startswith("1 trade: ")
+    assert table(text, "refused")[0][0].startswith("1 refused command")
+
+
+def test_thousands_are_parted() -> None:
+    text = report.html_of(Day(b"1,enter,bid,1234567,200\n2,enter,ask,2000,200\n0,uncross\n"))
+    assert table(text, "book-3")[-1][1:5] == ["1,234,567", "2,000", "1,234,567", "2,000"]
+    assert table(text, "trades-3")[-1][-2:] == ["2,000", "200"]
+    assert table(text, "orders")[2][3:] == ["1,234,567", "200", "2,000", "1,232,567", "open"]
+    assert ["commands that may come", "65,536"] in table(text, "config")
+
+
+def test_a_wide_table_says_that_it_scrolls() -> None:
+    text = report.html_of(day_of(next(file for file in EXAMPLES if file.stem == "day")))
+    assert pages.SCROLLS in table(text, "book-3")[0][0]
+    assert pages.SCROLLS not in table(text, "config")[0][0]
+    assert ".wide .hint { display: inline; }" in pages.LOOK
+
+
+def test_values_have_a_section() -> None:
+    day = day_of(next(file for file in EXAMPLES if file.stem == "day"))
+    text = report.html_of(day, values={3: 208, 4: 204})
+    assert sections(text)[-3:] == ["Gains", "Refused commands", "Config"]
+    assert "gain 480 of 480 possible, efficiency 100.0%" in text
+    assert table(text, "gains")[2:] == [["1", "120", "0", "440"], ["2", "0", "120", "40"]]
 
 
 # ---- the command line
@@ -76,7 +125,24 @@ def test_a_report_is_written(tmp_path: Path) -> None:
     assert written == report.html_of(day_of(file), "interruption.csv")
 
 
-@pytest.mark.parametrize("words", [[], ["--command", "3"], ["--course"]])
+def test_values_and_a_tick_size_are_read(
+    tmp_path: Path, capsys: pytest.CaptureFixture[str]
+) -> None:
+    file = next(file for file in EXAMPLES if file.stem == "day")
+    values, page = tmp_path / "values.csv", tmp_path / "day.html"
+    values.write_text("order,value\n3,208\n4,204.5\n", encoding="utf-8")
+    words = ["report", str(file), "--worth", str(values), "--tick-size", "0.01", "-o", str(page)]
+    assert main(words) == 0
+    assert "gain 470 of 470 possible" in page.read_text(encoding="utf-8")
+    values.write_text("id,value\n3,208\n", encoding="utf-8")
+    assert main(words) == 2
+    assert capsys.readouterr().err == "callauction: worth: the columns are order and value\n"
+
+
+@pytest.mark.parametrize("words", [
+    [], ["--command", "3"], ["--course"], ["--course", "--tick-size", "0.05"],
+    ["--allocation", "--command", "8"],
+])
 def test_a_picture_is_written(tmp_path: Path, words: list[str]) -> None:
     file = next(file for file in EXAMPLES if file.stem == "interruption")
     for name in ("day.svg", "day.png"):

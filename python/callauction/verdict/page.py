@@ -11,7 +11,16 @@ from matplotlib.axes import Axes
 
 from callauction import plot
 from callauction.course import Watch
-from callauction.report import caption_of, html_image, html_page, html_table, near_price, new_figure
+from callauction.pages import (
+    BOOKED,
+    caption_of,
+    counted,
+    html_image,
+    html_page,
+    html_table,
+    near_price,
+    new_figure,
+)
 from callauction.verdict.events import INTERRUPTED
 from callauction.verdict.findings import LAWFUL, MOST_BAD_ROWS, Verdict
 from callauction.verdict.judging import Judged
@@ -22,6 +31,8 @@ MOST_FIRST = 12
 MOST_EXPLAINED = 50
 """How many findings are shown with their rule and queue."""
 UNIT = "limits as prices, quantities in shares"
+QUEUED = ("open", "recorded", "lawful")
+"""The columns of a queue that count shares."""
 Part = tuple[str, str]
 """A section: its heading and its HTML."""
 
@@ -45,15 +56,15 @@ def _first(verdict: Verdict) -> Part:
     count = len(verdict.findings)
     text = (
         f'<p class="{look}">What was published is <strong>{verdict.word}</strong>: '
-        f"{count:,} finding{'s' * (count != 1)}. Compared: {html.escape(str(verdict.coverage))}."
+        f"{counted(count, 'finding')}. Compared: {html.escape(str(verdict.coverage))}."
     )
     if verdict.bad_rows:
         text += f" Rows that couldn't be read or were refused: {len(verdict.bad_rows):,}."
     text += "</p>"
     frame = verdict.frame()
     if count:
-        more = f", the first {MOST_FIRST} of {count:,}" if count > MOST_FIRST else ""
-        text += html_table(frame[:MOST_FIRST], f"Findings{more}", "findings")
+        more = f", of which {MOST_FIRST} are here" if count > MOST_FIRST else ""
+        text += html_table(frame[:MOST_FIRST], counted(count, "finding") + more, "findings")
     return "Verdict", text
 
 
@@ -68,7 +79,7 @@ def _explained(verdict: Verdict) -> Iterator[Part]:
         queue = _words(verdict.queue(finding))
         name = f"queue-{finding.number}"
         caption = "The queue: open before the uncross, recorded and lawful shares"
-        table = html_table(queue, caption, name) if len(queue) else ""
+        table = html_table(queue, caption, name, QUEUED) if len(queue) else ""
         where = ", ".join(filter(None, [f"row {finding.row}", finding.time, finding.auction]))
         yield f"Finding {finding.number}: {finding.item}, {where}", head + table
 
@@ -99,11 +110,12 @@ def _auction(verdict: Verdict, judged: Judged) -> Part:
     parts = [
         f"<h3>Why this price</h3><ol>{steps}</ol>",
         html_image(figure, text, f"book {name}"),
-        html_table(book, caption_of(replayed.books, "Book", UNIT), f"book-{name}"),
+        html_table(book, caption_of(replayed.books, "Book", UNIT), f"book-{name}", BOOKED),
     ]
     trades = lawful_trades(context)
     if len(trades) and not replayed.result.is_interrupted:
-        parts.append(html_table(trades, "Lawful trades", f"trades-{name}"))
+        caption = counted(len(trades), "lawful trade")
+        parts.append(html_table(trades, caption, f"trades-{name}", ("quantity",)))
     row = judged.published.row
     word = INTERRUPTED if replayed.result.is_interrupted else "uncrossed"
     where = ", ".join(filter(None, [f"row {row.label}", row.time]))

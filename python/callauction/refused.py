@@ -1,0 +1,32 @@
+"""The refusals among the replies of many commands: see refusals."""
+import numpy
+import pandas
+
+from callauction.arrays import COMMAND, REPLY, Structs, whole
+from callauction.words import CommandTag, Refusal, ReplyTag
+
+REFUSALS = {"place": "int64", "refusal": "int64", "name": "object"}
+"""The columns of refusals; with the commands there are `member` and `command` too."""
+
+
+def refusals(replies: Structs, commands: Structs | None = None) -> pandas.DataFrame:
+    """Which commands of an `apply_many` were refused: a row for each (REFUSALS), none where none
+    was.
+
+    `replies` is its array of REPLY; `place` is an element of it, from 0, `refusal` the number of a
+    Refusal and `name` its name. The array of `commands` adds who gave them and what they were.
+    Raises TypeError or ValueError for another array, or where the lengths differ.
+    """
+    whole("replies", replies, REPLY, is_written=False)
+    places = numpy.flatnonzero(replies["tag"] == ReplyTag.REFUSED)
+    numbers = replies["refusal"][places]
+    names = [Refusal(number).name for number in numbers]
+    found = pandas.DataFrame({"place": places, "refusal": numbers, "name": names}).astype(REFUSALS)
+    if commands is None:
+        return found
+    whole("commands", commands, COMMAND, is_written=False)
+    if len(commands) < len(replies):
+        raise ValueError(f"commands must be {len(replies)} or more, not {len(commands)}")
+    given = commands[places]
+    tags = [CommandTag(tag).name for tag in given["tag"]]
+    return found.assign(member=given["member"].astype("int64"), command=tags)

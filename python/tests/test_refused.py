@@ -1,0 +1,44 @@
+"""The table of refusals after many commands."""
+import callauction
+import numpy
+import pytest
+from arrayed import array_of
+from callauction import COMMAND, REPLY, Auction, Change, Command, Enter, Indicate, Side, Uncross
+from callauction.refused import REFUSALS
+
+GIVEN: list[tuple[int, Command]] = [
+    (1, Enter(Side.BID, 500, 200)),
+    (1, Enter(Side.BID, 500, 2000)),
+    (2, Indicate()),
+    (2, Change(1, 100)),
+    (3, Uncross()),
+]
+
+
+def test_refused_commands_have_a_row_each() -> None:
+    commands = array_of(GIVEN)
+    with Auction() as auction:
+        replies = auction.apply_many(commands)
+    found = callauction.refusals(replies)
+    assert {name: str(kind) for name, kind in found.dtypes.items()} == REFUSALS
+    assert found.to_numpy().tolist() == [
+        [1, 2, "BAD_LIMIT"], [3, 5, "UNKNOWN_ORDER"], [4, 6, "NOT_OPERATOR"]
+    ]
+    found = callauction.refusals(replies, commands)
+    assert found["member"].tolist() == [1, 2, 3]
+    assert found["command"].tolist() == ["ENTER", "CHANGE", "UNCROSS"]
+
+
+def test_a_day_without_refusals_has_an_empty_table() -> None:
+    found = callauction.refusals(numpy.zeros(0, REPLY))
+    assert found.empty and found.columns.tolist() == [*REFUSALS]
+    assert callauction.refusals(numpy.zeros(0, REPLY), numpy.zeros(0, COMMAND)).empty
+
+
+def test_other_arrays_are_no_replies() -> None:
+    with pytest.raises(TypeError, match="replies must be an array of another dtype"):
+        callauction.refusals(numpy.zeros(1, COMMAND))
+    with pytest.raises(TypeError, match="commands must be a numpy array, not list"):
+        callauction.refusals(numpy.zeros(1, REPLY), [])  # type: ignore[arg-type]
+    with pytest.raises(ValueError, match="commands must be 1 or more, not 0"):
+        callauction.refusals(numpy.zeros(1, REPLY), numpy.zeros(0, COMMAND))
