@@ -29,7 +29,7 @@ pub use fault::{Fault, Finish};
 pub use floor::run_floor;
 use input_hints::StartKeeper;
 pub use laws::printed_journals_are_lawful;
-use process_ends::{Patient, Standard, has_stack};
+use process_ends::Patient;
 pub use run::run_file;
 pub use serve::serve;
 use std::alloc::{AllocError, Global};
@@ -50,9 +50,6 @@ fn lend<'a>(alloc: Global, words: &'a [String]) -> Result<Vec<&'a str>, AllocErr
     }
     Ok(lent)
 }
-
-/// How much stack a run may need, in bytes, what the process is started with among it.
-const STACK_BYTES: u64 = 1_048_576;
 
 /// Runs the program on the process's words and its ends, each of which is waited for, and counts its failures in a
 /// ledger of its own. `rt` stands for the same runtime where the program waits and starts threads. The status is one
@@ -79,21 +76,21 @@ fn run_program<I: Ledger, O: Ledger, E: Ledger, T: Wait + Threads + Sync>(
     let mut reader = StartKeeper::new(FromRead {
         reader: Patient {
             end: host.stdin(),
-            standard: Standard::Input,
+            clock: host,
         },
         failures: Failures::<I>::new(input),
     });
     let mut out = ToWrite {
         writer: Patient {
             end: host.stdout(),
-            standard: Standard::Output,
+            clock: host,
         },
         failures: Failures::<O>::new(output),
     };
     let mut err = ToWrite {
         writer: Patient {
             end: host.stderr(),
-            standard: Standard::Errors,
+            clock: host,
         },
         failures: Failures::<E>::new(errors),
     };
@@ -128,10 +125,6 @@ fn exit_code(rt: &HostRuntime, answered: &io::Result<u8>) -> ExitCode
 // The toolchain takes no clause on the entry. What is left to it is to hand `exit_code` what `run_program` answered,
 // which the stored run and the test command see.
 fn main(rt: HostRuntime) -> ExitCode {
-    if !has_stack(STACK_BYTES) {
-        let _ = eprintln!(rt; "stack of less than 1 MiB");
-        return ExitCode::from(3);
-    }
     let blanks = (Blank::new(1), Blank::new(1), Blank::new(1));
     let answered = run_program::<Brand, Brand, Brand, HostRuntime>(
         &rt, &rt, blanks.0, blanks.1, blanks.2,

@@ -1,23 +1,29 @@
 //! An end that is waited for.
 
-use crate::standard::Standard;
 use std::io::{Error, ErrorKind, Read, Result, Write};
+use std::thread::sleep;
+use std::time::{Clock, Duration};
 
-/// What is read or written as `end` is, which is one of the process's own ends: where that would have to wait and
-/// doesn't, it is waited for.
+// How long an end that isn't ready is left alone before it is tried again, in milliseconds.
+const PAUSE: u64 = 1;
+
+/// What is read or written as `end` is: where that would have to wait and doesn't, it is tried again after a pause by
+/// this clock.
 #[derive(Drop)]
-pub struct Patient<T: Drop> {
+pub struct Patient<'a, T: Drop, C: Clock> {
     pub end: T,
-    pub standard: Standard,
+    pub clock: &'a C,
 }
 
-impl<R: Read + Drop> Read for Patient<R> {
+impl<'a, R: Read + Drop, C: Clock> Read for Patient<'a, R, C> {
     ghost remaining = { λ s. R.remaining s.end };
 
     fn read(&mut self, buf: &mut [u8]) -> Result<usize> {
         'turns: for _ in 0..u64::MAX {
             match self.end.read(buf) {
-                Err(error) if error.kind() == ErrorKind::WouldBlock => self.standard.wait(),
+                Err(error) if error.kind() == ErrorKind::WouldBlock => {
+                    sleep(self.clock, Duration::from_millis(PAUSE));
+                }
                 result => return result,
             }
         }
@@ -25,13 +31,15 @@ impl<R: Read + Drop> Read for Patient<R> {
     }
 }
 
-impl<W: Write + Drop> Write for Patient<W> {
+impl<'a, W: Write + Drop, C: Clock> Write for Patient<'a, W, C> {
     ghost contents = { λ s. W.contents s.end };
 
     fn write(&mut self, buf: &[u8]) -> Result<usize> {
         'turns: for _ in 0..u64::MAX {
             match self.end.write(buf) {
-                Err(error) if error.kind() == ErrorKind::WouldBlock => self.standard.wait(),
+                Err(error) if error.kind() == ErrorKind::WouldBlock => {
+                    sleep(self.clock, Duration::from_millis(PAUSE));
+                }
                 result => return result,
             }
         }

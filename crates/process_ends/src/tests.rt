@@ -1,6 +1,6 @@
 //! An end that isn't ready at once.
 
-use crate::{Patient, Standard, has_stack};
+use crate::Patient;
 use std::io::{Error, ErrorKind, Read, Result, Write};
 use std::process::Abort;
 
@@ -52,7 +52,7 @@ impl Write for Late {
 fn what_is_not_ready_is_waited_for(rt: HostRuntime) -> Result<()> {
     let mut patient = Patient {
         end: Late { times: 3, taken: 0 },
-        standard: Standard::Output,
+        clock: &rt,
     };
     let mut room = [0u8; 2];
     assert_eq!(rt; patient.read(&mut room)?, 1);
@@ -61,10 +61,4 @@ fn what_is_not_ready_is_waited_for(rt: HostRuntime) -> Result<()> {
     assert_eq!(rt; patient.write(&[9])?, 1);
     assert_eq!(rt; patient.end.taken, 9);
     Ok(())
-}
-
-#[test]
-fn a_stack_has_no_bytes_or_more(rt: HostRuntime) {
-    assert!(rt; has_stack(0));
-    assert!(rt; !has_stack(u64::MAX) || has_stack(u64::MAX - 1));
 }
