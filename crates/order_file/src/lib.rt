@@ -20,4 +20,6 @@ pub use calls::Calls;
 pub use fault::{FileFault, RecordFault};
 pub use field::number_of;
 pub use reading::{MAX_BYTES, bytes_after, bytes_of, calls_of, next_row, read_start, reader_of};
-pub use record::{Word, call_of, command_of, count_within, member_of, number_at, numbered_call, word_at};
+pub use record::{
+    Word, call_of, command_of, count_within, member_of, number_at, numbered_call, word_at,
+};

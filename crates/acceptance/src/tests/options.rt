@@ -140,7 +140,10 @@ fn answers_as_records_come_stand_alone(rt: HostRuntime) -> Result<(), Fail> {
         settings(rt.alloc(), &["callboard", "--live", "--print=lines"])?,
         wanted
     );
-    assert_eq!(rt; settings(rt.alloc(), &["callboard", "--reserve=0", "--live"])?, none);
+    assert_eq!(rt;
+        settings(rt.alloc(), &["callboard", "--reserve=0", "--live"])?,
+        none
+    );
     for other in ["--floor", "--history", "--audit", "--print=book"] {
         let Err(WordsFault::LiveNotAlone) = settings(rt.alloc(), &["callboard", "--live", other])
         else {
