@@ -41,7 +41,8 @@ use encoding::{config_out, display_out};
 use errors::fault_out;
 pub use errors::{
     BAD_BOUNDS, BAD_CAPACITY, BAD_LENGTH, BAD_MEMBER, BAD_REFERENCE, BEHIND, BUSY, CLOSED, DONE,
-    FULL, IN_USE, MISSING_MEMBER, NO_AUCTION, NO_COMMAND, NO_CONFIG, NO_MEMBER, NO_MEMORY, OVERTAKEN,
+    FULL, IN_USE, MISSING_MEMBER, NO_AUCTION, NO_COMMAND, NO_CONFIG, NO_MEMBER, NO_MEMORY,
+    OVERTAKEN,
 };
 pub use handle::AuctionHandle;
 pub use member_handle::AuctionMember;
