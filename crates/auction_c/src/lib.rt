@@ -256,8 +256,8 @@ pub extern "C" fn callauction_reset(handle: &mut AuctionHandle) -> u32
 /// Makes the other handle hold an auction of its own that stands where this one does. Where it holds an auction of the
 /// same bounds and room already, that one is written over, and no memory is taken.
 ///
-/// Where the other handle holds an auction of other bounds or room it answers `IN_USE`; where it holds none, `NO_MEMORY`
-/// where memory is refused.
+/// Where the other handle holds an auction of other bounds or room it answers `IN_USE`; where it holds none,
+/// `NO_MEMORY` where memory is refused.
 #[unsafe(no_mangle)]
 pub extern "C" fn callauction_clone(
     alloc: Global,
