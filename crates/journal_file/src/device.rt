@@ -1,7 +1,8 @@
 //! A file as the journal sees it: what it holds, and what a crash may leave.
 
 ghost use Rattle.std.specs.Prelude.{◌≡◌, ◌≤◌, ◌+◌, List, ℕ, length, OnOk};
-ghost use Rattle.journal_file.specs.Device.{IsOnlyOutcome, IsStepFrom, IsTorn, IsResized, IsOverwritten, HasElapsed, HasCause, resized};
+ghost use Rattle.journal_file.specs.Device.{HasCause, HasElapsed, IsOnlyOutcome, IsOverwritten, IsResized, IsStepFrom};
+ghost use Rattle.journal_file.specs.Device.{IsTorn, resized};
 
 /// Why a journal can't go on.
 #[derive(Clone, Copy, Debug, PartialEq, Eq)]
@@ -34,14 +35,16 @@ pub trait Device {
         requires { at + length bytes.now ≤ length (seen self.old) }
         ensures written { OnOk result (IsOverwritten (seen self.old) at bytes.now (seen self.new)) }
         ensures crash { IsStepFrom (IsTorn at bytes.now) (may_leave self.old) (may_leave self.new) }
-        ensures time { HasElapsed (moment self.old) (moment self.new) (left_since self.old) (left_since self.new) (may_leave self.new) }
+        ensures time { HasElapsed (moment self.old) (moment self.new) (left_since self.old) (left_since self.new)
+            (may_leave self.new) }
         ensures cause { HasCause (faults self.old) (faults self.new) result };
 
     /// Cuts the file to a length, or lets it grow to it by zeros.
     fn resize(&mut self, len: usize) -> Result<(), DeviceError>
         ensures resized { OnOk result (seen self.new ≡ resized len (seen self.old)) }
         ensures crash { IsStepFrom (IsResized len) (may_leave self.old) (may_leave self.new) }
-        ensures time { HasElapsed (moment self.old) (moment self.new) (left_since self.old) (left_since self.new) (may_leave self.new) }
+        ensures time { HasElapsed (moment self.old) (moment self.new) (left_since self.old) (left_since self.new)
+            (may_leave self.new) }
         ensures cause { HasCause (faults self.old) (faults self.new) result };
 
     /// After it, a crash leaves what a read would return.
@@ -49,7 +52,8 @@ pub trait Device {
         ensures durable { OnOk result (IsOnlyOutcome (seen self.old) (may_leave self.new)) }
         ensures seen { seen self.new ≡ seen self.old }
         ensures crash { (c : List ℕ) → may_leave self.new c → may_leave self.old c }
-        ensures time { HasElapsed (moment self.old) (moment self.new) (left_since self.old) (left_since self.new) (may_leave self.new) }
+        ensures time { HasElapsed (moment self.old) (moment self.new) (left_since self.old) (left_since self.new)
+            (may_leave self.new) }
         ensures cause { HasCause (faults self.old) (faults self.new) result };
 
     /// This moment is one of those since an earlier one.

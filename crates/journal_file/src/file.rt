@@ -20,7 +20,7 @@ use std::io::{self, Read};
 use std::os::fd::AsRawFd;
 use std::os::unix::fs::{FileExt, MetadataExt};
 
-const CHUNK: usize = 65_536;
+const ZEROS_AT_ONCE: usize = 65_536;
 
 /// An open file of the file system.
 #[derive(Drop)]
@@ -44,13 +44,13 @@ impl From<io::Error> for OpenFault {
 
 /// Writes zeros from the old length to the new one, so that blocks stand ready for the bytes that come.
 fn fill(file: &File, from: u64, to: u64) -> io::Result<()> {
-    let zeros = [0u8; CHUNK];
+    let zeros = [0u8; ZEROS_AT_ONCE];
     let mut at = from;
     'chunks: for _ in 0..u64::MAX {
         if at >= to {
             return Ok(());
         }
-        let count = (to - at).min(CHUNK as u64);
+        let count = (to - at).min(ZEROS_AT_ONCE as u64);
         file.write_all_at(&zeros[..count as usize], at)?;
         at += count;
     }
