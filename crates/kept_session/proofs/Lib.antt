@@ -1,0 +1,4 @@
+pub mod KeptLaws
+mod KeptRunLaws
+mod ReplayLaws
+mod ResumeLaws

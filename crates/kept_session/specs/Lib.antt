@@ -1,2 +1,4 @@
+pub mod Kept
+pub mod KeptRun
 pub mod Replayed
 pub mod Resumed

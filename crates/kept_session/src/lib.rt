@@ -1,9 +1,13 @@
-//! A live session whose entries are on the disk before their answers are written.
+//! A live session whose entries are on the disk before their answers are written, and which goes on after a crash.
 #![tactic(auto)]
 
+mod conversation;
 mod fault;
 mod replaying;
 mod resuming;
+mod running;
 
+pub use conversation::KeptConversation;
 pub use fault::{ResumeFault, UnlawfulEntry};
 pub use resuming::resume;
+pub use running::run_kept;
