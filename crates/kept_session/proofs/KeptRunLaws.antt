@@ -1,5 +1,5 @@
 -- A session whose entries are kept, from what any session does.
-use Rattle.std.proofs.Common.{◌≡◌, ◌⊎◌, inl, inr, ℕ, Bool, true, false, List, [], ◌++◌, Option, Some, Result, Ok, Err}
+use Rattle.std.proofs.Common.{◌≡◌, ◌⊎◌, inl, inr, ℕ, Bool, true, false, List, [], ◌++◌, Result, Ok, Err}
 use Rattle.std.proofs.Common.{refl, sym, ap, ap₂, subst, arith, ◌∙◌}
 use Rattle.std.proofs.lemmas.List.{append-nil}
 use Rattle.auction_terms.specs.Auxiliary.RunningAuction.{RunningAuction}

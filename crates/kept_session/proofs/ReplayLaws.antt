@@ -13,25 +13,25 @@ use Rattle.kept_session.specs.declared.fault.UnlawfulEntry.{UnlawfulEntry}
 module _ (texts : List (List ℕ)) (items calls : List Call) (text : List ℕ) (auction : RunningAuction) (before : ℕ)
     (d : Call) (is : items ≡ calls) (text_is : text ≡ unwrap_or (field_at texts before) []) (left : before < length items)
   where
-  -- the entry that comes next, and those behind it
-  next : replayed before texts auction (drop before calls)
-      ≡ (replayed_one auction (get_or items before d) text (before + 1)
-      >>= λ after. replayed (before + 1) texts after (drop (before + 1) calls))
-  unfolding replayed
-  next =
-      let call : drop before items ≡ get_or items before d ∷ drop (before + 1) items =
-      rw (add-one before) (drop-cons items before d left) in
-      rw (← is, call, text_is) refl
+    -- the entry that comes next, and those behind it
+    next : replayed before texts auction (drop before calls)
+        ≡ (replayed_one auction (get_or items before d) text (before + 1)
+        >>= λ after. replayed (before + 1) texts after (drop (before + 1) calls))
+    unfolding replayed
+    next =
+        let call : drop before items ≡ get_or items before d ∷ drop (before + 1) items =
+        rw (add-one before) (drop-cons items before d left) in
+        rw (← is, call, text_is) refl
 
-  pub fails : (entry : UnlawfulEntry) → replayed_one auction (get_or items before d) text (before + 1) ≡ Err entry
-      → replayed before texts auction (drop before calls) ≡ Err entry
-  fails entry one = next ∙ ap (λ (r : Result RunningAuction UnlawfulEntry). r >>= λ after.
-      replayed (before + 1) texts after (drop (before + 1) calls)) one
+    pub fails : (entry : UnlawfulEntry) → replayed_one auction (get_or items before d) text (before + 1) ≡ Err entry
+        → replayed before texts auction (drop before calls) ≡ Err entry
+    fails entry one = next ∙ ap (λ (r : Result RunningAuction UnlawfulEntry). r >>= λ after.
+        replayed (before + 1) texts after (drop (before + 1) calls)) one
 
-  pub goes : (after : RunningAuction) → replayed_one auction (get_or items before d) text (before + 1) ≡ Ok after
-      → replayed before texts auction (drop before calls) ≡ replayed (before + 1) texts after (drop (before + 1) calls)
-  goes after one = next ∙ ap (λ (r : Result RunningAuction UnlawfulEntry). r >>= λ after.
-      replayed (before + 1) texts after (drop (before + 1) calls)) one
+    pub goes : (after : RunningAuction) → replayed_one auction (get_or items before d) text (before + 1) ≡ Ok after
+        → replayed before texts auction (drop before calls) ≡ replayed (before + 1) texts after (drop (before + 1) calls)
+    goes after one = next ∙ ap (λ (r : Result RunningAuction UnlawfulEntry). r >>= λ after.
+        replayed (before + 1) texts after (drop (before + 1) calls)) one
 
 -- none is left
 pub all-gone : (texts : List (List ℕ)) (items calls : List Call) (auction : RunningAuction) (before : ℕ)

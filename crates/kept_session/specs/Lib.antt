@@ -1,4 +1,5 @@
 pub mod Kept
+pub mod KeptPromises
 pub mod KeptRun
 pub mod Replayed
 pub mod Resumed

@@ -5,7 +5,7 @@ use Rattle.auction_terms.specs.Auxiliary.RunningAuction.{RunningAuction, opened_
 use Rattle.order_file.specs.File.{FailsAsWanted}
 use Rattle.order_file.specs.declared.fault.FileFault.{FileFault}
 use Rattle.order_file.specs.declared.fault.FileFault.TheVariants.{NoMemory}
-use Rattle.journal.specs.JournalFile.{RecordedDay, journal_of}
+use Rattle.journal.specs.JournalFile.{RecordedDay}
 use Rattle.journal.specs.declared.day.DayHeader.{DayHeader}
 use Rattle.kept_session.specs.Replayed.{replayed}
 use Rattle.kept_session.specs.declared.fault.UnlawfulEntry.{UnlawfulEntry}

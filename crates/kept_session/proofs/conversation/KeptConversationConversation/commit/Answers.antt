@@ -12,7 +12,7 @@ returns-then-self-clause-same g c =
       refl,
       refl,
       inr (refused g.D.Device.seen g.D.Device.may_leave g.D.Device.moment g.D.Device.left_since g.met.D.Device.only_now
-      s.journal.now s.calls.events c.note.new.self.events s.is_broken s.steady c.note.ensures),
+          s.journal.now s.calls.events c.note.new.self.events s.is_broken s.steady c.note.ensures),
     )
 
 pub returns-in-Err-clause-entries : goal.returns-in-Err-clause-entries
