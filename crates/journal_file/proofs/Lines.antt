@@ -129,7 +129,8 @@ committed-twice (b ∷ xs) = elim (bool_cases (has_line (b ∷ xs))) [
   | inl is ↦
       let line : has_line (b ∷ committed xs) ≡ true =
       ap has_line (sym (line-goes-on b xs is)) ∙ has_line-committed (b ∷ xs) ∙ is in
-      ap committed (line-goes-on b xs is) ∙ line-goes-on b (committed xs) line ∙ ap (λ (l : List ℕ). b ∷ l) (committed-twice xs)
+      ap committed (line-goes-on b xs is) ∙ line-goes-on b (committed xs) line
+      ∙ ap (λ (l : List ℕ). b ∷ l) (committed-twice xs)
       ∙ sym (line-goes-on b xs is)
   | inr none ↦ ap committed (ends (b ∷ xs) none) ∙ sym (ends (b ∷ xs) none)
 ]
@@ -151,7 +152,9 @@ leads-none lines torn none = record { count = 0; line = none; same = ends torn n
 text_kept : (b : ℕ) (xs ys : List ℕ) → has_line xs ≡ has_line ys → committed xs ≡ committed ys
     → committed (b ∷ xs) ≡ committed (b ∷ ys)
 text_kept b xs ys line same = elim (bool_cases (has_line (b ∷ xs))) [
-  | inl is ↦ line-goes-on b xs is ∙ ap (λ (l : List ℕ). b ∷ l) same ∙ sym (line-goes-on b ys (sym (line_kept b xs ys line) ∙ is))
+  | inl is ↦
+      line-goes-on b xs is ∙ ap (λ (l : List ℕ). b ∷ l) same
+      ∙ sym (line-goes-on b ys (sym (line_kept b xs ys line) ∙ is))
   | inr none ↦ ends (b ∷ xs) none ∙ sym (ends (b ∷ ys) (sym (line_kept b xs ys line) ∙ none))
 ]
 

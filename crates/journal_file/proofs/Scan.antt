@@ -4,7 +4,8 @@ use Rattle.std.proofs.Common.{ap, arith, if◌then◌else◌, ◌==◌}
 use Rattle.std.proofs.lemmas.Bool.Decides.{nat_tests}
 use Rattle.std.proofs.lemmas.List.{take_at}
 use Rattle.journal_file.specs.Committed.{has_line, committed}
-use Rattle.journal_file.proofs.Lines.{line-nul, line-end, line-other, line-goes-on, ends, parts, bool_cases, kind, is_nul}
+use Rattle.journal_file.proofs.Lines.{line-nul, line-end, line-other, line-goes-on, ends, parts, bool_cases, kind}
+use Rattle.journal_file.proofs.Lines.{is_nul}
 use Rattle.journal_file.proofs.Lines.{is_end, is_other}
 
 -- the end of the last whole line, where the last one so far ends at `end`, and these bytes stand at `at`

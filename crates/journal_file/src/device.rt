@@ -30,7 +30,8 @@ pub trait Device {
     /// How often the file has failed.
     ghost faults: { Self → ℕ };
 
-    /// Writes over what is there. Until a sync, a crash may leave each byte of the range as it was or as it was written.
+    /// Writes over what is there. Until a sync, a crash may leave each byte of the range as it was or as it was
+    /// written.
     fn write_at(&mut self, at: usize, bytes: &[u8]) -> Result<(), DeviceError>
         requires { at + length bytes.now ≤ length (seen self.old) }
         ensures written { OnOk result (IsOverwritten (seen self.old) at bytes.now (seen self.new)) }

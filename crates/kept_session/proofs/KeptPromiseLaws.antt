@@ -25,8 +25,8 @@ use Rattle.journal_file.specs.Committed.{committed, text_of}
 use Rattle.journal_file.proofs.LineTexts.{committed-lines, first_lines}
 use Rattle.kept_session.specs.KeptPromises.{AreWholeLines, LawfulIsGoneOnWith, LeavesFirstEntries}
 use Rattle.kept_session.specs.Replayed.{replayed}
-use Rattle.kept_session.proofs.PrintableLineLaws.{day-in-line, day_inside, first-insides, in-lines, insides, text-of-calls}
-use Rattle.kept_session.proofs.PrintableLineLaws.{first-and-more, insides-both, text-of-day}
+use Rattle.kept_session.proofs.PrintableLineLaws.{day-in-line, day_inside, first-insides, in-lines, insides, calls-text}
+use Rattle.kept_session.proofs.PrintableLineLaws.{first-and-more, insides-both, day-text}
 
 -- ---- whole lines
 
@@ -38,8 +38,8 @@ as-lines : (day : DayHeader) (entries : List Entry)
     → journal_text day entries ≡ text_of (day_inside day ∷ insides entries)
 as-lines day entries =
     text-by-lines day entries
-    ∙ ap (λ (t : List ℕ). t ++ call_lines 0 entries) (text-of-day day)
-    ∙ ap (λ (t : List ℕ). text_of (day_inside day ∷ []) ++ t) (text-of-calls 0 entries)
+    ∙ ap (λ (t : List ℕ). t ++ call_lines 0 entries) (day-text day)
+    ∙ ap (λ (t : List ℕ). text_of (day_inside day ∷ []) ++ t) (calls-text 0 entries)
     ∙ append_assoc (day_inside day) (10 ∷ []) (text_of (insides entries))
 
 pub are-whole : AreWholeLines
@@ -64,7 +64,7 @@ pub leaves-first : LeavesFirstEntries
 leaves-first day before entries file fits h begun =
     let lines = first_lines (insides entries) (in-lines day.members (few-members day fits) entries h) begun.0 in (
       lines.0,
-      begun.1 ∙ ap (λ (t : List ℕ). journal_text day before ++ committed (take begun.0 t)) (text-of-calls 0 entries)
+      begun.1 ∙ ap (λ (t : List ℕ). journal_text day before ++ committed (take begun.0 t)) (calls-text 0 entries)
           ∙ ap (λ (t : List ℕ). journal_text day before ++ t)
           (lines.1 ∙ ap text_of (first-insides lines.0 entries))
           ∙ journal-both day before (take lines.0 entries),
@@ -100,26 +100,26 @@ unfolding field_at
 at-behind [] x rest = refl
 at-behind (f ∷ front) x rest = at-behind front x rest
 
-head-of : (d : Reply) (xs : List Reply) → Reply
-head-of d [] = d
-head-of d (x ∷ xs) = x
+first-reply : (d : Reply) (xs : List Reply) → Reply
+first-reply d [] = d
+first-reply d (x ∷ xs) = x
 
-tail-of : List Reply → List Reply
-tail-of [] = []
-tail-of (x ∷ xs) = xs
+replies-behind : List Reply → List Reply
+replies-behind [] = []
+replies-behind (x ∷ xs) = xs
 
 replays-from : (front : List (List ℕ)) (auction : RunningAuction) (entries : List Entry)
     → map (λ entry. entry.reply) entries ≡ replies_from auction.config auction.state (calls_of entries)
     → replayed (length front) (front ++ map reply_part (map recorded_call_by entries)) auction
     (map call_part (map recorded_call_by entries))
     ≡ Ok (after_each auction (calls_of entries))
-unfolding replayed after_each head-of tail-of
+unfolding replayed after_each first-reply replies-behind
 replays-from front auction [] h = refl
 replays-from front auction (e ∷ es) h =
     let next = auction_after_call auction (call_of e) in
     let rest = map reply_part (map recorded_call_by es) in
-    let same : e.reply ≡ (step auction.config auction.state (call_of e)).1 = ap (head-of e.reply) h in
-    let tail = ap tail-of h in
+    let same : e.reply ≡ (step auction.config auction.state (call_of e)).1 = ap (first-reply e.reply) h in
+    let tail = ap replies-behind h in
     let size : length front + 1 ≡ length (front ++ reply_text e.reply ∷ []) =
     omega (arith, length-append front (reply_text e.reply ∷ [])) in
     let more = replays-from (front ++ reply_text e.reply ∷ []) next es tail in

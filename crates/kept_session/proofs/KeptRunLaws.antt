@@ -1,5 +1,5 @@
 -- A session whose entries are kept, from what any session does.
-use Rattle.std.proofs.Common.{◌≡◌, ◌⊎◌, inl, inr, ℕ, Bool, true, false, List, [], ◌++◌, Result, Ok, Err}
+use Rattle.std.proofs.Common.{◌≡◌, inl, inr, ℕ, Bool, false, List, [], ◌++◌, Result, Ok, Err}
 use Rattle.std.proofs.Common.{refl, sym, ap, ap₂, subst, arith, ◌∙◌}
 use Rattle.std.proofs.lemmas.List.{append-nil}
 use Rattle.auction_terms.specs.Auxiliary.RunningAuction.{RunningAuction}
@@ -10,6 +10,7 @@ use Rattle.journal_file.specs.Device.{LeavesOnly}
 use Rattle.journal_file.specs.Events.{Event, failures_of}
 use Rattle.journal_file.specs.Settled.{IsSettled}
 use Rattle.journal_file.specs.declared.journal.Journal.{Journal}
+use Rattle.journal_file.proofs.Lines.{bool_cases}
 use Rattle.journal_file.proofs.Moments.{started}
 use Rattle.live_session.specs.Answered.{Answered}
 use Rattle.live_session.specs.Talk.{BreaksOff, EndsSession, HasAnswered, HasRead}
@@ -89,15 +90,11 @@ module _ {C : Type 0} (c : Ghosts C) where
 
 module _ {D : Type 0} (seen : D → List ℕ) (may_leave : D → List ℕ → Type 0) (moment : D → ℕ)
     (left_since : D → ℕ → List ℕ → Type 0) (old new : Journal D) (before after : List Event) (is_broken : Bool) where
-  bool-cases : (b : Bool) → (b ≡ true) ⊎ (b ≡ false)
-  bool-cases true = inl refl
-  bool-cases false = inr refl
-
   -- no commit has failed
   pub still-well : IsSameOrLater seen moment left_since old new before after false is_broken
       → failures_of after ≡ failures_of before → is_broken ≡ false
   still-well (inl same) none = same.broken
-  still-well (inr later) none = elim (bool-cases is_broken) [
+  still-well (inr later) none = elim (bool_cases is_broken) [
     | inl broken ↦ absurd (omega (arith, none, later.failed refl broken))
     | inr well ↦ well
   ]

@@ -1,4 +1,4 @@
-pub mod KeptLaws
+pub mod CommitLaws
 mod KeptRunLaws
 mod ReplayLaws
 mod ResumeLaws

@@ -14,6 +14,7 @@ use Rattle.auction_terms.specs.declared.Limit.TheVariants.{Market, At}
 use Rattle.auction_terms.specs.declared.Restriction.{Restriction}
 use Rattle.auction_terms.specs.declared.Restriction.TheVariants.{Unrestricted, OpeningOnly, ClosingOnly}
 use Rattle.auction_terms.specs.declared.Side.{Side}
+use Rattle.auction_terms.specs.declared.limits.TheConstants.{MAX_TICK}
 use Rattle.auction_terms.specs.declared.Side.TheVariants.{Bid, Ask}
 use Rattle.printed_lines.specs.ReplyWords.{reply_text}
 use Rattle.journal.specs.CallFields.{FitsRecord, HasShortTick, IsShort, command_fields, enter_ending, limit_field}
@@ -123,11 +124,11 @@ in-line (b ∷ bs) h =
 pub insides : List Entry → List (List ℕ)
 insides entries = map inside_call entries
 
-pub text-of-calls : (before : ℕ) (entries : List Entry) → call_lines before entries ≡ text_of (insides entries)
+pub calls-text : (before : ℕ) (entries : List Entry) → call_lines before entries ≡ text_of (insides entries)
 unfolding call_lines insides
-text-of-calls before [] = refl
-text-of-calls before (e ∷ es) =
-    rw (text-of-calls (before + 1) es, ← line-of-call e) (append_assoc (inside_call e) (10 ∷ []) (text_of (insides es)))
+calls-text before [] = refl
+calls-text before (e ∷ es) =
+    rw (calls-text (before + 1) es, ← line-of-call e) (append_assoc (inside_call e) (10 ∷ []) (text_of (insides es)))
 
 pub first-and-more : (line : List ℕ) (lines : List (List ℕ)) → IsInLine line → All IsInLine lines
     → All IsInLine (line ∷ lines)
@@ -158,16 +159,16 @@ insides-both (x ∷ xs) ys = ap (λ (l : List (List ℕ)). inside_call x ∷ l) 
 pub day_inside : DayHeader → List ℕ
 day_inside day = inside_day day
 
-pub text-of-day : (day : DayHeader) → day_line day ≡ text_of (day_inside day ∷ [])
+pub day-text : (day : DayHeader) → day_line day ≡ text_of (day_inside day ∷ [])
 unfolding day_inside
-text-of-day day = sym (line-of-day day)
+day-text day = sym (line-of-day day)
 
 pub day-in-line : (day : DayHeader) → FitsDay day → IsInLine (day_inside day)
 unfolding day_inside inside_day
 day-in-line day h = in-line (inside_day day) (both (codes "day") (ticks_text day.config ++ sizes_text day) refl
     (both (ticks_text day.config) (sizes_text day) ticks sizes))
   where
-    range : (r : Option ℕ) → IfSome r (λ n. n ≤ 1000000) → IsPrintable (number_field r)
+    range : (r : Option ℕ) → IfSome r (λ n. n ≤ MAX_TICK) → IsPrintable (number_field r)
     range None k = refl
     range (Some n) k = number n (omega (arith, k))
 

@@ -73,14 +73,19 @@ impl<R: Source, O: Sink, D: Device> Conversation for KeptConversation<'_, R, O, 
         × (b.journal.ghost_name ≡ a.journal.ghost_name) × IsSameOrLater D.seen D.moment D.left_since a.journal.now
         b.journal.now a.calls.events b.calls.events a.is_broken b.is_broken };
 
-    ghost becomes_itself = { λ c. (refl, refl, refl, same D.seen D.moment D.left_since c.journal.now c.calls.events c.is_broken) };
+    ghost becomes_itself = { λ c. (
+      refl,
+      refl,
+      refl,
+      same D.seen D.moment D.left_since c.journal.now c.calls.events c.is_broken,
+    ) };
 
     ghost becomes_on = { λ a b c h k. (
       k.0 ∙ h.0,
       k.1 ∙ h.1,
       k.2 ∙ h.2,
-      on D.seen D.moment D.left_since a.journal.now b.journal.now
-          c.journal.now a.calls.events b.calls.events c.calls.events a.is_broken b.is_broken c.is_broken h.3 k.3,
+      on D.seen D.moment D.left_since a.journal.now b.journal.now c.journal.now
+          a.calls.events b.calls.events c.calls.events a.is_broken b.is_broken c.is_broken h.3 k.3,
     ) };
 
     fn read(&mut self, buffer: &mut [u8]) -> Result<usize, SourceFailed> {

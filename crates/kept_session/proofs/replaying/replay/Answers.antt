@@ -29,5 +29,5 @@ loop-before-preserved c =
 pub returns : goal.returns
 returns c =
     let (page, config, calls, same) = c.loop-before.invariant in
-    sym same ∙ all-gone (fields_of c.args.journal.now.texts) c.deref-call-items.result.now c.args.journal.now.calls.items
+    sym same ∙ all-gone (fields_of c.args.journal.now.texts) _ c.args.journal.now.calls.items
     c.loop-before.auction c.loop-before.before c.deref-call-items.ensures.value c.loop-before-test.false

@@ -2,7 +2,7 @@
 use Rattle.std.proofs.Common.{[], inr, refl, ap}
 use Rattle.std.proofs.lemmas.List.{append-nil}
 use Rattle.kept_session.specs.Kept.{text_tried}
-use Rattle.kept_session.proofs.KeptLaws.{refused}
+use Rattle.kept_session.proofs.CommitLaws.{refused}
 use Rattle.kept_session.proofs.conversation.KeptConversationConversation.commit.Goals as goal
 
 pub returns-then-self-clause-same : goal.returns-then-self-clause-same
