@@ -1,6 +1,7 @@
 pub mod CommitLaws
-mod KeptRunLaws
+pub mod KeptRunLaws
 mod ReplayLaws
 mod ResumeLaws
 mod PrintableLineLaws
 mod KeptPromiseLaws
+mod BeginLaws

@@ -1,3 +1,4 @@
+pub mod Begun
 pub mod Kept
 pub mod KeptPromises
 pub mod KeptRun

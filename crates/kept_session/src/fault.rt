@@ -1,7 +1,9 @@
 //! Why a session doesn't go on with a journal's file.
 
+use auction::OpenFault;
 use auction_terms::Reply;
 use journal::DayHeader;
+use journal_file::DeviceError;
 use order_file::FileFault;
 
 /// An entry whose recorded reply isn't the lawful one: its place, from 1, and the lawful one.
@@ -20,4 +22,17 @@ pub enum ResumeFault {
     AnotherDay(DayHeader),
     /// The reply of an entry isn't the lawful one; what was recorded stands behind it.
     Unlawful(UnlawfulEntry, Vec<u8>),
+}
+
+/// Why a session doesn't begin on a journal's file.
+#[derive(Drop)]
+pub enum BeginFault {
+    /// No auction can be opened for the day.
+    Open(OpenFault),
+    /// It isn't gone on with what the file holds.
+    Resume(ResumeFault),
+    /// The file can't be written. Open it again.
+    Device(DeviceError),
+    /// Memory was refused.
+    NoMemory,
 }
