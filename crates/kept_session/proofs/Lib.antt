@@ -4,4 +4,4 @@ mod ReplayLaws
 mod ResumeLaws
 mod PrintableLineLaws
 mod KeptPromiseLaws
-mod BeginLaws
+mod BegunSessionLaws

@@ -1,7 +1,7 @@
 -- Answers of `begin` (src/beginning.rt): what the prover left open; rt looks here.
 use Rattle.std.proofs.Common.{◌≡◌, List, ℕ, length, take, ap, sym, ◌∙◌}
 use Rattle.journal_file.specs.Committed.{committed}
-use Rattle.kept_session.proofs.BeginLaws.{begun-new, begun-on}
+use Rattle.kept_session.proofs.BegunSessionLaws.{begun-new, begun-on}
 use Rattle.kept_session.proofs.beginning.begin.Goals as goal
 use Rattle.kept_session.proofs.beginning.begin.Goals.{then-end-eq0+in_ok-keep_day, else-end-eq0}
 

@@ -74,7 +74,8 @@ module _ {D : Type 0} (seen : D → List ℕ) (may_leave : D → List ℕ → Ty
       → AddsLines seen moment left_since old journal.device []
       → HasBegun seen may_leave moment left_since day old journal auction
   begun-on day old journal auction lines end not_zero end_is lines_are read settled repaired =
-      let nonempty : committed (seen old) ≢ [] = some (committed (seen old)) (λ zero_long. not_zero (end_is ∙ zero_long)) in
+      let nonempty : committed (seen old) ≢ [] =
+      some (committed (seen old)) (λ is_empty. not_zero (end_is ∙ is_empty)) in
       record {
         settled = settled;
         new_day = λ empty. absurd (nonempty empty);
