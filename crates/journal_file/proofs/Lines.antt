@@ -15,8 +15,8 @@ line-end b rest is = grind (arith, nat_tests)
 pub line-other : (b : ℕ) (rest : List ℕ) → b ≢ 0 → b ≢ 10 → has_line (b ∷ rest) ≡ has_line rest
 line-other b rest some other = grind (arith, nat_tests)
 
-pub goes-on : (b : ℕ) (rest : List ℕ) → has_line (b ∷ rest) ≡ true → committed (b ∷ rest) ≡ b ∷ committed rest
-goes-on b rest is = rw is refl
+pub line-goes-on : (b : ℕ) (rest : List ℕ) → has_line (b ∷ rest) ≡ true → committed (b ∷ rest) ≡ b ∷ committed rest
+line-goes-on b rest is = rw is refl
 
 pub ends : (xs : List ℕ) → has_line xs ≡ false → committed xs ≡ []
 ends [] none = refl
@@ -63,8 +63,8 @@ pub committed-append : (text rest : List ℕ) → committed text ≡ text → co
 committed-append [] rest whole = refl
 committed-append (b ∷ text) rest whole = elim (bool_cases (has_line (b ∷ text))) [
   | inl is ↦
-      let tail : committed text ≡ text = ap (λ (l : List ℕ). drop 1 l) (sym (goes-on b text is) ∙ whole) in
-      goes-on b (text ++ rest) (has_line-append (b ∷ text) rest is)
+      let tail : committed text ≡ text = ap (λ (l : List ℕ). drop 1 l) (sym (line-goes-on b text is) ∙ whole) in
+      line-goes-on b (text ++ rest) (has_line-append (b ∷ text) rest is)
       ∙ ap (λ (l : List ℕ). b ∷ l) (committed-append text rest tail)
   | inr none ↦ absurd (cc (sym (ends (b ∷ text) none) ∙ whole))
 ]
@@ -99,7 +99,7 @@ parts (b ∷ rest) = elim (bool_cases (has_line (b ∷ rest))) [
         end = rest_parts.end;
         split =
             ap (λ (l : List ℕ). b ∷ l) rest_parts.split
-            ∙ ap (λ (l : List ℕ). l ++ rest_parts.end) (sym (goes-on b rest is));
+            ∙ ap (λ (l : List ℕ). l ++ rest_parts.end) (sym (line-goes-on b rest is));
         nothing = rest_parts.nothing;
       }
   | inr none ↦ record {
@@ -119,7 +119,7 @@ line_kept b xs ys same = elim (kind b) [
 has_line-committed : (xs : List ℕ) → has_line (committed xs) ≡ has_line xs
 has_line-committed [] = refl
 has_line-committed (b ∷ xs) = elim (bool_cases (has_line (b ∷ xs))) [
-  | inl is ↦ ap has_line (goes-on b xs is) ∙ line_kept b (committed xs) xs (has_line-committed xs)
+  | inl is ↦ ap has_line (line-goes-on b xs is) ∙ line_kept b (committed xs) xs (has_line-committed xs)
   | inr none ↦ ap has_line (ends (b ∷ xs) none) ∙ sym none
 ]
 
@@ -128,9 +128,10 @@ committed-twice [] = refl
 committed-twice (b ∷ xs) = elim (bool_cases (has_line (b ∷ xs))) [
   | inl is ↦
       let line : has_line (b ∷ committed xs) ≡ true =
-      ap has_line (sym (goes-on b xs is)) ∙ has_line-committed (b ∷ xs) ∙ is in
-      ap committed (goes-on b xs is) ∙ goes-on b (committed xs) line ∙ ap (λ (l : List ℕ). b ∷ l) (committed-twice xs)
-      ∙ sym (goes-on b xs is)
+      ap has_line (sym (line-goes-on b xs is)) ∙ has_line-committed (b ∷ xs) ∙ is in
+      ap committed (line-goes-on b xs is) ∙ line-goes-on b (committed xs) line
+      ∙ ap (λ (l : List ℕ). b ∷ l) (committed-twice xs)
+      ∙ sym (line-goes-on b xs is)
   | inr none ↦ ap committed (ends (b ∷ xs) none) ∙ sym (ends (b ∷ xs) none)
 ]
 
@@ -151,7 +152,9 @@ leads-none lines torn none = record { count = 0; line = none; same = ends torn n
 text_kept : (b : ℕ) (xs ys : List ℕ) → has_line xs ≡ has_line ys → committed xs ≡ committed ys
     → committed (b ∷ xs) ≡ committed (b ∷ ys)
 text_kept b xs ys line same = elim (bool_cases (has_line (b ∷ xs))) [
-  | inl is ↦ goes-on b xs is ∙ ap (λ (l : List ℕ). b ∷ l) same ∙ sym (goes-on b ys (sym (line_kept b xs ys line) ∙ is))
+  | inl is ↦
+      line-goes-on b xs is ∙ ap (λ (l : List ℕ). b ∷ l) same
+      ∙ sym (line-goes-on b ys (sym (line_kept b xs ys line) ∙ is))
   | inr none ↦ ends (b ∷ xs) none ∙ sym (ends (b ∷ ys) (sym (line_kept b xs ys line) ∙ none))
 ]
 

@@ -4,7 +4,8 @@ use Rattle.std.proofs.Common.{ap, arith, if◌then◌else◌, ◌==◌}
 use Rattle.std.proofs.lemmas.Bool.Decides.{nat_tests}
 use Rattle.std.proofs.lemmas.List.{take_at}
 use Rattle.journal_file.specs.Committed.{has_line, committed}
-use Rattle.journal_file.proofs.Lines.{line-nul, line-end, line-other, goes-on, ends, parts, bool_cases, kind, is_nul}
+use Rattle.journal_file.proofs.Lines.{line-nul, line-end, line-other, line-goes-on, ends, parts, bool_cases, kind}
+use Rattle.journal_file.proofs.Lines.{is_nul}
 use Rattle.journal_file.proofs.Lines.{is_end, is_other}
 
 -- the end of the last whole line, where the last one so far ends at `end`, and these bytes stand at `at`
@@ -37,7 +38,7 @@ none_found end at (b ∷ xs) none = elim (kind b) [
 line_found : (end at : ℕ) (xs : List ℕ) → has_line xs ≡ true → walked end at xs ≡ at + length (committed xs)
 line_found end at [] is = absurd (cc is)
 line_found end at (b ∷ xs) is =
-    let size : length (committed (b ∷ xs)) ≡ suc (length (committed xs)) = ap length (goes-on b xs is) in
+    let size : length (committed (b ∷ xs)) ≡ suc (length (committed xs)) = ap length (line-goes-on b xs is) in
     elim (kind b) [
       | is_nul nul ↦ absurd (cc (line-nul b xs nul, is))
       | is_end some end_is ↦ walked-end end at b xs some end_is ∙ elim (bool_cases (has_line xs)) [

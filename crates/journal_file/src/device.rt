@@ -1,7 +1,8 @@
 //! A file as the journal sees it: what it holds, and what a crash may leave.
 
 ghost use Rattle.std.specs.Prelude.{◌≡◌, ◌≤◌, ◌+◌, List, ℕ, length, OnOk};
-ghost use Rattle.journal_file.specs.Device.{IsOnlyOutcome, IsStepFrom, IsTorn, IsResized, IsOverwritten, HasElapsed, HasCause, resized};
+ghost use Rattle.journal_file.specs.Device.{HasCause, HasElapsed, IsOnlyOutcome, IsOverwritten, IsResized, IsStepFrom};
+ghost use Rattle.journal_file.specs.Device.{IsTorn, resized};
 
 /// Why a journal can't go on.
 #[derive(Clone, Copy, Debug, PartialEq, Eq)]
@@ -29,19 +30,22 @@ pub trait Device {
     /// How often the file has failed.
     ghost faults: { Self → ℕ };
 
-    /// Writes over what is there. Until a sync, a crash may leave each byte of the range as it was or as it was written.
+    /// Writes over what is there. Until a sync, a crash may leave each byte of the range as it was or as it was
+    /// written.
     fn write_at(&mut self, at: usize, bytes: &[u8]) -> Result<(), DeviceError>
         requires { at + length bytes.now ≤ length (seen self.old) }
         ensures written { OnOk result (IsOverwritten (seen self.old) at bytes.now (seen self.new)) }
         ensures crash { IsStepFrom (IsTorn at bytes.now) (may_leave self.old) (may_leave self.new) }
-        ensures time { HasElapsed (moment self.old) (moment self.new) (left_since self.old) (left_since self.new) (may_leave self.new) }
+        ensures time { HasElapsed (moment self.old) (moment self.new) (left_since self.old) (left_since self.new)
+            (may_leave self.new) }
         ensures cause { HasCause (faults self.old) (faults self.new) result };
 
     /// Cuts the file to a length, or lets it grow to it by zeros.
     fn resize(&mut self, len: usize) -> Result<(), DeviceError>
         ensures resized { OnOk result (seen self.new ≡ resized len (seen self.old)) }
         ensures crash { IsStepFrom (IsResized len) (may_leave self.old) (may_leave self.new) }
-        ensures time { HasElapsed (moment self.old) (moment self.new) (left_since self.old) (left_since self.new) (may_leave self.new) }
+        ensures time { HasElapsed (moment self.old) (moment self.new) (left_since self.old) (left_since self.new)
+            (may_leave self.new) }
         ensures cause { HasCause (faults self.old) (faults self.new) result };
 
     /// After it, a crash leaves what a read would return.
@@ -49,7 +53,8 @@ pub trait Device {
         ensures durable { OnOk result (IsOnlyOutcome (seen self.old) (may_leave self.new)) }
         ensures seen { seen self.new ≡ seen self.old }
         ensures crash { (c : List ℕ) → may_leave self.new c → may_leave self.old c }
-        ensures time { HasElapsed (moment self.old) (moment self.new) (left_since self.old) (left_since self.new) (may_leave self.new) }
+        ensures time { HasElapsed (moment self.old) (moment self.new) (left_since self.old) (left_since self.new)
+            (may_leave self.new) }
         ensures cause { HasCause (faults self.old) (faults self.new) result };
 
     /// This moment is one of those since an earlier one.

@@ -2,13 +2,15 @@
 //!
 //! What is assumed of it stands here and nowhere else. No contract can say what a file gives or takes: `Tracked` notes
 //! each call, and the clauses of a `Device` speak of a real disk only if
-//! 1. what `open` has read is on the disk, since the file was synced before, and its name, since the folder was;
+//! 1. what `open` has read is on the disk, since the file was synced before, and its name, since the folder was; a sync
+//!    that failed in an earlier process isn't taken back by the kernel's copies of its pages;
 //! 2. nobody else writes the file: it is locked, but a lock is only advice;
 //! 3. `write_all_at` inside the file leaves after a crash each byte of its range as it was or as it was written, and
 //!    all others as they were: so does each disk that finishes a sector which it has begun, and the range was written
 //!    before, so that no block is given to the file then;
 //! 4. `set_len` leaves after a crash some length between the old and the new one, and zeros behind the old end;
-//! 5. after a `sync_data` that succeeds a crash leaves what a read returns.
+//! 5. after a `sync_data` that succeeds a crash leaves what a read returns. With `Syncing::Never` no such call is made,
+//!    and a crash is then the program's alone, after which the kernel still has what was written.
 
 ghost use Rattle.std.specs.Prelude.{◌≡◌, [], IfOk};
 ghost use Rattle.journal_file.specs.Device.{IsOnlyOutcome};
@@ -19,13 +21,24 @@ use std::fs::{self, File, OpenOptions, TryLockError};
 use std::io::{self, Read};
 use std::os::fd::AsRawFd;
 use std::os::unix::fs::{FileExt, MetadataExt};
+use std::path::Path;
 
-const CHUNK: usize = 65_536;
+const ZEROS_AT_ONCE: usize = 65_536;
+
+/// How what was written comes to the disk.
+#[derive(Clone, Copy, Debug, PartialEq, Eq)]
+pub enum Syncing {
+    /// Each commit is synced: it survives a crash of the machine.
+    Each,
+    /// None is: it survives a crash of the program, and not one of the machine.
+    Never,
+}
 
 /// An open file of the file system.
 #[derive(Drop)]
 pub struct Opened {
     file: File,
+    syncing: Syncing,
 }
 
 /// Why a journal's file can't be opened.
@@ -44,13 +57,13 @@ impl From<io::Error> for OpenFault {
 
 /// Writes zeros from the old length to the new one, so that blocks stand ready for the bytes that come.
 fn fill(file: &File, from: u64, to: u64) -> io::Result<()> {
-    let zeros = [0u8; CHUNK];
+    let zeros = [0u8; ZEROS_AT_ONCE];
     let mut at = from;
     'chunks: for _ in 0..u64::MAX {
         if at >= to {
             return Ok(());
         }
-        let count = (to - at).min(CHUNK as u64);
+        let count = (to - at).min(ZEROS_AT_ONCE as u64);
         file.write_all_at(&zeros[..count as usize], at)?;
         at += count;
     }
@@ -65,11 +78,17 @@ impl RawFile for Opened {
     fn set_len(&mut self, len: usize) -> io::Result<()> {
         let before = self.file.metadata()?.len();
         self.file.set_len(len as u64)?;
-        fill(&self.file, before, len as u64)
+        match self.syncing {
+            Syncing::Each => fill(&self.file, before, len as u64),
+            Syncing::Never => Ok(()),
+        }
     }
 
     fn sync(&mut self) -> io::Result<()> {
-        self.file.sync_data()
+        match self.syncing {
+            Syncing::Each => self.file.sync_data(),
+            Syncing::Never => Ok(()),
+        }
     }
 }
 
@@ -111,23 +130,20 @@ fn open_locked(rt: &HostRuntime, path: &str) -> Result<File, OpenFault> {
     }
 }
 
-/// Syncs the file and its folder, and drops the kernel's copies of its pages, which a failed sync of an earlier
-/// process may have left other than the disk has them.
-fn settle(rt: &HostRuntime, file: &File, folder: &str) -> io::Result<()> {
-    file.sync_all()?;
-    let advised = libc::posix_fadvise(file.as_raw_fd(), 0, 0, libc::POSIX_FADV_DONTNEED);
-    if advised != 0 {
-        return Err(io::Error::from_raw_os_error(advised));
+/// The folder of a file.
+fn folder_of(path: &str) -> Path<'_> {
+    match Path::new(path).parent() {
+        Some(folder) if !folder.as_str().is_empty() => folder,
+        _ => Path::new("."),
     }
-    File::open(rt, folder)?.sync_all()
 }
 
-/// Opens a file, or makes it, in this folder, and reads all its bytes into `bytes`, which is empty. The file is locked
-/// until it is dropped, and is refused where it is a link or no regular file, or has another name beside this one.
+/// Opens a file, or makes it, and reads all its bytes into `bytes`, which is empty. The file is locked until it is
+/// dropped, and is refused where it is a link or no regular file, or has another name beside this one.
 pub fn open(
     rt: &HostRuntime,
-    folder: &str,
     path: &str,
+    syncing: Syncing,
     bytes: &mut Vec<u8>,
 ) -> Result<Tracked<Opened>, OpenFault>
     requires { bytes.old.items ≡ [] }
@@ -135,7 +151,8 @@ pub fn open(
     ensures durable { IfOk result (λ device. IsOnlyOutcome bytes.new.items (tracked_leaves device)) }
 {
     let mut file = open_locked(rt, path)?;
-    settle(rt, &file, folder)?;
+    file.sync_all()?;
+    File::open(rt, folder_of(path))?.sync_all()?;
     file.read_to_end(bytes)?;
-    Ok(Tracked::over(Opened { file }, bytes))
+    Ok(Tracked::over(Opened { file, syncing }, bytes))
 }

@@ -56,8 +56,8 @@ impl<D: Device> Journal<D> {
         ensures any_moment { LeavesOnly D.moment D.left_since self.old.device self.new.device
             (IsBegun (committed (D.seen self.old.device)) lines.now) }
 
-        // So it is over a whole session: since any earlier moment, after which these lines were committed, a crash leaves
-        // the text of that moment, and the first of all the lines that came since.
+        // So it is over a whole session: since any earlier moment, after which these lines were committed, a crash
+        // leaves the text of that moment, and the first of all the lines that came since.
         ensures session { (since : D) (text before : List ℕ) → committed (D.seen self.old.device) ≡ text ++ before
             → committed before ≡ before
             → LeavesOnly D.moment D.left_since since self.old.device (IsBegun text before)

@@ -1,5 +1,5 @@
-//! A device over a file of which no contract says what it does. Each call is made, and then noted, and the clauses speak
-//! of what was noted.
+//! A device over a file of which no contract says what it does. Each call is made, and then noted, and the clauses
+//! speak of what was noted.
 
 ghost use Rattle.std.specs.Prelude.{◌≡◌, List, ℕ, length};
 ghost use Rattle.journal_file.specs.Device.{IsOnlyOutcome};

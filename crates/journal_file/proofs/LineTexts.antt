@@ -2,7 +2,7 @@
 use Rattle.std.proofs.Common.{◌≡◌, ◌⊎◌, inl, inr, ℕ, zero, suc, true, false, List, [], ◌∷◌, ◌++◌, take, All, refl, ◌∙◌}
 use Rattle.std.proofs.Common.{ap, arith}
 use Rattle.journal_file.specs.Committed.{has_line, committed, IsInLine, text_of, BeginsWithLines}
-use Rattle.journal_file.proofs.Lines.{line-end, line-other, goes-on, ends}
+use Rattle.journal_file.proofs.Lines.{line-end, line-other, line-goes-on, ends}
 
 -- a line that has begun has not ended
 none_inside : (k : ℕ) (line : List ℕ) → IsInLine line → has_line (take k line) ≡ false
@@ -15,9 +15,9 @@ line_found [] rest inside = line-end 10 rest refl
 line_found (b ∷ line) rest inside = line-other b (line ++ 10 ∷ rest) inside.0 inside.1 ∙ line_found line rest inside.2
 
 committed-line : (line rest : List ℕ) → IsInLine line → committed (line ++ 10 ∷ rest) ≡ line ++ 10 ∷ committed rest
-committed-line [] rest inside = goes-on 10 rest (line-end 10 rest refl)
+committed-line [] rest inside = line-goes-on 10 rest (line-end 10 rest refl)
 committed-line (b ∷ line) rest inside =
-    goes-on b (line ++ 10 ∷ rest) (line_found (b ∷ line) rest inside)
+    line-goes-on b (line ++ 10 ∷ rest) (line_found (b ∷ line) rest inside)
     ∙ ap (λ (l : List ℕ). b ∷ l) (committed-line line rest inside.2)
 
 -- a beginning ends in the line or behind it

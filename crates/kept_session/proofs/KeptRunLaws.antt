@@ -1,0 +1,198 @@
+-- A session whose entries are kept, from what any session does.
+use Rattle.std.proofs.Common.{◌≡◌, inl, inr, ℕ, Bool, false, List, [], ◌++◌, Option, Result, Ok, Err}
+use Rattle.std.proofs.Common.{refl, sym, ap, ap₂, subst, arith, ◌∙◌}
+use Rattle.std.proofs.lemmas.List.{append-nil}
+use Rattle.auction_terms.specs.Auxiliary.RunningAuction.{RunningAuction}
+use Rattle.byte_streams.specs.declared.sink.Sink as sink
+use Rattle.byte_streams.specs.declared.source.Source as source
+use Rattle.journal_file.specs.Committed.{IsBegun, committed}
+use Rattle.journal_file.specs.Device.{LeavesOnly}
+use Rattle.journal_file.specs.Events.{Event, failures_of}
+use Rattle.journal_file.specs.Settled.{IsSettled}
+use Rattle.journal_file.specs.declared.journal.Journal.{Journal}
+use Rattle.journal_file.proofs.Lines.{bool_cases}
+use Rattle.journal_file.proofs.Moments.{started}
+use Rattle.live_session.specs.Answered.{Answered}
+use Rattle.live_session.specs.Talk.{BreaksOff, EndsSession, HasAnswered, HasRead}
+use Rattle.live_session.specs.declared.conversation.Conversation.{Ghosts}
+use Rattle.live_session.specs.declared.fault.Ending.{Ending}
+use Rattle.live_session.specs.declared.fault.LiveFault.{LiveFault}
+use Rattle.live_session.specs.declared.fault.LiveFault.TheVariants as fault
+use Rattle.live_session.specs.declared.terms.SessionTerms.{SessionTerms}
+use Rattle.kept_session.specs.Kept.{IsSameOrLater, text_tried}
+use Rattle.kept_session.specs.KeptRun.{KeptEnds, RunsKept, ends_at, kept_ends}
+
+-- the device stays the one that it was
+pub same-device : {C : Type 0} (c : Ghosts C) (terms : SessionTerms) (start : RunningAuction) (old new : C)
+    (ended : Result Ending LiveFault) → EndsSession c terms start old new ended → c.Becomes old new
+same-device c terms start old new (Ok ending) h = h.device.same
+same-device c terms start old new (Err fault.ReadFailed) h = h.device.same
+same-device c terms start old new (Err fault.WriteFailed) h = h.0.device.same
+same-device c terms start old new (Err fault.CommitFailed) h = h.0.device.same
+same-device c terms start old new (Err fault.NoMemory) h = h.0.device.same
+
+-- ---- by the ends alone
+
+module _ {C : Type 0} (c : Ghosts C) where
+  abbrev pub seen_as : C → KeptEnds
+  seen_as talk = record {
+    left = c.left talk;
+    written = c.written talk;
+    committed = c.committed talk;
+    read_failures = c.read_failures talk;
+    write_failures = c.write_failures talk;
+    commit_failures = c.commit_failures talk;
+  }
+
+  as-read : (old new : C) (heard : List ℕ) → HasRead c old new heard
+      → HasRead kept_ends (seen_as old) (seen_as new) heard
+  as-read old new heard h = record { same = tt; read = h.read }
+
+  as-answered : (old new : C) (answers : Answered) → HasAnswered c old new answers
+      → HasAnswered kept_ends (seen_as old) (seen_as new) answers
+  as-answered old new answers h =
+      record { text = h.text; entries = h.entries; writes = h.writes; commits = h.commits }
+
+  as-broken-off : (terms : SessionTerms) (start : RunningAuction) (old new : C) → BreaksOff c terms start old new
+      → BreaksOff kept_ends terms start (seen_as old) (seen_as new)
+  as-broken-off terms start old new h = record {
+    before = h.before;
+    last = h.last;
+    short = h.short;
+    device = as-read old new (h.before ++ h.last) h.device;
+    text = h.text;
+    entries = h.entries;
+    reads = h.reads;
+  }
+
+  pub as-ends : (terms : SessionTerms) (start : RunningAuction) (old new : C) (ended : Result Ending LiveFault)
+      → EndsSession c terms start old new ended
+      → EndsSession kept_ends terms start (seen_as old) (seen_as new) ended
+  as-ends terms start old new (Ok ending) h = record {
+    heard = h.heard;
+    device = as-read old new h.heard h.device;
+    all = h.all;
+    answered = as-answered old new _ h.answered;
+    reads = h.reads;
+    ending_is = h.ending_is;
+  }
+  as-ends terms start old new (Err fault.ReadFailed) h = record {
+    heard = h.heard;
+    device = as-read old new h.heard h.device;
+    answered = as-answered old new _ h.answered;
+    reads = h.reads;
+  }
+  as-ends terms start old new (Err fault.WriteFailed) h = (as-broken-off terms start old new h.0, h.1, h.2)
+  as-ends terms start old new (Err fault.CommitFailed) h = (as-broken-off terms start old new h.0, h.1, h.2)
+  as-ends terms start old new (Err fault.NoMemory) h = (as-broken-off terms start old new h.0, h.1, h.2)
+
+-- ---- the journal
+
+module _ {D : Type 0} (seen : D → List ℕ) (may_leave : D → List ℕ → Type 0) (moment : D → ℕ)
+    (left_since : D → ℕ → List ℕ → Type 0) (old new : Journal D) (before after : List Event) (is_broken : Bool) where
+  -- no commit has failed
+  pub still-well : IsSameOrLater seen moment left_since old new before after false is_broken
+      → failures_of after ≡ failures_of before → is_broken ≡ false
+  still-well (inl same) none = same.broken
+  still-well (inr later) none = elim (bool_cases is_broken) [
+    | inl broken ↦ absurd (omega (arith, none, later.failed refl broken))
+    | inr well ↦ well
+  ]
+
+  pub leaves : ((d : D) (c : List ℕ) → left_since d (moment d) c → may_leave d c) → IsSettled seen may_leave old
+      → before ≡ [] → IsSameOrLater seen moment left_since old new before after false is_broken
+      → LeavesOnly moment left_since old.device new.device (IsBegun (committed (seen old.device)) (text_tried after))
+  leaves only_now settled none (inl same) =
+      rw (same.journal, same.calls, none) (started moment left_since old.device
+      (IsBegun (committed (seen old.device)) []) (λ c left. (
+        0,
+        ap committed (settled.durable c (only_now old.device c left))
+            ∙ sym (append-nil (committed (seen old.device))),
+      )))
+  leaves only_now settled none (inr later) =
+      rw (later.text, none) (later.leaves refl)
+
+  pub all-kept : before ≡ [] → IsSameOrLater seen moment left_since old new before after false is_broken
+      → is_broken ≡ false → committed (seen new.device) ≡ committed (seen old.device) ++ text_tried after
+  all-kept none (inl same) well =
+      rw (same.journal, same.calls, none) (sym (append-nil (committed (seen old.device))))
+  all-kept none (inr later) well = rw (later.text, none) (later.all well)
+
+runs-kept : {C D : Type 0} (c : Ghosts C) (seen : D → List ℕ) (may_leave : D → List ℕ → Type 0) (moment : D → ℕ)
+    (left_since : D → ℕ → List ℕ → Type 0) → ((d : D) (f : List ℕ) → left_since d (moment d) f → may_leave d f)
+    → (terms : SessionTerms) (start : RunningAuction) (talk last : C) (result : Result Ending LiveFault)
+    → (old new : Journal D) (before after : List Event) (is_broken : Bool) (begun ended : List ℕ → ℕ → KeptEnds)
+    → IsSettled seen may_leave old → before ≡ []
+    → EndsSession c terms start talk last result
+    → IsSameOrLater seen moment left_since old new before after false is_broken
+    → (is_broken ≡ false → IsSettled seen may_leave new)
+    → seen_as c talk ≡ begun [] 0 → seen_as c last ≡ ended (text_tried after) (failures_of after)
+    → RunsKept seen may_leave moment left_since terms start old new begun ended result
+runs-kept c seen may_leave moment left_since only_now terms start talk last result old new before after is_broken begun
+    ended settled none ran later steady first at_last = record {
+      entries = text_tried after;
+      failures = failures_of after;
+      session =
+          subst (λ (e : KeptEnds). EndsSession kept_ends terms start e (ended (text_tried after) (failures_of after))
+          result) first
+          (subst (λ (e : KeptEnds). EndsSession kept_ends terms start (seen_as c talk) e result) at_last
+          (as-ends c terms start talk last result ran));
+      leaves = leaves seen may_leave moment left_since old new before after is_broken only_now settled none later;
+      all =
+          λ zero_failures. let well : is_broken ≡ false =
+          still-well seen may_leave moment left_since old new before after is_broken later
+          (zero_failures ∙ sym (ap failures_of none)) in (
+            steady well,
+            all-kept seen may_leave moment left_since old new before after is_broken none later well,
+          );
+    }
+
+-- by the reader and the writer that a session was given, and what they are at last
+module _ {R O : Type 0} (reads : source.Ghosts R) (writes : sink.Ghosts O) where
+  abbrev pub ends_of_both : R → O → List ℕ → ℕ → KeptEnds
+  ends_of_both input output =
+      ends_at (reads.left input) (writes.written output) (reads.failures input) (writes.failures output)
+
+pub kept-by : {C D R O : Type 0} (c : Ghosts C) (seen : D → List ℕ) (may_leave : D → List ℕ → Type 0)
+    (moment : D → ℕ) (left_since : D → ℕ → List ℕ → Type 0)
+    → ((d : D) (f : List ℕ) → left_since d (moment d) f → may_leave d f)
+    → (terms : SessionTerms) (start : RunningAuction) (talk last : C) (result : Result Ending LiveFault)
+    → (old new first_journal last_journal : Journal D) (before after : List Event) (was_broken is_broken : Bool)
+    → (reads : source.Ghosts R) (writes : sink.Ghosts O) (input new_input last_input : R)
+    (output new_output last_output : O)
+    → IsSettled seen may_leave old → before ≡ [] → was_broken ≡ false → first_journal ≡ old → new ≡ last_journal
+    → EndsSession c terms start talk last result
+    → IsSameOrLater seen moment left_since first_journal last_journal before after was_broken is_broken
+    → (is_broken ≡ false → IsSettled seen may_leave last_journal)
+    → seen_as c talk ≡ ends_of_both reads writes input output [] 0
+    → seen_as c last ≡ ends_of_both reads writes last_input last_output (text_tried after) (failures_of after)
+    → new_input ≡ last_input → new_output ≡ last_output
+    → RunsKept seen may_leave moment left_since terms start old new (ends_of_both reads writes input output)
+    (ends_of_both reads writes new_input new_output) result
+kept-by {D = D} {R = R} {O = O} c seen may_leave moment left_since only_now terms start talk last result old new
+    first_journal last_journal before after was_broken is_broken reads writes input new_input last_input output
+    new_output last_output settled none well first_is new_is ran later steady first at_last input_is output_is =
+    runs-kept c seen may_leave moment left_since only_now terms start talk last result old new before after is_broken
+    (ends_of_both reads writes input output) (ends_of_both reads writes new_input new_output) settled none ran
+    (subst (λ (b : Bool). IsSameOrLater seen moment left_since old new before after b is_broken) well
+    (subst (λ (j : Journal D). IsSameOrLater seen moment left_since j new before after was_broken is_broken) first_is
+    (subst (λ (j : Journal D). IsSameOrLater seen moment left_since first_journal j before after was_broken is_broken)
+    (sym new_is) later)))
+    (λ is_well. subst (λ (j : Journal D). IsSettled seen may_leave j) (sym new_is) (steady is_well))
+    first
+    (at_last ∙ sym (ap₂ (λ (r : R) (w : O). ends_of_both reads writes r w (text_tried after) (failures_of after))
+    input_is output_is))
+
+-- the journal is settled after a session that no commit has broken off
+module _ {D : Type 0} (seen : D → List ℕ) (may_leave : D → List ℕ → Type 0) (moment : D → ℕ)
+    (left_since : D → ℕ → List ℕ → Type 0) (terms : SessionTerms) (start : RunningAuction) (old new : Journal D)
+    (left left_at_last written written_at_last : Option (List ℕ)) (reads reads_at_last writes writes_at_last : ℕ) where
+  pub settled-after : (result : Result Ending LiveFault)
+      → RunsKept seen may_leave moment left_since terms start old new (ends_at left written reads writes)
+      (ends_at left_at_last written_at_last reads_at_last writes_at_last) result
+      → (result ≡ Err fault.CommitFailed → ⊥) → IsSettled seen may_leave new
+  settled-after (Ok ending) ran other = (ran.all ran.session.answered.commits).0
+  settled-after (Err fault.ReadFailed) ran other = (ran.all ran.session.answered.commits).0
+  settled-after (Err fault.WriteFailed) ran other = (ran.all ran.session.2).0
+  settled-after (Err fault.CommitFailed) ran other = absurd (other refl)
+  settled-after (Err fault.NoMemory) ran other = (ran.all ran.session.2).0

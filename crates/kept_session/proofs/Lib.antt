@@ -1,0 +1,7 @@
+pub mod CommitLaws
+pub mod KeptRunLaws
+mod ReplayLaws
+mod ResumeLaws
+mod PrintableLineLaws
+mod KeptPromiseLaws
+mod BegunSessionLaws

@@ -1,0 +1,57 @@
+-- What came of a session whose entries are kept.
+use Rattle.std.specs.Prelude.{◌≡◌, ℕ, List, [], ◌++◌, Option, Some, Result}
+use Rattle.auction_terms.specs.Auxiliary.RunningAuction.{RunningAuction}
+use Rattle.journal_file.specs.Committed.{IsBegun, committed}
+use Rattle.journal_file.specs.Device.{LeavesOnly}
+use Rattle.journal_file.specs.Settled.{IsSettled}
+use Rattle.journal_file.specs.declared.journal.Journal.{Journal}
+use Rattle.live_session.specs.Talk.{EndsSession}
+use Rattle.live_session.specs.declared.conversation.Conversation.{Ghosts}
+use Rattle.live_session.specs.declared.fault.Ending.{Ending}
+use Rattle.live_session.specs.declared.fault.LiveFault.{LiveFault}
+use Rattle.live_session.specs.declared.terms.SessionTerms.{SessionTerms}
+
+-- What is known of the ends of a session: bytes that are left to read, the text that was written, the lines of entries
+-- that were to be committed, and how often each has failed.
+pub record KeptEnds : Type 0 where
+  pub left : Option (List ℕ)
+  pub written : Option (List ℕ)
+  pub committed : Option (List ℕ)
+  pub read_failures : ℕ
+  pub write_failures : ℕ
+  pub commit_failures : ℕ
+
+abbrev pub kept_ends : Ghosts KeptEnds
+kept_ends = record {
+  left = λ e. e.left;
+  written = λ e. e.written;
+  committed = λ e. e.committed;
+  read_failures = λ e. e.read_failures;
+  write_failures = λ e. e.write_failures;
+  commit_failures = λ e. e.commit_failures;
+  MayRead = λ e. Unit {0};
+  MayWrite = λ e text. Unit {0};
+  Becomes = λ a b. Unit {0};
+}
+
+abbrev pub ends_at : Option (List ℕ) → Option (List ℕ) → ℕ → ℕ → List ℕ → ℕ → KeptEnds
+ends_at left written reads writes entries commits = record {
+  left = left;
+  written = written;
+  committed = Some entries;
+  read_failures = reads;
+  write_failures = writes;
+  commit_failures = commits;
+}
+
+-- It ran as any session does, and these lines of entries were to be committed. A crash at any moment of it leaves what
+-- was committed before, and the first of them; and where no commit has failed, all of them are committed.
+pub record RunsKept {D : Type 0} (seen : D → List ℕ) (may_leave : D → List ℕ → Type 0) (moment : D → ℕ)
+    (left_since : D → ℕ → List ℕ → Type 0) (terms : SessionTerms) (start : RunningAuction) (old new : Journal D)
+    (begun ended : List ℕ → ℕ → KeptEnds) (result : Result Ending LiveFault) : Type 0 where
+  pub entries : List ℕ
+  pub failures : ℕ
+  pub session : EndsSession kept_ends terms start (begun [] 0) (ended entries failures) result
+  pub leaves : LeavesOnly moment left_since old.device new.device (IsBegun (committed (seen old.device)) entries)
+  pub all : failures ≡ 0
+      → IsSettled seen may_leave new × (committed (seen new.device) ≡ committed (seen old.device) ++ entries)

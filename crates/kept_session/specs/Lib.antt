@@ -1,0 +1,6 @@
+pub mod Begun
+pub mod Kept
+pub mod KeptPromises
+pub mod KeptRun
+pub mod Replayed
+pub mod Resumed

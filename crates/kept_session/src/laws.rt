@@ -1,0 +1,14 @@
+//! Laws of journals that are kept. Each is what the function's contract says; the functions do nothing.
+
+ghost use Rattle.kept_session.specs.KeptPromises.{AreWholeLines, LawfulIsGoneOnWith, LeavesFirstEntries};
+
+/// A journal is whole lines, and what a crash leaves of a session's entries is the journal of the first of them.
+pub fn leaves_first_entries()
+    ensures whole { AreWholeLines }
+    ensures first { LeavesFirstEntries }
+{}
+
+/// A session goes on with the journal of a lawful history where that leaves the auction.
+pub fn lawful_is_gone_on_with()
+    ensures { LawfulIsGoneOnWith }
+{}

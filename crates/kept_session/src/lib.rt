@@ -1,0 +1,18 @@
+//! A live session whose entries are on the disk before their answers are written, and which goes on after a crash.
+#![tactic(auto)]
+
+mod beginning;
+mod conversation;
+mod day;
+mod fault;
+mod laws;
+mod replaying;
+mod resuming;
+mod running;
+
+pub use beginning::{Begun, begin};
+pub use conversation::KeptConversation;
+pub use fault::{BeginFault, ResumeFault, UnlawfulEntry};
+pub use laws::{lawful_is_gone_on_with, leaves_first_entries};
+pub use resuming::resume;
+pub use running::run_kept;
