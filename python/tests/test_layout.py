@@ -5,7 +5,8 @@ from typing import Any
 import callauction
 import numpy
 import pytest
-from callauction import COMMAND, ORDER, REPLY, TRADE, CommandTag, Restriction, AuctionKind, Refusal, ReplyTag, Side
+from callauction import COMMAND, ORDER, REPLY, TRADE
+from callauction import AuctionKind, CommandTag, Refusal, ReplyTag, Restriction, Side
 from callauction._native import ffi, lib
 from callauction.reading import BITS
 
@@ -48,14 +49,20 @@ def test_each_number_is_the_headers(
         assert value == getattr(lib, "CALLAUCTION_" + names.get(name, name))
 
 
+def names_of_the_header() -> list[str]:
+    """The names of its enumerations' numbers."""
+    names = [name for name in dir(lib) if name.startswith("CALLAUCTION_")]
+    return [name for name in names if name != "CALLAUCTION_ALL_MEMBERS"]
+
+
 def test_no_number_of_the_header_is_left_out() -> None:
-    errors = 17
-    numbers = [name for name in dir(lib) if name.startswith("CALLAUCTION_")]
+    errors = 18
+    numbers = names_of_the_header()
     assert len(numbers) == sum(len(enumeration) for enumeration, _ in NUMBERS) + errors
 
 
 def test_the_packages_own_errors_are_none_of_the_header() -> None:
-    numbers = [getattr(lib, name) for name in dir(lib) if name.startswith("CALLAUCTION_")]
+    numbers = [getattr(lib, name) for name in names_of_the_header()]
     assert min(lib.PYTHON_BUSY, lib.PYTHON_OVERLAP) > max(numbers)
     assert lib.PYTHON_ERROR > max(*numbers, lib.PYTHON_BUSY, lib.PYTHON_OVERLAP)
     assert lib.PYTHON_NO_REPLY not in {int(tag) for tag in ReplyTag}

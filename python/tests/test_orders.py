@@ -5,6 +5,8 @@ from collections.abc import Iterator
 import pandas
 import pytest
 from callauction import Auction, ClosedError, Enter, RecordedAuction, Restriction, Side
+from callauction.arrays import Structs
+from callauction.tables import ORDERS
 from days import EXAMPLES, options_of
 from printed import Options, command_of, opened
 
@@ -49,6 +51,15 @@ def taken_out(day: Day) -> list[Row]:
     return [row for row in listed(left) if row[-1] == kind]
 
 
+def rows_of(orders: Structs) -> list[Row]:
+    """The rows of an array of ORDER."""
+    sides, auctions = ("", "bid", "ask"), ("", "opening", "closing")
+    return [
+        (id, member, sides[side], limit if has else None, *shares, auctions[only])
+        for *shares, id, limit, member, side, only, has in orders.tolist()
+    ]
+
+
 def rows(frame: pandas.DataFrame) -> list[Row]:
     """The rows of a frame of orders, with None for a market order's limit."""
     limits = [None if limit is pandas.NA else limit for limit in frame["limit"]]
@@ -60,7 +71,7 @@ def days() -> Iterator[tuple[Options, str]]:
     """The examples, and random files."""
     for file in EXAMPLES:
         yield DEFAULTS | options_of(file), file.read_text(encoding="utf-8")
-    for seed in range(120):
+    for seed in range(150):
         yield orders.order_file("short", seed)
 
 
@@ -73,18 +84,33 @@ def test_the_orders_are_those_of_the_rules_after_each_command() -> None:
             continue
         day = opened_by_the_rules(options)
         records = [line.split(",") for line in text.splitlines() if line]
-        numbers = [options[name] for name in NUMBERS]
-        with RecordedAuction(*numbers) as auction:
+        with opened(options) as auction:
             for (member, words), fields in zip(calls, records):
                 if words[0] == "uncross":
-                    assert rows(auction.expiring()) == taken_out(day)
+                    assert rows_of(auction.expiring()) == taken_out(day)
                 day.apply(member, words)
                 auction.apply(member, command_of(fields[1:]))
-                assert rows(auction.orders()) == listed(day)
-                assert rows(auction.orders(member)) == listed(day, member)
+                assert rows_of(auction.orders()) == listed(day)
+                assert rows_of(auction.orders(member)) == listed(day, member)
                 looked += len(day.book)
-            assert rows(auction.expiring()) == taken_out(day)
-    assert looked > 10_000
+            assert rows_of(auction.expiring()) == taken_out(day)
+    assert looked > 9_000
+
+
+def test_frames_have_the_rows_of_the_arrays() -> None:
+    options, text = orders.order_file("long", 3)
+    numbers = [options[name] for name in NUMBERS]
+    with RecordedAuction(*numbers) as recorded, opened(options) as auction:
+        for fields in [line.split(",") for line in text.splitlines() if line][:150]:
+            recorded.apply(int(fields[0]), command_of(fields[1:]))
+            auction.apply(int(fields[0]), command_of(fields[1:]))
+        frame = recorded.orders()
+        assert len(frame) > 10 and rows(frame) == rows_of(auction.orders())
+        assert rows(recorded.orders(1)) == rows_of(auction.orders(1))
+        assert rows(recorded.expiring()) == rows_of(auction.expiring())
+        assert {name: str(kind) for name, kind in frame.dtypes.items()} == {
+            name: "object" if kind == "str" else kind for name, kind in ORDERS.items()
+        }
 
 
 def test_an_uncross_takes_out_what_was_said() -> None:
