@@ -1,0 +1,254 @@
+"""An instrument's session with its program, which outlives programs that are killed.
+
+Each message is on the log's disk before the program has it, and no message is answered but by an
+entry of the journal. A program that ends is started again on its journal; what it had executed is
+answered from there, and what it hadn't is sent again.
+"""
+import asyncio
+import dataclasses
+import functools
+import pathlib
+import re
+from collections.abc import Callable, Sequence
+
+from callauction.venue.log import Log, text_of
+from callauction.venue.messages import MessageError
+from callauction.venue.process import IN_USE, Process, ProcessError
+from callauction.venue.recovery import (
+    Entry,
+    Message,
+    RecoveryError,
+    Run,
+    entries_of,
+    matched,
+    settled,
+)
+
+ENTERED = re.compile(r"(\d+): (.*)")
+NO_CALLS = ("calls are reserved for the operator", "too many commands")
+MOST_ENDS = 8
+"""How often the program may end without an answer in between before the session halts."""
+PAUSE = 0.05
+IN_USE_SECONDS = 15.0
+"""How long another run of the program is waited for, such as one whose venue was killed."""
+
+Settled = list[tuple[Message, Entry | None]]
+
+
+@dataclasses.dataclass(slots=True, eq=False)
+class Sent:
+    """A message that isn't answered yet, and who waits for its entry."""
+
+    message: Message
+    answer: "asyncio.Future[Entry]"
+
+
+class Session:
+    """A session, begun by `open`. `on_entry` is called with each message and its entry before who
+    sent it is answered, and `on_change` where it halts, or goes on.
+    """
+
+    def __init__(self, name: str, words: Sequence[str], journal: pathlib.Path, log: Log) -> None:
+        self.name, self.words, self.journal, self.log = name, [*words], journal, log
+        self.halted: str | None = None
+        self.on_entry: Callable[[Message, Entry], None] = lambda message, entry: None
+        self.on_change: Callable[[], None] = lambda: None
+        self._process: Process | None = None
+        self._pending: dict[Message, Sent] = {}
+        self._views: set[asyncio.Future[list[str]]] = set()
+        self._known = self._ends = self._turn = 0
+        self._is_closed = False
+        self._restart: asyncio.Task[None] | None = None
+
+    # ---- begin and end
+
+    async def open(self, runs: Sequence[Run]) -> tuple[list[Entry], Settled]:
+        """Starts the program: the entries of its journal, and what became of the messages of
+        earlier runs. Raises ProcessError, RecoveryError, and OSError where the journal can't be
+        read.
+        """
+        process, count = await self._started()
+        entries = entries_of(self.journal)[:count]
+        try:
+            found = settled(runs, entries)
+        except RecoveryError:
+            await process.stop()
+            raise
+        self._known = count
+        self._begin(process, count)
+        return entries, found
+
+    async def close(self) -> None:
+        """Ends the program, which answers before what it has read."""
+        self._is_closed = True
+        if self._restart is not None:
+            self._restart.cancel()
+        if self._process is not None:
+            await self._process.stop()
+
+    @property
+    def pid(self) -> int | None:
+        """The number of the program's process, None where there is none."""
+        return self._process.pid if self._process else None
+
+    @property
+    def is_busy(self) -> bool:
+        """Whether a message waits for its answer."""
+        return bool(self._pending)
+
+    # ---- messages and views
+
+    def submit(self, message: Message) -> "asyncio.Future[Entry]":
+        """Sends a message that wasn't sent before: its entry, once it is there. The future's
+        exception is a MessageError where the program takes no more commands.
+        """
+        sent = Sent(message, asyncio.get_running_loop().create_future())
+        self._pending[message] = sent
+        turn = self._turn
+        self.log.append(self._line(message), lambda: self._send([sent], turn))
+        return sent.answer
+
+    async def show(self, views: Sequence[str]) -> list[list[str]]:
+        """What the program answers to these views, all of one moment. Raises ProcessError where it
+        doesn't run, or ends meanwhile.
+        """
+        if self._process is None:
+            raise ProcessError("the program doesn't run", -1)
+        loop = asyncio.get_running_loop()
+        waiting = [loop.create_future() for _ in views]
+        self._views.update(waiting)
+        self._process.send(views, [functools.partial(resolved, it) for it in waiting])
+        try:
+            return [await future for future in waiting]
+        finally:
+            self._views.difference_update(waiting)
+
+    # ---- the program
+
+    async def _started(self) -> tuple[Process, int]:
+        """A run of the program, and how many entries its journal has. Raises ProcessError."""
+        loop = asyncio.get_running_loop()
+        last = loop.time() + IN_USE_SECONDS
+        while True:
+            process = Process(self.words, self._ended)
+            try:
+                return process, await process.start()
+            except ProcessError as fault:
+                if fault.text != IN_USE or loop.time() > last:
+                    raise
+            await asyncio.sleep(PAUSE)
+
+    def _begin(self, process: Process, count: int) -> None:
+        """Writes that a run begins after so many entries, and what is sent to it first; then sends
+        that.
+        """
+        self._turn += 1
+        turn, first = self._turn, [*self._pending.values()]
+        start = text_of({"kind": "start", "instrument": self.name, "entries": count})
+        lines = [start, *(self._line(sent.message) for sent in first)]
+
+        def go() -> None:
+            if turn == self._turn and not self._is_closed and not process.has_ended:
+                self._process = process
+                self._send(first, turn)
+                self.on_change()
+
+        self.log.append("\n".join(lines), go)
+
+    def _line(self, message: Message) -> str:
+        """The log's line of a message."""
+        return text_of(
+            {
+                "kind": "sent",
+                "instrument": self.name,
+                "member": message.member,
+                "number": message.number,
+                "record": message.record,
+            }
+        )
+
+    def _send(self, those: Sequence[Sent], turn: int) -> None:
+        """Sends what is on the log's disk, unless another run has begun since: that was given it."""
+        if turn != self._turn or self._process is None or not those:
+            return
+        answers = [lambda lines, sent=sent: self._answered(sent, lines[0]) for sent in those]
+        self._process.send([sent.message.record for sent in those], answers)
+
+    def _answered(self, sent: Sent, line: str) -> None:
+        """Takes the answer to a message."""
+        self._ends = 0
+        if found := ENTERED.fullmatch(line):
+            self._settle(sent, Entry(int(found[1]), sent.message.record, found[2]))
+            return
+        del self._pending[sent.message]
+        text = line.partition(": ")[2]
+        code = "no_calls" if text in NO_CALLS else "bad_message"
+        if not sent.answer.done():
+            sent.answer.set_exception(MessageError(code))
+
+    def _settle(self, sent: Sent, entry: Entry) -> None:
+        """A message has its entry."""
+        del self._pending[sent.message]
+        self._known = entry.place
+        self.on_entry(sent.message, entry)
+        if not sent.answer.done():
+            sent.answer.set_result(entry)
+
+    def _ended(self, fault: ProcessError) -> None:
+        """The program has ended."""
+        self._process = None
+        self._turn += 1
+        for future in self._views:
+            if not future.done():
+                future.set_exception(fault)
+        if not self._is_closed and self.halted is None:
+            self._restart = asyncio.get_running_loop().create_task(self._start_again(fault))
+
+    async def _start_again(self, fault: ProcessError) -> None:
+        """Starts the program again after this end, or halts."""
+        while True:
+            self._ends += 1
+            if fault.is_final or self._ends > MOST_ENDS:
+                self._halt(fault.text)
+                return
+            try:
+                process, count = await self._started()
+            except ProcessError as found:
+                fault = found
+                await asyncio.sleep(PAUSE * self._ends)
+                continue
+            try:
+                self._catch_up(count)
+            except (RecoveryError, OSError, ValueError) as found:
+                self._halt(str(found))
+                await process.stop()
+            else:
+                self._begin(process, count)
+            return
+
+    def _catch_up(self, count: int) -> None:
+        """Answers what the last run had executed and not answered. Raises RecoveryError, OSError."""
+        entries = entries_of(self.journal, self._known, count - self._known)
+        messages = [*self._pending]
+        for message, entry in matched(messages, entries):
+            if entry is not None:
+                self._settle(self._pending[message], entry)
+
+    def _halt(self, text: str) -> None:
+        """Takes nothing more, until it is tried again."""
+        self.halted = text or "the program doesn't run"
+        self.on_change()
+
+    def resume(self) -> None:
+        """Tries again after a halt."""
+        if self.halted is None:
+            return
+        self.halted, self._ends = None, 0
+        fault = ProcessError("", -1)
+        self._restart = asyncio.get_running_loop().create_task(self._start_again(fault))
+
+
+def resolved(future: "asyncio.Future[list[str]]", lines: list[str]) -> None:
+    """Whoever waits for a view has it, unless it waits no more."""
+    if not future.done():
+        future.set_result(lines)
