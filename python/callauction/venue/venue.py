@@ -23,7 +23,7 @@ from callauction.venue.session import Settled
 VERSION = 1
 LOG = "venue.log"
 SHOWN = ("indication", "all")
-"""What the beamer shows: the indication alone, or also the book, and who traded with whom."""
+"""What the beamer shows of a call: the indication alone, or also the book."""
 
 
 class Watcher(Protocol):
@@ -210,7 +210,7 @@ class Venue:
         self.beamer_shows = what
         self.log.note(kind="beamer", shows=what)
         for watcher in self.watchers:
-            if watcher.role == "beamer":
+            if watcher.member is None:
                 self.greet(watcher)
 
     def give_values(self, instrument: Instrument, values: dict[str, Value]) -> None:
@@ -287,17 +287,16 @@ class Venue:
                 watcher.offer(f"trades {instrument.terms.name}", trades)
 
     def _show_book(self, instrument: Instrument, watcher: Watcher, is_all: bool) -> None:
-        """Shows the operator, or the beamer as far as the operator lets it, the course, the book,
-        and who traded with whom.
+        """Shows the operator, or the beamer as far as the operator lets it, the course and the
+        book; and where there is more of it, who traded with whom.
         """
         name = instrument.terms.name
         watcher.offer(f"course {name}", shown.course_of(instrument))
-        sees_all = watcher.role == "operator" or self.beamer_shows == "all"
-        if sees_all:
+        if watcher.role == "operator" or self.beamer_shows == "all":
             watcher.offer(f"ladder {name}", shown.ladder_of(instrument))
         if is_all:
             last = instrument.trades[-shown.MOST_SHOWN :]
-            watcher.offer(f"trades {name}", shown.trades_of(instrument, last, sees_all))
+            watcher.offer(f"trades {name}", shown.trades_of(instrument, last, True))
             watcher.offer(f"efficiency {name}", shown.efficiency_of(instrument))
 
     def show_members(self) -> None:
@@ -338,7 +337,7 @@ class Venue:
             if "trades" in watcher.topics:
                 trades = instrument.trades[-shown.MOST_SHOWN :]
                 watcher.offer(f"trades {name}", shown.trades_of(instrument, trades, False))
-        if watcher.role == "beamer":
+        if watcher.member is None:
             code = self.members.codes.get("", "")
             watcher.offer("beamer", {"type": "beamer", "shows": self.beamer_shows, "code": code})
         self.show_members()
