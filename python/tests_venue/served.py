@@ -66,6 +66,13 @@ class Served:
         assert status == 200, found
         return found
 
+    def end(self) -> None:
+        """Ends it as an operator does. Raises AssertionError where it ends otherwise."""
+        if self.child.poll() is None:
+            self.child.terminate()
+            _, error = self.child.communicate(timeout=SECONDS)
+            assert (self.child.returncode, error) == (0, "")
+
     def join(self, name: str, code: str = "") -> str:
         """The token of a new member."""
         status, found = self.call("api/join", {"code": code or self.code, "name": name})
@@ -91,25 +98,33 @@ def words_of(*words: object) -> list[str]:
     return [sys.executable, "-m", "callauction.venue", *map(str, words)]
 
 
+def started(*words: object, **more: str) -> Served:
+    """A venue with these words, once it listens."""
+    pipe = subprocess.PIPE
+    child = subprocess.Popen(
+        words_of(*words), env=environment(**more), stdout=pipe, stderr=pipe, text=True
+    )
+    try:
+        return begun(child)
+    except BaseException:
+        child.kill()
+        child.communicate()
+        raise
+
+
 @contextlib.contextmanager
 def served(folder: pathlib.Path, day: str = "", *words: object, **more: str) -> Iterator[Served]:
     """A venue in this folder, of a day in TOML, which is ended at the end."""
     file = folder / "day.toml"
     file.write_text(day, encoding="utf-8")
-    port = free_port()
-    command = words_of("--day", file, "--folder", folder / "venue", "--port", port, *words)
-    pipe = subprocess.PIPE
-    with subprocess.Popen(
-        command, env=environment(**more), stdout=pipe, stderr=pipe, text=True
-    ) as child:
-        try:
-            yield begun(child)
-        finally:
-            child.terminate()
-            try:
-                child.wait(10)
-            except subprocess.TimeoutExpired:
-                child.kill()
+    named = ["--day", file, "--folder", folder / "venue", "--port", free_port()]
+    found = started(*named, *words, **more)
+    try:
+        yield found
+        found.end()
+    finally:
+        found.child.kill()
+        found.child.communicate()
 
 
 def begun(child: "subprocess.Popen[str]") -> Served:

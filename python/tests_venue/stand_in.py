@@ -17,6 +17,7 @@ from collections.abc import Iterator
 sys.path.insert(0, str(pathlib.Path(__file__).resolve().parents[2]))
 
 from checks.model import day as days  # noqa: E402
+from checks.model.__main__ import main as model  # noqa: E402
 from checks.model import files, tables  # noqa: E402
 
 BLOCK = 1 << 16
@@ -205,6 +206,8 @@ def arguments() -> argparse.ArgumentParser:
 
 
 def main() -> None:
+    if "--live" not in sys.argv:
+        sys.exit(model())
     signal.signal(signal.SIGTERM, lambda *_: sys.exit(0))
     session = Session(arguments().parse_args())
     rest = b""

@@ -81,7 +81,8 @@ def main() -> int:
         text = fault.text or f"the program ended with status {fault.status}"
         status = fault.status if BAD_FILE <= fault.status <= UNLAWFUL else FAILED
     except OSError as fault:
-        text, status = f"{fault.filename or ''}: {fault.strerror}".removeprefix(": "), FAILED
+        named = f"{fault.filename}: {fault.strerror}" if fault.filename else fault.strerror
+        text, status = named or str(fault), FAILED
     print(f"venue: {text}", file=sys.stderr)
     return status
 

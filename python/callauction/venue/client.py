@@ -164,12 +164,12 @@ class AsyncClient:
 
     # ---- looks and events
 
-    async def look(self, what: str, instrument: str | None = None, **query: Any) -> Json:
-        """What is seen now: `state`, `orders`, `fills` or `trades`. Raises VenueError and
-        aiohttp.ClientError.
+    async def look(self, what: str, instrument: str | None = None, first: int = 1) -> Json:
+        """What is seen now: `state`, `orders`, `fills`, or `trades` from number `first` on. Raises
+        VenueError and aiohttp.ClientError.
         """
         named = {} if instrument is None else {"instrument": instrument}
-        words = named | {name: str(value) for name, value in query.items()}
+        words = named | {"first": str(first)}
         place = f"{self.url}/api/look/{what}"
         async with self._web.get(place, params=words, ssl=self._tls) as answer:
             found: Json = await answer.json()
@@ -317,9 +317,9 @@ class Client:
         """Takes an order out."""
         return self._wait(self._client.delete(order, instrument=instrument))
 
-    def look(self, what: str, instrument: str | None = None, **query: Any) -> Json:
-        """What is seen now: `state`, `orders`, `fills` or `trades`."""
-        return self._wait(self._client.look(what, instrument, **query))
+    def look(self, what: str, instrument: str | None = None, first: int = 1) -> Json:
+        """What is seen now: `state`, `orders`, `fills`, or `trades` from number `first` on."""
+        return self._wait(self._client.look(what, instrument, first))
 
     def events(self) -> Iterator[Json]:
         """What comes of the topics."""

@@ -276,6 +276,8 @@ def tick_of(fields: Fields, grid: Grid, name: str, default: int) -> int:
     found = fields.decimal(name)
     if found is None:
         return default
+    if found < 0:
+        raise fields.fault(name, f"{found} is below 0")
     try:
         return grid.tick(found)
     except BadCellError as fault:

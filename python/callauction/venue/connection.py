@@ -121,17 +121,12 @@ class Connection:
             return False
         try:
             said = messages.read(message.data)
-            if said["type"] != "hello":
-                raise MessageError("bad_message", "the first message is hello")
-            topics = said.get("topics", [*messages.TOPICS])
-            if not isinstance(topics, list) or not set(topics) <= set(messages.TOPICS):
-                raise MessageError("bad_message", f"topics are {', '.join(messages.TOPICS)}")
+            self.topics = messages.topics_of(said)
             self.role, self.member = self._venue.role_of(messages.text_of(said, "token"))
         except MessageError as fault:
             await self._socket.send_str(packed(error_of(fault, None)))
             await self._socket.close(code=WSCloseCode.POLICY_VIOLATION, message=fault.code.encode())
             return False
-        self.topics = frozenset(topics)
         await self._socket.send_str(packed(welcome_of(self._venue, self.role, self.member)))
         return True
 

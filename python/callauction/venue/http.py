@@ -188,9 +188,9 @@ class Site:
         if what == "fills":
             return answered(shown.fills_of(instrument, member.name))
         if what == "trades":
-            first = request.query.get("from", "1")
+            first = request.query.get("first", "1")
             if not first.isdecimal() or len(first) > 10:
-                raise MessageError("bad_message", "from is no number of a trade")
+                raise MessageError("bad_message", "first is no number of a trade")
             behind = instrument.trades[max(0, int(first) - 1) :]
             return answered(shown.trades_of(instrument, behind, False))
         raise web.HTTPNotFound

@@ -4,6 +4,7 @@ schema.json says the same for other languages.
 """
 import dataclasses
 import json
+import re
 from typing import Any
 
 from callauction.prices import MOST_NUMBER, BadCellError, decimal_of
@@ -15,6 +16,7 @@ MOST_MESSAGE = (1 << 53) - 1
 SIDES = ("bid", "ask")
 RESTRICTIONS = ("", "opening", "closing")
 MARKET = "market"
+PRICE = re.compile(r"[0-9]{1,30}(\.[0-9]{1,30})?")
 TOPICS = ("states", "orders", "fills", "trades")
 ORDER_FIELDS = {
     "enter": {"side", "quantity", "price", "peak", "only"},
@@ -77,6 +79,16 @@ def read(text: str) -> dict[str, Any]:
     return found
 
 
+def topics_of(message: dict[str, Any]) -> frozenset[str]:
+    """The topics that a hello asks for, all where it names none. Raises MessageError."""
+    if message["type"] != "hello" or message.keys() - {"type", "token", "topics"}:
+        raise MessageError("bad_message", "the first message is a hello with token and topics")
+    found = message.get("topics", [*TOPICS])
+    if not isinstance(found, list) or not all(it in TOPICS for it in found):
+        raise MessageError("bad_message", f"topics are {', '.join(TOPICS)}")
+    return frozenset(found)
+
+
 def text_of(message: dict[str, Any], name: str, default: str | None = None) -> str:
     """A text of a message. Raises MessageError."""
     found = message.get(name, default)
@@ -97,13 +109,13 @@ def tick_of(instrument: Instrument, price: object) -> str:
     """The limit of a record: a tick, or `market`. Raises MessageError."""
     if price == MARKET:
         return MARKET
-    if not isinstance(price, str):
+    if not isinstance(price, str) or not PRICE.fullmatch(price):
         raise MessageError("bad_message", "price is no text such as 20.05 or market")
     try:
         tick = instrument.grid.tick(decimal_of(price))
     except BadCellError as fault:
         raise MessageError("bad_price", f"the price {price} {fault}") from None
-    if not 0 <= tick <= MOST_NUMBER:
+    if tick > MOST_NUMBER:
         raise MessageError("bad_price", f"the price {price} is out of all bounds")
     return str(tick)
 
