@@ -20,6 +20,13 @@ burst = 100000
 """A day whose calls end by the operator alone, and whose members may speak as fast as they can."""
 
 
+def pytest_configure(config: pytest.Config) -> None:
+    """A client of aiohttp whose handshake failed leaves its connection to the garbage collector,
+    which may run in any later test.
+    """
+    config.addinivalue_line("filterwarnings", "ignore:unclosed:ResourceWarning")
+
+
 @pytest.fixture(scope="session", autouse=True)
 def program() -> str:
     """The path of the program."""

@@ -19,8 +19,8 @@ from checks.model.day import Day
 from conftest import FAST
 
 KILLS = int(os.environ.get("VENUE_KILLS", "200"))
-VENUE_SHARE, LISTENS_SHARE = 0.25, 0.7
-MOST_PAUSE = 0.25
+VENUE_SHARE, LISTENS_SHARE = 0.15, 0.7
+MOST_PAUSE = 0.2
 ROBOTS, AT_ONCE = 4, 3
 MOST_ORDERS = 12_000
 

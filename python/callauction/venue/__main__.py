@@ -7,7 +7,7 @@ import sys
 from callauction import finder
 from callauction.statuses import BAD_DAY, BAD_FILE, DONE, FAILED, UNLAWFUL
 from callauction.venue.config import ConfigError, Day
-from callauction.venue.log import LogError
+from callauction.venue.log import LogError, LogInUse
 from callauction.venue.process import ProcessError
 from callauction.venue.recovery import RecoveryError
 from callauction.venue.serving import Address, AddressError, serve
@@ -73,10 +73,10 @@ def main() -> int:
         program = finder.program()
         asyncio.run(run(asked, address, program))
         return DONE
-    except (ConfigError, RecoveryError) as fault:
-        text, status = str(fault), BAD_FILE
-    except (AddressError, LogError) as fault:
+    except (AddressError, LogInUse) as fault:
         text, status = str(fault), BAD_DAY
+    except (ConfigError, LogError, RecoveryError) as fault:
+        text, status = str(fault), BAD_FILE
     except ProcessError as fault:
         text = fault.text or f"the program ended with status {fault.status}"
         status = fault.status if BAD_FILE <= fault.status <= UNLAWFUL else FAILED

@@ -20,7 +20,7 @@ Json = dict[str, Any]
 Price = str | Decimal
 T = TypeVar("T")
 MARKET = "market"
-FIRST_PAUSE, MOST_PAUSE = 0.05, 2.0
+FIRST_PAUSE, MOST_PAUSE = 0.05, 1.0
 FINAL = ("bad_token",)
 """Errors of a hello after which no other one would do."""
 MOST_EVENTS = 1000

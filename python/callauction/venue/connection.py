@@ -18,6 +18,8 @@ from callauction.venue.venue import Venue
 MOST_OPEN = 256
 """Messages of a connection that aren't answered yet, or whose answer it hasn't taken."""
 HELLO_SECONDS = 10.0
+TOO_FAST_SECONDS = 0.1
+"""How long a connection isn't read after a message that came too fast."""
 HEARTBEAT = 20.0
 
 
@@ -95,7 +97,7 @@ class Connection:
         """Takes what it says until it ends."""
         if not await self._hello():
             return
-        self._venue.watchers.add(self)
+        self._venue.enter(self)
         writer = asyncio.create_task(self._write())
         try:
             self._venue.greet(self)
@@ -103,9 +105,10 @@ class Connection:
                 if message.type is not WSMsgType.TEXT:
                     break
                 await self._room.acquire()
-                self._take(message.data)
+                if not self._take(message.data):
+                    await asyncio.sleep(TOO_FAST_SECONDS)
         finally:
-            self._venue.watchers.discard(self)
+            self._venue.watchers.pop(self, None)
             self._venue.show_members()
             writer.cancel()
             with contextlib.suppress(asyncio.CancelledError, ConnectionError):
@@ -130,8 +133,8 @@ class Connection:
         await self._socket.send_str(packed(welcome_of(self._venue, self.role, self.member)))
         return True
 
-    def _take(self, text: str) -> None:
-        """Takes a message, for whose answer there is room."""
+    def _take(self, text: str) -> bool:
+        """Takes a message, for whose answer there is room: whether it didn't come too fast."""
         number = None
         try:
             said = messages.read(text)
@@ -146,8 +149,9 @@ class Connection:
             answer, is_again = self._venue.submit(self.member, order)
         except MessageError as fault:
             self.answer(error_of(fault, number))
-            return
+            return fault.code != "too_fast"
         answer.add_done_callback(lambda it: self._answered(order.number, it, is_again))
+        return True
 
     def _answered(self, number: int, answer: "asyncio.Future[Entry]", is_again: bool) -> None:
         """A message has its entry, or none."""

@@ -16,7 +16,11 @@ Then = Callable[[], None]
 
 
 class LogError(Exception):
-    """The log can't be used: it is another's, or a line of it is no line."""
+    """The log can't be used: a line of it is no line, or it is of another version."""
+
+
+class LogInUse(LogError):
+    """Another venue has the log."""
 
 
 def text_of(line: Line) -> str:
@@ -27,7 +31,7 @@ def text_of(line: Line) -> str:
 class Log:
     """The log of a folder, which nobody else has meanwhile.
 
-    Raises LogError where another has it, and OSError.
+    Raises LogInUse where another has it, and OSError.
     """
 
     def __init__(self, path: pathlib.Path, is_synced: bool = True) -> None:
@@ -37,7 +41,7 @@ class Log:
             fcntl.flock(self._file, fcntl.LOCK_EX | fcntl.LOCK_NB)
         except BlockingIOError:
             os.close(self._file)
-            raise LogError(f"{path} is in use by another venue") from None
+            raise LogInUse(f"{path} is in use by another venue") from None
         self._length = 0
         self._waiting: list[tuple[str, Then | None]] = []
         self._wakes = asyncio.Event()

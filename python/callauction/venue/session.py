@@ -129,12 +129,16 @@ class Session:
         """A run of the program, and how many entries its journal has. Raises ProcessError."""
         loop = asyncio.get_running_loop()
         last = loop.time() + IN_USE_SECONDS
+        ends = 0
         while True:
             process = Process(self.words, self._ended)
             try:
                 return process, await process.start()
             except ProcessError as fault:
-                if fault.text != IN_USE or loop.time() > last:
+                ends += fault.text != IN_USE
+                if fault.text != IN_USE and (fault.is_final or ends > MOST_ENDS):
+                    raise
+                if loop.time() > last:
                     raise
             await asyncio.sleep(PAUSE)
 
@@ -206,25 +210,22 @@ class Session:
 
     async def _start_again(self, fault: ProcessError) -> None:
         """Starts the program again after this end, or halts."""
-        while True:
-            self._ends += 1
-            if fault.is_final or self._ends > MOST_ENDS:
-                self._halt(fault.text)
-                return
-            try:
-                process, count = await self._started()
-            except ProcessError as found:
-                fault = found
-                await asyncio.sleep(PAUSE * self._ends)
-                continue
-            try:
-                self._catch_up(count)
-            except (RecoveryError, OSError, ValueError) as found:
-                self._halt(str(found))
-                await process.stop()
-            else:
-                self._begin(process, count)
+        self._ends += 1
+        if fault.is_final or self._ends > MOST_ENDS:
+            self._halt(fault.text)
             return
+        try:
+            process, count = await self._started()
+        except ProcessError as found:
+            self._halt(found.text)
+            return
+        try:
+            self._catch_up(count)
+        except (RecoveryError, OSError, ValueError) as found:
+            self._halt(str(found))
+            await process.stop()
+        else:
+            self._begin(process, count)
 
     def _catch_up(self, count: int) -> None:
         """Answers what the last run had executed and not answered. Raises RecoveryError, OSError."""

@@ -17,10 +17,13 @@ from callauction.venue.log import Line, Log, LogError
 from callauction.venue.members import Done, Member, Members
 from callauction.venue.messages import MessageError, Order
 from callauction.venue.phases import State
+from callauction.venue.process import ProcessError
 from callauction.venue.recovery import Entry, Message, Run
 from callauction.venue.session import Settled
 
 VERSION = 1
+MOST_CONNECTIONS = 8
+"""Connections of one member."""
 LOG = "venue.log"
 SHOWN = ("indication", "all")
 """What the beamer shows of a call: the indication alone, or also the book."""
@@ -51,7 +54,7 @@ class Venue:
         self.instruments = {
             terms.name: opened(terms, day, folder, program, self.log) for terms in day.instruments
         }
-        self.watchers: set[Watcher] = set()
+        self.watchers: dict[Watcher, None] = {}
         self.halted: str | None = None
         self.beamer_shows = SHOWN[0]
         self.secrets = {role: secret_of(folder, role) for role in ("operator", "beamer")}
@@ -84,7 +87,10 @@ class Venue:
             instrument.wants_ladder = self._has_viewers
             instrument.on_shown = functools.partial(self._shown, instrument)
             instrument.keep_time(time.time())
-            await instrument.look()
+            try:
+                await instrument.look()
+            except ProcessError:
+                instrument.touch()
             self._tasks.append(asyncio.create_task(instrument.run_clock()))
             self._tasks.append(asyncio.create_task(instrument.run_looks()))
         return total
@@ -298,6 +304,13 @@ class Venue:
             last = instrument.trades[-shown.MOST_SHOWN :]
             watcher.offer(f"trades {name}", shown.trades_of(instrument, last, True))
             watcher.offer(f"efficiency {name}", shown.efficiency_of(instrument))
+
+    def enter(self, watcher: Watcher) -> None:
+        """Somebody has connected, who may do so a few times at once."""
+        own = [it for it in self.watchers if it.member and it.member is watcher.member]
+        if len(own) >= MOST_CONNECTIONS:
+            own[0].leave("too_fast")
+        self.watchers[watcher] = None
 
     def show_members(self) -> None:
         """Shows the operator who is there."""
