@@ -6,11 +6,13 @@ import contextlib
 import os
 import pathlib
 import re
+import time
 from collections.abc import Callable, Iterator
 from typing import Any
 
 import pytest
 import served
+from callauction.venue import Client
 from selenium import webdriver
 from selenium.common.exceptions import StaleElementReferenceException, WebDriverException
 from selenium.webdriver.chrome.options import Options
@@ -21,7 +23,7 @@ from selenium.webdriver.support.wait import WebDriverWait
 PAGES = served.PACKAGE / "callauction/venue/pages"
 MOST_BYTES = 200 * 1024
 SECONDS = 30
-TELEPHONE, SCREEN = (390, 1500), (1280, 1100)
+TELEPHONE, SCREEN = (390, 1000), (1280, 1000)
 DAY = """
 title = "Monday's lesson"
 language = "en"
@@ -74,10 +76,10 @@ class Page:
 
         self.waits(is_clicked)
 
-    def picture(self, name: str) -> bytes:
-        """Its picture, which is kept where a folder is named."""
+    def picture(self, name: str = "") -> bytes:
+        """Its picture, which is kept where it has a name and a folder is named."""
         found = bytes(self.driver.get_screenshot_as_png())
-        if folder := os.environ.get("VENUE_PICTURES"):
+        if name and (folder := os.environ.get("VENUE_PICTURES")):
             pathlib.Path(folder, f"{name}.png").write_bytes(found)
         return found
 
@@ -188,7 +190,7 @@ def test_a_lesson(lesson: dict[str, Any]) -> None:
     teacher.clicks("input[value=all]")
     beamer.waits(lambda it: bool(it.driver.find_elements(By.CSS_SELECTOR, "#book path.bids")))
     for name in ("anna", "teacher", "beamer"):
-        assert len(lesson[name].picture(f"{name}-call")) > 10_000
+        assert len(lesson[name].picture()) > 10_000
     teacher.clicks("[data-do=uncross]")
     anna.waits(lambda it: "Price 5.40, Volume 60" in it.text("result"))
     anna.waits(lambda it: [row[:3] for row in rows(it, "fills")] == [["Buy", "60", "5.40"]])
@@ -197,7 +199,7 @@ def test_a_lesson(lesson: dict[str, Any]) -> None:
     beamer.waits(lambda it: rows(it, "trades") == [["1", "Anna", "Bert", "60", "5.40"]])
     beamer.waits(lambda it: "60 %" in it.text("efficiency"))
     for name in ("anna", "bert", "teacher", "beamer"):
-        assert len(lesson[name].picture(f"{name}-after")) > 10_000
+        assert len(lesson[name].picture()) > 10_000
         assert lesson[name].errors() == []
 
 
@@ -231,6 +233,41 @@ def test_a_member_comes_again_and_speaks_german(lesson: dict[str, Any]) -> None:
     assert anna.driver.find_element(By.TAG_NAME, "html").get_attribute("lang") == "de"
     assert "5,40" in anna.text("result")
     anna.clicks("#language")
+
+
+VALUES = [("bid", 7.2), ("bid", 6.6), ("bid", 6.1), ("bid", 5.7), ("bid", 5.2), ("bid", 4.6),
+          ("ask", 3.1), ("ask", 3.9), ("ask", 4.3), ("ask", 4.9), ("ask", 5.5), ("ask", 6.4)]
+"""What a crowd was handed out. It bids a little less than its values, and asks a little more."""
+
+
+def test_a_crowd(lesson: dict[str, Any]) -> None:
+    """The pictures of docs/VENUE.md: a class in its call phase."""
+    venue, pages = lesson["venue"], [lesson[name] for name in ("anna", "teacher", "beamer")]
+    names = ["Anna", *(f"Student {number}" for number in range(2, len(VALUES) + 1))]
+    tokens = {name: venue.join(name) for name in names[1:]}
+    venue.do("give", values=[
+        {"member": name, "side": side, "price": f"{value:.2f}", "quantity": 100}
+        for name, (side, value) in zip(names, VALUES)
+    ])
+    enters(lesson["anna"], "bid", "100", "6.90")
+    for place, (name, (side, value)) in enumerate(zip(names, VALUES)):
+        if name in tokens:
+            price = value - 0.2 if side == "bid" else value + 0.2
+            with Client(venue.url, tokens[name]) as member:
+                member.enter(side, 50 + 10 * (place % 6), f"{price:.2f}")
+            time.sleep(0.15)
+    venue.do("end")
+    for page in pages:
+        page.waits(lambda it: it.text("phase") == "Call ended · Intraday auction")
+        page.waits(lambda it: "Price" in it.text("figures"))
+    for name in ("member", "teacher", "beamer"):
+        page = lesson["anna" if name == "member" else name]
+        page.driver.execute_script("window.scrollTo(0, 0)")
+        assert len(page.picture(name)) > 10_000
+    venue.do("uncross")
+    lesson["beamer"].waits(lambda it: len(rows(it, "trades")) > 3)
+    lesson["beamer"].waits(lambda it: " %" in it.text("efficiency"))
+    assert all(page.errors() == [] for page in pages)
 
 
 def test_each_field_has_a_name(lesson: dict[str, Any]) -> None:

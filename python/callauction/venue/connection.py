@@ -110,7 +110,8 @@ class Connection:
         finally:
             self._venue.watchers.pop(self, None)
             self._venue.show_members()
-            writer.cancel()
+            if self._code is None:
+                writer.cancel()
             with contextlib.suppress(asyncio.CancelledError, ConnectionError):
                 await writer
 
