@@ -71,7 +71,7 @@ class Served:
         if self.child.poll() is None:
             self.child.terminate()
             _, error = self.child.communicate(timeout=SECONDS)
-            assert (self.child.returncode, error) == (0, "")
+            assert (self.child.returncode, error) == (0, ""), error
 
     def join(self, name: str, code: str = "") -> str:
         """The token of a new member."""

@@ -151,6 +151,52 @@ def enters(me: Client) -> bool:
     return False
 
 
+LYING = """#!/bin/sh
+"{program}" "$@" | sed -u -e '{change}'
+"""
+
+
+def lying(folder: pathlib.Path, change: str) -> str:
+    """The path of a program whose answers are changed by a command of sed."""
+    path = folder / "lying"
+    path.write_text(LYING.format(program=served.program(), change=change))
+    path.chmod(0o755)
+    return str(path)
+
+
+@pytest.mark.parametrize("place", [1, 4])
+def test_a_program_that_loses_an_entry(tmp_path: pathlib.Path, place: int) -> None:
+    program = lying(tmp_path, f"s/^3: /{place}: /")
+    with served.served(tmp_path, FAST, CALLBOARD=program) as venue:
+        token = venue.join("Anna")
+        venue.do("start")
+
+        async def orders() -> None:
+            async with AsyncClient(venue.url, token) as me:
+                assert [(await me.enter("bid", 1, "2.00")).entry for _ in range(2)] == [1, 2]
+                third = asyncio.create_task(me.enter("bid", 1, "2.00"))
+                await asyncio.wait({third}, timeout=2)
+                assert not third.done()
+                halted = (await me.look("state"))["halted"]
+                assert halted == f"the program answers entry {place} after entry 2"
+                third.cancel()
+
+        asyncio.run(orders())
+
+
+def test_a_program_without_views(tmp_path: pathlib.Path) -> None:
+    program = lying(tmp_path, "s/^show.*/record 1: bad member/")
+    ran = subprocess.run(
+        served.words_of("--folder", tmp_path / "venue", "--port", 0),
+        env=served.environment(CALLBOARD=program),
+        capture_output=True,
+        text=True,
+        timeout=60,
+    )
+    error = "venue: the program answers 'record 1: bad member' to show\n"
+    assert (ran.returncode, ran.stderr) == (2, error)
+
+
 # ---- full disks
 
 

@@ -28,7 +28,7 @@ async def made(kind: str, instrument: Instrument, program: str) -> bytes:
     if kind == "members":
         return members_of(instrument)
     try:
-        journal = instrument.session.journal.read_bytes()
+        journal = instrument.engine.journal.read_bytes()
     except OSError as fault:
         raise DownloadError(f"the journal can't be read: {fault.strerror}") from None
     whole = journal[: journal.rfind(b"\n") + 1]

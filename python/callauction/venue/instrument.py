@@ -16,7 +16,7 @@ from callauction.venue.messages import MessageError, Order
 from callauction.venue.phases import Phase, PhaseError, State
 from callauction.venue.process import ProcessError
 from callauction.venue.recovery import Entry, Message
-from callauction.venue.session import Session
+from callauction.venue.engine import Engine
 
 OPERATOR = ""
 """The operator's name among members."""
@@ -64,9 +64,9 @@ class Instrument:
     """
 
     def __init__(
-        self, terms: config.Instrument, plan: config.Plan, session: Session, log: Log
+        self, terms: config.Instrument, plan: config.Plan, engine: Engine, log: Log
     ) -> None:
-        self.terms, self.plan, self.session, self._log = terms, plan, session, log
+        self.terms, self.plan, self.engine, self._log = terms, plan, engine, log
         self.state = State()
         self.numbers: dict[str, int] = {}
         self.names: dict[int, str] = {0: OPERATOR}
@@ -88,7 +88,7 @@ class Instrument:
         self._random = random.SystemRandom()
         self._uncrosses = 0
         self._is_uncrossing = False
-        session.on_entry = self._entered
+        engine.on_entry = self._entered
 
     # ---- members and their messages
 
@@ -110,7 +110,7 @@ class Instrument:
 
     def check_open(self) -> None:
         """Raises MessageError where no member's order is taken now."""
-        if self.session.halted is not None:
+        if self.engine.halted is not None:
             raise MessageError("halted")
         if self.state.frozen is not None:
             raise MessageError("frozen")
@@ -121,7 +121,7 @@ class Instrument:
         """Sends a member's order. Raises MessageError."""
         self.check_open()
         record = f"{self.number_of(member)},{order.record}"
-        return self.session.submit(Message(member, order.number, record))
+        return self.engine.submit(Message(member, order.number, record))
 
     def record_of(self, member: str, order: Order) -> str:
         """The record that a member's order is, or would be."""
@@ -183,7 +183,7 @@ class Instrument:
 
     async def uncross(self) -> str:
         """Ends the call and uncrosses: the program's reply. Raises PhaseError and MessageError."""
-        if self.session.halted is not None:
+        if self.engine.halted is not None:
             raise MessageError("halted")
         self._check_free()
         if not self.state.may_uncross():
@@ -192,7 +192,7 @@ class Instrument:
             self._enter(self.state.ended())
         self._is_uncrossing = True
         self._uncrosses += 1
-        answer = self.session.submit(Message(OPERATOR, self._uncrosses, UNCROSS))
+        answer = self.engine.submit(Message(OPERATOR, self._uncrosses, UNCROSS))
         answer.add_done_callback(self._uncross_done)
         return (await asyncio.shield(answer)).reply
 
@@ -224,7 +224,7 @@ class Instrument:
         """Ends calls when they are due, and uncrosses them where the plan says so."""
         while True:
             await asyncio.sleep(TICK)
-            if self.session.halted is not None or self._is_uncrossing:
+            if self.engine.halted is not None or self._is_uncrossing:
                 continue
             self.keep_time(time.time())
             if self.plan.is_automatic and self.state.phase is Phase.ENDED:
@@ -261,7 +261,7 @@ class Instrument:
         if has_ladder := self.wants_ladder():
             records.append("show,ladder")
         try:
-            found = await self.session.show(records)
+            found = await self.engine.show(records)
         except ProcessError:
             self._stale.update(wanted)
             raise
@@ -307,5 +307,5 @@ def opened(
     journal = folder / f"{terms.name}.journal.csv"
     words = [program, "--live", "--journal", str(journal), "--reserve", str(day.reserve)]
     words += [] if day.is_synced else ["--sync", "none"]
-    session = Session(terms.name, [*words, *terms.words()], journal, log)
-    return Instrument(terms, day.plan, session, log)
+    engine = Engine(terms.name, [*words, *terms.words()], journal, log)
+    return Instrument(terms, day.plan, engine, log)

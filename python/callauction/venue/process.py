@@ -1,10 +1,10 @@
 """The proved program with its journal, as a process: records go in, answers come out in order."""
 import asyncio
 import collections
+import contextlib
 import os
 import re
 import select
-import signal
 from collections.abc import Callable, Sequence
 
 Answer = Callable[[list[str]], None]
@@ -137,6 +137,11 @@ class Process:
         self._answers.extend(answer)
         self._pipe.write(records)
 
+    def kill(self) -> None:
+        """Ends it at once."""
+        with contextlib.suppress(ProcessLookupError):
+            self._child.kill()
+
     async def stop(self) -> None:
         """Ends its input, and waits until it has ended."""
         self._pipe.close()
@@ -167,7 +172,7 @@ class Process:
             self._missing = int(found[1]) if found else 0
         if not self._missing:
             if not self._answers:
-                self._child.send_signal(signal.SIGKILL)  # it answers what nobody asked
+                self.kill()  # it answers what nobody asked
                 return
             self._answers.popleft()(self._listed)
 

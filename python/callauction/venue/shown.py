@@ -40,7 +40,7 @@ def state_of(instrument: Instrument, now: float) -> Json:
         "phase": str(state.phase),
         "auction": state.auction,
         "frozen": state.frozen is not None,
-        "halted": instrument.session.halted,
+        "halted": instrument.engine.halted,
         "now": round(state.frozen or now, 3),
         "ends": state.ends,
         "latest": state.latest,

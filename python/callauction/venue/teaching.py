@@ -107,7 +107,7 @@ async def orders_of(instrument: Instrument, member: str) -> shown.Json:
     """A member's open orders, as the program has them now. Raises MessageError."""
     if member in instrument.numbers:
         try:
-            lines = (await instrument.session.show([f"show,orders,{instrument.numbers[member]}"]))[0]
+            lines = (await instrument.engine.show([f"show,orders,{instrument.numbers[member]}"]))[0]
         except ProcessError:
             raise MessageError("halted", "the program doesn't answer now") from None
         instrument.orders[member] = views.orders_of(lines)

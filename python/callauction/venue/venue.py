@@ -19,7 +19,7 @@ from callauction.venue.messages import MessageError, Order
 from callauction.venue.phases import State
 from callauction.venue.process import ProcessError
 from callauction.venue.recovery import Entry, Message, Run
-from callauction.venue.session import Settled
+from callauction.venue.engine import Settled
 
 VERSION = 1
 MOST_CONNECTIONS = 8
@@ -76,9 +76,9 @@ class Venue:
         settled: dict[str, Settled] = {}
         total = 0
         for name, instrument in self.instruments.items():
-            entries, settled[name] = await instrument.session.open(runs.get(name, []))
+            entries, settled[name] = await instrument.engine.open(runs.get(name, []))
             total += len(entries)
-            instrument.session.on_change = functools.partial(self._changed, instrument)
+            instrument.engine.on_change = functools.partial(self._changed, instrument)
         self._replay(lines, settled)
         self.members.open_codes()
         await self.log.written()
@@ -89,7 +89,9 @@ class Venue:
             instrument.keep_time(time.time())
             try:
                 await instrument.look()
-            except ProcessError:
+            except ProcessError as fault:
+                if fault.is_final:
+                    raise
                 instrument.touch()
             self._tasks.append(asyncio.create_task(instrument.run_clock()))
             self._tasks.append(asyncio.create_task(instrument.run_looks()))
@@ -100,7 +102,7 @@ class Venue:
         for task in self._tasks[1:]:
             task.cancel()
         for instrument in self.instruments.values():
-            await instrument.session.close()
+            await instrument.engine.close()
         self.log.close()
         if self._tasks and self.halted is None:
             await self._tasks[0]
@@ -204,7 +206,7 @@ class Venue:
         self.halted = None
         self.log.retry()
         for instrument in self.instruments.values():
-            instrument.session.resume()
+            instrument.engine.resume()
             self._changed(instrument)
 
     # ---- what the operator gives

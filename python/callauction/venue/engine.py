@@ -1,4 +1,4 @@
-"""An instrument's session with its program, which outlives programs that are killed.
+"""The engine of an instrument: its program, which is started again where it ends.
 
 Each message is on the log's disk before the program has it, and no message is answered but by an
 entry of the journal. A program that ends is started again on its journal; what it had executed is
@@ -6,7 +6,6 @@ answered from there, and what it hadn't is sent again.
 """
 import asyncio
 import dataclasses
-import functools
 import pathlib
 import re
 from collections.abc import Callable, Sequence
@@ -27,7 +26,7 @@ from callauction.venue.recovery import (
 ENTERED = re.compile(r"(\d+): (.*)")
 NO_CALLS = ("calls are reserved for the operator", "too many commands")
 MOST_ENDS = 8
-"""How often the program may end without an answer in between before the session halts."""
+"""How often the program may end without an answer in between before the engine halts."""
 PAUSE = 0.05
 IN_USE_SECONDS = 15.0
 """How long another run of the program is waited for, such as one whose venue was killed."""
@@ -43,8 +42,8 @@ class Sent:
     answer: "asyncio.Future[Entry]"
 
 
-class Session:
-    """A session, begun by `open`. `on_entry` is called with each message and its entry before who
+class Engine:
+    """An engine, begun by `open`. `on_entry` is called with each message and its entry before who
     sent it is answered, and `on_change` where it halts, or goes on.
     """
 
@@ -55,7 +54,7 @@ class Session:
         self.on_change: Callable[[], None] = lambda: None
         self._process: Process | None = None
         self._pending: dict[Message, Sent] = {}
-        self._views: set[asyncio.Future[list[str]]] = set()
+        self._views: set[asyncio.Future[None]] = set()
         self._known = self._ends = self._turn = 0
         self._is_closed = False
         self._restart: asyncio.Task[None] | None = None
@@ -110,18 +109,29 @@ class Session:
 
     async def show(self, views: Sequence[str]) -> list[list[str]]:
         """What the program answers to these views, all of one moment. Raises ProcessError where it
-        doesn't run, or ends meanwhile.
+        doesn't run, ends meanwhile, or knows no such view.
         """
         if self._process is None:
             raise ProcessError("the program doesn't run", -1)
-        loop = asyncio.get_running_loop()
-        waiting = [loop.create_future() for _ in views]
-        self._views.update(waiting)
-        self._process.send(views, [functools.partial(resolved, it) for it in waiting])
+        found: list[list[str]] = []
+        shown: asyncio.Future[None] = asyncio.get_running_loop().create_future()
+
+        def take(lines: list[str]) -> None:
+            found.append(lines)
+            if len(found) == len(views) and not shown.done():
+                shown.set_result(None)
+
+        self._views.add(shown)
+        self._process.send(views, [take] * len(views))
         try:
-            return [await future for future in waiting]
+            await shown
         finally:
-            self._views.difference_update(waiting)
+            self._views.discard(shown)
+        for view, lines in zip(views, found):
+            if not lines[0].startswith("show "):
+                raise ProcessError(f"the program answers '{lines[0]}' to {view}", 2)
+        self._ends = 0
+        return found
 
     # ---- the program
 
@@ -179,16 +189,29 @@ class Session:
         self._process.send([sent.message.record for sent in those], answers)
 
     def _answered(self, sent: Sent, line: str) -> None:
-        """Takes the answer to a message."""
+        """Takes the answer to a message, unless the program is no longer trusted."""
+        if self.halted is not None:
+            return
         self._ends = 0
         if found := ENTERED.fullmatch(line):
-            self._settle(sent, Entry(int(found[1]), sent.message.record, found[2]))
+            entry = Entry(int(found[1]), sent.message.record, found[2])
+            if entry.place == self._known + 1:
+                self._settle(sent, entry)
+            else:
+                self._distrust(entry)
             return
         del self._pending[sent.message]
         text = line.partition(": ")[2]
         code = "no_calls" if text in NO_CALLS else "bad_message"
         if not sent.answer.done():
             sent.answer.set_exception(MessageError(code))
+
+    def _distrust(self, entry: Entry) -> None:
+        """Answers nothing more of a program that has lost an entry, or made one up."""
+        self._halt(f"the program answers entry {entry.place} after entry {self._known}")
+        self._turn += 1
+        if self._process is not None:
+            self._process.kill()
 
     def _settle(self, sent: Sent, entry: Entry) -> None:
         """A message has its entry."""
@@ -202,9 +225,9 @@ class Session:
         """The program has ended."""
         self._process = None
         self._turn += 1
-        for future in self._views:
-            if not future.done():
-                future.set_exception(fault)
+        for shown in self._views:
+            if not shown.done():
+                shown.set_exception(fault)
         if not self._is_closed and self.halted is None:
             self._restart = asyncio.get_running_loop().create_task(self._start_again(fault))
 
@@ -247,9 +270,3 @@ class Session:
         self.halted, self._ends = None, 0
         fault = ProcessError("", -1)
         self._restart = asyncio.get_running_loop().create_task(self._start_again(fault))
-
-
-def resolved(future: "asyncio.Future[list[str]]", lines: list[str]) -> None:
-    """Whoever waits for a view has it, unless it waits no more."""
-    if not future.done():
-        future.set_result(lines)
