@@ -150,7 +150,7 @@ def test_kills(tmp_path: pathlib.Path) -> None:
         ]
         first.do("start")
         asyncio.run(play(keeper, first.url, robots, chance))
-        assert keeper.killed["venue"] > KILLS / 10 and keeper.killed["program"] > KILLS / 4
+        assert keeper.killed["venue"] > KILLS / 20 and keeper.killed["program"] > KILLS / 4
         check(first, robots)
     finally:
         keeper.stop()

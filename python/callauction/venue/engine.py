@@ -54,8 +54,9 @@ class Engine:
         self.on_change: Callable[[], None] = lambda: None
         self._process: Process | None = None
         self._pending: dict[Message, Sent] = {}
+        self._batch: list[Sent] = []
         self._views: set[asyncio.Future[None]] = set()
-        self._known = self._ends = self._turn = 0
+        self._known = self._ends = self._turn = self._batch_turn = 0
         self._is_closed = False
         self._restart: asyncio.Task[None] | None = None
 
@@ -182,11 +183,23 @@ class Engine:
         )
 
     def _send(self, those: Sequence[Sent], turn: int) -> None:
-        """Sends what is on the log's disk, unless another run has begun since: that was given it."""
+        """Sends what is on the log's disk, unless another run has begun since: that was given it.
+        What comes at once is sent at once.
+        """
         if turn != self._turn or self._process is None or not those:
             return
-        answers = [lambda lines, sent=sent: self._answered(sent, lines[0]) for sent in those]
-        self._process.send([sent.message.record for sent in those], answers)
+        if self._batch_turn != turn or not self._batch:
+            self._batch_turn, self._batch = turn, []
+            asyncio.get_running_loop().call_soon(self._send_batch, turn, self._batch)
+        self._batch += those
+
+    def _send_batch(self, turn: int, batch: list[Sent]) -> None:
+        """Sends what has come together."""
+        those = [*batch]
+        batch.clear()
+        if turn == self._turn and self._process is not None:
+            answers = [lambda lines, sent=sent: self._answered(sent, lines[0]) for sent in those]
+            self._process.send([sent.message.record for sent in those], answers)
 
     def _answered(self, sent: Sent, line: str) -> None:
         """Takes the answer to a message, unless the program is no longer trusted."""
