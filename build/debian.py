@@ -13,7 +13,11 @@ import subprocess
 import sys
 
 VERSION = (3, 11)
-PACKAGES = {"mypy": "mypy", "Python.h": "python3-dev"}
+PACKAGES = {
+    "mypy": "mypy",
+    "Python.h": "python3-dev",
+    "pytest_aiohttp": "python3-pytest-aiohttp",
+}
 """Debian's package of a module, or of a header, whose name isn't python3-MODULE."""
 LOOK = f"""
 import importlib.util, os, sys, sysconfig

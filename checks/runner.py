@@ -90,6 +90,13 @@ PARTS = [
         "distributed dask hypothesis mypy pandas psutil pytest tqdm",
     ),
     Part(
+        "venue",
+        "members over the network, kills, pages in a browser",
+        f"checks/venue {PROGRAM}",
+        "chromedriver chromium nsenter openssl unshare",
+        "aiohttp hypothesis jsonschema mypy psutil pytest pytest_aiohttp selenium",
+    ),
+    Part(
         "release",
         "packages, wheel and tarball, installed and removed",
         RELEASE,
@@ -101,6 +108,7 @@ PACKAGES = {
     "ar": "binutils",
     "bash": "bash",
     "cc": "gcc and libc6-dev",
+    "chromedriver": "chromium-driver",
     "chromium": "chromium",
     "clang": "clang",
     "cmake": "cmake",
@@ -113,11 +121,13 @@ PACKAGES = {
     "install": "coreutils",
     "lintian": "lintian",
     "mmdebstrap": "mmdebstrap",
+    "nsenter": "util-linux",
     "openssl": "openssl",
     "pkg-config": "pkgconf",
     "prlimit": "util-linux",
     "readelf": "binutils",
     "setpriv": "util-linux",
+    "unshare": "util-linux",
     "valgrind": "valgrind",
 }
 

@@ -1,0 +1,285 @@
+"""The engine of an instrument: its program, which is started again where it ends.
+
+Each message is on the log's disk before the program has it, and no message is answered but by an
+entry of the journal. A program that ends is started again on its journal; what it had executed is
+answered from there, and what it hadn't is sent again.
+"""
+import asyncio
+import dataclasses
+import pathlib
+import re
+from collections.abc import Callable, Sequence
+
+from callauction.venue.log import Log, text_of
+from callauction.venue.messages import MessageError
+from callauction.venue.process import IN_USE, Process, ProcessError
+from callauction.venue.recovery import (
+    Entry,
+    Message,
+    RecoveryError,
+    Run,
+    entries_of,
+    matched,
+    settled,
+)
+
+ENTERED = re.compile(r"(\d+): (.*)")
+NO_CALLS = ("calls are reserved for the operator", "too many commands")
+MOST_ENDS = 8
+"""How often the program may end without an answer in between before the engine halts."""
+PAUSE = 0.05
+IN_USE_SECONDS = 15.0
+"""How long another run of the program is waited for, such as one whose venue was killed."""
+
+Settled = list[tuple[Message, Entry | None]]
+
+
+@dataclasses.dataclass(slots=True, eq=False)
+class Sent:
+    """A message that isn't answered yet, and who waits for its entry."""
+
+    message: Message
+    answer: "asyncio.Future[Entry]"
+
+
+class Engine:
+    """An engine, begun by `open`. `on_entry` is called with each message and its entry before who
+    sent it is answered, and `on_change` where it halts, or goes on.
+    """
+
+    def __init__(self, name: str, words: Sequence[str], journal: pathlib.Path, log: Log) -> None:
+        self.name, self.words, self.journal, self.log = name, [*words], journal, log
+        self.halted: str | None = None
+        self.on_entry: Callable[[Message, Entry], None] = lambda message, entry: None
+        self.on_change: Callable[[], None] = lambda: None
+        self._process: Process | None = None
+        self._pending: dict[Message, Sent] = {}
+        self._batch: list[Sent] = []
+        self._views: set[asyncio.Future[None]] = set()
+        self._known = self._ends = self._turn = self._batch_turn = 0
+        self._is_closed = False
+        self._restart: asyncio.Task[None] | None = None
+
+    # ---- begin and end
+
+    async def open(self, runs: Sequence[Run]) -> tuple[list[Entry], Settled]:
+        """Starts the program: the entries of its journal, and what became of the messages of
+        earlier runs. Raises ProcessError, RecoveryError, and OSError where the journal can't be
+        read.
+        """
+        process, count = await self._started()
+        entries = entries_of(self.journal)[:count]
+        try:
+            found = settled(runs, entries)
+        except RecoveryError:
+            await process.stop()
+            raise
+        self._known = count
+        self._begin(process, count)
+        return entries, found
+
+    async def close(self) -> None:
+        """Ends the program, which answers before what it has read."""
+        self._is_closed = True
+        if self._restart is not None:
+            self._restart.cancel()
+        if self._process is not None:
+            await self._process.stop()
+
+    @property
+    def pid(self) -> int | None:
+        """The number of the program's process, None where there is none."""
+        return self._process.pid if self._process else None
+
+    @property
+    def is_busy(self) -> bool:
+        """Whether a message waits for its answer."""
+        return bool(self._pending)
+
+    # ---- messages and views
+
+    def submit(self, message: Message) -> "asyncio.Future[Entry]":
+        """Sends a message that wasn't sent before: its entry, once it is there. The future's
+        exception is a MessageError where the program takes no more commands.
+        """
+        sent = Sent(message, asyncio.get_running_loop().create_future())
+        self._pending[message] = sent
+        turn = self._turn
+        self.log.append(self._line(message), lambda: self._send([sent], turn))
+        return sent.answer
+
+    async def show(self, views: Sequence[str]) -> list[list[str]]:
+        """What the program answers to these views, all of one moment. Raises ProcessError where it
+        doesn't run, ends meanwhile, or knows no such view.
+        """
+        if self._process is None:
+            raise ProcessError("the program doesn't run", -1)
+        found: list[list[str]] = []
+        shown: asyncio.Future[None] = asyncio.get_running_loop().create_future()
+
+        def take(lines: list[str]) -> None:
+            found.append(lines)
+            if len(found) == len(views) and not shown.done():
+                shown.set_result(None)
+
+        self._views.add(shown)
+        self._process.send(views, [take] * len(views))
+        try:
+            await shown
+        finally:
+            self._views.discard(shown)
+        for view, lines in zip(views, found):
+            if not lines[0].startswith("show "):
+                raise ProcessError(f"the program answers '{lines[0]}' to {view}", 2)
+        self._ends = 0
+        return found
+
+    # ---- the program
+
+    async def _started(self) -> tuple[Process, int]:
+        """A run of the program, and how many entries its journal has. Raises ProcessError."""
+        loop = asyncio.get_running_loop()
+        last = loop.time() + IN_USE_SECONDS
+        ends = 0
+        while True:
+            process = Process(self.words, self._ended)
+            try:
+                return process, await process.start()
+            except ProcessError as fault:
+                ends += fault.text != IN_USE
+                if fault.text != IN_USE and (fault.is_final or ends > MOST_ENDS):
+                    raise
+                if loop.time() > last:
+                    raise
+            await asyncio.sleep(PAUSE)
+
+    def _begin(self, process: Process, count: int) -> None:
+        """Writes that a run begins after so many entries, and what is sent to it first; then sends
+        that.
+        """
+        self._turn += 1
+        turn, first = self._turn, [*self._pending.values()]
+        start = text_of({"kind": "start", "instrument": self.name, "entries": count})
+        lines = [start, *(self._line(sent.message) for sent in first)]
+
+        def go() -> None:
+            if turn == self._turn and not self._is_closed and not process.has_ended:
+                self._process = process
+                self._send(first, turn)
+                self.on_change()
+
+        self.log.append("\n".join(lines), go)
+
+    def _line(self, message: Message) -> str:
+        """The log's line of a message."""
+        return text_of(
+            {
+                "kind": "sent",
+                "instrument": self.name,
+                "member": message.member,
+                "number": message.number,
+                "record": message.record,
+            }
+        )
+
+    def _send(self, those: Sequence[Sent], turn: int) -> None:
+        """Sends what is on the log's disk, unless another run has begun since: that was given it.
+        What comes at once is sent at once.
+        """
+        if turn != self._turn or self._process is None or not those:
+            return
+        if self._batch_turn != turn or not self._batch:
+            self._batch_turn, self._batch = turn, []
+            asyncio.get_running_loop().call_soon(self._send_batch, turn, self._batch)
+        self._batch += those
+
+    def _send_batch(self, turn: int, batch: list[Sent]) -> None:
+        """Sends what has come together."""
+        those = [*batch]
+        batch.clear()
+        if turn == self._turn and self._process is not None:
+            answers = [lambda lines, sent=sent: self._answered(sent, lines[0]) for sent in those]
+            self._process.send([sent.message.record for sent in those], answers)
+
+    def _answered(self, sent: Sent, line: str) -> None:
+        """Takes the answer to a message, unless the program is no longer trusted."""
+        if self.halted is not None:
+            return
+        self._ends = 0
+        if found := ENTERED.fullmatch(line):
+            entry = Entry(int(found[1]), sent.message.record, found[2])
+            if entry.place == self._known + 1:
+                self._settle(sent, entry)
+            else:
+                self._distrust(entry)
+            return
+        del self._pending[sent.message]
+        text = line.partition(": ")[2]
+        code = "no_calls" if text in NO_CALLS else "bad_message"
+        if not sent.answer.done():
+            sent.answer.set_exception(MessageError(code))
+
+    def _distrust(self, entry: Entry) -> None:
+        """Answers nothing more of a program that has lost an entry, or made one up."""
+        self._halt(f"the program answers entry {entry.place} after entry {self._known}")
+        self._turn += 1
+        if self._process is not None:
+            self._process.kill()
+
+    def _settle(self, sent: Sent, entry: Entry) -> None:
+        """A message has its entry."""
+        del self._pending[sent.message]
+        self._known = entry.place
+        self.on_entry(sent.message, entry)
+        if not sent.answer.done():
+            sent.answer.set_result(entry)
+
+    def _ended(self, fault: ProcessError) -> None:
+        """The program has ended."""
+        self._process = None
+        self._turn += 1
+        for shown in self._views:
+            if not shown.done():
+                shown.set_exception(fault)
+        if not self._is_closed and self.halted is None:
+            self._restart = asyncio.get_running_loop().create_task(self._start_again(fault))
+
+    async def _start_again(self, fault: ProcessError) -> None:
+        """Starts the program again after this end, or halts."""
+        self._ends += 1
+        if fault.is_final or self._ends > MOST_ENDS:
+            self._halt(fault.text)
+            return
+        try:
+            process, count = await self._started()
+        except ProcessError as found:
+            self._halt(found.text)
+            return
+        try:
+            self._catch_up(count)
+        except (RecoveryError, OSError, ValueError) as found:
+            self._halt(str(found))
+            await process.stop()
+        else:
+            self._begin(process, count)
+
+    def _catch_up(self, count: int) -> None:
+        """Answers what the last run had executed and not answered. Raises RecoveryError, OSError."""
+        entries = entries_of(self.journal, self._known, count - self._known)
+        messages = [*self._pending]
+        for message, entry in matched(messages, entries):
+            if entry is not None:
+                self._settle(self._pending[message], entry)
+
+    def _halt(self, text: str) -> None:
+        """Takes nothing more, until it is tried again."""
+        self.halted = text or "the program doesn't run"
+        self.on_change()
+
+    def resume(self) -> None:
+        """Tries again after a halt."""
+        if self.halted is None:
+            return
+        self.halted, self._ends = None, 0
+        fault = ProcessError("", -1)
+        self._restart = asyncio.get_running_loop().create_task(self._start_again(fault))

@@ -1,0 +1,158 @@
+"""What members and operators send, as JSON: read, and made into the program's records.
+
+schema.json says the same for other languages.
+"""
+import dataclasses
+import json
+import re
+from typing import Any
+
+from callauction.prices import MOST_NUMBER, BadCellError, decimal_of
+from callauction.venue.config import Instrument
+
+MOST_BYTES = 4096
+MOST_MESSAGE = (1 << 53) - 1
+"""The greatest number of a message: the greatest whole number that every JSON reader keeps."""
+SIDES = ("bid", "ask")
+RESTRICTIONS = ("", "opening", "closing")
+MARKET = "market"
+PRICE = re.compile(r"[0-9]{1,30}(\.[0-9]{1,30})?")
+TOPICS = ("states", "orders", "fills", "trades")
+ORDER_FIELDS = {
+    "enter": {"side", "quantity", "price", "peak", "only"},
+    "change": {"order", "quantity", "price"},
+    "delete": {"order"},
+}
+ERRORS = {
+    "bad_message": "this is no message that may be sent",
+    "bad_token": "this token is nobody's here",
+    "bad_code": "this code is not the one of this venue",
+    "bad_name": "a name has 1 to 24 characters, without < and >",
+    "name_taken": "somebody has this name",
+    "venue_full": "there are as many members as may be",
+    "unknown_instrument": "there is no instrument of this name",
+    "instrument_full": "as many members as may be trade this instrument",
+    "bad_price": "the price is no multiple of the tick size",
+    "above_limit": "the quantity is above the limit of this venue",
+    "not_now": "orders are taken in a call phase alone",
+    "frozen": "the operator has frozen the call phase",
+    "halted": "the venue has halted; nothing was done",
+    "no_calls": "the instrument takes no more commands of members",
+    "number_used": "this number was another message's",
+    "too_fast": "too many messages; nothing was done",
+    "too_slow": "this connection reads too slowly",
+    "not_allowed": "this isn't yours to do",
+    "bad_phase": "this can't be done in this phase",
+}
+"""What can be wrong with a message: nothing was executed then, and its number is still free."""
+
+
+class MessageError(ValueError):
+    """A message that isn't done; `code` is one of ERRORS."""
+
+    def __init__(self, code: str, text: str = "") -> None:
+        super().__init__(text or ERRORS[code])
+        self.code, self.text = code, text or ERRORS[code]
+
+
+@dataclasses.dataclass(frozen=True, slots=True)
+class Order:
+    """A message that becomes a command: its number, its instrument, and the rest of its record
+    behind the member.
+    """
+
+    number: int
+    instrument: str
+    record: str
+
+
+def read(text: str) -> dict[str, Any]:
+    """An object of JSON with a type. Raises MessageError."""
+    if len(text) > MOST_BYTES:
+        raise MessageError("bad_message", "the message is too long")
+    try:
+        found = json.loads(text)
+    except (ValueError, RecursionError):
+        raise MessageError("bad_message", "the message is no JSON") from None
+    if not isinstance(found, dict) or not isinstance(found.get("type"), str):
+        raise MessageError("bad_message", "the message has no type")
+    return found
+
+
+def topics_of(message: dict[str, Any]) -> frozenset[str]:
+    """The topics that a hello asks for, all where it names none. Raises MessageError."""
+    if message["type"] != "hello" or message.keys() - {"type", "token", "topics"}:
+        raise MessageError("bad_message", "the first message is a hello with token and topics")
+    found = message.get("topics", [*TOPICS])
+    if not isinstance(found, list) or not all(it in TOPICS for it in found):
+        raise MessageError("bad_message", f"topics are {', '.join(TOPICS)}")
+    return frozenset(found)
+
+
+def text_of(message: dict[str, Any], name: str, default: str | None = None) -> str:
+    """A text of a message. Raises MessageError."""
+    found = message.get(name, default)
+    if not isinstance(found, str):
+        raise MessageError("bad_message", f"{name} is no text")
+    return found
+
+
+def number_of(message: dict[str, Any], name: str, least: int, most: int) -> int:
+    """A whole number of a message. Raises MessageError."""
+    found = message.get(name)
+    if isinstance(found, bool) or not isinstance(found, int) or not least <= found <= most:
+        raise MessageError("bad_message", f"{name} is no whole number from {least} to {most}")
+    return found
+
+
+def tick_of(instrument: Instrument, price: object) -> str:
+    """The limit of a record: a tick, or `market`. Raises MessageError."""
+    if price == MARKET:
+        return MARKET
+    if not isinstance(price, str) or not PRICE.fullmatch(price):
+        raise MessageError("bad_message", "price is no text such as 20.05 or market")
+    try:
+        tick = instrument.grid.tick(decimal_of(price))
+    except BadCellError as fault:
+        raise MessageError("bad_price", f"the price {price} {fault}") from None
+    if tick > MOST_NUMBER:
+        raise MessageError("bad_price", f"the price {price} is out of all bounds")
+    return str(tick)
+
+
+def quantity_of(instrument: Instrument, message: dict[str, Any]) -> int:
+    """The shares of an order. Raises MessageError."""
+    found = number_of(message, "quantity", 0, MOST_NUMBER)
+    if found > instrument.most_quantity:
+        raise MessageError("above_limit", f"an order has at most {instrument.most_quantity} shares")
+    return found
+
+
+def order_of(instrument: Instrument, message: dict[str, Any]) -> Order:
+    """The command that a message asks for. Raises MessageError."""
+    kind = message["type"]
+    for name in message.keys() - ORDER_FIELDS[kind] - {"type", "number", "instrument"}:
+        raise MessageError("bad_message", f"there is no {name} in {kind}")
+    number = number_of(message, "number", 1, MOST_MESSAGE)
+    if kind == "enter":
+        rest = entered(instrument, message)
+    else:
+        rest = f"{kind},{number_of(message, 'order', 0, MOST_NUMBER)}"
+    if kind == "change":
+        limit = tick_of(instrument, message.get("price"))
+        rest += f",{quantity_of(instrument, message)},{limit}"
+    return Order(number, instrument.name, rest)
+
+
+def entered(instrument: Instrument, message: dict[str, Any]) -> str:
+    """The record of a new order behind its member, in its shortest form. Raises MessageError."""
+    side, only = text_of(message, "side"), text_of(message, "only", "")
+    if side not in SIDES:
+        raise MessageError("bad_message", "side is bid or ask")
+    if only not in RESTRICTIONS:
+        raise MessageError("bad_message", "only is opening or closing, or left out")
+    quantity = quantity_of(instrument, message)
+    has_peak = message.get("peak") is not None
+    peak = str(number_of(message, "peak", 0, MOST_NUMBER)) if has_peak else ""
+    end = f",{peak},{only}" if only else f",{peak}" if peak else ""
+    return f"enter,{side},{quantity},{tick_of(instrument, message.get('price'))}{end}"

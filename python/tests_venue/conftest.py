@@ -1,0 +1,41 @@
+"""The program, or its double, for the tests of a venue.
+
+CALLBOARD names the built program; where it names none, the double of stand_in.py is run.
+"""
+import os
+import pathlib
+from collections.abc import Iterator
+
+import pytest
+import served
+
+FAST = """
+sync = false
+[phases]
+call = 0
+[members]
+rate = 100000
+burst = 100000
+"""
+"""A day whose calls end by the operator alone, and whose members may speak as fast as they can."""
+
+
+def pytest_configure(config: pytest.Config) -> None:
+    """A client of aiohttp whose handshake failed leaves its connection to the garbage collector,
+    which may run in any later test.
+    """
+    config.addinivalue_line("filterwarnings", "ignore:unclosed:ResourceWarning")
+
+
+@pytest.fixture(scope="session", autouse=True)
+def program() -> str:
+    """The path of the program."""
+    os.environ["CALLBOARD"] = served.program()
+    return served.program()
+
+
+@pytest.fixture
+def venue(tmp_path: pathlib.Path) -> Iterator[served.Served]:
+    """A venue with one instrument, before its first call."""
+    with served.served(tmp_path, FAST) as found:
+        yield found

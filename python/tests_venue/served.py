@@ -1,0 +1,143 @@
+"""Venues as processes of their own, for tests that kill them, and what is asked of them."""
+import contextlib
+import dataclasses
+import json
+import os
+import pathlib
+import re
+import socket
+import subprocess
+import sys
+import urllib.error
+import urllib.request
+from collections.abc import Iterator
+from typing import Any
+
+HERE = pathlib.Path(__file__).resolve().parent
+PACKAGE = HERE.parent
+STAND_IN = HERE / "stand_in.py"
+SECONDS = 60.0
+
+
+def program() -> str:
+    """The program that venues run: that which CALLBOARD names, or its double."""
+    return os.environ.get("CALLBOARD") or str(STAND_IN)
+
+
+def free_port() -> int:
+    """A port that nobody listens on."""
+    with socket.socket() as tried:
+        tried.bind(("127.0.0.1", 0))
+        return int(tried.getsockname()[1])
+
+
+@dataclasses.dataclass
+class Served:
+    """A venue that runs: its process, its address, and what it has printed of itself."""
+
+    child: "subprocess.Popen[str]"
+    url: str
+    code: str
+    operator: str
+    beamer: str
+
+    def call(
+        self, path: str, body: Any = None, token: str = "", headers: dict[str, str] = {}
+    ) -> tuple[int, Any]:
+        """The status and the answer of a request."""
+        sent = dict(headers)
+        if token:
+            sent["Authorization"] = f"Bearer {token}"
+        data = None
+        if body is not None:
+            data = json.dumps(body).encode()
+            sent.setdefault("Content-Type", "application/json")
+        asked = urllib.request.Request(self.url + path, data, sent)
+        try:
+            with urllib.request.urlopen(asked, timeout=SECONDS) as answer:
+                return answer.status, read(answer.read())
+        except urllib.error.HTTPError as fault:
+            with fault:
+                return fault.code, read(fault.read())
+
+    def do(self, word: str, **fields: Any) -> Any:
+        """What is answered to the operator's word. Raises AssertionError where it isn't done."""
+        status, found = self.call("api/operator", {"do": word} | fields, self.operator)
+        assert status == 200, found
+        return found
+
+    def end(self) -> None:
+        """Ends it as an operator does. Raises AssertionError where it ends otherwise."""
+        if self.child.poll() is None:
+            self.child.terminate()
+            _, error = self.child.communicate(timeout=SECONDS)
+            assert (self.child.returncode, error) == (0, ""), error
+
+    def join(self, name: str, code: str = "") -> str:
+        """The token of a new member."""
+        status, found = self.call("api/join", {"code": code or self.code, "name": name})
+        assert status == 200, found
+        return str(found["token"])
+
+
+def read(body: bytes) -> Any:
+    """A body as JSON, or as a text."""
+    try:
+        return json.loads(body)
+    except ValueError:
+        return body.decode("utf-8", "replace")
+
+
+def environment(**more: str) -> dict[str, str]:
+    """The environment of a venue."""
+    return os.environ | {"CALLBOARD": program(), "PYTHONPATH": str(PACKAGE)} | more
+
+
+def words_of(*words: object) -> list[str]:
+    """The command line of a venue."""
+    return [sys.executable, "-m", "callauction.venue", *map(str, words)]
+
+
+def started(*words: object, **more: str) -> Served:
+    """A venue with these words, once it listens."""
+    pipe = subprocess.PIPE
+    child = subprocess.Popen(
+        words_of(*words), env=environment(**more), stdout=pipe, stderr=pipe, text=True
+    )
+    try:
+        return begun(child)
+    except BaseException:
+        child.kill()
+        child.communicate()
+        raise
+
+
+@contextlib.contextmanager
+def served(folder: pathlib.Path, day: str = "", *words: object, **more: str) -> Iterator[Served]:
+    """A venue in this folder, of a day in TOML, which is ended at the end."""
+    file = folder / "day.toml"
+    file.write_text(day, encoding="utf-8")
+    named = ["--day", file, "--folder", folder / "venue", "--port", free_port()]
+    found = started(*named, *words, **more)
+    try:
+        yield found
+        found.end()
+    finally:
+        found.child.kill()
+        found.child.communicate()
+
+
+def begun(child: "subprocess.Popen[str]") -> Served:
+    """A venue that has printed where it is. Raises AssertionError where it hasn't."""
+    said = []
+    assert child.stdout is not None and child.stderr is not None
+    for line in child.stdout:
+        said.append(line)
+        if line.startswith("beamer "):
+            break
+    else:
+        raise AssertionError(child.stderr.read())
+    text = "".join(said)
+    found = {name: value for name, value in re.findall(r"^(\w+) +(\S+)$", text, re.M)}
+    secrets = (found[name].partition("#")[2] for name in ("teacher", "beamer"))
+    return Served(child, found["members"], found.get("code", ""), *secrets)

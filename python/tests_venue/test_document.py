@@ -1,0 +1,56 @@
+"""What docs/VENUE.md shows: its day is one, its robot trades, its pictures are there."""
+import pathlib
+import re
+import subprocess
+import sys
+
+import served
+from callauction.venue.config import Day
+from callauction.venue import Client
+from served import Served
+
+DOCUMENT = served.PACKAGE.parent / "docs/VENUE.md"
+
+
+def blocks() -> list[str]:
+    """The indented blocks of the document, without their indent."""
+    text = DOCUMENT.read_text("utf-8")
+    found = re.findall(r"(?:^    .*\n|^\n(?=    ))+", text, re.M)
+    return [re.sub(r"^    ", "", block, flags=re.M).strip() for block in found]
+
+
+def test_the_day_with_all_keys(tmp_path: pathlib.Path) -> None:
+    path = served.PACKAGE / "callauction/venue/day.toml"
+    assert Day.read(path) == Day()
+    text = path.read_text("utf-8").replace('# range = "0.50"', 'range = "0.50" ')
+    (tmp_path / "day.toml").write_text(text, encoding="utf-8")
+    assert Day.read(tmp_path / "day.toml").instruments[0].range == 50
+
+
+def test_the_robot(venue: Served, tmp_path: pathlib.Path) -> None:
+    [robot] = [block for block in blocks() if "import Client" in block]
+    assert len(robot.splitlines()) <= 20
+    path = tmp_path / "robot.py"
+    path.write_text(robot, encoding="utf-8")
+    words = [sys.executable, str(path), venue.url, venue.code, "Robby"]
+    with subprocess.Popen(
+        words, env=served.environment(), stdout=subprocess.PIPE, text=True
+    ) as child:
+        assert child.stdout is not None
+        with Client(venue.url, venue.join("Anna")) as me:
+            for auction, reply in (("opening", "entered 1"), ("intraday", "entered 3"),
+                                   ("closing", "entered 4")):
+                venue.do("start")
+                assert child.stdout.readline() == f"{auction} {reply}\n"
+                if auction == "opening":
+                    me.enter("ask", 60, "1.50")
+                venue.do("uncross")
+        assert "'quantity': 60, 'price': '2.00'" in child.stdout.read()
+        assert child.wait(20) == 0
+
+
+def test_the_pictures() -> None:
+    named = re.findall(r"!\[[^]]+\]\(([^)]+)\)", DOCUMENT.read_text("utf-8"))
+    assert len(named) == 3
+    for name in named:
+        assert (DOCUMENT.parent / name).read_bytes().startswith(b"\x89PNG")

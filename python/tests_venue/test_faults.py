@@ -1,0 +1,334 @@
+"""Slow and silent clients, full disks, and folders that a venue can't go on with."""
+import asyncio
+import contextlib
+import os
+import pathlib
+import signal
+import subprocess
+import sys
+import time
+from collections.abc import Callable, Iterator
+
+import aiohttp
+import judged
+import psutil
+import pytest
+import served
+from callauction.venue import Answer, AsyncClient, Client, VenueError
+from conftest import FAST
+from served import Served
+from test_doors import ended, hello
+from test_robots import until
+
+ON_SMALL_DISK = """
+set -e
+folder=$1 journal=$2 size=$3; shift 3
+mkdir -p "$folder/venue" "$folder/small"
+mount -t tmpfs -o "size=$size" tmpfs "$folder/small"
+if [ "$journal" = journal ]; then
+    touch "$folder/small/journal" "$folder/venue/XYZ.journal.csv"
+    mount --bind "$folder/small/journal" "$folder/venue/XYZ.journal.csv"
+else
+    mount --bind "$folder/small" "$folder/venue"
+fi
+exec "$@"
+"""
+"""Runs a command where a small disk has the journal alone, or the whole folder of the venue."""
+
+
+# ---- clients
+
+
+FLOOD = """
+import asyncio, sys, aiohttp
+async def flood(web, url, hello):
+    async with web.ws_connect(url) as socket:
+        await socket.send_str(hello)
+        while True:
+            await socket.send_str('{"type":"delete","number":1,"order":1}')
+            await asyncio.sleep(0)
+async def main(url, hello):
+    async with aiohttp.ClientSession() as web:
+        await asyncio.gather(*(flood(web, url, hello) for _ in range(5)))
+asyncio.run(main(*sys.argv[1:]))
+"""
+"""Connections that never read, and ask for more answers than any buffer has room for."""
+
+
+def test_slow_clients_hold_up_nobody(tmp_path: pathlib.Path) -> None:
+    day = "sync = false\n[phases]\ncall = 0\n[members]\nrate = 100\nburst = 500"
+    with served.served(tmp_path, day) as venue:
+        slow, quick = venue.join("Slow"), venue.join("Quick")
+        venue.do("start")
+        words = [sys.executable, "-c", FLOOD, f"{venue.url}api/socket", hello(slow)]
+        with subprocess.Popen(words) as flooding:
+            try:
+                time.sleep(2)
+                process = psutil.Process(venue.child.pid)
+                before = process.memory_info().rss
+                with Client(venue.url, quick) as me:
+                    waits = sorted(wait_of(me) for _ in range(40))
+                assert process.memory_info().rss - before < 20 << 20
+                assert flooding.poll() is None
+            finally:
+                flooding.kill()
+        assert waits[len(waits) // 2] < 0.5, waits
+
+
+def wait_of(me: Client) -> float:
+    """How long an order waits for its answer."""
+    begin = time.monotonic()
+    assert me.enter("bid", 1, "2.00").reply.startswith("entered")
+    return time.monotonic() - begin
+
+
+async def is_sent_away(venue: Served, text: str) -> bool:
+    """Whether a connection that says this is ended."""
+    async with aiohttp.ClientSession() as web, asyncio.timeout(20):
+        async with web.ws_connect(f"{venue.url}api/socket") as socket:
+            await socket.send_str(text)
+            while (await socket.receive()).type is aiohttp.WSMsgType.TEXT:
+                pass
+            return True
+
+
+def test_too_much_at_once_is_refused(venue: Served) -> None:
+    token = venue.join("Anna")
+    assert asyncio.run(is_sent_away(venue, '{"type":"hello","token":"' + "x" * 10_000))
+    status, _ = venue.call("api/join", {"code": "x" * 100_000, "name": "x"})
+    assert status in (400, 413)
+    assert venue.call("api/look/state", token=token)[0] == 200
+
+
+# ---- the program
+
+
+def test_a_program_that_is_killed_is_started_again(venue: Served) -> None:
+    token = venue.join("Anna")
+    venue.do("start")
+    with Client(venue.url, token) as me:
+        for number in range(1, 6):
+            assert me.enter("bid", 1, "2.00").entry == number
+            for child in psutil.Process(venue.child.pid).children():
+                child.kill()
+    journal = venue.call("api/download/journal/XYZ", token=venue.operator)[1]
+    assert len(judged.entries(journal)) == 5
+
+
+DYING = """#!/bin/sh
+[ -e "{folder}/dead" ] && kill -9 $$
+exec "{program}" "$@"
+"""
+
+
+def test_a_program_that_always_dies_halts_the_day(tmp_path: pathlib.Path) -> None:
+    path = tmp_path / "dying"
+    path.write_text(DYING.format(folder=tmp_path, program=served.program()))
+    path.chmod(0o755)
+    with served.served(tmp_path, FAST, CALLBOARD=str(path)) as venue:
+        token = venue.join("Anna")
+        venue.do("start")
+        with Client(venue.url, token) as me:
+            assert me.enter("bid", 1, "2.00").entry == 1
+            (tmp_path / "dead").touch()
+            for child in psutil.Process(venue.child.pid).children():
+                child.kill()
+            until(lambda: bool(me.look("state")["halted"]))
+            assert me.look("state")["halted"] == "the program was ended by signal 9"
+            with pytest.raises(VenueError) as found:
+                me.enter("bid", 1, "2.00")
+            assert found.value.code == "halted"
+            (tmp_path / "dead").unlink()
+            venue.do("resume")
+            until(lambda: me.look("state")["halted"] is None)
+            until(lambda: enters(me))
+
+
+def enters(me: Client) -> bool:
+    """Whether an order is taken."""
+    with contextlib.suppress(VenueError):
+        return me.enter("bid", 1, "2.00").entry > 0
+    return False
+
+
+LYING = """#!/bin/sh
+"{program}" "$@" | sed -u -e '{change}'
+"""
+
+
+def lying(folder: pathlib.Path, change: str) -> str:
+    """The path of a program whose answers are changed by a command of sed."""
+    path = folder / "lying"
+    path.write_text(LYING.format(program=served.program(), change=change))
+    path.chmod(0o755)
+    return str(path)
+
+
+@pytest.mark.parametrize("place", [1, 4])
+def test_a_program_that_loses_an_entry(tmp_path: pathlib.Path, place: int) -> None:
+    program = lying(tmp_path, f"s/^3: /{place}: /")
+    with served.served(tmp_path, FAST, CALLBOARD=program) as venue:
+        token = venue.join("Anna")
+        venue.do("start")
+
+        async def orders() -> None:
+            async with AsyncClient(venue.url, token) as me:
+                assert [(await me.enter("bid", 1, "2.00")).entry for _ in range(2)] == [1, 2]
+                third = asyncio.create_task(me.enter("bid", 1, "2.00"))
+                await asyncio.wait({third}, timeout=2)
+                assert not third.done()
+                halted = (await me.look("state"))["halted"]
+                assert halted == f"the program answers entry {place} after entry 2"
+                third.cancel()
+
+        asyncio.run(orders())
+
+
+def test_a_program_without_views(tmp_path: pathlib.Path) -> None:
+    program = lying(tmp_path, "s/^show.*/record 1: bad member/")
+    ran = subprocess.run(
+        served.words_of("--folder", tmp_path / "venue", "--port", 0),
+        env=served.environment(CALLBOARD=program),
+        capture_output=True,
+        text=True,
+        timeout=60,
+    )
+    error = "venue: the program answers 'record 1: bad member' to show\n"
+    assert (ran.returncode, ran.stderr) == (2, error)
+
+
+# ---- full disks
+
+
+@contextlib.contextmanager
+def on_small_disk(folder: pathlib.Path, what: str, size: str) -> Iterator[Served]:
+    """A venue whose journal, or whose whole folder, is on a disk of this size."""
+    (folder / "day.toml").write_text(FAST)
+    words = served.words_of(
+        *("--day", folder / "day.toml", "--folder", folder / "venue", "--port", served.free_port())
+    )
+    before = ["unshare", "-rm", "sh", "-c", ON_SMALL_DISK, "sh", str(folder), what, size]
+    pipe = subprocess.PIPE
+    with subprocess.Popen(
+        [*before, *words], env=served.environment(), stdout=pipe, stderr=pipe, text=True
+    ) as child:
+        try:
+            yield served.begun(child)
+        finally:
+            child.kill()
+
+
+async def fill(me: AsyncClient) -> tuple[list[Answer], "asyncio.Task[Answer]"]:
+    """Sends orders until one isn't answered: the answers, and what waits."""
+    answers: list[Answer] = []
+    while True:
+        sent = asyncio.create_task(me.enter("bid", 1, "2.00"))
+        done, _ = await asyncio.wait({sent}, timeout=4)
+        if not done:
+            return answers, sent
+        answers.append(sent.result())
+
+
+async def full_disk(venue: Served, token: str, enlarge: Callable[[], None]) -> tuple[str, int]:
+    """A day whose disk is full, until it is larger: why it halted, and how many were answered."""
+    async with AsyncClient(venue.url, token) as me:
+        answers, waits = await fill(me)
+        halted = (await me.look("state"))["halted"]
+        with pytest.raises(VenueError) as found:
+            await me.enter("bid", 1, "2.00")
+        assert found.value.code == "halted"
+        assert [it.entry for it in answers] == [*range(1, len(answers) + 1)]
+        enlarge()
+        await asyncio.to_thread(venue.do, "resume")
+        async with asyncio.timeout(20):
+            assert (await waits).entry == len(answers) + 1
+            assert (await me.enter("bid", 1, "2.00")).entry == len(answers) + 2
+        return halted, len(answers) + 2
+
+
+@pytest.mark.parametrize(
+    "what, size, text",
+    [
+        ("journal", "16k", "journal failed"),
+        ("all", "40k", "the venue's log can't be written: No space left"),
+    ],
+)
+def test_a_full_disk(tmp_path: pathlib.Path, what: str, size: str, text: str) -> None:
+    with on_small_disk(tmp_path, what, size) as venue:
+        token = venue.join("Anna")
+        venue.do("start")
+        small = str(tmp_path / "small")
+        words = ["nsenter", "-t", str(venue.child.pid), "-U", "-m", "--preserve-credentials"]
+
+        def enlarge() -> None:
+            subprocess.run([*words, "mount", "-o", "remount,size=4m", small], check=True)
+
+        halted, count = asyncio.run(full_disk(venue, token, enlarge))
+        assert halted.startswith(text)
+        journal = venue.call("api/download/journal/XYZ", token=venue.operator)[1]
+        assert len(judged.entries(journal)) == count > 50
+        assert judged.is_lawful(journal)
+
+
+# ---- folders
+
+
+def day_before(folder: pathlib.Path, day: str = FAST) -> list[object]:
+    """A day with one order, which has ended: the words that go on with it."""
+    with served.served(folder, day) as venue:
+        token = venue.join("Anna")
+        venue.do("start")
+        with Client(venue.url, token) as me:
+            me.enter("bid", 1, "2.00")
+    return ["--day", folder / "day.toml", "--folder", folder / "venue", "--port", 0]
+
+
+def test_a_day_goes_on(tmp_path: pathlib.Path) -> None:
+    words = day_before(tmp_path)
+    log = tmp_path / "venue/venue.log"
+    with open(log, "a") as file:
+        file.write('{"kind":"sent","instr')
+    again = served.started(*words)
+    try:
+        assert again.call("api/operator", {"do": "start"}, again.operator)[0] == 409
+        again.do("uncross")
+    finally:
+        again.end()
+    assert '"instr{' not in log.read_text()
+
+
+def test_a_journal_of_another_day(tmp_path: pathlib.Path) -> None:
+    words = day_before(tmp_path)
+    (tmp_path / "day.toml").write_text(FAST + '[[instrument]]\nlow = "0.02"\n')
+    assert ended(*words) == (2, "venue: journal of another day: low\n")
+
+
+def test_a_journal_that_was_changed(tmp_path: pathlib.Path) -> None:
+    words = day_before(tmp_path)
+    journal = tmp_path / "venue/XYZ.journal.csv"
+    text = journal.read_text()
+    journal.write_text(text.replace("entered 1", "entered 2"))
+    error = 'venue: journal entry 1: recorded "entered 2", lawful "entered 1"\n'
+    assert ended(*words) == (4, error)
+    journal.write_text(text + "1,enter,bid,1,200,entered 2\n")
+    status, error = ended(*words)
+    assert (status, error) == (1, "venue: entry 2 of the journal is no message of the log\n")
+
+
+def test_a_log_with_a_fault(tmp_path: pathlib.Path) -> None:
+    words = day_before(tmp_path)
+    log = tmp_path / "venue/venue.log"
+    lines = log.read_text().splitlines(keepends=True)
+    log.write_text("".join([lines[0], "nonsense\n", *lines[1:]]))
+    status, error = ended(*words)
+    assert (status, error) == (1, f"venue: {log}: line 2 is no line of a log\n")
+
+
+def test_a_venue_ends_by_a_signal(venue: Served) -> None:
+    token = venue.join("Anna")
+    programs = psutil.Process(venue.child.pid).children()
+    with Client(venue.url, token):
+        os.kill(venue.child.pid, signal.SIGINT)
+        _, error = venue.child.communicate(timeout=30)
+        assert (venue.child.returncode, error) == (0, "")
+    assert not any(it.is_running() for it in programs)

@@ -1,0 +1,205 @@
+"""The venue, or its program, is killed at any moment: nothing that was answered is lost, nothing is
+executed twice, and members find their orders.
+"""
+import asyncio
+import contextlib
+import dataclasses
+import os
+import pathlib
+import random
+import subprocess
+import time
+from typing import Any
+
+import judged
+import psutil
+import served
+from callauction.venue import Answer, AsyncClient, VenueError
+from checks.model.day import Day
+from conftest import FAST
+
+KILLS = int(os.environ.get("VENUE_KILLS", "200"))
+VENUE_SHARE, LISTENS_SHARE = 0.15, 0.7
+MOST_PAUSE = 0.2
+ROBOTS, AT_ONCE = 4, 3
+MOST_ORDERS = 12_000
+
+
+class Keeper:
+    """Keeps a venue running on one port, and kills it or its program."""
+
+    def __init__(self, folder: pathlib.Path, port: int) -> None:
+        (folder / "day.toml").write_text(FAST)
+        self.words = served.words_of(
+            *("--day", folder / "day.toml", "--folder", folder / "venue", "--port", port)
+        )
+        self.killed = {"venue": 0, "program": 0}
+        self.child: "subprocess.Popen[str] | None" = None
+
+    def start(self) -> None:
+        """Starts the venue."""
+        pipe = subprocess.PIPE
+        self.child = subprocess.Popen(
+            self.words, env=served.environment(), stdout=pipe, stderr=pipe, text=True
+        )
+
+    def kill(self, target: str, waits: bool) -> None:
+        """Kills the venue, and starts it again, perhaps until it listens; or its program, if that
+        runs.
+        """
+        assert self.child is not None
+        if self.child.poll() is not None:
+            assert self.child.stderr is not None
+            raise AssertionError(f"the venue ended: {self.child.stderr.read()}")
+        if target == "program":
+            with contextlib.suppress(psutil.NoSuchProcess):
+                for child in psutil.Process(self.child.pid).children():
+                    child.kill()
+                    self.killed[target] += 1
+                return
+        self.child.kill()
+        self.child.communicate()
+        self.killed["venue"] += 1
+        self.start()
+        if waits:
+            served.begun(self.child)
+
+    def stop(self) -> None:
+        """Ends the venue."""
+        if self.child is not None:
+            self.child.terminate()
+            self.child.communicate(timeout=20)
+
+
+@dataclasses.dataclass
+class Robot:
+    """A member that sends orders, and keeps what it was answered."""
+
+    token: str
+    number: int
+    chance: random.Random
+    answers: list[tuple[str, Answer]] = dataclasses.field(default_factory=list)
+    own: list[int] = dataclasses.field(default_factory=list)
+    sent: int = 0
+
+    async def play(self, url: str, done: asyncio.Event) -> None:
+        """Sends orders until it is done, and waits for all answers."""
+        async with AsyncClient(url, self.token) as client:
+            await asyncio.gather(*(self.send(client, done) for _ in range(AT_ONCE)))
+
+    async def send(self, client: AsyncClient, done: asyncio.Event) -> None:
+        """Sends one order after the other."""
+        while not done.is_set() and self.sent < MOST_ORDERS // ROBOTS:
+            self.sent += 1
+            kind, fields = self.choice()
+            record = f"{kind},{','.join(str(it) for it in fields.values())}"
+            if "price" in fields:
+                fields = fields | {"price": f"{fields['price'] / 100:.2f}"}
+            answer = await client.send(kind, None, **fields)
+            self.answers.append((record, answer))
+            if answer.order is not None:
+                self.own.append(answer.order)
+            await asyncio.sleep(self.chance.random() * 0.02)
+
+    def choice(self) -> tuple[str, dict[str, Any]]:
+        """A command, in the order of its record."""
+        quantity, price = self.chance.randint(1, 900), self.chance.randint(180, 220)
+        kind = self.chance.choices(("enter", "change", "delete"), (6, 2, 2))[0]
+        if kind == "enter" or not self.own:
+            side = self.chance.choice(("bid", "ask"))
+            return "enter", {"side": side, "quantity": quantity, "price": price}
+        order = self.chance.choice(self.own)
+        if kind == "change":
+            return kind, {"order": order, "quantity": quantity, "price": price}
+        return kind, {"order": order}
+
+
+async def kills(keeper: Keeper, chance: random.Random, done: asyncio.Event) -> None:
+    """Kills the venue and its program, often."""
+    try:
+        while sum(keeper.killed.values()) < KILLS:
+            await asyncio.sleep(chance.random() * MOST_PAUSE)
+            target = "venue" if chance.random() < VENUE_SHARE else "program"
+            await asyncio.to_thread(keeper.kill, target, chance.random() < LISTENS_SHARE)
+    finally:
+        done.set()
+
+
+async def play(keeper: Keeper, url: str, robots: list[Robot], chance: random.Random) -> None:
+    """The day of robots under kills."""
+    done = asyncio.Event()
+    async with asyncio.timeout(300):
+        await asyncio.gather(
+            kills(keeper, chance, done), *(robot.play(url, done) for robot in robots)
+        )
+
+
+def test_kills(tmp_path: pathlib.Path) -> None:
+    seed = random.randrange(1 << 32)
+    print("seed", seed)
+    chance = random.Random(seed)
+    port = served.free_port()
+    keeper = Keeper(tmp_path, port)
+    keeper.start()
+    assert keeper.child is not None
+    try:
+        first = served.begun(keeper.child)
+        robots = [
+            Robot(first.join(f"robot {it}"), it, random.Random(seed + it))
+            for it in range(1, ROBOTS + 1)
+        ]
+        first.do("start")
+        asyncio.run(play(keeper, first.url, robots, chance))
+        assert keeper.killed["venue"] > KILLS / 20 and keeper.killed["program"] > KILLS / 4
+        check(first, robots)
+    finally:
+        keeper.stop()
+    print("killed", keeper.killed, "answered", sum(len(robot.answers) for robot in robots))
+
+
+def journal_of(venue: served.Served) -> str:
+    """The journal, once the venue answers again."""
+    last = time.monotonic() + served.SECONDS
+    while True:
+        try:
+            status, found = venue.call("api/download/journal/XYZ", token=venue.operator)
+            assert status == 200, found
+            return str(found)
+        except OSError:
+            assert time.monotonic() < last
+            time.sleep(0.1)
+
+
+def check(venue: served.Served, robots: list[Robot]) -> None:
+    """Raises AssertionError where something was lost, or done twice."""
+    journal = journal_of(venue)
+    assert judged.is_lawful(journal)
+    entries = judged.entries(journal)
+    places: list[int] = []
+    numbers: dict[str, str] = {}
+    for robot in robots:
+        for record, answer in robot.answers:
+            member, _, found = entries[answer.entry - 1][0].partition(",")
+            assert numbers.setdefault(robot.token, member) == member
+            assert (found, entries[answer.entry - 1][1]) == (record, answer.reply)
+            places.append(answer.entry)
+    assert sorted(places) == [*range(1, len(entries) + 1)]
+    day = judged.day_of(journal)
+    for robot in robots:
+        asyncio.run(finds_its_orders(venue, robot, int(numbers[robot.token]), day))
+    reply = venue.do("uncross")["reply"]
+    assert reply == day.apply(0, ("uncross",))
+
+
+async def finds_its_orders(
+    venue: served.Served, robot: Robot, number: int, day: Day
+) -> None:
+    """Raises AssertionError where a member doesn't find its orders."""
+    async with AsyncClient(venue.url, robot.token) as client:
+        for _ in range(100):
+            with contextlib.suppress(VenueError):
+                shown = (await client.look("orders"))["orders"]
+                break
+            await asyncio.sleep(0.1)
+        wanted = {it.id: it.quantity for it in day.book.values() if it.member == number}
+        assert {it["order"]: it["open"] for it in shown} == wanted
