@@ -12,6 +12,7 @@ ghost use Rattle.callboard.specs.Status.{run_status, status_of};
 use crate::audit::run_audit;
 use crate::fault::{Fault, Finish};
 use crate::floor::run_floor;
+use crate::keeping::{OpenedJournal, serve_kept};
 use crate::live::{SessionFault, run_session};
 use crate::run::run_file;
 use byte_streams::{Sink, Source, write_all};
@@ -19,6 +20,7 @@ use clap::Error;
 use clap::error::ErrorKind;
 use input_hints::{KeepsStart, hint_of, is_like_file};
 use journal::DayHeader;
+use journal_file::{Device, OpenFault};
 use live_session::{Ending, LiveFault};
 use member_floor::OpenGate;
 use order_file::FileFault;
@@ -29,7 +31,7 @@ use std::sync::Wait;
 use std::thread::Threads;
 
 /// Writes a line on standard error. Where that fails there is nobody left to tell.
-fn write_line<E: Sink>(err: &mut E, line: &str) {
+pub(crate) fn write_line<E: Sink>(err: &mut E, line: &str) {
     if write_all(err, line.as_bytes()).is_ok() {
         let _ = write_all(err, b"\n".as_slice());
     }
@@ -153,12 +155,13 @@ fn tell_run<E: Sink>(err: &mut E, run: Result<Finish, Fault>, start: &[u8]) -> u
 
 /// Does with the input what the settings say, and answers the status: answers its records as they come, or runs its
 /// commands, or audits it.
-fn serve_settings<R: KeepsStart, O: Sink, E: Sink, T: Wait + Threads + Sync>(
+fn serve_settings<R: KeepsStart, O: Sink, E: Sink, D: Device + Drop, T: Wait + Threads + Sync>(
     alloc: Global,
-    settings: Settings,
+    settings: Settings<'_>,
     reader: &mut R,
     out: &mut O,
     err: &mut E,
+    opened: Option<Result<OpenedJournal<D>, OpenFault>>,
     rt: &T,
 ) -> u8
     ensures { ServesSettings settings (ends_of R.Source O.Sink reader.old reader.new out.old out.new) result }
@@ -167,10 +170,14 @@ fn serve_settings<R: KeepsStart, O: Sink, E: Sink, T: Wait + Threads + Sync>(
         config,
         members,
         task,
+        journal,
     } = settings;
     let day = DayHeader { config, members };
     match task {
-        Task::Live { reserve } => serve_live(alloc, reader, out, err, day, reserve),
+        Task::Live { reserve } => match journal {
+            Some(_) => serve_kept(alloc, reader, out, err, opened, day, reserve),
+            None => serve_live(alloc, reader, out, err, day, reserve),
+        },
         Task::Audit { results } => {
             let run = run_audit(alloc, reader, out, results);
             tell_run(err, run, reader.start())
@@ -193,13 +200,15 @@ fn serve_settings<R: KeepsStart, O: Sink, E: Sink, T: Wait + Threads + Sync>(
 ///
 /// What it prints goes to `out`, the help too; a fault is one line on `err`, and for a bad command line the text of
 /// `clap`, in either case with a line more where its likely cause is known. Where the input or the command line is bad,
-/// nothing goes to `out`, but where records are answered as they come.
-pub fn serve<'a, R: KeepsStart, O: Sink, E: Sink, T: Wait + Threads + Sync>(
+/// nothing goes to `out`, but where records are answered as they come. `opened` is the journal's file, where the words
+/// name one.
+pub fn serve<'a, R: KeepsStart, O: Sink, E: Sink, D: Device + Drop, T: Wait + Threads + Sync>(
     alloc: Global,
     words: &'a [&'a str],
     reader: &mut R,
     out: &mut O,
     err: &mut E,
+    opened: Option<Result<OpenedJournal<D>, OpenFault>>,
     rt: &T,
 ) -> u8
     ensures answer { AnswersCommandLine (texts words.now)
@@ -217,6 +226,9 @@ pub fn serve<'a, R: KeepsStart, O: Sink, E: Sink, T: Wait + Threads + Sync>(
             return refuse_mix(err, &WordsFault::ResultsWithoutAudit);
         }
         Err(WordsFault::WithoutLive) => return refuse_mix(err, &WordsFault::WithoutLive),
+        Err(WordsFault::SyncWithoutJournal) => {
+            return refuse_mix(err, &WordsFault::SyncWithoutJournal);
+        }
         Err(WordsFault::Parse(error)) => {
             let Some(text) = text_of(alloc, &error) else {
                 return tell(err, Fault::NoMemory);
@@ -226,5 +238,5 @@ pub fn serve<'a, R: KeepsStart, O: Sink, E: Sink, T: Wait + Threads + Sync>(
             return status;
         }
     };
-    serve_settings(alloc, settings, reader, out, err, rt)
+    serve_settings(alloc, settings, reader, out, err, opened, rt)
 }

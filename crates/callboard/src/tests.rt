@@ -63,7 +63,8 @@ fn served<R: Source + Drop, S: Sink, E: Ledger, T: AllocGlobal + Wait + Threads 
         failures: Failures::<E>::new(errors),
     };
     let mut reader = StartKeeper::new(reader);
-    let status = serve(rt.alloc(), words, &mut reader, out, &mut err, rt);
+    let opened: Option<Result<OpenedJournal<Tracked<Opened>>, OpenFault>> = None;
+    let status = serve(rt.alloc(), words, &mut reader, out, &mut err, opened, rt);
     let ToMemory { bytes, failures: _ } = err;
     (status, bytes)
 }
