@@ -40,8 +40,8 @@ figure { margin: 1rem 0; } img { width: 100%; max-width: 36rem; height: auto; }
   th, td { padding: .1rem .3rem; font-size: 8.5pt; } p, li { orphans: 3; widows: 3; }
   figure, tr, ol, .good, .bad, .short { break-inside: avoid; }
   h2, h3, caption, thead, h2 + p { break-after: avoid; }
-  tbody tr:nth-child(-n+3) { break-after: avoid; }
-  tbody tr:nth-last-child(-n+3) { break-before: avoid; }
+  .long tbody tr:nth-child(-n+3) { break-after: avoid; }
+  .long tbody tr:nth-last-child(-n+3) { break-before: avoid; }
   thead { display: table-header-group; } img { max-width: 13cm; } }
 """
 MOST_SHORT = 15
@@ -111,7 +111,7 @@ def html_table(
     rows = "".join(_row(columns, kinds, row) for row in texts)
     label = html.escape(caption + more)
     hint = f'<span class="hint">{SCROLLS}</span>' if _width(columns, texts) > NARROW else ""
-    look = "wide short" if len(texts) <= MOST_SHORT else "wide"
+    look = "wide short" if len(texts) <= MOST_SHORT else "wide long"
     return (
         f'<div class="{look}" role="region" tabindex="0" aria-label="{label}"><table id="{name}">'
         f"<caption><span>{label}{hint}</span></caption><thead><tr>{heads}</tr></thead>"

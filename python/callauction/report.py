@@ -131,12 +131,13 @@ def _members(orders: pandas.DataFrame) -> Part:
     found = members_of(orders)
     if not len(found):
         return "Members", "<p>No order was entered.</p>"
-    caption = (
-        f"{counted(len(found), 'member')}: shares entered, bought and sold; better: how much better "
-        "than their limits its limit orders traded, in ticks times shares"
+    told = (
+        "<p>Better: how much better than their limits a member's limit orders traded, in ticks "
+        "times shares.</p>"
     )
+    caption = f"{counted(len(found), 'member')}: shares entered, bought and sold"
     counts = ("orders", "entered", "bought", "sold", "better")
-    return "Members", html_table(found, caption, "members", counts)
+    return "Members", told + html_table(found, caption, "members", counts)
 
 
 def _orders(orders: pandas.DataFrame) -> Part:
@@ -146,7 +147,7 @@ def _orders(orders: pandas.DataFrame) -> Part:
     kept = ["order", "member", "side", "quantity", "limit", "traded", "open", "became"]
     listed = orders[kept].astype("object")
     listed["limit"] = listed["limit"].where(listed["limit"].notna(), "market")
-    caption = f"{counted(len(orders), 'order')}: shares entered, traded and open, limit in ticks"
+    caption = f"{counted(len(orders), 'order')}: quantities in shares, limit in ticks"
     return "Orders", html_table(listed, caption, "orders", ("quantity", "traded", "open"))
 
 

@@ -81,7 +81,7 @@ def table(text: str, name: str) -> list[list[str]]:
 def test_members_and_orders_are_listed() -> None:
     text = report.html_of(day_of(next(file for file in EXAMPLES if file.stem == "day")))
     caption, _, *rows = table(text, "members")
-    assert caption[0].startswith("2 members: shares entered, bought and sold; better: how much")
+    assert caption[0].startswith("2 members: shares entered, bought and sold")
     assert rows == [["1", "2", "130", "120", "0", "400"], ["2", "2", "120", "0", "120", "0"]]
     caption, head, *rows = table(text, "orders")
     assert caption[0].startswith("4 orders: ") and head[-1] == "became"

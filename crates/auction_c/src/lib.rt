@@ -41,7 +41,8 @@ use encoding::{config_out, display_out};
 use errors::fault_out;
 pub use errors::{
     BAD_BOUNDS, BAD_CAPACITY, BAD_LENGTH, BAD_MEMBER, BAD_REFERENCE, BEHIND, BUSY, CLOSED, DONE,
-    FULL, IN_USE, MISSING_MEMBER, NO_AUCTION, NO_COMMAND, NO_CONFIG, NO_MEMBER, NO_MEMORY, OVERTAKEN,
+    FULL, IN_USE, MISSING_MEMBER, NO_AUCTION, NO_COMMAND, NO_CONFIG, NO_MEMBER, NO_MEMORY,
+    OVERTAKEN,
 };
 pub use handle::AuctionHandle;
 pub use member_handle::AuctionMember;
@@ -255,8 +256,8 @@ pub extern "C" fn callauction_reset(handle: &mut AuctionHandle) -> u32
 /// Makes the other handle hold an auction of its own that stands where this one does. Where it holds an auction of the
 /// same bounds and room already, that one is written over, and no memory is taken.
 ///
-/// Where the other handle holds an auction of other bounds or room it answers `IN_USE`; where it holds none, `NO_MEMORY`
-/// where memory is refused.
+/// Where the other handle holds an auction of other bounds or room it answers `IN_USE`; where it holds none,
+/// `NO_MEMORY` where memory is refused.
 #[unsafe(no_mangle)]
 pub extern "C" fn callauction_clone(
     alloc: Global,
