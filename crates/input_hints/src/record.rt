@@ -72,7 +72,7 @@ pub(crate) fn form_hint(
     ensures { IfOk result (λ hint. hint ≡ form_hint number (fields_of fields.now)) }
 {
     let first = field_of(fields, 0);
-    if is_utf_16(first) {
+    if number == 1 && is_utf_16(first) {
         return Ok(Some(Hint::Utf16));
     }
     if is_lone(fields) && has_byte(first, b';') {
