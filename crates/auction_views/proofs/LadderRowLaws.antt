@@ -1,6 +1,7 @@
 -- The rows of a ladder are those of its book.
 use Rattle.std.specs.Simd.Lanes.{zip2}
-use Rattle.std.proofs.Common.{◌≡◌, ◌∙◌, ◌+◌, ◌-◌, ◌<◌, ◌≤◌, ℕ, zero, suc, Bool, true, false, cond, eqb, List, [], ◌∷◌, ◌++◌}
+use Rattle.std.proofs.Common.{◌≡◌, ◌∙◌, ◌+◌, ◌-◌, ◌<◌, ◌≤◌, ℕ, zero, suc, Bool, true, false, cond, eqb, List, [], ◌∷◌}
+use Rattle.std.proofs.Common.{◌++◌}
 use Rattle.std.proofs.Common.{map, filter, length, get_or, append_assoc, ap, refl, sym, arith}
 use Rattle.std.proofs.lemmas.List.{append-nil}
 use Rattle.std.proofs.lemmas.Simd.{length-zip2}
@@ -22,36 +23,36 @@ long_present view sound = ap length sound.flags ∙ length-zip2 flag_of view.bid
 -- ---- place by place
 
 -- the row of the next place comes first of those below
-pub row-next : (view : LadderView) (now after all : List LadderRow) (place next : ℕ) → place ≡ next + 1
+pub place-next : (view : LadderView) (now after all : List LadderRow) (place next : ℕ) → place ≡ next + 1
     → now ++ rows_below view place ≡ all → after ≡ now ++ rows_at view next
     → after ++ rows_below view next ≡ all
 unfolding rows_below
-row-next view now after all place next is e put =
+place-next view now after all place next is e put =
     let to : place ≡ suc next = omega arith in
     ap (λ rows. rows ++ rows_below view next) put ∙ append_assoc now (rows_at view next) (rows_below view next)
     ∙ rw to at e
 
-pub row-end : (view : LadderView) (now all : List LadderRow) (place : ℕ) → place ≡ 0 → now ++ rows_below view place ≡ all
-    → now ≡ all
+pub place-end : (view : LadderView) (now all : List LadderRow) (place : ℕ) → place ≡ 0
+    → now ++ rows_below view place ≡ all → now ≡ all
 unfolding rows_below
-row-end view now all place none e = sym (append-nil now) ∙ rw none at e
+place-end view now all place none e = sym (append-nil now) ∙ rw none at e
 
 -- ---- what they are
 
 -- a row where the flag stands
-row-flagged : (b : Bool) (row : LadderRow) → cond (eqb (cond b 1 0) 0) [] (row ∷ []) ≡ cond b (row ∷ []) []
-row-flagged true row = refl
-row-flagged false row = refl
+place-flagged : (b : Bool) (row : LadderRow) → cond (eqb (cond b 1 0) 0) [] (row ∷ []) ≡ cond b (row ∷ []) []
+place-flagged true row = refl
+place-flagged false row = refl
 
-row-there : (low n : ℕ) (book : List Order) (place : ℕ) → place < n
+place-there : (low n : ℕ) (book : List Order) (place : ℕ) → place < n
     → rows_at (ladder_of low n book) place ≡ cond (has_limit book (low + place)) (limit_row book (low + place) ∷ []) []
 unfolding ladder_of
-row-there low n book place within =
+place-there low n book place within =
     rw (
       at_spread (limit_flag book) low n place within,
       at_spread (quantity_at Bid book) low n place within,
       at_spread (quantity_at Ask book) low n place within,
-    ) (row-flagged (has_limit book (low + place)) (limit_row book (low + place)))
+    ) (place-flagged (has_limit book (low + place)) (limit_row book (low + place)))
 
 limit-next : (book : List Order) (tick : ℕ) (ticks : List ℕ) (b : Bool)
     → cond b (limit_row book tick ∷ []) [] ++ map (limit_row book) (filter (has_limit book) ticks)
@@ -59,12 +60,12 @@ limit-next : (book : List Order) (tick : ℕ) (ticks : List ℕ) (b : Bool)
 limit-next book tick ticks true = refl
 limit-next book tick ticks false = refl
 
-pub rows-below : (low n : ℕ) (book : List Order) (place : ℕ) → place ≤ n
+pub places-below : (low n : ℕ) (book : List Order) (place : ℕ) → place ≤ n
     → rows_below (ladder_of low n book) place ≡ limit_rows book low place
 unfolding rows_below
-rows-below low n book zero within = refl
-rows-below low n book (suc place) within =
-    rw (row-there low n book place (omega arith), rows-below low n book place (omega arith))
+places-below low n book zero within = refl
+places-below low n book (suc place) within =
+    rw (place-there low n book place (omega arith), places-below low n book place (omega arith))
     (limit-next book (low + place) (falling_ticks low place) (has_limit book (low + place)))
 
 -- the rows of the market orders, and then those of all places of the ladder
@@ -80,5 +81,5 @@ rows_of_ladder config book view none market all empty is first rest =
       empty,
       is,
       length-tick_values (quantity_at Bid book) config.low n,
-      rows-below config.low n book n (omega arith),
+      places-below config.low n book n (omega arith),
     ) refl

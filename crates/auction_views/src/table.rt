@@ -46,7 +46,8 @@ fn put_rows(text: &mut KeptText, rows: &[LadderRow]) -> Result<(), AllocError>
 
 /// Puts the table of a ladder behind a text.
 pub(crate) fn put_ladder(text: &mut KeptText, rows: &[LadderRow]) -> Result<(), AllocError>
-    ensures { OnOk result (text_of text.new ≡ text_of text.old ++ table_text (codes "ladder") (map ladder_line rows.now)) }
+    ensures { OnOk result (text_of text.new
+        ≡ text_of text.old ++ table_text (codes "ladder") (map ladder_line rows.now)) }
 {
     put_heading(text, "ladder", rows.len())?;
     put_rows(text, rows)
@@ -99,7 +100,8 @@ fn put_order_lines(text: &mut KeptText, listed: &[OpenOrder]) -> Result<(), Allo
 
 /// Puts the table of open orders behind a text.
 pub(crate) fn put_orders(text: &mut KeptText, listed: &[OpenOrder]) -> Result<(), AllocError>
-    ensures { OnOk result (text_of text.new ≡ text_of text.old ++ table_text (codes "orders") (map order_line listed.now)) }
+    ensures { OnOk result (text_of text.new
+        ≡ text_of text.old ++ table_text (codes "orders") (map order_line listed.now)) }
 {
     put_heading(text, "orders", listed.len())?;
     put_order_lines(text, listed)

@@ -39,10 +39,7 @@ static BAD: [(&[u8], &str); 23] = [
     ),
     (b"1", "record 1: bad command\n"),
     (b"1,\xff", "record 1: bad command\n"),
-    (
-        b"1,ASK",
-        "record 1: bad command\nwords are in lower case\n",
-    ),
+    (b"1,ASK", "record 1: bad command\nwords are in lower case\n"),
     (b"1,ask,", "record 1: wrong number of fields\n"),
     (b"1,change,1,5", "record 1: wrong number of fields\n"),
     (b"1,enter,bid", "record 1: wrong number of fields\n"),

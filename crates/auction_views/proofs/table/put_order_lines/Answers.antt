@@ -6,7 +6,8 @@ use Rattle.auction_views.proofs.table.put_order_lines.Goals as goal
 
 pub loop-order-preserved : goal.loop-order-preserved
 loop-order-preserved c =
-    line-put _ _ (lines-by-one order_line) _ _ _ _ _ _ c.loop-order.invariant c.loop-order-test.true c.in_ok-put_order.ensures
+    line-put _ _ (lines-by-one order_line) _ _ _ _ _ _ c.loop-order.invariant c.loop-order-test.true
+    c.in_ok-put_order.ensures
 
 pub returns : goal.returns
 returns c = text-end _ _ (lines-by-one order_line) _ _ _ _ c.loop-order.invariant c.loop-order-test.false
