@@ -18,7 +18,7 @@ use crate::run::run_file;
 use byte_streams::{Sink, Source, write_all};
 use clap::Error;
 use clap::error::ErrorKind;
-use input_hints::{KeepsStart, hint_of, is_like_file};
+use input_hints::{DayTerms, KeepsStart, hint_of, is_like_file};
 use journal::DayHeader;
 use journal_file::{Device, OpenFault};
 use live_session::{Ending, LiveFault};
@@ -45,13 +45,28 @@ fn tell<E: Sink>(err: &mut E, fault: Fault) -> u8
     fault.status()
 }
 
+/// By what the records of a day are read.
+fn terms_of(day: DayHeader) -> DayTerms {
+    DayTerms {
+        members: day.members,
+        low: day.config.low,
+        high: day.config.high,
+    }
+}
+
 /// Writes the line of a fault, and behind it one with its likely cause in an input that begins so, where there is one.
-fn tell_of_input<E: Sink>(err: &mut E, fault: Fault, start: &[u8]) -> u8
+fn tell_of_input<E: Sink>(
+    alloc: Global,
+    err: &mut E,
+    fault: Fault,
+    start: &[u8],
+    day: DayHeader,
+) -> u8
     ensures { result ≡ status_of fault }
 {
     let status = tell(err, fault);
     if let Fault::File(fault) = fault {
-        if let Some(hint) = hint_of(fault, start) {
+        if let Ok(Some(hint)) = hint_of(alloc, fault, start, terms_of(day)) {
             write_line(err, InlineText::<64>::of(hint).as_str());
         }
     }
@@ -144,12 +159,18 @@ fn serve_live<R: Source, O: Sink, E: Sink>(
 }
 
 /// Tells the fault of a run of an input that begins so, if there is one, and answers the run's status.
-fn tell_run<E: Sink>(err: &mut E, run: Result<Finish, Fault>, start: &[u8]) -> u8
+fn tell_run<E: Sink>(
+    alloc: Global,
+    err: &mut E,
+    run: Result<Finish, Fault>,
+    start: &[u8],
+    day: DayHeader,
+) -> u8
     ensures { result ≡ run_status run }
 {
     match run {
         Ok(finish) => finish.status(),
-        Err(fault) => tell_of_input(err, fault, start),
+        Err(fault) => tell_of_input(alloc, err, fault, start, day),
     }
 }
 
@@ -180,15 +201,15 @@ fn serve_settings<R: KeepsStart, O: Sink, E: Sink, D: Device + Drop, T: Wait + T
         },
         Task::Audit { results } => {
             let run = run_audit(alloc, reader, out, results);
-            tell_run(err, run, reader.start())
+            tell_run(alloc, err, run, reader.start(), day)
         }
         Task::Run(form) => {
             let run = run_file(alloc, reader, out, day, form);
-            tell_run(err, run, reader.start())
+            tell_run(alloc, err, run, reader.start(), day)
         }
         Task::Floor(form) => {
             let run = run_floor(alloc, reader, out, day, form, &OpenGate, rt);
-            tell_run(err, run, reader.start())
+            tell_run(alloc, err, run, reader.start(), day)
         }
     }
 }
