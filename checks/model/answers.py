@@ -3,8 +3,9 @@ the model.
 """
 from collections.abc import Callable
 
+from checks.model.causes import likely_cause
 from checks.model.day import OpenFault, Options
-from checks.model.files import FileFault, Given, given, journal, likely_cause
+from checks.model.files import FileFault, Given, given, journal
 from checks.model.tables import audit_text, book_text, journal_text, lines_text, trades_text
 
 DEFAULTS: Options = {
@@ -46,6 +47,6 @@ def answer(text: str, options: Options, form: str) -> Answer:
         is_legal, found = audit_text(journal(text))
         return 0 if is_legal else UNLAWFUL, found, ""
     except FileFault as fault:
-        return 1, "", f"{fault}\n{likely_cause(str(fault), text)}"
+        return 1, "", f"{fault}\n{likely_cause(str(fault), text, options)}"
     except OpenFault as fault:
         return 2, "", f"{fault}\n"

@@ -35,24 +35,6 @@ MOST_REPLY_BYTES = 256
 MOST_NUMBER = 4_294_967_295
 
 
-OF_FIRST_RECORD = ("record 1: bad member", "record 1: not a day record")
-START_BYTES = 64
-
-
-def likely_cause(fault: str, text: str) -> str:
-    """The line that follows this fault of this input on standard error, or nothing."""
-    start = text[:START_BYTES]
-    if fault not in OF_FIRST_RECORD:
-        return ""
-    if start[:2] in ("\xff\xfe", "\xfe\xff") or (len(start) > 1 and "\0" in start[:2]):
-        return "the input looks like UTF-16: save it as UTF-8\n"
-    if ";" in start and "," not in start:
-        return "the input has semicolons: fields are parted by commas\n"
-    if re.match("[A-Za-z]", start):
-        return "the first record looks like a header: leave it out\n"
-    return ""
-
-
 class FileFault(Exception):
     """The first fault of a file, in the words of standard error."""
 

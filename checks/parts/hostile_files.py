@@ -129,6 +129,79 @@ BYTES: list[tuple[str, bytes, Answer]] = [
 """Bytes that files of other systems and broken files have."""
 
 
+COLUMNS = b"member,command,side,quantity,limit\n"
+COMMAS = "fields are parted by commas"
+HEADER = "record 1: bad member\nthe first record looks like a header: leave it out"
+SPACES = "a field has no spaces around it"
+CAPITALS = "words are in lower case"
+WHOLE = "numbers are whole, prices in ticks"
+MEMBERS = "members are numbered from 0, and there are 4"
+LIMITS = "limits are ticks from 1 to 1000"
+CAUSES: list[tuple[str, bytes, str]] = [
+    ("a header", COLUMNS + b"1,ask\n", HEADER),
+    ("a header of one line", COLUMNS.rstrip(), HEADER),
+    ("a header in the second record", b"1,ask\n" + COLUMNS, "record 2: bad member"),
+    ("a name for a member", b"alice,enter,bid,many,market\n", "record 1: bad member"),
+    ("all in capitals", b"ALICE,ENTER,BID,MANY,MARKET\n", "record 1: bad member"),
+    ("a header of two words", b"alice,cancel\n", "record 1: bad member"),
+    ("tabs", b"1\task\n", f"record 1: bad member\nthe input has tabs: {COMMAS}"),
+    (
+        "semicolons in a later record",
+        b"1,ask\n1;ask\n",
+        f"record 2: bad member\nthe input has semicolons: {COMMAS}",
+    ),
+    ("a semicolon and a comma", b"1;,ask\n", "record 1: bad member"),
+    ("a space before a member", b" 1,ask\n", f"record 1: bad member\n{SPACES}"),
+    ("a tab behind a word", b"1,ask\t\n", f"record 1: bad command\n{SPACES}"),
+    ("a space before a limit", b"1,enter,bid,1, 5\n", f"record 1: bad field 5\n{SPACES}"),
+    ("a command in capitals", b"1,Ask\n", f"record 1: bad command\n{CAPITALS}"),
+    ("a side in capitals", b"1,enter,BID,1,5\n", f"record 1: bad field 3\n{CAPITALS}"),
+    ("an id in letters", b"1,change,BID,1,5\n", "record 1: bad field 3"),
+    ("a limit in capitals", b"1,enter,bid,1,MARKET\n", f"record 1: bad field 5\n{CAPITALS}"),
+    (
+        "a restriction in capitals",
+        b"1,enter,bid,1,5,,Opening\n",
+        f"record 1: bad field 7\n{CAPITALS}",
+    ),
+    ("buy", b"1,enter,buy,1,5\n", "record 1: bad field 3\na side is bid or ask"),
+    ("sell in capitals", b"1,enter,SELL,1,5\n", "record 1: bad field 3\na side is bid or ask"),
+    ("a buy that is no side", b"1,enter,bid,1,buy\n", "record 1: bad field 5"),
+    ("a decimal price", b"1,enter,bid,1,5.25\n", f"record 1: bad field 5\n{WHOLE}"),
+    ("a decimal member", b"1.0,ask\n", f"record 1: bad member\n{WHOLE}"),
+    ("a decimal in place of a side", b"1,enter,5.25,1,5\n", "record 1: bad field 3"),
+    ("two points", b"1,enter,bid,1,5.2.5\n", "record 1: bad field 5"),
+    ("a member more", b"4,ask\n", f"record 1: bad member\n{MEMBERS}"),
+    ("a negative member", b"-1,ask\n", f"record 1: bad member\n{MEMBERS}"),
+    ("a negative limit", b"1,enter,bid,1,-5\n", f"record 1: bad field 5\n{LIMITS}"),
+    ("a limit of 12 digits", b"1,enter,bid,1,500000000000\n", f"record 1: bad field 5\n{LIMITS}"),
+    ("a negative quantity", b"1,enter,bid,-1,5\n", "record 1: bad field 4"),
+    (
+        "a member that a journal's day hasn't",
+        b"day,1,1000,200,3,4096,65536,\n3,ask,\n",
+        "record 2: bad member\nmembers are numbered from 0, and there are 3",
+    ),
+    (
+        "a decimal in a day record",
+        b"day,1.5,1000,200,3,4096,65536,\n",
+        f"record 1: bad field 2\n{WHOLE}",
+    ),
+    ("a tab in a reply", b"day,1,1000,200,3,4096,65536,\n1,ask,a\t\n", "record 2: bad field 3"),
+    (
+        "a cause within the first 16,384 bytes",
+        b"1,ask\n" * 2_728 + b"1,Ask\n1,ask\n",
+        f"record 2729: bad command\n{CAPITALS}",
+    ),
+    ("a cause behind them", b"1,ask\n" * 2_730 + b"1,Ask\n1,ask\n", "record 2731: bad command"),
+]
+"""Faults with their likely causes, and others without one."""
+
+
+def cause_table() -> Iterator[Case]:
+    """Faults with their likely causes, and others without one."""
+    for name, data, told in CAUSES:
+        yield small(name, [], data, fault(told))
+
+
 def byte_table() -> Iterator[Case]:
     """Bytes that files of other systems and broken files have."""
     for name, data, wanted in BYTES:
@@ -226,6 +299,7 @@ def full_table() -> Iterator[Case]:
 
 
 TABLES = [
+    cause_table,
     byte_table,
     junk_table,
     quote_table,

@@ -6,6 +6,8 @@ from collections.abc import Iterator
 from checks import built
 from checks.generators import orders
 from checks.model.answers import DEFAULTS, printed
+from checks.model.causes import record_cause
+from checks.model.day import Options
 from checks.parts.sessions import Talk, Turn
 
 EXAMPLES = built.TOP / "examples"
@@ -22,6 +24,11 @@ BAD_RECORDS = [
     (b"0,ask,1", "wrong number of fields"),
     (b"0,enter,buy,1,1", "bad field 3"),
     (b"0,enter,bid,many,1", "bad field 4"),
+    (b"0,enter,bid,1,1.5", "bad field 5"),
+    (b"0;enter;bid;1;1", "bad member"),
+    (b"alice,enter,bid,many,1", "bad member"),
+    (b"0, ask", "bad command"),
+    (b"0,ASK", "bad command"),
     (b'0,enter,bid,1,"1', OPEN_QUOTE),
     (b'0,enter,bid,1,"x"', "bad field 5"),
 ]
@@ -101,17 +108,42 @@ def spelled_talks() -> Iterator[Talk]:
     )
 
 
-def bad(number: int, fault: str) -> str:
-    """The line of a bad record's fault."""
-    return f"record {number}: {fault}\n"
+def bad(number: int, fault: str, record: bytes = b"", options: Options = DEFAULTS) -> str:
+    """The line of a bad record's fault, with the likely cause that the record's fields tell."""
+    cause = record_cause(fault, number, record.decode("latin-1").split(","), options)
+    return f"record {number}: {fault}: {cause}\n" if cause else f"record {number}: {fault}\n"
+
+
+TOLD = [
+    (b"9,ask\n", "bad member: members are numbered from 0, and there are 4"),
+    (b"0,enter,sell,1,1\n", "bad field 3: a side is bid or ask"),
+    (b"0,enter,bid,1,-1\n", "bad field 5: limits are ticks from 1 to 1000"),
+    (b"0,enter,bid,1,1.5\n", "bad field 5: numbers are whole, prices in ticks"),
+    (b"0\task\n", "bad member: the input has tabs: fields are parted by commas"),
+    (b"member,command,side,quantity,limit\n", "bad member"),
+    (b"0,ask \n", "bad command: a field has no spaces around it"),
+    (b"0,Uncross\n", "bad command: words are in lower case"),
+]
+"""Bad records with their answers."""
 
 
 def bad_talks() -> Iterator[Talk]:
     """Bad records, and what comes after them."""
+    header = b"member,command,side,quantity,limit\n"
+    likely = "bad member: the first record looks like a header: leave it out"
+    yield Talk(
+        "likely causes",
+        [],
+        [
+            Turn(header, f"record 1: {likely}\n"),
+            *[Turn(sent, f"record {at}: {told}\n") for at, (sent, told) in enumerate(TOLD, 2)],
+        ],
+        status=1,
+    )
     for record, fault in BAD_RECORDS:
         turns = [
             Turn(b"1,ask\n", f"1: {NO_PRICE}"),
-            Turn(record + b"\n", bad(2, fault)),
+            Turn(record + b"\n", bad(2, fault, record)),
             Turn(b"1,ask\n", f"2: {NO_PRICE}"),
         ]
         yield Talk(f"a bad record, {record!r}", [], turns, status=1)
@@ -220,7 +252,9 @@ def random_session(seed: int) -> Random:
     turns = [
         Turn(
             record.encode("latin-1") + dice.choice([b"\n", b"\r", b"\n\n"]),
-            next(lines) if fault is None else bad(place, fault),
+            next(lines)
+            if fault is None
+            else bad(place, fault, record.encode("latin-1"), options),
         )
         for place, ((record, _), fault) in enumerate(zip(records, faults, strict=True), 1)
     ]

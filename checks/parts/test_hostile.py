@@ -13,8 +13,9 @@ from collections.abc import Iterator
 import pytest
 
 from checks import built
-from checks.model.answers import Answer
-from checks.model.files import START_BYTES, likely_cause
+from checks.model.answers import DEFAULTS, Answer
+from checks.model.causes import START_BYTES, likely_cause
+from checks.model.day import Options
 from checks.parts import hostile_files, hostile_journals
 from checks.parts.hostile_files import CALLS, Case
 
@@ -40,18 +41,25 @@ def run(program: str, words: list[str], data: bytes) -> tuple[Answer, float, flo
         return (child.returncode, child.stdout, child.stderr), seconds, processor, peak / 1024
 
 
-def with_cause(wanted: Answer, data: bytes) -> Answer:
+def options_of(words: list[str]) -> Options:
+    """The day's options that a command line has."""
+    told = [(name, words.index(f"--{name}")) for name in DEFAULTS if f"--{name}" in words]
+    return DEFAULTS | {name: int(words[place + 1]) for name, place in told}
+
+
+def with_cause(wanted: Answer, words: list[str], data: bytes) -> Answer:
     """The answer, with the line of the likely cause of its fault in this input."""
     status, out, error = wanted
     start = data[:START_BYTES].decode("latin-1")
-    return status, out, error + likely_cause(error.rstrip("\n"), start)
+    cause = likely_cause(error.rstrip("\n"), start, options_of(words))
+    return status, out, error + cause
 
 
 def hold(program: str, tables: dict[str, list[str]], case: Case) -> None:
     """Runs a case. Fails where the answer, the time or the memory is another than it may be."""
     data, wanted = case.make()
     answer, seconds, processor, memory = run(program, case.words, data)
-    wanted = with_cause(wanted, data)
+    wanted = with_cause(wanted, case.words, data)
     size = len(data) / 2**20
     if size > MIB_SHOWN:
         figures = f"{size:.1f} | {seconds:.2f} | {processor:.2f} | {memory:.0f}"

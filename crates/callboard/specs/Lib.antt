@@ -8,5 +8,6 @@ pub mod AuctionRun
 pub mod BoardRun
 pub mod PlayedDay
 pub mod LiveRun
+pub mod KeptLive
 pub mod Served
 pub mod PrintedJournals

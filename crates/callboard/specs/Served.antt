@@ -1,5 +1,5 @@
 -- What the program answers to its words.
-use Rattle.std.specs.Prelude.{◌≡◌, Option, ◌<◌, ◌≢◌, ◌⊎◌, ℕ, List, Some, Bool, true, false}
+use Rattle.std.specs.Prelude.{◌≡◌, Option, ◌<◌, ◌≢◌, ◌⊎◌, ℕ, List, Some, None, Bool, true, false}
 use Rattle.clap.specs.Kinds.{IsAmong}
 use Rattle.clap.specs.Simple.{matches_of}
 use Rattle.clap.specs.Walk.{Text}
@@ -11,7 +11,8 @@ use Rattle.settings.specs.Options.{callboard}
 use Rattle.settings.specs.Ranges.{IsInRange}
 use Rattle.settings.specs.Tasks.{task_at}
 use Rattle.settings.specs.declared.fault.WordsFault.TheVariants.{AuditNotAlone, LiveNotAlone, ResultsWithoutAudit}
-use Rattle.settings.specs.declared.fault.WordsFault.TheVariants.{WithoutLive}
+use Rattle.settings.specs.declared.fault.WordsFault.TheVariants.{SyncWithoutJournal, WithoutLive}
+use Rattle.settings.specs.declared.types.JournalFile.{JournalFile}
 use Rattle.settings.specs.declared.types.Settings.{Settings}
 use Rattle.settings.specs.declared.types.Task.{Task}
 use Rattle.settings.specs.declared.types.Task.TheVariants.{Audit, Floor, Live, Run}
@@ -19,6 +20,7 @@ use Rattle.callboard.specs.AuctionRun.{auction_job}
 use Rattle.callboard.specs.AuditRun.{audit_job}
 use Rattle.callboard.specs.BoardRun.{board_job}
 use Rattle.callboard.specs.FileRun.{Ends, Job, IsRunOf}
+use Rattle.callboard.specs.KeptLive.{RunsKeptSession}
 use Rattle.callboard.specs.LiveRun.{SessionResult, RunsLive, session_status}
 use Rattle.callboard.specs.Status.{RunResult, run_status}
 
@@ -32,11 +34,12 @@ RunsSession day reserve ends status =
     (ended : SessionResult) × RunsLive day reserve ends ended × (status ≡ session_status ended)
 
 -- what is done with an input, which is of this day where it says no other
-abbrev pub DoesTask : DayHeader → Task → Ends → ℕ → Type 0
-DoesTask day (Run form) = RunsJobForStatus (auction_job day form)
-DoesTask day (Floor form) = RunsJobForStatus (board_job day form)
-DoesTask day (Audit results) = RunsJobForStatus (audit_job results)
-DoesTask day (Live reserve) = RunsSession day reserve
+abbrev pub DoesTask : DayHeader → Option JournalFile → Task → Ends → ℕ → Type 0
+DoesTask day journal (Run form) = RunsJobForStatus (auction_job day form)
+DoesTask day journal (Floor form) = RunsJobForStatus (board_job day form)
+DoesTask day journal (Audit results) = RunsJobForStatus (audit_job results)
+DoesTask day None (Live reserve) = RunsSession day reserve
+DoesTask day (Some file) (Live reserve) = RunsKeptSession day reserve
 
 -- the day that the settings say
 abbrev pub day_of : Settings → DayHeader
@@ -44,7 +47,7 @@ day_of s = record { config = s.config; members = s.members }
 
 -- with the input was done what the settings say
 abbrev pub ServesSettings : Settings → Ends → ℕ → Type 0
-ServesSettings s = DoesTask (day_of s) s.task
+ServesSettings s = DoesTask (day_of s) s.journal s.task
 
 -- 0 where the words ask for help, 3 for want of memory, and 2 where the words are wrong
 abbrev pub words_status : ErrorKind → ℕ
@@ -67,7 +70,8 @@ pub record AnswersWords (words : List Text) (ends : Ends) (status : ℕ) : Type 
 -- either without it. The status is 2; nothing is printed, and nothing is read.
 pub record RefusesMix (words : List Text) (ends : Ends) (status : ℕ) : Type 0 where
   pub refused : RefusesWords words AuditNotAlone
-      ⊎ (RefusesWords words LiveNotAlone ⊎ (RefusesWords words ResultsWithoutAudit ⊎ RefusesWords words WithoutLive))
+      ⊎ (RefusesWords words LiveNotAlone ⊎ (RefusesWords words ResultsWithoutAudit
+      ⊎ (RefusesWords words WithoutLive ⊎ RefusesWords words SyncWithoutJournal)))
   pub status_is : status ≡ 2
   pub kept : ends.new ≡ ends.old
   pub none_read : ends.ReadFailed → ⊥

@@ -14,6 +14,7 @@ mod day;
 mod fault;
 mod floor;
 mod journals;
+mod keeping;
 mod kept;
 mod kept_day;
 mod laws;
@@ -28,10 +29,13 @@ use byte_streams::{Failures, FromRead, ToWrite};
 pub use fault::{Fault, Finish};
 pub use floor::run_floor;
 use input_hints::StartKeeper;
+use journal_file::{OpenFault, Opened, Syncing, Tracked, open};
+pub use keeping::OpenedJournal;
 pub use laws::printed_journals_are_lawful;
 use process_ends::Patient;
 pub use run::run_file;
 pub use serve::serve;
+use settings::settings;
 use std::alloc::{AllocError, Global};
 use std::marker::Brand;
 use std::process::ExitCode;
@@ -49,6 +53,27 @@ fn lend<'a>(alloc: Global, words: &'a [String]) -> Result<Vec<&'a str>, AllocErr
         lent.push(word.as_str())?;
     }
     Ok(lent)
+}
+
+/// The journal's file that the words name, opened; none where they name none.
+fn open_journal<'a>(
+    host: &HostRuntime,
+    words: &'a [&'a str],
+) -> Option<Result<OpenedJournal<Tracked<Opened>>, OpenFault>> {
+    let file = match settings(host.alloc(), words) {
+        Ok(settings) => settings.journal?,
+        Err(_) => return None,
+    };
+    let syncing = if file.is_synced {
+        Syncing::Each
+    } else {
+        Syncing::Never
+    };
+    let mut bytes = Vec::new(host.alloc());
+    match open(host, file.name, syncing, &mut bytes) {
+        Ok(device) => Some(Ok(OpenedJournal { device, bytes })),
+        Err(fault) => Some(Err(fault)),
+    }
 }
 
 /// Runs the program on the process's words and its ends, each of which is waited for, and counts its failures in a
@@ -96,7 +121,16 @@ fn run_program<I: Ledger, O: Ledger, E: Ledger, T: Wait + Threads + Sync>(
     };
     let owned: Vec<String> = env::args(host)?.collect(alloc)?;
     let words = lend(alloc, owned.as_slice())?;
-    Ok(serve(alloc, words.as_slice(), &mut reader, &mut out, &mut err, rt))
+    let opened = open_journal(host, words.as_slice());
+    Ok(serve(
+        alloc,
+        words.as_slice(),
+        &mut reader,
+        &mut out,
+        &mut err,
+        opened,
+        rt,
+    ))
 }
 
 /// Says why the process's words could not be had: memory was refused, or one is not UTF-8.

@@ -12,13 +12,15 @@ ghost use Rattle.callboard.specs.Status.{run_status, status_of};
 use crate::audit::run_audit;
 use crate::fault::{Fault, Finish};
 use crate::floor::run_floor;
+use crate::keeping::{OpenedJournal, serve_kept};
 use crate::live::{SessionFault, run_session};
 use crate::run::run_file;
 use byte_streams::{Sink, Source, write_all};
 use clap::Error;
 use clap::error::ErrorKind;
-use input_hints::{KeepsStart, hint_of, is_like_file};
+use input_hints::{DayTerms, KeepsStart, hint_of, is_like_file};
 use journal::DayHeader;
+use journal_file::{Device, OpenFault};
 use live_session::{Ending, LiveFault};
 use member_floor::OpenGate;
 use order_file::FileFault;
@@ -29,7 +31,7 @@ use std::sync::Wait;
 use std::thread::Threads;
 
 /// Writes a line on standard error. Where that fails there is nobody left to tell.
-fn write_line<E: Sink>(err: &mut E, line: &str) {
+pub(crate) fn write_line<E: Sink>(err: &mut E, line: &str) {
     if write_all(err, line.as_bytes()).is_ok() {
         let _ = write_all(err, b"\n".as_slice());
     }
@@ -43,13 +45,28 @@ fn tell<E: Sink>(err: &mut E, fault: Fault) -> u8
     fault.status()
 }
 
+/// By what the records of a day are read.
+fn terms_of(day: DayHeader) -> DayTerms {
+    DayTerms {
+        members: day.members,
+        low: day.config.low,
+        high: day.config.high,
+    }
+}
+
 /// Writes the line of a fault, and behind it one with its likely cause in an input that begins so, where there is one.
-fn tell_of_input<E: Sink>(err: &mut E, fault: Fault, start: &[u8]) -> u8
+fn tell_of_input<E: Sink>(
+    alloc: Global,
+    err: &mut E,
+    fault: Fault,
+    start: &[u8],
+    day: DayHeader,
+) -> u8
     ensures { result ≡ status_of fault }
 {
     let status = tell(err, fault);
     if let Fault::File(fault) = fault {
-        if let Some(hint) = hint_of(fault, start) {
+        if let Ok(Some(hint)) = hint_of(alloc, fault, start, terms_of(day)) {
             write_line(err, InlineText::<64>::of(hint).as_str());
         }
     }
@@ -142,23 +159,30 @@ fn serve_live<R: Source, O: Sink, E: Sink>(
 }
 
 /// Tells the fault of a run of an input that begins so, if there is one, and answers the run's status.
-fn tell_run<E: Sink>(err: &mut E, run: Result<Finish, Fault>, start: &[u8]) -> u8
+fn tell_run<E: Sink>(
+    alloc: Global,
+    err: &mut E,
+    run: Result<Finish, Fault>,
+    start: &[u8],
+    day: DayHeader,
+) -> u8
     ensures { result ≡ run_status run }
 {
     match run {
         Ok(finish) => finish.status(),
-        Err(fault) => tell_of_input(err, fault, start),
+        Err(fault) => tell_of_input(alloc, err, fault, start, day),
     }
 }
 
 /// Does with the input what the settings say, and answers the status: answers its records as they come, or runs its
 /// commands, or audits it.
-fn serve_settings<R: KeepsStart, O: Sink, E: Sink, T: Wait + Threads + Sync>(
+fn serve_settings<R: KeepsStart, O: Sink, E: Sink, D: Device + Drop, T: Wait + Threads + Sync>(
     alloc: Global,
-    settings: Settings,
+    settings: Settings<'_>,
     reader: &mut R,
     out: &mut O,
     err: &mut E,
+    opened: Option<Result<OpenedJournal<D>, OpenFault>>,
     rt: &T,
 ) -> u8
     ensures { ServesSettings settings (ends_of R.Source O.Sink reader.old reader.new out.old out.new) result }
@@ -167,21 +191,25 @@ fn serve_settings<R: KeepsStart, O: Sink, E: Sink, T: Wait + Threads + Sync>(
         config,
         members,
         task,
+        journal,
     } = settings;
     let day = DayHeader { config, members };
     match task {
-        Task::Live { reserve } => serve_live(alloc, reader, out, err, day, reserve),
+        Task::Live { reserve } => match journal {
+            Some(_) => serve_kept(alloc, reader, out, err, opened, day, reserve),
+            None => serve_live(alloc, reader, out, err, day, reserve),
+        },
         Task::Audit { results } => {
             let run = run_audit(alloc, reader, out, results);
-            tell_run(err, run, reader.start())
+            tell_run(alloc, err, run, reader.start(), day)
         }
         Task::Run(form) => {
             let run = run_file(alloc, reader, out, day, form);
-            tell_run(err, run, reader.start())
+            tell_run(alloc, err, run, reader.start(), day)
         }
         Task::Floor(form) => {
             let run = run_floor(alloc, reader, out, day, form, &OpenGate, rt);
-            tell_run(err, run, reader.start())
+            tell_run(alloc, err, run, reader.start(), day)
         }
     }
 }
@@ -193,13 +221,15 @@ fn serve_settings<R: KeepsStart, O: Sink, E: Sink, T: Wait + Threads + Sync>(
 ///
 /// What it prints goes to `out`, the help too; a fault is one line on `err`, and for a bad command line the text of
 /// `clap`, in either case with a line more where its likely cause is known. Where the input or the command line is bad,
-/// nothing goes to `out`, but where records are answered as they come.
-pub fn serve<'a, R: KeepsStart, O: Sink, E: Sink, T: Wait + Threads + Sync>(
+/// nothing goes to `out`, but where records are answered as they come. `opened` is the journal's file, where the words
+/// name one.
+pub fn serve<'a, R: KeepsStart, O: Sink, E: Sink, D: Device + Drop, T: Wait + Threads + Sync>(
     alloc: Global,
     words: &'a [&'a str],
     reader: &mut R,
     out: &mut O,
     err: &mut E,
+    opened: Option<Result<OpenedJournal<D>, OpenFault>>,
     rt: &T,
 ) -> u8
     ensures answer { AnswersCommandLine (texts words.now)
@@ -217,6 +247,9 @@ pub fn serve<'a, R: KeepsStart, O: Sink, E: Sink, T: Wait + Threads + Sync>(
             return refuse_mix(err, &WordsFault::ResultsWithoutAudit);
         }
         Err(WordsFault::WithoutLive) => return refuse_mix(err, &WordsFault::WithoutLive),
+        Err(WordsFault::SyncWithoutJournal) => {
+            return refuse_mix(err, &WordsFault::SyncWithoutJournal);
+        }
         Err(WordsFault::Parse(error)) => {
             let Some(text) = text_of(alloc, &error) else {
                 return tell(err, Fault::NoMemory);
@@ -226,5 +259,5 @@ pub fn serve<'a, R: KeepsStart, O: Sink, E: Sink, T: Wait + Threads + Sync>(
             return status;
         }
     };
-    serve_settings(alloc, settings, reader, out, err, rt)
+    serve_settings(alloc, settings, reader, out, err, opened, rt)
 }

@@ -63,7 +63,8 @@ fn served<R: Source + Drop, S: Sink, E: Ledger, T: AllocGlobal + Wait + Threads 
         failures: Failures::<E>::new(errors),
     };
     let mut reader = StartKeeper::new(reader);
-    let status = serve(rt.alloc(), words, &mut reader, out, &mut err, rt);
+    let opened: Option<Result<OpenedJournal<Tracked<Opened>>, OpenFault>> = None;
+    let status = serve(rt.alloc(), words, &mut reader, out, &mut err, opened, rt);
     let ToMemory { bytes, failures: _ } = err;
     (status, bytes)
 }
@@ -109,6 +110,20 @@ fn gives<T: Abort + AllocGlobal + Wait + Threads + Sync>(
     assert_eq!(rt; from_utf8(printed.out.as_slice()).unwrap_or("?"), out);
     assert_eq!(rt; from_utf8(printed.err.as_slice()).unwrap_or("?"), err);
     assert_eq!(rt; printed.status, status);
+}
+
+/// A file of these bytes, run with these words, is told to have this fault, whatever its likely cause.
+fn gives_fault<T: Abort + AllocGlobal + Wait + Threads + Sync>(
+    rt: &T,
+    words: &[&str],
+    input: &[u8],
+    fault: &str,
+) {
+    let printed = run(rt, words, input);
+    let told = from_utf8(printed.err.as_slice()).unwrap_or("?");
+    assert!(rt; printed.out.is_empty());
+    assert!(rt; told.starts_with(fault));
+    assert_eq!(rt; printed.status, 1);
 }
 
 /// Words and a file, and the output, the error and the status that they give.

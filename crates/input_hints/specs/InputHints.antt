@@ -1,5 +1,6 @@
 -- The likely cause of an input's fault, by how the input begins.
-use Rattle.std.specs.Prelude.{ℕ, zero, suc, ◌+◌, ◌-◌, ◌==◌, ◌&&◌, not, Bool, List, [], ◌∷◌, Option, Some, None, length}
+use Rattle.std.specs.Prelude.{ℕ, zero, suc, ◌+◌, ◌-◌, ◌==◌, ◌&&◌, not, Bool, false, List, [], ◌∷◌, Option, Some, None}
+use Rattle.std.specs.Prelude.{length}
 use Rattle.std.specs.Prelude.{if◌then◌else◌, is_some, nat_lt, option_and_then}
 use Rattle.csv.specs.Reading.{default_config, records, strip_bom}
 use Rattle.order_file.specs.Field.{number_of}
@@ -48,10 +49,18 @@ terms_in first others =
     (option_and_then small (number_of (field_of 4 first))) others
     else others
 
+-- the field at fault is the reply that a record of a journal ends with
+abbrev pub is_reply : List (List ℕ) → ℕ → List (List ℕ) → RecordFault → Bool
+is_reply first number row fault.BadMember = false
+is_reply first number row fault.BadCommand = false
+is_reply first number row fault.BadCount = false
+is_reply first number row (fault.BadField field) = is_of_day first && nat_lt 1 number && (field == length row)
+
 abbrev pub hint_of_rows : RecordFault → ℕ → Option (List (List ℕ)) → Option (List (List ℕ)) → DayTerms → Option Hint
 hint_of_rows fault number None row terms = None
 hint_of_rows fault number (Some first) None terms = None
-hint_of_rows fault number (Some first) (Some row) terms = hint_of_record fault number row (terms_in first terms)
+hint_of_rows fault number (Some first) (Some row) terms =
+    if is_reply first number row fault then None else hint_of_record fault number row (terms_in first terms)
 
 -- the record with this number has this fault
 abbrev pub hint_of_row : RecordFault → ℕ → List ℕ → DayTerms → Option Hint

@@ -1,5 +1,6 @@
 -- The likely cause of a record's fault.
-use Rattle.std.specs.Prelude.{ℕ, ◌-◌, ◌==◌, ◌||◌, ◌&&◌, not, Bool, List, [], ◌∷◌, Option, Some, None, codes, length, map}
+use Rattle.std.specs.Prelude.{ℕ, ◌-◌, ◌==◌, ◌||◌, ◌&&◌, not, Bool, List, [], ◌∷◌, Option, Some, None, codes, length}
+use Rattle.std.specs.Prelude.{map}
 use Rattle.std.specs.Prelude.{if◌then◌else◌, unwrap_or}
 use Rattle.std.specs.Char.{to_ascii_lowercase}
 use Rattle.std.specs.List.{list_all}
@@ -41,7 +42,7 @@ is_header fields = has_names fields && not (is_command_word (lowered (field_of 1
 -- what the input is likely to be, by the record with this number, if it isn't an order file
 unfoldable pub form_hint : ℕ → List (List ℕ) → Option Hint
 form_hint number fields =
-    if is_utf_16 (field_of 0 fields) then Some hint.Utf16
+    if (number == 1) && is_utf_16 (field_of 0 fields) then Some hint.Utf16
     else if is_lone fields && has_byte 59 (field_of 0 fields) then Some hint.Semicolons
     else if is_lone fields && has_byte 9 (field_of 0 fields) then Some hint.Tabs
     else if (number == 1) && is_header fields then Some hint.Header

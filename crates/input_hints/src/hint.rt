@@ -11,7 +11,7 @@ use std::fmt::{Display, Formatter};
 /// What a fault is likely to come from; its text is that which the program prints.
 #[derive(Clone, Copy, Debug, PartialEq, Eq)]
 pub enum Hint {
-    /// The text is in UTF-16: the record begins with that byte order mark, or with a NUL in its first two bytes.
+    /// The text is in UTF-16: the first record begins with that byte order mark, or has a NUL in its first two bytes.
     Utf16,
     /// Fields are parted by semicolons: there is one, and no comma.
     Semicolons,

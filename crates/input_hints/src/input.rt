@@ -1,10 +1,10 @@
 //! The likely cause of an input's fault, by how the input begins.
 
-ghost use Rattle.std.specs.Prelude.{◌≡◌, ◌+◌, ◌-◌, IfOk, MatchBool, Some, None, is_some, option_map};
-ghost use Rattle.csv.specs.Reading.{default_config, records, strip_bom};
+ghost use Rattle.std.specs.Prelude.{◌≡◌, IfOk, MatchBool, Some, None, option_map};
 ghost use Rattle.csv.specs.Records.{fields_of};
 ghost use Rattle.order_file.specs.Rows.{IsRecordReader, rows_left};
-ghost use Rattle.input_hints.specs.InputHints.{hint_in, hint_of_row, row_in, rows_of, small, terms_in, whole_row};
+ghost use Rattle.input_hints.specs.InputHints.{hint_in, hint_of_row, is_reply, row_in, rows_of, small};
+ghost use Rattle.input_hints.specs.InputHints.{terms_in, whole_row};
 
 use crate::hint::Hint;
 use crate::record::{DayTerms, field_of, form_hint, hint_of_record, is_of_day};
@@ -91,6 +91,16 @@ fn terms_in(first: &ByteRecord, others: DayTerms) -> DayTerms
     }
 }
 
+/// Whether this field of a record of a journal is the reply.
+fn is_reply(first: &ByteRecord, number: u64, row: &ByteRecord, fault: RecordFault) -> bool
+    ensures { result ≡ is_reply (fields_of first.now) number (fields_of row.now) fault }
+{
+    match fault {
+        RecordFault::BadField { field } => is_of_day(first) && number > 1 && field == row.len(),
+        _ => false,
+    }
+}
+
 /// The likely cause of the fault of the record with this number.
 fn hint_of_row(
     alloc: Global,
@@ -107,11 +117,15 @@ fn hint_of_row(
     let Some(row) = whole_row(alloc, start, number)? else {
         return Ok(None);
     };
+    if is_reply(&first, number, &row, fault) {
+        return Ok(None);
+    }
     hint_of_record(alloc, fault, number, &row, terms_in(&first, terms))
 }
 
 /// The likely cause of this fault of an input that begins so, where one is certain enough and its record stands in
-/// that beginning. A journal's own day takes the place of `terms`. The error is that memory is refused.
+/// that beginning. A journal's own day takes the place of `terms`; its replies are not looked into. The error is that
+/// memory is refused.
 #[tactic(auto, unfolding(crate::specs::InputHints::hint_in))]
 pub fn hint_of(
     alloc: Global,

@@ -4,7 +4,8 @@ ghost use Rattle.std.specs.Prelude.{◌≡◌, IfOk, Some, None, map, nat_eq};
 ghost use Rattle.std.specs.Char.{to_ascii_lowercase};
 ghost use Rattle.std.specs.Str.{bytes_eq};
 ghost use Rattle.csv.specs.Records.{fields_of};
-ghost use Rattle.input_hints.specs.RecordHints.{command_hint, field_hint, field_of, form_hint, has_names, hint_of_record};
+ghost use Rattle.input_hints.specs.RecordHints.{command_hint, field_hint, field_of, form_hint, has_names};
+ghost use Rattle.input_hints.specs.RecordHints.{hint_of_record};
 ghost use Rattle.input_hints.specs.RecordHints.{is_enter, is_header, is_lone, limit_hint, member_hint, number_hint};
 ghost use Rattle.input_hints.specs.RecordHints.{is_of_day, restriction_hint, side_hint};
 
@@ -72,7 +73,7 @@ pub(crate) fn form_hint(
     ensures { IfOk result (λ hint. hint ≡ form_hint number (fields_of fields.now)) }
 {
     let first = field_of(fields, 0);
-    if is_utf_16(first) {
+    if number == 1 && is_utf_16(first) {
         return Ok(Some(Hint::Utf16));
     }
     if is_lone(fields) && has_byte(first, b';') {

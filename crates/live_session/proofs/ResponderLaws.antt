@@ -1,21 +1,29 @@
 -- Answers to more and more lines.
 use Rattle.std.proofs.Common.{◌≡◌, ◌+◌, ℕ, List, [], ◌∷◌, ◌++◌, Option, Some, None, Bool, true, false, Result, Ok, Err}
 use Rattle.std.proofs.Common.{refl, ap, sym, subst, append_assoc, ◌∙◌}
+use Rattle.std.specs.Prelude.{OnOk}
 use Rattle.std.proofs.lemmas.List.{append-nil}
 use Rattle.auction_terms.specs.declared.Call.{Call}
 use Rattle.auction_terms.specs.declared.Entry.{Entry}
 use Rattle.auction_terms.specs.Auxiliary.RunningAuction.{RunningAuction}
 use Rattle.csv.specs.Reading.{default_config, records, strip_bom}
+use Rattle.order_file.specs.declared.fault.RecordFault.{RecordFault}
+use Rattle.auction_views.specs.View.{is_view, view_of}
+use Rattle.auction_views.specs.declared.view.View.{View}
+use Rattle.input_hints.specs.declared.hint.Hint.{Hint}
 use Rattle.journal.specs.PrintedJournal.{call_line, call_lines}
 use Rattle.live_session.specs.Answered.{Answered, after_input_end, after_line, after_line_by, after_lines, after_record}
-use Rattle.live_session.specs.Answered.{after_records, answer_by, answered, answered_lines, answered_whole, ending_of}
+use Rattle.live_session.specs.Answered.{after_records, answer_by, answer_call, answer_view, answered, answered_lines}
+use Rattle.live_session.specs.Answered.{answered_whole, cause_of, ending_of, refused_with, shown}
 use Rattle.live_session.specs.Answered.{line_fault}
 use Rattle.live_session.specs.Answered.{live_call, nothing_yet, refused, replied}
+use Rattle.live_session.specs.Gathered.{AddsAnswers, Gathers}
 use Rattle.live_session.specs.InputLines.{Lines, is_line_end, line_ended, lines_after, lines_of, next_byte, no_lines}
 use Rattle.live_session.specs.InputLines.{record_text}
 use Rattle.live_session.specs.declared.fault.BadRecord.{BadRecord}
 use Rattle.live_session.specs.declared.fault.BadRecord.TheVariants as bad
 use Rattle.live_session.specs.declared.fault.Ending.TheVariants.{SomeBad}
+use Rattle.live_session.specs.declared.responder.Responder.{Responder}
 use Rattle.live_session.specs.declared.terms.SessionTerms.{SessionTerms}
 use Rattle.live_session.proofs.InputLineLaws.{lines-append}
 use Rattle.live_session.proofs.RecordTextLaws.{IsClosed, line-end-first, records-then}
@@ -112,19 +120,35 @@ begins-on a b c h k = record {
 begins-replied : (a : Answered) (call : Call) → IsBeginningOf a (replied a call)
 begins-replied a call = record { text = (_, refl); entries = (_, refl) }
 
-begins-refused : (a : Answered) (f : BadRecord) → IsBeginningOf a (refused a f)
-begins-refused a f = record { text = (_, refl); entries = ([], append-nil a.entries) }
+begins-refused-with : (a : Answered) (f : BadRecord) (cause : Option Hint) → IsBeginningOf a (refused_with a f cause)
+begins-refused-with a f cause = record { text = (_, refl); entries = ([], append-nil a.entries) }
 
-begins-answer : (a : Answered) (r : Result Call BadRecord) → IsBeginningOf a (answer_by a r)
-begins-answer a (Ok call) = begins-replied a call
-begins-answer a (Err f) = begins-refused a f
+begins-refused : (a : Answered) (f : BadRecord) → IsBeginningOf a (refused a f)
+begins-refused a f = begins-refused-with a f None
+
+begins-shown : (a : Answered) (view : View) → IsBeginningOf a (shown a view)
+begins-shown a view = record { text = (_, refl); entries = ([], append-nil a.entries) }
+
+begins-view : (a : Answered) (r : Result View RecordFault) → IsBeginningOf a (answer_view a r)
+begins-view a (Ok view) = begins-shown a view
+begins-view a (Err f) = begins-refused a (bad.Malformed f)
+
+begins-call : (terms : SessionTerms) (a : Answered) (fields : List (List ℕ)) (r : Result Call BadRecord)
+    → IsBeginningOf a (answer_call terms a fields r)
+begins-call terms a fields (Ok call) = begins-replied a call
+begins-call terms a fields (Err f) = begins-refused-with a f (cause_of terms a.auction (a.records + 1) fields f)
+
+begins-answer : (terms : SessionTerms) (a : Answered) (fields : List (List ℕ)) (is : Bool)
+    → IsBeginningOf a (answer_by terms a fields is)
+begins-answer terms a fields true = begins-view a (view_of terms.members fields)
+begins-answer terms a fields false = begins-call terms a fields (live_call terms a.auction fields)
 
 begins-records : (terms : SessionTerms) (a : Answered) (rs : List (List (List ℕ)))
     → IsBeginningOf a (after_records terms a rs)
 unfolding after_records
 begins-records terms a [] = begins-same a
 begins-records terms a (r ∷ rs) =
-    begins-on _ _ _ (begins-answer a (live_call terms a.auction r)) (begins-records terms (after_record terms a r) rs)
+    begins-on _ _ _ (begins-answer terms a r (is_view r)) (begins-records terms (after_record terms a r) rs)
 
 begins-line-by : (terms : SessionTerms) (a : Answered) (line : List ℕ) (f : Option BadRecord)
     → IsBeginningOf a (after_line_by terms a line f)
@@ -222,3 +246,14 @@ rows-next terms now wanted rows rs r same is = (rw is at same)
 pub ending-bad : (faults : List BadRecord) (fault : BadRecord) → SomeBad ≡ ending_of (faults ++ fault ∷ [])
 ending-bad [] fault = refl
 ending-bad (f ∷ fs) fault = refl
+
+-- ---- the same answers, told otherwise
+
+pub adds-as : {E : Type 0} (old new : Responder) (result : Result (Unit {0}) E)
+    (after same : SessionTerms → Answered → Answered)
+    → ((terms : SessionTerms) (so_far : Answered) → old.terms ≡ terms → old.auction ≡ so_far.auction
+    → old.records ≡ so_far.records → after terms so_far ≡ same terms so_far)
+    → AddsAnswers old new after result → AddsAnswers old new same result
+adds-as old new result after same is adds = λ terms so_far given committed h.
+    subst (λ (a : Answered). OnOk result (Gathers new terms a given committed))
+    (is terms so_far h.terms_are h.auction h.records_are) (adds terms so_far given committed h)

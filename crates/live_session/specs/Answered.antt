@@ -1,6 +1,6 @@
 -- What a session answers to the records that come.
 use Rattle.std.specs.Prelude.{◌==◌, ◌&&◌, ℕ, ◌+◌, List, [], ◌∷◌, ◌++◌, not, nat_le, Bool, if◌then◌else◌}
-use Rattle.std.specs.Prelude.{Option, Some, None, Result, Ok, Err}
+use Rattle.std.specs.Prelude.{Option, Some, None, Result, Ok, Err, true, false}
 use Rattle.auction_terms.specs.declared.Call.{Call}
 use Rattle.auction_terms.specs.declared.Entry.{Entry}
 use Rattle.auction_terms.specs.Day.{step}
@@ -9,6 +9,12 @@ use Rattle.csv.specs.Reading.{default_config, records}
 use Rattle.order_file.specs.Record.{call_of}
 use Rattle.order_file.specs.declared.fault.RecordFault.{RecordFault}
 use Rattle.printed_lines.specs.ReplyLines.{line}
+use Rattle.input_hints.specs.RecordHints.{hint_of_record}
+use Rattle.input_hints.specs.declared.hint.Hint.{Hint}
+use Rattle.input_hints.specs.declared.record.DayTerms.{DayTerms}
+use Rattle.auction_views.specs.View.{is_view, view_of}
+use Rattle.auction_views.specs.ViewText.{view_text}
+use Rattle.auction_views.specs.declared.view.View.{View}
 use Rattle.live_session.specs.BadRecords.{bad_record_line}
 use Rattle.live_session.specs.InputLines.{Lines, is_quote_open, is_too_long, lines_of, record_text}
 use Rattle.live_session.specs.declared.fault.BadRecord.{BadRecord}
@@ -62,23 +68,66 @@ replied so_far call = record {
   faults = so_far.faults;
 }
 
--- A bad one runs nothing. Its line is its fault's, whose number is the record's place in the input.
-abbrev pub refused : Answered → BadRecord → Answered
-refused so_far fault = record {
+-- A bad one runs nothing. Its line is its fault's, whose number is the record's place in the input, and has the fault's
+-- likely cause, if there is one.
+abbrev pub refused_with : Answered → BadRecord → Option Hint → Answered
+refused_with so_far fault cause = record {
   auction = so_far.auction;
   records = so_far.records + 1;
-  text = so_far.text ++ bad_record_line (so_far.records + 1) fault;
+  text = so_far.text ++ bad_record_line (so_far.records + 1) fault cause;
   entries = so_far.entries;
   faults = so_far.faults ++ fault ∷ [];
 }
 
-abbrev pub answer_by : Answered → Result Call BadRecord → Answered
-answer_by so_far (Ok call) = replied so_far call
-answer_by so_far (Err fault) = refused so_far fault
+abbrev pub refused : Answered → BadRecord → Answered
+refused so_far fault = refused_with so_far fault None
 
--- after one more record
+-- A view is answered by its text. It is no call, and changes nothing.
+abbrev pub shown : Answered → View → Answered
+shown so_far view = record {
+  auction = so_far.auction;
+  records = so_far.records + 1;
+  text = so_far.text ++ view_text so_far.auction view;
+  entries = so_far.entries;
+  faults = so_far.faults;
+}
+
+abbrev pub answer_view : Answered → Result View RecordFault → Answered
+answer_view so_far (Ok view) = shown so_far view
+answer_view so_far (Err fault) = refused so_far (bad.Malformed fault)
+
+abbrev pub day_terms : SessionTerms → RunningAuction → DayTerms
+day_terms terms auction = record {
+  members = terms.members;
+  low = auction.config.low;
+  high = auction.config.high;
+}
+
+-- the likely cause of the fault of the record with this number
+abbrev pub cause_of : SessionTerms → RunningAuction → ℕ → List (List ℕ) → BadRecord → Option Hint
+cause_of terms auction number fields (bad.Malformed fault) =
+    hint_of_record fault number fields (day_terms terms auction)
+cause_of terms auction number fields bad.TooLong = None
+cause_of terms auction number fields bad.OpenQuote = None
+cause_of terms auction number fields bad.CutOff = None
+cause_of terms auction number fields bad.TooManyCommands = None
+cause_of terms auction number fields bad.Reserved = None
+
+abbrev pub refused_row : SessionTerms → Answered → List (List ℕ) → BadRecord → Answered
+refused_row terms so_far fields fault =
+    refused_with so_far fault (cause_of terms so_far.auction (so_far.records + 1) fields fault)
+
+abbrev pub answer_call : SessionTerms → Answered → List (List ℕ) → Result Call BadRecord → Answered
+answer_call terms so_far fields (Ok call) = replied so_far call
+answer_call terms so_far fields (Err fault) = refused_row terms so_far fields fault
+
+abbrev pub answer_by : SessionTerms → Answered → List (List ℕ) → Bool → Answered
+answer_by terms so_far fields true = answer_view so_far (view_of terms.members fields)
+answer_by terms so_far fields false = answer_call terms so_far fields (live_call terms so_far.auction fields)
+
+-- after one more record: a view, or a call
 abbrev pub after_record : SessionTerms → Answered → List (List ℕ) → Answered
-after_record terms so_far fields = answer_by so_far (live_call terms so_far.auction fields)
+after_record terms so_far fields = answer_by terms so_far fields (is_view fields)
 
 -- after these records, in their order
 unfoldable pub after_records : SessionTerms → Answered → List (List (List ℕ)) → Answered

@@ -2,8 +2,9 @@
 
 ghost use Rattle.std.specs.Prelude.{◌≡◌, ◌≤◌, ◌+◌, ◌++◌, length};
 ghost use Rattle.printed_lines.specs.declared.page.TheConstants.{LONGEST_LINE, ROOM};
-ghost use Rattle.live_session.specs.BadRecords.{bad_record_line, bad_record_words, record_fault_words};
+ghost use Rattle.live_session.specs.BadRecords.{bad_record_line, bad_record_words, cause_words, record_fault_words};
 
+use input_hints::{Hint, put_hint};
 use order_file::RecordFault;
 use printed_lines::{LONGEST_LINE, Page, ROOM};
 
@@ -57,16 +58,33 @@ fn put_bad_record(page: &mut Page, fault: BadRecord)
     }
 }
 
-/// Puts the line of a bad record on the page: its number in the input, from 1, and its fault.
+/// Puts a likely cause on the page, behind a colon.
+fn put_cause(page: &mut Page, cause: Option<Hint>)
+    requires { length page.old + 80 ≤ ROOM }
+    ensures text { page.new ≡ page.old ++ cause_words cause }
+    ensures longer { length page.new ≤ length page.old + 80 }
+{
+    match cause {
+        None => (),
+        Some(cause) => {
+            page.put(": ");
+            put_hint(page, cause);
+        }
+    }
+}
+
+/// Puts the line of a bad record on the page: its number in the input, from 1, its fault, and the likely cause of that,
+/// if there is one.
 #[tactic(auto, unfolding(crate::specs::BadRecords::bad_record_line))]
-pub(crate) fn put_bad_line(page: &mut Page, number: u64, fault: BadRecord)
+pub(crate) fn put_bad_line(page: &mut Page, number: u64, fault: BadRecord, cause: Option<Hint>)
     requires { length page.old + LONGEST_LINE ≤ ROOM }
-    ensures { page.new ≡ page.old ++ bad_record_line number fault }
+    ensures { page.new ≡ page.old ++ bad_record_line number fault cause }
 {
     page.put("record ");
     page.put_number(number);
     page.put(": ");
     put_bad_record(page, fault);
+    put_cause(page, cause);
     page.put("\n");
 }
 

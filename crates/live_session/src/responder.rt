@@ -5,7 +5,10 @@ ghost use Rattle.csv.specs.Reading.{default_config, records, strip_bom};
 ghost use Rattle.csv.specs.Records.{fields_of};
 ghost use Rattle.order_file.specs.Rows.{IsRecordReader, rows_left};
 ghost use Rattle.printed_lines.specs.KeptText.{text_of};
-ghost use Rattle.live_session.specs.Answered.{after_record, after_records, is_reserved, live_call, refused, replied};
+ghost use Rattle.auction_views.specs.View.{view_of};
+ghost use Rattle.live_session.specs.Answered.{after_record, after_records, answer_call, answer_view, cause_of};
+ghost use Rattle.live_session.specs.Answered.{is_reserved};
+ghost use Rattle.live_session.specs.Answered.{live_call, refused, refused_row, refused_with, replied, shown};
 ghost use Rattle.live_session.specs.Gathered.{AddsAnswers, IsCommitted};
 ghost use Rattle.live_session.specs.Giving.{Gives, IsGatheredAs, IsNew};
 
@@ -13,8 +16,10 @@ use crate::conversation::Conversation;
 use crate::fault::{BadRecord, Ending, LiveFault, put_bad_line};
 use crate::terms::SessionTerms;
 use auction::Auction;
-use auction_terms::{Call, Entry};
+use auction_terms::{Call, Config, Entry};
+use auction_views::{View, is_view, put_view, view_of};
 use csv::{ByteRecord, Reader};
+use input_hints::{DayTerms, Hint, hint_of_record};
 use journal::keep_entry;
 use order_file::{call_of, next_row, reader_of};
 use printed_lines::{KeptText, put_line};
@@ -112,26 +117,103 @@ impl Responder {
         Ok(())
     }
 
-    /// Gathers the answer to a bad record.
-    pub(crate) fn refuse(&mut self, fault: BadRecord) -> Result<(), AllocError>
-        ensures { AddsAnswers self.old self.new (λ _ so_far. refused so_far fault) result }
+    /// Gathers the answer to a bad record, with its fault's likely cause, if there is one.
+    fn refuse_with(&mut self, fault: BadRecord, cause: Option<Hint>) -> Result<(), AllocError>
+        ensures { AddsAnswers self.old self.new (λ _ so_far. refused_with so_far fault cause) result }
     {
         let number = self.next_number()?;
         self.answers.make_room()?;
-        put_bad_line(&mut self.answers.page, number, fault);
+        put_bad_line(&mut self.answers.page, number, fault, cause);
         self.ending = Ending::SomeBad;
         self.records = number;
         Ok(())
     }
 
-    /// Answers the next record.
-    fn answer_row(&mut self, row: &ByteRecord) -> Result<(), AllocError>
-        ensures { AddsAnswers self.old self.new (λ terms so_far. after_record terms so_far (fields_of row.now)) result }
+    /// Gathers the answer to a bad record, of whose fault no cause is known.
+    pub(crate) fn refuse(&mut self, fault: BadRecord) -> Result<(), AllocError>
+        ensures { AddsAnswers self.old self.new (λ _ so_far. refused so_far fault) result }
+    {
+        self.refuse_with(fault, None)
+    }
+
+    /// The likely cause of the fault of the next record.
+    fn cause_of(
+        &self,
+        alloc: Global,
+        row: &ByteRecord,
+        fault: BadRecord,
+    ) -> Result<Option<Hint>, AllocError>
+        ensures { IfOk result (λ cause. cause
+            ≡ cause_of self.now.terms self.now.auction (self.now.records + 1) (fields_of row.now) fault) }
+    {
+        let BadRecord::Malformed(fault) = fault else {
+            return Ok(None);
+        };
+        let number = self.next_number()?;
+        let Config { low, high, .. } = self.auction.config();
+        let terms = DayTerms {
+            members: self.terms.members,
+            low,
+            high,
+        };
+        hint_of_record(alloc, fault, number, row, terms)
+    }
+
+    /// Gathers the answer to a record that is no call.
+    fn refuse_row(
+        &mut self,
+        alloc: Global,
+        row: &ByteRecord,
+        fault: BadRecord,
+    ) -> Result<(), AllocError>
+        ensures { AddsAnswers self.old self.new
+            (λ terms so_far. refused_row terms so_far (fields_of row.now) fault) result }
+    {
+        let cause = self.cause_of(alloc, row, fault)?;
+        self.refuse_with(fault, cause)
+    }
+
+    /// Gathers the text of a view.
+    fn show(&mut self, alloc: Global, view: View) -> Result<(), AllocError>
+        ensures { AddsAnswers self.old self.new (λ _ so_far. shown so_far view) result }
+    {
+        let number = self.next_number()?;
+        put_view(alloc, &mut self.answers, &mut self.auction, view)?;
+        self.records = number;
+        Ok(())
+    }
+
+    /// Answers the next record, which asks for a view.
+    fn answer_view(&mut self, alloc: Global, row: &ByteRecord) -> Result<(), AllocError>
+        ensures { AddsAnswers self.old self.new
+            (λ terms so_far. answer_view so_far (view_of terms.members (fields_of row.now))) result }
+    {
+        match view_of(row, self.terms.members) {
+            Ok(view) => self.show(alloc, view),
+            Err(fault) => self.refuse(BadRecord::Malformed(fault)),
+        }
+    }
+
+    /// Answers the next record, which is to be a call.
+    fn answer_call(&mut self, alloc: Global, row: &ByteRecord) -> Result<(), AllocError>
+        ensures { AddsAnswers self.old self.new
+            (λ terms so_far. answer_call terms so_far (fields_of row.now)
+            (live_call terms so_far.auction (fields_of row.now))) result }
     {
         match live_call(&self.auction, self.terms, row) {
             Ok(call) => self.reply(call),
-            Err(fault) => self.refuse(fault),
+            Err(fault) => self.refuse_row(alloc, row, fault),
         }
+    }
+
+    /// Answers the next record.
+    fn answer_row(&mut self, alloc: Global, row: &ByteRecord) -> Result<(), AllocError>
+        ensures { AddsAnswers self.old self.new (λ terms so_far. after_record terms so_far (fields_of row.now)) result }
+    {
+        if is_view(row) {
+            return self.answer_view(alloc, row);
+        }
+        self.answer_call(alloc, row)
     }
 
     /// Answers the records that are left.
@@ -148,7 +230,7 @@ impl Responder {
             if !found {
                 return Ok(());
             }
-            self.answer_row(&row)?;
+            self.answer_row(alloc, &row)?;
         }
         Err(AllocError)
     }

@@ -36,25 +36,35 @@ all_rules a b numbers i le h = rw take_all at h
 abbrev pub versioned : App → App
 versioned a = on_top (λ top. record top { has_version = true }) a
 
--- the options in the order of the table, and then the six others
-pub whole : (a b c d e f g h : App) (numbers : List Number) (floor history print audit results live : Rule)
+-- the options in the order of the table, and then the eight others
+pub whole : (a b c d e f g h k l : App) (numbers : List Number)
+    (floor history print audit results live journal sync : Rule)
     → a ≡ versioned (new_app (codes "callboard")) → b ≡ with_rules a (map rule_for numbers)
     → map rule_for numbers ≡ take 8 options → floor ≡ flag (codes "floor") → c ≡ with_rule b floor
     → history ≡ flag (codes "history") → d ≡ with_rule c history
     → print ≡ word (codes "print") → e ≡ with_rule d print → audit ≡ flag (codes "audit") → f ≡ with_rule e audit
     → results ≡ flag (codes "results") → g ≡ with_rule f results
-    → live ≡ flag (codes "live") → h ≡ with_rule g live → h ≡ callboard
+    → live ≡ flag (codes "live") → h ≡ with_rule g live
+    → journal ≡ word (codes "journal") → k ≡ with_rule h journal
+    → sync ≡ word (codes "sync") → l ≡ with_rule k sync → l ≡ callboard
 unfolding callboard
-whole a b c d e f g h numbers floor history print audit results live start table rules is_floor more_floor is_history
-    more_history is_print more_print is_audit more_audit is_results more_results is_live more_live =
+whole a b c d e f g h k l numbers floor history print audit results live journal sync start table rules is_floor
+    more_floor is_history more_history is_print more_print is_audit more_audit is_results more_results is_live
+    more_live is_journal more_journal is_sync more_sync =
     let d_is : d
     ≡ with_rule (with_rule (with_rules (versioned (new_app (codes "callboard"))) (take 8 options))
     (flag (codes "floor"))) (flag (codes "history")) =
     more_history ∙ ap₂ with_rule (more_floor ∙ ap₂ with_rule (table ∙ ap₂ with_rules start rules) is_floor)
     is_history in
+    let h_is : h
+    ≡ with_rule (with_rule (with_rule (with_rule (with_rule (with_rule (with_rules
+    (versioned (new_app (codes "callboard"))) (take 8 options))
+    (flag (codes "floor"))) (flag (codes "history"))) (word (codes "print"))) (flag (codes "audit")))
+    (flag (codes "results"))) (flag (codes "live")) =
     more_live
     ∙ ap₂ with_rule (more_results ∙ ap₂ with_rule (more_audit
-    ∙ ap₂ with_rule (more_print ∙ ap₂ with_rule d_is is_print) is_audit) is_results) is_live
+    ∙ ap₂ with_rule (more_print ∙ ap₂ with_rule d_is is_print) is_audit) is_results) is_live in
+    more_sync ∙ ap₂ with_rule (more_journal ∙ ap₂ with_rule h_is is_journal) is_sync
 
 -- what a `?` hands on for want of memory
 pub memory_only : {T : Type 0} (r : Result T Error) → IsErrAnd r (λ e. kind_of e ≡ OutOfMemory)

@@ -1,5 +1,6 @@
 -- Command lines, as the definitions read them.
-use Rattle.std.proofs.Common.{◌≡◌, true, false, refl, List, [], ◌∷◌, Some, None, codes}
+use Rattle.std.proofs.Common.{◌≡◌, true, false, refl, List, [], ◌∷◌, Some, None, codes, ap, sym}
+use Rattle.std.specs.Borrow.{Bor}
 use Rattle.clap.specs.Walk.{Text}
 use Rattle.clap.specs.Kinds.{Kinds}
 use Rattle.clap.specs.declared.error.kind.ErrorKind.TheVariants as kind
@@ -7,7 +8,7 @@ use Rattle.clap.proofs.OnLiterals.{clap_on_literals}
 use Rattle.settings.specs.Options.{callboard}
 use Rattle.settings.specs.CommandLine.{AcceptsWords, RefusesWords, words_kinds}
 use Rattle.settings.specs.declared.fault.WordsFault.TheVariants.{AuditNotAlone, LiveNotAlone, ResultsWithoutAudit}
-use Rattle.settings.specs.declared.fault.WordsFault.TheVariants.{WithoutLive}
+use Rattle.settings.specs.declared.fault.WordsFault.TheVariants.{SyncWithoutJournal, WithoutLive}
 use Rattle.settings.specs.declared.types.FloorForm.TheVariants as floor
 use Rattle.settings.specs.declared.types.Form.TheVariants.{Lines, Listing}
 use Rattle.settings.specs.declared.types.Listing.TheVariants.{Journal, Trades, Book}
@@ -20,6 +21,7 @@ plain = record {
   config = record { low = 1; high = 1000; reference = 200; max_open = 4096; max_calls = 65536; range = None };
   members = 4;
   task = Run Lines;
+  journal = None;
 }
 
 -- no word
@@ -37,8 +39,10 @@ no_words = (
         refl;
     members = refl;
     task = refl;
+    journal = refl;
+    synced = tt;
   },
-  (refl, refl, refl, refl),
+  (refl, refl, refl, refl, refl),
 )
 
 -- `--low 5 --floor`
@@ -57,8 +61,10 @@ low_and_floor = (
         refl;
     members = refl;
     task = refl;
+    journal = refl;
+    synced = tt;
   },
-  (refl, refl, refl, refl),
+  (refl, refl, refl, refl, refl),
 )
 
 -- `--range 0`
@@ -79,8 +85,10 @@ range_of_zero = (
         refl;
     members = refl;
     task = refl;
+    journal = refl;
+    synced = tt;
   },
-  (refl, refl, refl, refl),
+  (refl, refl, refl, refl, refl),
 )
 
 -- each option of a run
@@ -92,6 +100,7 @@ every_option : AcceptsWords (codes "callboard" ∷ codes "--low" ∷ codes "5" �
       config = record { low = 5; high = 6; reference = 1000000; max_open = 65536; max_calls = 1048576; range = Some 7 };
       members = 64;
       task = Floor (floor.Listing Journal);
+      journal = None;
     })
 unfolding callboard clap_on_literals
 every_option = (
@@ -106,8 +115,10 @@ every_option = (
         refl;
     members = refl;
     task = refl;
+    journal = refl;
+    synced = tt;
   },
-  (refl, refl, refl, refl),
+  (refl, refl, refl, refl, refl),
 )
 
 -- `--print lines`
@@ -125,8 +136,10 @@ lines_asked_for = (
         refl;
     members = refl;
     task = refl;
+    journal = refl;
+    synced = tt;
   },
-  (refl, refl, refl, refl),
+  (refl, refl, refl, refl, refl),
 )
 
 -- `--print trades`
@@ -147,8 +160,10 @@ trades_asked_for = (
         refl;
     members = refl;
     task = refl;
+    journal = refl;
+    synced = tt;
   },
-  (refl, refl, refl, refl),
+  (refl, refl, refl, refl, refl),
 )
 
 -- `--floor --print book`
@@ -167,8 +182,10 @@ book_of_a_floor = (
         refl;
     members = refl;
     task = refl;
+    journal = refl;
+    synced = tt;
   },
-  (refl, refl, refl, refl),
+  (refl, refl, refl, refl, refl),
 )
 
 -- `--floor --history`
@@ -189,8 +206,10 @@ floor_and_history = (
     range = refl;
     members = refl;
     task = refl;
+    journal = refl;
+    synced = tt;
   },
-  (refl, refl, refl, refl),
+  (refl, refl, refl, refl, refl),
 )
 
 -- `--history` alone: without a board there is no history to print
@@ -208,8 +227,10 @@ history_alone = (
         refl;
     members = refl;
     task = refl;
+    journal = refl;
+    synced = tt;
   },
-  (refl, refl, refl, refl),
+  (refl, refl, refl, refl, refl),
 )
 
 -- `--audit`
@@ -228,8 +249,10 @@ audit_alone = (
         refl;
     members = refl;
     task = refl;
+    journal = refl;
+    synced = tt;
   },
-  (refl, refl, refl, refl),
+  (refl, refl, refl, refl, refl),
 )
 
 -- and its results too
@@ -249,8 +272,10 @@ audit_with_results = (
         refl;
     members = refl;
     task = refl;
+    journal = refl;
+    synced = tt;
   },
-  (refl, refl, refl, refl),
+  (refl, refl, refl, refl, refl),
 )
 
 -- `--live`, also with the lines
@@ -270,8 +295,10 @@ live_asked_for = (
         refl;
     members = refl;
     task = refl;
+    journal = refl;
+    synced = tt;
   },
-  (refl, refl, refl, refl),
+  (refl, refl, refl, refl, refl),
 )
 
 -- `--live --reserve 3`
@@ -290,8 +317,55 @@ reserve_asked_for = (
         refl;
     members = refl;
     task = refl;
+    journal = refl;
+    synced = tt;
   },
-  (refl, refl, refl, refl),
+  (refl, refl, refl, refl, refl),
+)
+
+-- `--live --journal day.csv`, also with `--sync none`
+journal_asked_for : (name : Bor Text) → name.now ≡ codes "day.csv"
+    → AcceptsWords (codes "callboard" ∷ codes "--live" ∷ codes "--journal" ∷ codes "day.csv" ∷ [])
+    (record plain { task = Live 16; journal = Some (record { name = name; is_synced = true }) })
+unfolding callboard clap_on_literals
+journal_asked_for name is = (
+  refl,
+  record {
+    low = refl;
+    high = refl;
+    reference = refl;
+    max_open = refl;
+    max_calls = refl;
+    range =
+        refl;
+    members = refl;
+    task = refl;
+    journal = ap (λ (t : Text). Some t) (sym is);
+    synced = refl;
+  },
+  (refl, refl, refl, refl, refl),
+)
+
+unsynced_asked_for : (name : Bor Text) → name.now ≡ codes "day.csv"
+    → AcceptsWords (codes "callboard" ∷ codes "--live" ∷ codes "--sync" ∷ codes "none" ∷ codes "--journal=day.csv" ∷ [])
+    (record plain { task = Live 16; journal = Some (record { name = name; is_synced = false }) })
+unfolding callboard clap_on_literals
+unsynced_asked_for name is = (
+  refl,
+  record {
+    low = refl;
+    high = refl;
+    reference = refl;
+    max_open = refl;
+    max_calls = refl;
+    range =
+        refl;
+    members = refl;
+    task = refl;
+    journal = ap (λ (t : Text). Some t) (sym is);
+    synced = refl;
+  },
+  (refl, refl, refl, refl, refl),
 )
 
 -- ---- words that are refused
@@ -389,6 +463,21 @@ results_alone = (refl, refl, refl, refl)
 reserve_alone : RefusesWords (codes "callboard" ∷ codes "--reserve" ∷ codes "0" ∷ []) WithoutLive
 unfolding callboard clap_on_literals
 reserve_alone = (refl, refl, refl, refl, refl)
+
+-- a journal without answers as records come, and how it is kept without one
+journal_alone : RefusesWords (codes "callboard" ∷ codes "--journal" ∷ codes "day.csv" ∷ []) WithoutLive
+unfolding callboard clap_on_literals
+journal_alone = (refl, refl, refl, refl, refl)
+
+sync_alone : RefusesWords (codes "callboard" ∷ codes "--live" ∷ codes "--sync" ∷ codes "none" ∷ []) SyncWithoutJournal
+unfolding callboard clap_on_literals
+sync_alone = (refl, refl, refl, refl, refl, refl)
+
+-- it isn't kept in another way
+sync_all : faults (codes "--live" ∷ codes "--journal" ∷ codes "day.csv" ∷ codes "--sync" ∷ codes "all" ∷ [])
+    ≡ kind.InvalidValue ∷ []
+unfolding callboard clap_on_literals
+sync_all = refl
 
 -- one call too many
 reserve_1048577 : faults (codes "--live" ∷ codes "--reserve" ∷ codes "1048577" ∷ []) ≡ kind.ValueValidation ∷ []

@@ -8,7 +8,7 @@ use Rattle.clap.specs.Faults.{fault_of, is_simple_and_free}
 use Rattle.clap.specs.Kinds.{HasKind, Kinds, or_else}
 use Rattle.clap.specs.Matches.{first_value}
 use Rattle.clap.specs.Simple.{app_of, matches_of}
-use Rattle.clap.specs.Walk.{Row, Text, rows_of}
+use Rattle.clap.specs.Walk.{Row, Text, first_of, rows_of}
 use Rattle.clap.specs.declared.builder.command.Command.{Command}
 use Rattle.clap.specs.declared.error.Error.{Error}
 use Rattle.clap.specs.declared.error.kind.ErrorKind.TheVariants.{InvalidValue}
@@ -20,10 +20,11 @@ use Rattle.settings.specs.NumberTexts.{number_at}
 use Rattle.settings.specs.OptionTexts.{MayHaveNumber}
 use Rattle.settings.specs.Ranges.{HasReserveInRange}
 use Rattle.settings.specs.Tasks.{RefusesTask, wanted_form, form_kinds, is_given, is_live_mixed, is_audit_mixed, run_of}
-use Rattle.settings.specs.Tasks.{is_live_missing, is_results_alone, reserve_at, task_at, word_in}
+use Rattle.settings.specs.Tasks.{is_journal_missing, is_live_missing, is_results_alone, reserve_at, sync_in, sync_kinds}
+use Rattle.settings.specs.Tasks.{task_at, task_kinds, word_in}
 use Rattle.settings.specs.declared.fault.WordsFault.{WordsFault}
 use Rattle.settings.specs.declared.fault.WordsFault.TheVariants.{Parse, AuditNotAlone, LiveNotAlone}
-use Rattle.settings.specs.declared.fault.WordsFault.TheVariants.{ResultsWithoutAudit, WithoutLive}
+use Rattle.settings.specs.declared.fault.WordsFault.TheVariants.{ResultsWithoutAudit, SyncWithoutJournal, WithoutLive}
 use Rattle.settings.specs.declared.types.Form.{Form}
 use Rattle.settings.specs.declared.types.Task.{Task}
 use Rattle.settings.specs.declared.types.Task.TheVariants.{Audit, Live}
@@ -35,19 +36,19 @@ pub handed_on : {T E : Type 0} (P : E → Type 0) (r : Result T E) (e : E) → P
 handed_on P (Ok x) e holds is = tt
 handed_on P (Err f) e holds is = subst P (sym is) holds
 
--- ---- the word of `--print`
+-- ---- the words that options were given
 
-pub word_in-first_value : (f : Found) (word : Option (Bor Text))
-    → option_map (λ s. s.now) word ≡ first_value f (codes "print") → word_in (rows_of f) ≡ option_map (λ s. s.now) word
-word_in-first_value f word got = sym (first_value-rows f (codes "print")) ∙ sym got
+pub first_of-first_value : (f : Found) (id : Text) (word : Option (Bor Text))
+    → option_map (λ s. s.now) word ≡ first_value f id → first_of id (rows_of f) ≡ option_map (λ s. s.now) word
+first_of-first_value f id word got = sym (first_value-rows f id) ∙ sym got
 
 some_text : (word : Option (Bor Text)) → is_some (option_map (λ s. s.now) word) ≡ is_some word
 some_text None = refl
 some_text (Some w) = refl
 
-pub is_some-word_in : (f : Found) (word : Option (Bor Text))
-    → option_map (λ s. s.now) word ≡ first_value f (codes "print") → is_some (word_in (rows_of f)) ≡ is_some word
-is_some-word_in f word got = ap is_some (word_in-first_value f word got) ∙ some_text word
+pub is_some-first_of : (f : Found) (id : Text) (word : Option (Bor Text))
+    → option_map (λ s. s.now) word ≡ first_value f id → is_some (first_of id (rows_of f)) ≡ is_some word
+is_some-first_of f id word got = ap is_some (first_of-first_value f id word got) ∙ some_text word
 
 -- ---- the task
 
@@ -65,6 +66,11 @@ task_at-run rows word floor history form same asked is_floor is_history no_audit
 -- the form that is wanted is one
 pub no_kinds : (word : Option Text) (form : Form) → wanted_form word ≡ Some form → form_kinds word ≡ []
 no_kinds word form is = ap (λ (w : Option Form). if is_some w then [] else InvalidValue ∷ []) is
+
+-- and so is the word of `--sync`
+pub no_task_kinds : (rows : List Row) (form : Form) → wanted_form (word_in rows) ≡ Some form
+    → sync_kinds (sync_in rows) ≡ [] → task_kinds rows ≡ []
+no_task_kinds rows form is none = (λ i. or_else (no_kinds (word_in rows) form is i) (none i))
 
 -- ---- the calls that are kept for the operator
 
@@ -110,37 +116,46 @@ pub refused_words : (c : Command) (words : List Text) (e : Error) → app_of c �
     → (is_simple_and_free (app_of c) ≡ true → HasKind (fault_of (app_of c) words) e)
     → RefusesWords words (Parse e)
 refused_words c words e same kinds =
-    first_kinds (fault_of callboard words) (form_kinds (word_in (matches_of callboard words))) e
+    first_kinds (fault_of callboard words) (task_kinds (matches_of callboard words)) e
     (subst (λ a. HasKind (fault_of a words) e) same (kinds (free_command c same)))
 
 pub refused_task : (words : List Text) (rows : List Row) (f : WordsFault) → fault_of callboard words ≡ []
     → rows ≡ matches_of callboard words → RefusesTask rows f → RefusesWords words f
 refused_task words rows (Parse e) none same has =
-    subst (λ ks. HasKind (or_else ks (form_kinds (word_in (matches_of callboard words)))) e) (sym none)
-    (subst (λ rs. HasKind (form_kinds (word_in rs)) e) same has)
+    subst (λ ks. HasKind (or_else ks (task_kinds (matches_of callboard words))) e) (sym none)
+    (subst (λ rs. HasKind (task_kinds rs) e) same has)
 refused_task words rows AuditNotAlone none same mixed = (
-  (λ i. or_else (none i) (form_kinds (word_in (matches_of callboard words))))
-      ∙ ap (λ rs. form_kinds (word_in rs)) (sym same) ∙ mixed.0,
+  (λ i. or_else (none i) (task_kinds (matches_of callboard words)))
+      ∙ ap (λ rs. task_kinds rs) (sym same) ∙ mixed.0,
   ap is_audit_mixed (sym same) ∙ mixed.1,
 )
 refused_task words rows LiveNotAlone none same mixed = (
-  (λ i. or_else (none i) (form_kinds (word_in (matches_of callboard words))))
-      ∙ ap (λ rs. form_kinds (word_in rs)) (sym same) ∙ mixed.0,
+  (λ i. or_else (none i) (task_kinds (matches_of callboard words)))
+      ∙ ap (λ rs. task_kinds rs) (sym same) ∙ mixed.0,
   ap is_audit_mixed (sym same) ∙ mixed.1,
   ap is_live_mixed (sym same) ∙ mixed.2,
 )
 refused_task words rows ResultsWithoutAudit none same alone = (
-  (λ i. or_else (none i) (form_kinds (word_in (matches_of callboard words))))
-      ∙ ap (λ rs. form_kinds (word_in rs)) (sym same) ∙ alone.0,
+  (λ i. or_else (none i) (task_kinds (matches_of callboard words)))
+      ∙ ap (λ rs. task_kinds rs) (sym same) ∙ alone.0,
   ap is_audit_mixed (sym same) ∙ alone.1,
   ap is_live_mixed (sym same) ∙ alone.2,
   ap is_results_alone (sym same) ∙ alone.3,
 )
 refused_task words rows WithoutLive none same missing = (
-  (λ i. or_else (none i) (form_kinds (word_in (matches_of callboard words))))
-      ∙ ap (λ rs. form_kinds (word_in rs)) (sym same) ∙ missing.0,
+  (λ i. or_else (none i) (task_kinds (matches_of callboard words)))
+      ∙ ap (λ rs. task_kinds rs) (sym same) ∙ missing.0,
   ap is_audit_mixed (sym same) ∙ missing.1,
   ap is_live_mixed (sym same) ∙ missing.2,
   ap is_results_alone (sym same) ∙ missing.3,
   ap is_live_missing (sym same) ∙ missing.4,
+)
+refused_task words rows SyncWithoutJournal none same missing = (
+  (λ i. or_else (none i) (task_kinds (matches_of callboard words)))
+      ∙ ap (λ rs. task_kinds rs) (sym same) ∙ missing.0,
+  ap is_audit_mixed (sym same) ∙ missing.1,
+  ap is_live_mixed (sym same) ∙ missing.2,
+  ap is_results_alone (sym same) ∙ missing.3,
+  ap is_live_missing (sym same) ∙ missing.4,
+  ap is_journal_missing (sym same) ∙ missing.5,
 )

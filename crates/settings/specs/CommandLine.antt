@@ -1,16 +1,16 @@
 -- What the words of the command line say.
-use Rattle.std.specs.Prelude.{◌≡◌, true, false, List, [], Some, codes}
+use Rattle.std.specs.Prelude.{◌≡◌, true, false, List, [], Some, IfSome, codes, option_map}
 use Rattle.clap.specs.Faults.{fault_of}
 use Rattle.clap.specs.Kinds.{HasKind, Kinds, or_else}
 use Rattle.clap.specs.Simple.{matches_of}
-use Rattle.clap.specs.Walk.{Row, Text}
+use Rattle.clap.specs.Walk.{Row, Text, first_of}
 use Rattle.settings.specs.NumberTexts.{number_at}
 use Rattle.settings.specs.Options.{callboard}
-use Rattle.settings.specs.Tasks.{IsWellMixed, form_kinds, is_audit_mixed, is_live_missing, is_live_mixed}
-use Rattle.settings.specs.Tasks.{is_results_alone, task_at, word_in}
+use Rattle.settings.specs.Tasks.{IsWellMixed, is_audit_mixed, is_journal_missing, is_live_missing, is_live_mixed}
+use Rattle.settings.specs.Tasks.{is_results_alone, is_synced, task_at, task_kinds}
 use Rattle.settings.specs.declared.fault.WordsFault.{WordsFault}
 use Rattle.settings.specs.declared.fault.WordsFault.TheVariants.{Parse, AuditNotAlone, LiveNotAlone}
-use Rattle.settings.specs.declared.fault.WordsFault.TheVariants.{ResultsWithoutAudit, WithoutLive}
+use Rattle.settings.specs.declared.fault.WordsFault.TheVariants.{ResultsWithoutAudit, SyncWithoutJournal, WithoutLive}
 use Rattle.settings.specs.declared.types.Settings.{Settings}
 
 -- each setting is what its option says
@@ -23,19 +23,21 @@ pub record MatchesOptions (rows : List Row) (s : Settings) : Type 0 where
   pub range : number_at (codes "range") rows ≡ s.config.range
   pub members : number_at (codes "members") rows ≡ Some s.members
   pub task : task_at rows ≡ Some s.task
+  pub journal : first_of (codes "journal") rows ≡ option_map (λ file. file.name.now) s.journal
+  pub synced : IfSome s.journal (λ file. file.is_synced ≡ is_synced rows)
 
 -- the words, the program's name first, have no fault, say these settings, and go together
 abbrev pub AcceptsWords : List Text → Settings → Type 0
 AcceptsWords words s = (fault_of callboard words ≡ []) × MatchesOptions (matches_of callboard words) s
     × IsWellMixed (matches_of callboard words)
 
--- the kinds of fault of the words: those of the parse, and where it has none, of the form
+-- the kinds of fault of the words: those of the parse, and where it has none, of the words that options were given
 abbrev pub words_kinds : List Text → Kinds
-words_kinds words = or_else (fault_of callboard words) (form_kinds (word_in (matches_of callboard words)))
+words_kinds words = or_else (fault_of callboard words) (task_kinds (matches_of callboard words))
 
 -- Why words are refused: a fault of theirs, want of memory aside; where they have none, an audit that doesn't stand
--- alone; where it does, answers as records come that don't; where they do, results without an audit; and then what goes
--- with answers as records come alone, without them.
+-- alone; where it does, answers as records come that don't; where they do, results without an audit; then what goes
+-- with answers as records come alone, without them; and then how a journal is kept, without one.
 abbrev pub RefusesWords : List Text → WordsFault → Type 0
 RefusesWords words (Parse error) = HasKind (words_kinds words) error
 RefusesWords words AuditNotAlone = (words_kinds words ≡ []) × (is_audit_mixed (matches_of callboard words) ≡ true)
@@ -47,3 +49,6 @@ RefusesWords words ResultsWithoutAudit =
 RefusesWords words WithoutLive = (words_kinds words ≡ []) × (is_audit_mixed (matches_of callboard words) ≡ false)
     × (is_live_mixed (matches_of callboard words) ≡ false) × (is_results_alone (matches_of callboard words) ≡ false)
     × (is_live_missing (matches_of callboard words) ≡ true)
+RefusesWords words SyncWithoutJournal = (words_kinds words ≡ []) × (is_audit_mixed (matches_of callboard words) ≡ false)
+    × (is_live_mixed (matches_of callboard words) ≡ false) × (is_results_alone (matches_of callboard words) ≡ false)
+    × (is_live_missing (matches_of callboard words) ≡ false) × (is_journal_missing (matches_of callboard words) ≡ true)

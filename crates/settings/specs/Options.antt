@@ -50,6 +50,8 @@ options = number (codes "low") 1 MAX_TICK (Some (codes "1"))
     ∷ flag (codes "audit")
     ∷ flag (codes "results")
     ∷ flag (codes "live")
+    ∷ word (codes "journal")
+    ∷ word (codes "sync")
     ∷ []
 
 -- the command: its name and its options, a version, and no subcommand

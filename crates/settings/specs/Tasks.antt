@@ -3,13 +3,13 @@ use Rattle.std.specs.Prelude.{◌≡◌, ◌||◌, ◌&&◌, Bool, true, false, 
 use Rattle.std.specs.Prelude.{ℕ, if◌then◌else◌, not, option_map, unwrap_or}
 use Rattle.std.specs.Option.{option_map_or}
 use Rattle.std.specs.Str.{bytes_eq}
-use Rattle.clap.specs.Kinds.{HasKind, Kinds}
+use Rattle.clap.specs.Kinds.{HasKind, Kinds, or_else}
 use Rattle.clap.specs.Walk.{Row, Text, first_of, one_of}
 use Rattle.clap.specs.declared.error.kind.ErrorKind.TheVariants.{InvalidValue}
 use Rattle.settings.specs.NumberTexts.{number_at}
 use Rattle.settings.specs.declared.fault.WordsFault.{WordsFault}
 use Rattle.settings.specs.declared.fault.WordsFault.TheVariants.{Parse, AuditNotAlone, LiveNotAlone}
-use Rattle.settings.specs.declared.fault.WordsFault.TheVariants.{ResultsWithoutAudit, WithoutLive}
+use Rattle.settings.specs.declared.fault.WordsFault.TheVariants.{ResultsWithoutAudit, SyncWithoutJournal, WithoutLive}
 use Rattle.settings.specs.declared.types.FloorForm.{FloorForm}
 use Rattle.settings.specs.declared.types.FloorForm.TheVariants as floor
 use Rattle.settings.specs.declared.types.Form.{Form}
@@ -47,6 +47,23 @@ wanted_form word = option_map_or form_of word (Some Lines)
 -- a word that names no form is an invalid value
 abbrev pub form_kinds : Option Text → Kinds
 form_kinds word = if is_some (wanted_form word) then [] else InvalidValue ∷ []
+
+-- the word of `--sync`, where it was given
+abbrev pub sync_in : List Row → Option Text
+sync_in rows = first_of (codes "sync") rows
+
+-- any other word than `none` is an invalid value
+abbrev pub sync_kinds : Option Text → Kinds
+sync_kinds None = []
+sync_kinds (Some word) = if bytes_eq word (codes "none") then [] else InvalidValue ∷ []
+
+-- what is kept is synced
+abbrev pub is_synced : List Row → Bool
+is_synced rows = not (is_some (sync_in rows))
+
+-- the kinds of fault of the words that options were given
+abbrev pub task_kinds : List Row → Kinds
+task_kinds rows = or_else (form_kinds (word_in rows)) (sync_kinds (sync_in rows))
 
 -- what is printed of a board's day: a listing in place of its tally, which its history follows where that is wanted
 abbrev pub floor_form : Bool → Form → FloorForm
@@ -95,21 +112,30 @@ is_results_alone rows = is_given (codes "results") rows && not (is_given (codes 
 
 -- something that goes with answers as records come alone was asked for without them
 abbrev pub is_live_missing : List Row → Bool
-is_live_missing rows = is_some (number_at (codes "reserve") rows) && not (is_given (codes "live") rows)
+is_live_missing rows = (is_some (number_at (codes "reserve") rows)
+    || (is_some (first_of (codes "journal") rows) || is_some (sync_in rows))) && not (is_given (codes "live") rows)
+
+-- how a journal is kept was said without one
+abbrev pub is_journal_missing : List Row → Bool
+is_journal_missing rows = is_some (sync_in rows) && not (is_some (first_of (codes "journal") rows))
 
 -- An audit stands alone, and so do answers as records come; what goes with either isn't asked for without it.
 abbrev pub IsWellMixed : List Row → Type 0
 IsWellMixed rows = (is_audit_mixed rows ≡ false) × (is_live_mixed rows ≡ false) × (is_results_alone rows ≡ false)
-    × (is_live_missing rows ≡ false)
+    × (is_live_missing rows ≡ false) × (is_journal_missing rows ≡ false)
 
--- Why options that have no fault of their own say no task. The form comes first, then what stands beside an audit, then
--- what stands beside answers as records come, then what goes with either and was asked for without it.
+-- Why options that have no fault of their own say no task. The words that options were given come first, then what
+-- stands beside an audit, then what stands beside answers as records come, then what goes with either and was asked for
+-- without it.
 abbrev pub RefusesTask : List Row → WordsFault → Type 0
-RefusesTask rows (Parse error) = HasKind (form_kinds (word_in rows)) error
-RefusesTask rows AuditNotAlone = (form_kinds (word_in rows) ≡ []) × (is_audit_mixed rows ≡ true)
+RefusesTask rows (Parse error) = HasKind (task_kinds rows) error
+RefusesTask rows AuditNotAlone = (task_kinds rows ≡ []) × (is_audit_mixed rows ≡ true)
 RefusesTask rows LiveNotAlone =
-    (form_kinds (word_in rows) ≡ []) × (is_audit_mixed rows ≡ false) × (is_live_mixed rows ≡ true)
-RefusesTask rows ResultsWithoutAudit = (form_kinds (word_in rows) ≡ []) × (is_audit_mixed rows ≡ false)
+    (task_kinds rows ≡ []) × (is_audit_mixed rows ≡ false) × (is_live_mixed rows ≡ true)
+RefusesTask rows ResultsWithoutAudit = (task_kinds rows ≡ []) × (is_audit_mixed rows ≡ false)
     × (is_live_mixed rows ≡ false) × (is_results_alone rows ≡ true)
-RefusesTask rows WithoutLive = (form_kinds (word_in rows) ≡ []) × (is_audit_mixed rows ≡ false)
+RefusesTask rows WithoutLive = (task_kinds rows ≡ []) × (is_audit_mixed rows ≡ false)
     × (is_live_mixed rows ≡ false) × (is_results_alone rows ≡ false) × (is_live_missing rows ≡ true)
+RefusesTask rows SyncWithoutJournal = (task_kinds rows ≡ []) × (is_audit_mixed rows ≡ false)
+    × (is_live_mixed rows ≡ false) × (is_results_alone rows ≡ false) × (is_live_missing rows ≡ false)
+    × (is_journal_missing rows ≡ true)

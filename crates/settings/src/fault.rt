@@ -21,8 +21,10 @@ pub enum WordsFault {
     LiveNotAlone,
     /// `--results` was given without `--audit`. The text is one line.
     ResultsWithoutAudit,
-    /// `--reserve` was given without `--live`. The text is one line.
+    /// `--reserve`, `--journal` or `--sync` was given without `--live`. The text is one line.
     WithoutLive,
+    /// `--sync` was given without `--journal`. The text is one line.
+    SyncWithoutJournal,
 }
 
 impl From<Error> for WordsFault {
@@ -46,7 +48,10 @@ impl Display for WordsFault {
                 f.write_str("--live prints lines, without --floor, --history or --audit")
             }
             WordsFault::ResultsWithoutAudit => f.write_str("--results goes with --audit"),
-            WordsFault::WithoutLive => f.write_str("--reserve goes with --live"),
+            WordsFault::WithoutLive => {
+                f.write_str("--reserve, --journal and --sync go with --live")
+            }
+            WordsFault::SyncWithoutJournal => f.write_str("--sync goes with --journal"),
         }
     }
 }

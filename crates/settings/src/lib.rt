@@ -1,13 +1,13 @@
 //! The command line of a call auction board: its options, their ranges and their defaults.
 #![tactic(auto)]
 
-ghost use Rattle.std.specs.Prelude.{◌≡◌, IfErr, IfOk, Some};
-ghost use Rattle.clap.specs.Walk.{texts};
+ghost use Rattle.std.specs.Prelude.{◌≡◌, IfErr, IfOk, IfSome, Some, codes, option_map};
+ghost use Rattle.clap.specs.Walk.{first_of, texts};
 ghost use Rattle.settings.specs.Ranges.{IsInRange};
 ghost use Rattle.settings.specs.OptionTexts.{HasU32, IsParsed, MayHaveU32, rows_in};
 ghost use Rattle.settings.specs.NumberTexts.{number_at};
 ghost use Rattle.settings.specs.CommandLine.{AcceptsWords, RefusesWords, MatchesOptions};
-ghost use Rattle.settings.specs.Tasks.{task_at};
+ghost use Rattle.settings.specs.Tasks.{is_synced, task_at};
 
 mod fault;
 mod options;
@@ -18,8 +18,8 @@ use auction_terms::Config;
 use clap::ArgMatches;
 pub use fault::WordsFault;
 use std::alloc::Global;
-use task::task_of;
-pub use types::{FloorForm, Form, Listing, Settings, Task, USUAL_RESERVE};
+use task::{has_word, task_of};
+pub use types::{FloorForm, Form, JournalFile, Listing, Settings, Task, USUAL_RESERVE};
 
 /// The number of an option that has a default.
 fn number_of(matches: &ArgMatches<'_>, name: &str) -> u32
@@ -37,8 +37,18 @@ fn number_if_given(matches: &ArgMatches<'_>, name: &str) -> Option<u32>
     matches.get_one::<u32>(name)
 }
 
+/// The file that keeps a session's commands, where one is asked for.
+fn journal_file<'a>(matches: &ArgMatches<'a>) -> Option<JournalFile<'a>>
+    ensures name { first_of (codes "journal") (rows_in matches.now) ≡ option_map (λ file. file.name.now) result }
+    ensures synced { IfSome result (λ file. file.is_synced ≡ is_synced (rows_in matches.now)) }
+{
+    let is_synced = !has_word(matches, "sync");
+    let name = matches.get_str("journal")?;
+    Some(JournalFile { name, is_synced })
+}
+
 /// The settings with this task in the matches of a parse of the command.
-fn settings_of(matches: &ArgMatches<'_>, task: Task) -> Settings
+fn settings_of<'a>(matches: &ArgMatches<'a>, task: Task) -> Settings<'a>
     requires parsed { IsParsed matches.now }
     requires task { task_at (rows_in matches.now) ≡ Some task }
     ensures words { MatchesOptions (rows_in matches.now) result }
@@ -62,6 +72,7 @@ fn settings_of(matches: &ArgMatches<'_>, task: Task) -> Settings
         },
         members: members as u8,
         task,
+        journal: journal_file(matches),
     }
 }
 
@@ -72,8 +83,9 @@ fn settings_of(matches: &ArgMatches<'_>, task: Task) -> Settings
 /// clap's own: its text for the help that was asked for, for words that are none of these options, a
 /// number out of its range or a form that there is not, and for want of memory. Where none of these
 /// is so, it is that options don't go together: that `--audit` doesn't stand alone, or that `--live`
-/// doesn't, or that `--results` was given without `--audit`, or `--reserve` without `--live`.
-pub fn settings<'a>(alloc: Global, words: &'a [&'a str]) -> Result<Settings, WordsFault>
+/// doesn't, or that `--results` was given without `--audit`, or `--reserve`, `--journal` or `--sync`
+/// without `--live`, or `--sync` without `--journal`.
+pub fn settings<'a>(alloc: Global, words: &'a [&'a str]) -> Result<Settings<'a>, WordsFault>
     ensures refused { IfErr result (RefusesWords (texts words.now)) }
     ensures words { IfOk result (AcceptsWords (texts words.now)) }
     ensures ranges { IfOk result IsInRange }

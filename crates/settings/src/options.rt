@@ -37,6 +37,15 @@ them, with the faults and what is printed.
 Status: 0 done, 1 a bad input, 2 a bad command line or bounds, 3 no memory, a read or a write that failed or a board
 that couldn't be closed, 4 an audit that found a reply that isn't lawful";
 
+const PRINT_HELP: &str =
+    "What is printed: lines, journal (the day), trades (who with whom), book (at each price) [default: lines]";
+
+const JOURNAL_HELP: &str =
+    "With --live, keeps each command on the disk before it is answered, and goes on with what the file has";
+
+const SYNC_HELP: &str =
+    "With --journal, none: commands are written to the file, but not synced to the disk";
+
 /// An option with a number.
 #[derive(Clone, Copy)]
 struct Number {
@@ -144,17 +153,15 @@ fn flag_option<'a>(alloc: Global, name: &'a str, help: &'a str) -> Arg<'a>
         .value_parser(value_parser!(bool))
 }
 
-/// The option that says what is printed.
-fn print_option<'a>(alloc: Global) -> Arg<'a>
-    ensures rule { rule_of result ≡ word (codes "print") }
+/// An option with a word, which `value` stands for in the help.
+fn word_option<'a>(alloc: Global, name: &'a str, value: &'a str, help: &'a str) -> Arg<'a>
+    ensures rule { rule_of result ≡ word name.entry.now }
     ensures local { result.global ≡ false }
 {
-    Arg::new(alloc, "print")
-        .long("print")
-        .value_name("WHAT")
-        .help(
-            "What is printed: lines, journal (the day), trades (who with whom), book (at each price) [default: lines]",
-        )
+    Arg::new(alloc, name)
+        .long(name)
+        .value_name(value)
+        .help(help)
         .action(ArgAction::Set)
 }
 
@@ -175,8 +182,8 @@ fn with_numbers<'a>(
 }
 
 /// The command with all its options: the numbers in ticks, orders, calls and members, each with its range, the two
-/// flags of the members' floor, what is printed, the audit and its results, and the answers as records come. The error
-/// is want of memory.
+/// flags of the members' floor, what is printed, the audit and its results, the answers as records come, and where and
+/// how these are kept. The error is want of memory.
 pub fn callboard<'a>(alloc: Global) -> Result<Command<'a>, Error>
     ensures options { IfOk result (λ c. app_of c ≡ callboard) }
     ensures memory { IfErr result (λ e. kind_of e ≡ ErrorKind.OutOfMemory) }
@@ -196,7 +203,7 @@ pub fn callboard<'a>(alloc: Global) -> Result<Command<'a>, Error>
         "history",
         "With --floor, prints the board's history too",
     );
-    let print = print_option(alloc);
+    let print = word_option(alloc, "print", "WHAT", PRINT_HELP);
     let audit = flag_option(
         alloc,
         "audit",
@@ -212,6 +219,8 @@ pub fn callboard<'a>(alloc: Global) -> Result<Command<'a>, Error>
         "live",
         "Answers each record as it comes; a bad one is told, and the rest goes on",
     );
+    let journal = word_option(alloc, "journal", "FILE", JOURNAL_HELP);
+    let sync = word_option(alloc, "sync", "HOW", SYNC_HELP);
     Ok(
         command
             .arg(floor)?
@@ -219,6 +228,8 @@ pub fn callboard<'a>(alloc: Global) -> Result<Command<'a>, Error>
             .arg(print)?
             .arg(audit)?
             .arg(results)?
-            .arg(live)?,
+            .arg(live)?
+            .arg(journal)?
+            .arg(sync)?,
     )
 }

@@ -1,14 +1,15 @@
 //! What is done with the input.
 
-ghost use Rattle.std.specs.Prelude.{◌≡◌, ◌⊎◌, Some, IfErr, IfOk, codes, is_some, option_map};
+ghost use Rattle.std.specs.Prelude.{◌≡◌, ◌⊎◌, [], Some, IfErr, IfOk, codes, is_some, option_map};
 ghost use Rattle.clap.specs.Kinds.{FailsBy};
+ghost use Rattle.clap.specs.Walk.{first_of};
 ghost use Rattle.clap.specs.Values.{kind_of};
 ghost use Rattle.clap.specs.declared.error.kind.ErrorKind.TheVariants.{InvalidValue, OutOfMemory};
 ghost use Rattle.settings.specs.NumberTexts.{number_at};
 ghost use Rattle.settings.specs.OptionTexts.{HasFlag, IsParsed, rows_in};
 ghost use Rattle.settings.specs.Tasks.{IsWellMixed, RefusesTask, floor_form, wanted_form, form_kinds, form_of};
-ghost use Rattle.settings.specs.Tasks.{is_audit_mixed, is_given, is_live_missing, is_live_mixed, is_results_alone};
-ghost use Rattle.settings.specs.Tasks.{reserve_at, task_at, word_in};
+ghost use Rattle.settings.specs.Tasks.{is_audit_mixed, is_given, is_journal_missing, is_live_missing, is_live_mixed};
+ghost use Rattle.settings.specs.Tasks.{is_results_alone, reserve_at, sync_in, sync_kinds, task_at, task_kinds, word_in};
 ghost use Rattle.settings.specs.declared.types.Task.TheVariants.{Live};
 
 use crate::fault::WordsFault;
@@ -42,14 +43,14 @@ fn form_of(word: &str) -> Option<Form>
     }
 }
 
-/// What `clap` would say of a word that names no form.
-fn unknown_form(alloc: Global, word: &str) -> Result<Error, Error>
+/// What `clap` would say of a word that isn't one of those that an option takes.
+fn unknown_word(alloc: Global, word: &str, option: &str, possible: &str) -> Result<Error, Error>
     ensures kind { IfOk result (λ e. kind_of e ≡ InvalidValue) }
     ensures memory { IfErr result (λ e. kind_of e ≡ OutOfMemory) }
 {
     let mut command = options::callboard(alloc)?;
     let text = format!(in alloc;
-        "invalid value '{word}' for '--print <WHAT>'\n  [possible values: lines, journal, trades, book]"
+        "invalid value '{word}' for '{option}'\n  [possible values: {possible}]"
     )?;
     Ok(command.error(ErrorKind::InvalidValue, text.as_str())?)
 }
@@ -64,15 +65,34 @@ fn wanted_form(alloc: Global, word: Option<&str>) -> Result<Form, Error>
     };
     match form_of(word) {
         Some(form) => Ok(form),
-        None => Err(unknown_form(alloc, word)?),
+        None => Err(unknown_word(
+            alloc,
+            word,
+            "--print <WHAT>",
+            "lines, journal, trades, book",
+        )?),
     }
 }
 
-/// Whether a form was asked for, be it the lines.
-fn has_form(matches: &ArgMatches<'_>) -> bool
-    ensures { is_some (word_in (rows_in matches.now)) ≡ result }
+/// Refuses a word of `--sync` that isn't `none`.
+fn refuse_sync(alloc: Global, word: Option<&str>) -> Result<(), Error>
+    ensures refused { FailsBy (sync_kinds (option_map (λ w. w.now) word.entry)) result }
+    ensures none { IfOk result (λ _. sync_kinds (option_map (λ w. w.now) word.entry) ≡ []) }
 {
-    matches.get_str("print").is_some()
+    let Some(word) = word else {
+        return Ok(());
+    };
+    if word == "none" {
+        return Ok(());
+    }
+    Err(unknown_word(alloc, word, "--sync <HOW>", "none")?)
+}
+
+/// Whether the option with a word was given.
+pub(crate) fn has_word(matches: &ArgMatches<'_>, name: &str) -> bool
+    ensures { is_some (first_of name.now (rows_in matches.now)) ≡ result }
+{
+    matches.get_str(name).is_some()
 }
 
 /// Whether an audit was asked for beside something that only a run has.
@@ -83,7 +103,7 @@ fn is_audit_mixed(matches: &ArgMatches<'_>) -> bool
     let audit = flag_of(matches, "audit");
     let floor = flag_of(matches, "floor");
     let history = flag_of(matches, "history");
-    let form = has_form(matches);
+    let form = has_word(matches, "print");
     audit && (floor || history || form)
 }
 
@@ -117,14 +137,26 @@ fn is_live_missing(matches: &ArgMatches<'_>) -> bool
     ensures { is_live_missing (rows_in matches.now) ≡ result }
 {
     let reserve = number_if_given(matches, "reserve");
+    let journal = has_word(matches, "journal");
+    let sync = has_word(matches, "sync");
     let live = flag_of(matches, "live");
-    reserve.is_some() && !live
+    (reserve.is_some() || journal || sync) && !live
+}
+
+/// Whether it was said how a journal is kept, without one.
+fn is_journal_missing(matches: &ArgMatches<'_>) -> bool
+    ensures { is_journal_missing (rows_in matches.now) ≡ result }
+{
+    let journal = has_word(matches, "journal");
+    let sync = has_word(matches, "sync");
+    sync && !journal
 }
 
 /// Refuses options that don't go together.
 fn refuse_mix(matches: &ArgMatches<'_>, form: Form) -> Result<(), WordsFault>
     requires parsed { IsParsed matches.now }
     requires form { wanted_form (word_in (rows_in matches.now)) ≡ Some form }
+    requires sync { sync_kinds (sync_in (rows_in matches.now)) ≡ [] }
     ensures refused { IfErr result (RefusesTask (rows_in matches.now)) }
     ensures mixed { IfOk result (λ _. IsWellMixed (rows_in matches.now)) }
 {
@@ -139,6 +171,9 @@ fn refuse_mix(matches: &ArgMatches<'_>, form: Form) -> Result<(), WordsFault>
     }
     if is_live_missing(matches) {
         return Err(WordsFault::WithoutLive);
+    }
+    if is_journal_missing(matches) {
+        return Err(WordsFault::SyncWithoutJournal);
     }
     Ok(())
 }
@@ -173,6 +208,7 @@ pub fn task_of(alloc: Global, matches: &ArgMatches<'_>) -> Result<Task, WordsFau
     ensures mixed { IfOk result (λ _. IsWellMixed (rows_in matches.now)) }
 {
     let form = wanted_form(alloc, matches.get_str("print"))?;
+    refuse_sync(alloc, matches.get_str("sync"))?;
     refuse_mix(matches, form)?;
     let live = flag_of(matches, "live");
     let audit = flag_of(matches, "audit");

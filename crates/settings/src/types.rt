@@ -55,11 +55,20 @@ pub enum Task {
     },
 }
 
-/// What the command line says: what an auction is opened with and how many members it has, where the
-/// input doesn't say so itself, and what is done with the input.
+/// The file that keeps the commands of a session.
 #[derive(Clone, Copy, Debug, PartialEq, Eq)]
-pub struct Settings {
+pub struct JournalFile<'a> {
+    pub name: &'a str,
+    /// Whether what is kept is on the disk, and not only written, before it is answered.
+    pub is_synced: bool,
+}
+
+/// What the command line says: what an auction is opened with and how many members it has, where the
+/// input doesn't say so itself, what is done with the input, and where a session's commands are kept.
+#[derive(Clone, Copy, Debug, PartialEq, Eq)]
+pub struct Settings<'a> {
     pub config: Config,
     pub members: u8,
     pub task: Task,
+    pub journal: Option<JournalFile<'a>>,
 }

@@ -1,6 +1,6 @@
 //! Each limit at its value, one below and one above: in files and on the command line.
 
-use super::{Example, PLAIN, SHOWN, each_gives_its_lines, gives, run};
+use super::{Example, PLAIN, SHOWN, each_gives_its_lines, gives, gives_fault, run};
 use std::process::Abort;
 use std::str::from_utf8;
 use std::sync::Wait;
@@ -269,8 +269,11 @@ fn members_at_both_ends(rt: HostRuntime) {
     let bad = "record 1: bad member\n";
     for &(members, record, good) in MEMBERS.as_slice() {
         let words = ["callboard", "--members", members];
-        let (out, err, status) = if good { (SHOWN, "", 0) } else { ("", bad, 1) };
-        gives(&rt, words.as_slice(), record.as_bytes(), out, err, status);
+        if good {
+            gives(&rt, words.as_slice(), record.as_bytes(), SHOWN, "", 0);
+        } else {
+            gives_fault(&rt, words.as_slice(), record.as_bytes(), bad);
+        }
     }
 }
 
@@ -306,7 +309,7 @@ fn numbers_that_are_too_long(rt: HostRuntime) -> Result<(), Fail> {
         for &number in LONG_NUMBERS.as_slice() {
             let input = format!(in alloc; "{front}{number}{back}\n")?;
             let err = format!(in alloc; "record 1: {fault}\n")?;
-            gives(&rt, PLAIN, input.as_str().as_bytes(), "", err.as_str(), 1);
+            gives_fault(&rt, PLAIN, input.as_str().as_bytes(), err.as_str());
         }
     }
     Ok(())

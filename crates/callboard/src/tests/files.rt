@@ -23,14 +23,23 @@ static GOOD: [(&str, &str); 12] = [
 
 static BAD: [(&[u8], &str); 23] = [
     (b"1,ask\n1,enter,bid,abc,200", "record 2: bad field 4\n"),
-    (b"7,ask", "record 1: bad member\n"),
-    (b"4,ask", "record 1: bad member\n"),
+    (
+        b"7,ask",
+        "record 1: bad member\nmembers are numbered from 0, and there are 4\n",
+    ),
+    (
+        b"4,ask",
+        "record 1: bad member\nmembers are numbered from 0, and there are 4\n",
+    ),
     (b"\"\"", "record 1: bad member\n"),
     (b"\xff,ask", "record 1: bad member\n"),
-    (b"9,nonsense", "record 1: bad member\n"),
+    (
+        b"9,nonsense",
+        "record 1: bad member\nmembers are numbered from 0, and there are 4\n",
+    ),
     (b"1", "record 1: bad command\n"),
     (b"1,\xff", "record 1: bad command\n"),
-    (b"1,ASK", "record 1: bad command\n"),
+    (b"1,ASK", "record 1: bad command\nwords are in lower case\n"),
     (b"1,ask,", "record 1: wrong number of fields\n"),
     (b"1,change,1,5", "record 1: wrong number of fields\n"),
     (b"1,enter,bid", "record 1: wrong number of fields\n"),
@@ -42,8 +51,14 @@ static BAD: [(&[u8], &str); 23] = [
     (b"1,enter,bid,00000000005,200", "record 1: bad field 4\n"),
     (b"1,enter,bid,,200", "record 1: bad field 4\n"),
     (b"1,enter,bid,+5,200", "record 1: bad field 4\n"),
-    (b"1,enter,bid,5, 200", "record 1: bad field 5\n"),
-    (b"1,enter,buy,x,200", "record 1: bad field 3\n"),
+    (
+        b"1,enter,bid,5, 200",
+        "record 1: bad field 5\na field has no spaces around it\n",
+    ),
+    (
+        b"1,enter,buy,x,200",
+        "record 1: bad field 3\na side is bid or ask\n",
+    ),
     (b"1,enter,bid,5,200,x", "record 1: bad field 6\n"),
     (b"1,enter,bid,5,200,,intraday", "record 1: bad field 7\n"),
     (b"1,change,x,5,200", "record 1: bad field 3\n"),

@@ -8,14 +8,14 @@ const AUDIT: &[&str] = &["callboard", "--audit"];
 static INPUTS: [Row; 12] = [
     (
         PLAIN,
-        b"member,command\n1,ask\n",
+        b"member,command,side,quantity,limit\n1,ask\n",
         "",
         "record 1: bad member\nthe first record looks like a header: leave it out\n",
         1,
     ),
     (
         AUDIT,
-        b"Member,command\n",
+        b"Member,command,side,quantity,limit\n",
         "",
         "record 1: not a day record\nthe first record looks like a header: leave it out\n",
         1,
@@ -55,7 +55,13 @@ static INPUTS: [Row; 12] = [
         "record 1: bad member\nthe input has semicolons: fields are parted by commas\n",
         1,
     ),
-    (PLAIN, b"9,ask\n", "", "record 1: bad member\n", 1),
+    (
+        PLAIN,
+        b"9,ask\n",
+        "",
+        "record 1: bad member\nmembers are numbered from 0, and there are 4\n",
+        1,
+    ),
     (PLAIN, b"9;,ask\n", "", "record 1: bad member\n", 1),
     (
         PLAIN,
@@ -64,12 +70,18 @@ static INPUTS: [Row; 12] = [
         "record 2: bad member\n",
         1,
     ),
-    (PLAIN, b"1,ASK\n", "", "record 1: bad command\n", 1),
+    (
+        PLAIN,
+        b"1,ASK\n",
+        "",
+        "record 1: bad command\nwords are in lower case\n",
+        1,
+    ),
     (AUDIT, b"1,ask\n", "", "record 1: not a day record\n", 1),
 ];
 
 #[test]
-fn the_first_record_tells_its_cause(rt: HostRuntime) {
+fn a_fault_tells_its_cause(rt: HostRuntime) {
     each_gives(&rt, INPUTS.as_slice());
 }
 

@@ -72,7 +72,7 @@ returns-clause-ranges c =
           between 1 MAX_CALLS (codes "calls") (rows_of (found_of c.args.matches.now)) c.number_of-max_calls.result
           has.max_calls c.number_of-max_calls.ensures;
       range =
-          at_most_if_some 0 MAX_TICK (codes "range") (rows_of (found_of c.args.matches.now)) c.number_if_given-range.result
-          has.range c.number_if_given-range.ensures;
+          at_most_if_some 0 MAX_TICK (codes "range") (rows_of (found_of c.args.matches.now))
+          c.number_if_given-range.result has.range c.number_if_given-range.ensures;
       reserve = reserve_in_range (rows_of (found_of c.args.matches.now)) c.args.task has.reserve c.requires.task;
     }

@@ -1,0 +1,2 @@
+pub mod LadderRowLaws
+pub mod TableLaws

@@ -1,0 +1,46 @@
+-- The lines of a table, one by one, and their fields.
+use Rattle.std.proofs.Common.{◌≡◌, ◌<◌, ◌+◌, ◌++◌, ℕ, List, [], ◌∷◌, map, codes, drop, get_or, length, refl, ap, ◌∙◌}
+use Rattle.std.proofs.Common.{◌-◌, append_assoc, length-drop, suc}
+use Rattle.auction_terms.specs.declared.Trade.{Trade}
+use Rattle.printed_lines.specs.ReplyWords.{words_text}
+use Rattle.printed_lines.proofs.Lists.{IsText, text-done}
+use Rattle.auction_views.specs.TableLines.{trade_line, trade_lines}
+
+pub lines-by-one : {X : Type 0} (line : X → List ℕ)
+    → IsText (λ before x. line x) (λ before xs. words_text (map line xs))
+lines-by-one line = record { none = λ before. refl; more = λ before x xs. refl }
+
+pub trades-by-one : IsText (λ before trade. trade_line (before + 1) trade)
+    (λ before trades. words_text (trade_lines before trades))
+unfolding trade_lines
+trades-by-one = record { none = λ before. refl; more = λ before trade trades. refl }
+
+-- one more was put behind a text
+pub line-put : {X : Type 0} (one : ℕ → X → List ℕ) (texts : ℕ → List X → List ℕ) → IsText one texts
+    → (xs : List X) (now after all : List ℕ) (i : ℕ) (d : X)
+    → now ++ texts i (drop i xs) ≡ all → i < length xs → after ≡ now ++ one i (get_or xs i d)
+    → after ++ texts (i + 1) (drop (i + 1) xs) ≡ all
+line-put one texts is xs now after all i d e h put =
+    ap (λ t. t ++ texts (i + 1) (drop (i + 1) xs)) put ∙ text-done one texts is xs now all i d e h
+
+-- a field and its comma were put on a page, and then the others
+pub field-more : (old middle new field rest : List ℕ) → middle ≡ old ++ (field ++ codes ",") → new ≡ middle ++ rest
+    → new ≡ old ++ (field ++ (codes "," ++ rest))
+field-more old middle new field rest e f =
+    f ∙ ap (λ t. t ++ rest) e ∙ append_assoc old (field ++ codes ",") rest
+    ∙ ap (λ t. old ++ t) (append_assoc field (codes ",") rest)
+
+-- the last field and the line end were put on a page
+pub field-last : (old middle new field : List ℕ) → middle ≡ old ++ field → new ≡ middle ++ codes "\n"
+    → new ≡ old ++ (field ++ codes "\n")
+field-last old middle new field e f = f ∙ ap (λ t. t ++ codes "\n") e ∙ append_assoc old field (codes "\n")
+
+line-count : (before : ℕ) (trades : List Trade) → length (trade_lines before trades) ≡ length trades
+unfolding trade_lines
+line-count before [] = refl
+line-count before (trade ∷ trades) = ap suc (line-count (before + 1) trades)
+
+-- there is a line for each trade behind so many of the first ones
+pub trades_counted : (before : ℕ) (tape : List Trade)
+    → length (trade_lines before (drop before tape)) ≡ length tape - before
+trades_counted before tape = line-count before (drop before tape) ∙ length-drop before tape

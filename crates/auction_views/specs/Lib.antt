@@ -1,0 +1,4 @@
+pub mod LadderRows
+pub mod TableLines
+pub mod View
+pub mod ViewText
