@@ -34,7 +34,7 @@
 #include <stddef.h>
 #include <stdint.h>
 
-#define CALLAUCTION_VERSION "2026.11.24"
+#define CALLAUCTION_VERSION "2026.11.26"
 
 #if defined(__GNUC__) || defined(__clang__)
 #define CALLAUCTION_RESULT __attribute__((warn_unused_result))

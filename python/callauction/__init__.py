@@ -129,7 +129,7 @@ __all__ = [
     "verdict",
 ]
 
-__version__ = "2026.11.24"
+__version__ = "2026.11.26"
 
 _MODULES = ("journal", "plot", "report", "verdict")
 _LATER = {

@@ -14,7 +14,7 @@ use clap::{Arg, ArgAction, Command, Error, value_parser};
 use std::alloc::Global;
 
 /// The version: that of the newest part of CHANGELOG.md.
-const VERSION: &str = "2026.11.24";
+const VERSION: &str = "2026.11.26";
 
 const ABOUT: &str =
     "A call auction for one instrument: reads an order file, or the journal of a recorded day, from \
