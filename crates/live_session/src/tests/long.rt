@@ -117,10 +117,12 @@ fn gives<T: Abort + AllocGlobal>(
 #[test]
 fn the_longest_line_is_read(rt: HostRuntime) -> Result<(), OpenFault> {
     let answers = b"1: no price bid - ask -\nrecord 2: bad member\n2: no price bid - ask -\n";
-    for byte in [b'7', b'x', b','] {
+    for byte in [b'x', b','] {
         gives(&rt, byte, MAX_RECORD_BYTES, answers)?;
     }
-    Ok(())
+    let number = b"1: no price bid - ask -\n\
+        record 2: bad member: members are numbered from 0, and there are 4\n2: no price bid - ask -\n";
+    gives(&rt, b'7', MAX_RECORD_BYTES, number)
 }
 
 #[test]
