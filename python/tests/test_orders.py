@@ -55,8 +55,8 @@ def rows_of(orders: Structs) -> list[Row]:
     """The rows of an array of ORDER."""
     sides, auctions = ("", "bid", "ask"), ("", "opening", "closing")
     return [
-        (id, member, sides[side], limit if has else None, *shares, auctions[only])
-        for *shares, id, limit, member, side, only, has in orders.tolist()
+        (id, member, sides[side], limit if has else None, open, visible, filled, auctions[only])
+        for open, visible, filled, id, limit, member, side, only, has in orders.tolist()
     ]
 
 
