@@ -25,14 +25,23 @@ const AFTER_HELP: &str =
     "Prices are in ticks, quantities in shares. A journal says its day itself: --low to --members \
     are for order files.
 
+Records of an order file, a command each; SIDE is bid or ask, LIMIT a tick or market, ONLY opening or closing:
+  member,enter,SIDE,QUANTITY,LIMIT[,PEAK[,ONLY]]  a new order; with a peak an iceberg order
+  member,change,ID,QUANTITY,LIMIT                 another limit and open quantity
+  member,delete,ID                                takes the order out
+  member,status,ID                                what is open of it
+  member,ask                                      the indicative price, or the best limits
+  member,uncross                                  determines the price and executes (member 0 alone)
+  member,trade,NUMBER                             a trade of the day
+
 Example:
   printf '1,enter,bid,500,200\\n2,enter,ask,300,199\\n0,uncross\\n' | callboard
   1: entered 1
   2: entered 2
   3: opening price 200 volume 300 surplus 200 bid trades 1
 
-Formats: the manual page (man callboard) has the records of both files, docs/FORMATS.md of the repository all of
-them, with the faults and what is printed.
+Formats: the manual page (man callboard) has journals too, docs/FORMATS.md of the repository all records, with the
+faults and what is printed.
 
 Status: 0 done, 1 a bad input, 2 a bad command line or bounds, 3 no memory, a read or a write that failed or a board
 that couldn't be closed, 4 an audit that found a reply that isn't lawful";
