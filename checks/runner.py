@@ -73,8 +73,8 @@ PARTS = [
         "the package for Python: types, tests",
         FROM_PYTHON,
         "cc",
-        "cffi numpy Python.h pytest hypothesis mypy pandas matplotlib tqdm nbclient ipykernel "
-        "ipywidgets",
+        "cffi numpy Python.h pytest hypothesis mypy aiohttp pandas matplotlib tqdm nbclient "
+        "ipykernel ipywidgets",
     ),
     Part(
         "report",

@@ -110,7 +110,7 @@ def test_private_values(venue: Served, tmp_path: pathlib.Path) -> None:
         assert [again.call("api/look/fills", token=it)[1] for it in (anna, bert)] == kept
 
 
-def test_what_the_operator_takes_home(venue: Served) -> None:
+def test_what_the_operator_takes_home(venue: Served, tmp_path: pathlib.Path) -> None:
     anna, bert = venue.join("=Anna"), venue.join("Bert")
     venue.do("start")
     with Client(venue.url, anna) as me, Client(venue.url, bert) as other:
@@ -119,7 +119,11 @@ def test_what_the_operator_takes_home(venue: Served) -> None:
     venue.do("uncross")
     names = venue.call("api/download/members/XYZ", token=venue.operator)[1]
     assert names == "number,name\n1,'=Anna\n2,Bert\n"
+    status, text = venue.call("api/download/report/XYZ", token=venue.operator)
+    assert status == 200 and "<html" in text or status == 400 and text["text"]
     status, text = venue.call("api/download/trades/XYZ", token=venue.operator)
     assert status == 200
     [row] = csv.DictReader(io.StringIO(text))
     assert (row["bid_name"], row["ask_name"], row["quantity"]) == ("'=Anna", "Bert", "10")
+    venue.end()
+    assert (tmp_path / "venue/XYZ.members.csv").read_text() == names

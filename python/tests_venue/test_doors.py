@@ -170,7 +170,7 @@ def test_no_secret_is_written_where_others_read(venue: Served, tmp_path: pathlib
     folder = tmp_path / "venue"
     assert folder.stat().st_mode & 0o077 == 0
     for file in folder.iterdir():
-        if file.name != "XYZ.journal.csv":
+        if not file.name.startswith("XYZ."):
             assert file.stat().st_mode & 0o077 == 0, file
     log = (folder / "venue.log").read_text()
     assert token not in log and venue.operator not in log

@@ -128,7 +128,7 @@ async def kills(keeper: Keeper, chance: random.Random, done: asyncio.Event) -> N
 async def play(keeper: Keeper, url: str, robots: list[Robot], chance: random.Random) -> None:
     """The day of robots under kills."""
     done = asyncio.Event()
-    async with asyncio.timeout(300):
+    async with asyncio.timeout(900):
         await asyncio.gather(
             kills(keeper, chance, done), *(robot.play(url, done) for robot in robots)
         )
@@ -151,6 +151,7 @@ def test_kills(tmp_path: pathlib.Path) -> None:
         first.do("start")
         asyncio.run(play(keeper, first.url, robots, chance))
         assert keeper.killed["venue"] > KILLS / 20 and keeper.killed["program"] > KILLS / 4
+        assert sum(len(robot.answers) for robot in robots) > KILLS / 5
         check(first, robots)
     finally:
         keeper.stop()

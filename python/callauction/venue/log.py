@@ -28,6 +28,15 @@ def text_of(line: Line) -> str:
     return json.dumps(line, separators=(",", ":"), allow_nan=False)
 
 
+def sync_folder(folder: pathlib.Path) -> None:
+    """Has the names of a folder's files on the disk. Raises OSError."""
+    opened = os.open(folder, os.O_RDONLY | os.O_DIRECTORY | os.O_CLOEXEC)
+    try:
+        os.fsync(opened)
+    finally:
+        os.close(opened)
+
+
 class Log:
     """The log of a folder, which nobody else has meanwhile.
 
@@ -42,6 +51,8 @@ class Log:
         except BlockingIOError:
             os.close(self._file)
             raise LogInUse(f"{path} is in use by another venue") from None
+        if is_synced:
+            sync_folder(path.parent)
         self._length = 0
         self._waiting: list[tuple[str, Then | None]] = []
         self._wakes = asyncio.Event()

@@ -10,7 +10,7 @@ import time
 from collections.abc import Iterable
 from typing import Any, Protocol
 
-from callauction.venue import config, shown, tokens
+from callauction.venue import config, downloads, shown, tokens
 from callauction.venue.gains import Value
 from callauction.venue.instrument import Given, Instrument, opened
 from callauction.venue.log import Line, Log, LogError
@@ -98,11 +98,14 @@ class Venue:
         return total
 
     async def close(self) -> None:
-        """Ends all programs, and the log."""
+        """Ends all programs, and the log; beside each journal it leaves the names of its members."""
         for task in self._tasks[1:]:
             task.cancel()
         for instrument in self.instruments.values():
             await instrument.engine.close()
+            with contextlib.suppress(OSError):
+                path = self.folder / f"{instrument.terms.name}.members.csv"
+                path.write_bytes(downloads.members_of(instrument))
         self.log.close()
         if self._tasks and self.halted is None:
             await self._tasks[0]
