@@ -96,12 +96,8 @@ def test_a_forbidden_word(tmp_path: pathlib.Path, text: str) -> None:
     assert len(faults_of(documents.forbidden_words, tree)) == 1
 
 
-@pytest.mark.parametrize(
-    ("name", "most"),
-    [("README.md", documents.MOST_BYTES), (documents.VENUE, documents.MOST_VENUE_BYTES + 1)],
-)
-def test_documents_that_are_too_long(tmp_path: pathlib.Path, name: str, most: int) -> None:
-    tree = planted(tmp_path, **{name: "a" * most})
+def test_documents_that_are_too_long(tmp_path: pathlib.Path) -> None:
+    tree = planted(tmp_path, **{"README.md": "a" * documents.MOST_BYTES})
     assert len(faults_of(documents.sizes, tree)) == 1
 
 

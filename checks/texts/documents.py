@@ -5,8 +5,7 @@
 - docs/GLOSSARY.md gives each term once, with names of the code that exist; a type or a variant that
   it names is declared once.
 - No document has a word that FORBIDDEN lists.
-- Together they have at most MOST_BYTES, docs/WRONG_BODIES.md and CHANGELOG.md aside; the manual of
-  the venue, a service beside the product, has MOST_VENUE_BYTES of its own.
+- Together they have at most MOST_BYTES, docs/WRONG_BODIES.md and CHANGELOG.md aside.
 - The kit that they name is the one of `rt version`.
 """
 import collections
@@ -19,9 +18,7 @@ from collections.abc import Iterator
 
 from checks.texts.tree import Tree
 
-MOST_BYTES = 95 * 1024
-MOST_VENUE_BYTES = 4 * 1024
-VENUE = "docs/VENUE.md"
+MOST_BYTES = 105 * 1024
 FORBIDDEN = {
     r"\bstands?\b": "say what it is, or where",
     r"\btells?\b|\btold\b": "says, prints, shows, names",
@@ -139,8 +136,6 @@ def forbidden_words(tree: Tree) -> Iterator[str]:
 
 def sizes(tree: Tree) -> Iterator[str]:
     counts = {tree.name(file): file.stat().st_size for file in tree.documents}
-    if (venue := counts.pop(VENUE, 0)) > MOST_VENUE_BYTES:
-        yield f"{VENUE} has {venue} bytes, {MOST_VENUE_BYTES} at most"
     if sum(counts.values()) > MOST_BYTES:
         told = ", ".join(f"{name} {count}" for name, count in counts.items())
         yield f"the documents have {sum(counts.values())} bytes, {MOST_BYTES} at most: {told}"
