@@ -64,6 +64,7 @@ PARTS = [
     Part("compare", "random files by the rules", f"{COMPARE} --program {PROGRAM}"),
     Part("hostile", "bad files, failing ends, full boards", cases("hostile"), "bash", "pytest"),
     Part("live", "answers as records come", cases("live"), "bash", "pytest"),
+    Part("journal_file", "sessions killed, and gone on", cases("journal_file"), "", "pytest"),
     Part("manual", "options, versions, installing", cases("manual"), "bash install", "pytest"),
     Part("refusals", "refused memory", cases("refusals") + f" --tests {TESTS}", "cc", "pytest"),
     Part("library", "the built library from C", FROM_C, "gcc g++ clang valgrind pkg-config ar"),

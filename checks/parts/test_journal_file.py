@@ -1,0 +1,394 @@
+"""Sessions that keep a journal (`--live --journal FILE`): 200 that are killed and gone on with, beside
+the model; files that a crash or a hand has left; another day's, unlawful, faulty and foreign ones;
+a file that can't grow; options.
+
+After each crash the file must begin as the model's journal does, with all that was answered, and the
+next session must go on behind it. The expected texts are the model's.
+"""
+import contextlib
+import dataclasses
+import os
+import pathlib
+import random
+import resource
+import select
+import signal
+import subprocess
+import time
+from collections.abc import Callable
+
+import pytest
+
+from checks.generators import orders
+from checks.model.answers import DEFAULTS, printed
+from checks.parts.sessions import Session
+
+SEEDS = range(1, 201)
+MOST_SECONDS = 20.0
+ASK = "no price bid - ask -"
+DAY = "day,1,1000,200,4,4096,65536,\n"
+
+
+@dataclasses.dataclass(frozen=True)
+class Kept:
+    """A random day: its options, its records, the line that answers each, and its journal's lines,
+    of which the first is the day's.
+    """
+
+    words: list[str]
+    records: list[str]
+    answers: list[str]
+    journal: list[str]
+
+
+def kept_day(seed: int) -> Kept:
+    """The random day of this seed, by the model."""
+    options, text = orders.order_file("short", seed)
+    options = DEFAULTS | options
+    records = text.splitlines()[: options["calls"]]
+    text = "".join(f"{record}\n" for record in records)
+    answers = printed(text, options).splitlines(True)
+    journal = printed(text, options, "journal").splitlines(True)
+    return Kept([*orders.option_words(options), "--reserve", "0"], records, answers, journal)
+
+
+def committed(file: pathlib.Path) -> str:
+    """The whole lines of a file before its first NUL."""
+    text = file.read_bytes().split(b"\0")[0]
+    return text[: text.rfind(b"\n") + 1].decode("ascii")
+
+
+class Run:
+    """A session on a journal that is killed."""
+
+    def __init__(self, program: str, file: pathlib.Path, words: list[str]) -> None:
+        self.child = subprocess.Popen(
+            [program, "--live", "--journal", str(file), *words],
+            stdin=subprocess.PIPE,
+            stdout=subprocess.PIPE,
+            stderr=subprocess.PIPE,
+            bufsize=0,
+        )
+        self.out = b""
+
+    def begins_with(self) -> int:
+        """How many entries it says that the journal has."""
+        assert self.child.stderr is not None
+        line = self.child.stderr.readline().decode()
+        word, count, rest = line.split(" ")
+        assert (word, rest) == ("journal", "entries\n"), line
+        return int(count)
+
+    def take_in(self, seconds: float) -> None:
+        """Takes in what is answered within this time."""
+        assert self.child.stdout is not None
+        last = time.monotonic() + seconds
+        while (left := last - time.monotonic()) > 0:
+            if not select.select([self.child.stdout], [], [], left)[0]:
+                return
+            data = os.read(self.child.stdout.fileno(), 1 << 20)
+            if not data:
+                return
+            self.out += data
+
+    def send(self, text: str) -> None:
+        """Sends text; a session that has ended takes none."""
+        assert self.child.stdin is not None
+        with contextlib.suppress(BrokenPipeError):
+            self.child.stdin.write(text.encode("latin-1"))
+
+    def kill(self, how: signal.Signals) -> list[str]:
+        """Ends it so, and answers the whole lines that it had written."""
+        self.child.send_signal(how)
+        assert self.child.stdout is not None
+        self.out += self.child.stdout.read()
+        self.child.wait(timeout=MOST_SECONDS)
+        self.close()
+        whole = self.out[: self.out.rfind(b"\n") + 1]
+        return whole.decode("ascii").splitlines(True)
+
+    def close(self) -> None:
+        """Closes its pipes."""
+        for pipe in (self.child.stdin, self.child.stdout, self.child.stderr):
+            assert pipe is not None
+            pipe.close()
+
+
+def crash(
+    program: str, file: pathlib.Path, day: Kept, words: list[str], dice: random.Random,
+    how: signal.Signals = signal.SIGKILL,
+) -> None:
+    """Goes on with the day's journal, and is killed at a random moment."""
+    before = max(committed(file).count("\n") - 1, 0) if file.exists() else 0
+    run = Run(program, file, [*day.words, *words])
+    done = run.begins_with()
+    assert done == before
+    place = done
+    for _ in range(dice.randint(0, 8)):
+        count = dice.choice([1, 1, 2, 10, 60])
+        run.send("".join(f"{record}\n" for record in day.records[place : place + count]))
+        place = min(place + count, len(day.records))
+        run.take_in(dice.choice([0.0, 0.0, 0.001, 0.003]))
+    time.sleep(dice.choice([0.0, 0.0, 0.0005, 0.002]))
+    answered = run.kill(how)
+    assert answered == day.answers[done : done + len(answered)]
+    kept = committed(file).splitlines(True)
+    assert kept == day.journal[: len(kept)]
+    assert 1 + done + len(answered) <= len(kept) <= 1 + place
+
+
+def finish(program: str, file: pathlib.Path, day: Kept, words: list[str]) -> None:
+    """Goes on with the day's journal to its end, and has it audited."""
+    done = max(committed(file).count("\n") - 1, 0) if file.exists() else 0
+    session = Session([program, "--live", "--journal", str(file), *day.words, *words], False)
+    try:
+        session.hears("", f"journal {done} entries\n")
+        session.send("".join(f"{record}\n" for record in day.records[done:]).encode("latin-1"))
+        session.end_input()
+        session.hears("".join(day.answers[done:]), "")
+        session.ends(0)
+    finally:
+        session.close()
+    assert file.read_text("ascii") == "".join(day.journal)
+    with file.open() as journal:
+        audit = subprocess.run([program, "--audit"], stdin=journal, capture_output=True, text=True)
+    assert (audit.returncode, audit.stderr) == (0, "")
+
+
+@pytest.mark.parametrize("seed", SEEDS)
+def test_killed_and_gone_on(program: str, tmp_path: pathlib.Path, seed: int) -> None:
+    dice = random.Random(seed)
+    day = kept_day(seed)
+    file = tmp_path / "day.journal"
+    words = ["--sync", "none"] if seed % 10 == 0 else []
+    for _ in range(dice.randint(1, 3)):
+        crash(program, file, day, words, dice)
+    finish(program, file, day, words)
+
+
+@pytest.mark.parametrize("seed", range(201, 211))
+def test_terminated_and_gone_on(program: str, tmp_path: pathlib.Path, seed: int) -> None:
+    dice = random.Random(seed)
+    day = kept_day(seed)
+    file = tmp_path / "day.journal"
+    crash(program, file, day, [], dice, signal.SIGTERM)
+    finish(program, file, day, [])
+
+
+def written(file: pathlib.Path, day: Kept, count: int, behind: bytes) -> None:
+    """Writes so many of the day's lines, and these bytes behind them."""
+    file.write_bytes("".join(day.journal[:count]).encode("ascii") + behind)
+
+
+TAILS = [
+    b"",
+    b"\0",
+    b"\0" * 5_000,
+    b"1,ent\0\0\0\0",
+    b"1,as\0\0o price bid - ask -\n\0\0",
+    b"\0" * 40 + b"1,ask,no price bid - ask -\n\0",
+    b"1,ask,no price bid",
+]
+
+
+@pytest.mark.parametrize("tail", TAILS, ids=repr)
+@pytest.mark.parametrize("seed", [3, 7])
+def test_torn_end(program: str, tmp_path: pathlib.Path, tail: bytes, seed: int) -> None:
+    day = kept_day(seed)
+    for count in {0, 1, 2, len(day.journal)}:
+        file = tmp_path / f"{count}.journal"
+        written(file, day, count, tail)
+        finish(program, file, day, [])
+
+
+def refused(
+    program: str, file: pathlib.Path, words: list[str], status: int, told: str,
+    before: Callable[[], None] | None = None,
+) -> None:
+    """A session that doesn't begin, and leaves the file as it was."""
+    was = file.read_bytes() if file.is_file() else None
+    got = subprocess.run(
+        [program, "--live", "--journal", str(file), *words],
+        input="1,ask\n",
+        capture_output=True,
+        text=True,
+        timeout=MOST_SECONDS,
+        preexec_fn=before,
+    )
+    assert (got.returncode, got.stdout, got.stderr) == (status, "", told)
+    assert was is None or file.read_bytes() == was
+
+
+@pytest.mark.parametrize(
+    ("words", "names"),
+    [
+        (["--low", "2"], "low"),
+        (["--high", "999"], "high"),
+        (["--reference", "201"], "reference"),
+        (["--members", "5"], "members"),
+        (["--open", "4095"], "open"),
+        (["--calls", "65535"], "calls"),
+        (["--range", "0"], "range"),
+        (["--low", "2", "--reference", "201"], "low, reference"),
+        (
+            ["--low", "2", "--high", "9", "--reference", "3", "--members", "5", "--open", "1"]
+            + ["--calls", "30", "--range", "7"],
+            "low, high, reference, members, open, calls, range",
+        ),
+    ],
+    ids=lambda value: value if isinstance(value, str) else "",
+)
+def test_another_day(
+    program: str, tmp_path: pathlib.Path, words: list[str], names: str
+) -> None:
+    file = tmp_path / "day.journal"
+    file.write_text(DAY)
+    refused(program, file, words, 2, f"journal of another day: {names}\n")
+
+
+@pytest.mark.parametrize(
+    ("lines", "status", "told"),
+    [
+        ("1,ask\n", 1, "journal record 1: not a day record\n"),
+        (f"{DAY}1,sell,x\n1,ask,{ASK}\n", 1, "journal record 2: bad command\n"),
+        (f"{DAY}1,ask,{ASK}\n4,ask,{ASK}\n", 1, "journal record 3: bad member\n"),
+        (f"{DAY}1,ask,\t\n", 1, "journal record 2: bad field 3\n"),
+        (
+            f"{DAY}1,ask,{ASK}\n1,ask,deleted\n",
+            4,
+            f'journal entry 2: recorded "deleted", lawful "{ASK}"\n',
+        ),
+        (f"{DAY}1,ask,\n", 4, f'journal entry 1: recorded "", lawful "{ASK}"\n'),
+    ],
+    ids=["no day", "a command", "a member", "a reply", "unlawful", "no reply"],
+)
+def test_foreign_lines(
+    program: str, tmp_path: pathlib.Path, lines: str, status: int, told: str
+) -> None:
+    file = tmp_path / "day.journal"
+    file.write_text(lines)
+    refused(program, file, [], status, told)
+
+
+def test_in_use(program: str, tmp_path: pathlib.Path) -> None:
+    file = tmp_path / "day.journal"
+    session = Session([program, "--live", "--journal", str(file)], False)
+    try:
+        session.hears("", "journal 0 entries\n")
+        refused(program, file, [], 2, "journal in use\n")
+        session.send(b"1,ask\n")
+        session.hears(f"1: {ASK}\n", "")
+        session.end_input()
+        session.ends(0)
+    finally:
+        session.close()
+    assert file.read_text() == f"{DAY}1,ask,{ASK}\n"
+
+
+def test_no_regular_file(program: str, tmp_path: pathlib.Path) -> None:
+    failed = "journal open failed\n"
+    file = tmp_path / "day.journal"
+    file.write_text(DAY)
+    link = tmp_path / "link"
+    link.symlink_to(file)
+    for path in (link, tmp_path, tmp_path / "no/such/folder", pathlib.Path("/dev/null")):
+        refused(program, path, [], 3, failed)
+    second = tmp_path / "second"
+    second.hardlink_to(file)
+    refused(program, second, [], 3, failed)
+    second.unlink()
+    dangling = tmp_path / "dangling"
+    dangling.symlink_to(tmp_path / "none")
+    refused(program, dangling, [], 3, failed)
+    assert not (tmp_path / "none").exists()
+
+
+def limited(most: int) -> Callable[[], None]:
+    """Keeps files of a child below so many bytes, without a signal."""
+
+    def set_limit() -> None:
+        signal.signal(signal.SIGXFSZ, signal.SIG_IGN)
+        resource.setrlimit(resource.RLIMIT_FSIZE, (most, most))
+
+    return set_limit
+
+
+def test_no_room_at_first(program: str, tmp_path: pathlib.Path) -> None:
+    got = subprocess.run(
+        [program, "--live", "--journal", str(tmp_path / "day.journal")],
+        input="1,ask\n",
+        capture_output=True,
+        text=True,
+        preexec_fn=limited(4_096),
+    )
+    assert (got.returncode, got.stdout) == (3, "")
+    assert got.stderr.splitlines()[-1] == "journal failed"
+
+
+@pytest.mark.parametrize("words", [[], ["--sync", "none"]], ids=["each", "none"])
+def test_no_room_later(program: str, tmp_path: pathlib.Path, words: list[str]) -> None:
+    file = tmp_path / "day.journal"
+    count = 60_000
+    got = subprocess.run(
+        [program, "--live", "--journal", str(file), *words],
+        input="1,ask\n" * count,
+        capture_output=True,
+        text=True,
+        preexec_fn=limited(1_500_000),
+    )
+    assert (got.returncode, got.stderr) == (3, "journal 0 entries\njournal failed\n")
+    answered = got.stdout.splitlines()
+    assert 0 < len(answered) < count
+    assert answered == [f"{place}: {ASK}" for place in range(1, len(answered) + 1)]
+    kept = committed(file).splitlines()
+    assert kept[0] + "\n" == DAY
+    assert set(kept[1:]) == {f"1,ask,{ASK}"}
+    assert len(answered) <= len(kept) - 1
+    again = subprocess.run(
+        [program, "--live", "--journal", str(file), *words],
+        input="1,ask\n",
+        capture_output=True,
+        text=True,
+    )
+    assert again.stdout == f"{len(kept)}: {ASK}\n"
+    assert (again.returncode, again.stderr) == (0, f"journal {len(kept) - 1} entries\n")
+    assert file.read_text() == DAY + f"1,ask,{ASK}\n" * len(kept)
+
+
+def test_bad_records_stand_in_no_journal(program: str, tmp_path: pathlib.Path) -> None:
+    file = tmp_path / "day.journal"
+    got = subprocess.run(
+        [program, "--live", "--journal", str(file)],
+        input="1,sell\n1,ask\n\n9,ask\n0,uncross\n1,ask",
+        capture_output=True,
+        text=True,
+    )
+    assert got.returncode == 1
+    assert got.stderr == "journal 0 entries\n"
+    answered = [line.split(":")[0] for line in got.stdout.splitlines()]
+    assert answered == ["record 1", "1", "record 3", "2", "record 5"]
+    assert file.read_text() == f"{DAY}1,ask,{ASK}\n0,uncross,opening no price\n"
+
+
+@pytest.mark.parametrize(
+    "words",
+    [
+        ["--journal", "FILE"],
+        ["--sync", "none"],
+        ["--live", "--sync", "none"],
+        ["--live", "--journal", "FILE", "--sync", "some"],
+        ["--live", "--journal"],
+        ["--audit", "--journal", "FILE"],
+        ["--live", "--journal", "FILE", "--print", "book"],
+    ],
+    ids=" ".join,
+)
+def test_options_that_do_not_go_together(
+    program: str, tmp_path: pathlib.Path, words: list[str]
+) -> None:
+    file = tmp_path / "day.journal"
+    words = [str(file) if word == "FILE" else word for word in words]
+    got = subprocess.run([program, *words], input="1,ask\n", capture_output=True, text=True)
+    assert (got.returncode, got.stdout) == (2, "")
+    assert got.stderr != ""
+    assert not file.exists()
