@@ -7,5 +7,6 @@ pub mod OwedLaws
 pub mod PrintedJournalLaws
 pub mod KeptLaws
 pub mod LiveLaws
+pub mod KeptLiveLaws
 pub mod BlockRunLaws
 pub mod FileSaidLaws
