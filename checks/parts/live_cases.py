@@ -309,7 +309,7 @@ def run_table() -> Iterator[Run]:
         ["--print=book"],
     ):
         yield f"--live {words[0]}", ["--live", *words], "< /dev/null", 2, "", alone
-    without = "--reserve goes with --live\n"
+    without = "--reserve, --journal and --sync go with --live\n"
     yield "--reserve alone", ["--reserve", "16"], "< /dev/null", 2, "", without
     yield "--reserve 1048577", ["--live", "--reserve=1048577"], "< /dev/null", 2, "", "*"
     yield "a form that there isn't", ["--live", "--print", "x"], "< /dev/null", 2, "", "*"

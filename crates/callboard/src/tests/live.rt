@@ -103,7 +103,13 @@ fn live_goes_with_lines_alone(rt: HostRuntime) {
     let alone = &["callboard", "--reserve", "16"];
     each_gives(
         &rt,
-        &[(alone, b"1,ask\n", "", "--reserve goes with --live\n", 2)],
+        &[(
+            alone,
+            b"1,ask\n",
+            "",
+            "--reserve, --journal and --sync go with --live\n",
+            2,
+        )],
     );
 }
 
