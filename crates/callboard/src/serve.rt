@@ -185,7 +185,7 @@ fn serve_settings<R: KeepsStart, O: Sink, E: Sink, D: Device + Drop, T: Wait + T
     opened: Option<Result<OpenedJournal<D>, OpenFault>>,
     rt: &T,
 ) -> u8
-    ensures { ServesSettings settings (ends_of R.Source O.Sink reader.old reader.new out.old out.new) result }
+    ensures { ServesSettings settings.entry (ends_of R.Source O.Sink reader.old reader.new out.old out.new) result }
 {
     let Settings {
         config,

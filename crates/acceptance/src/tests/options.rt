@@ -3,7 +3,7 @@
 use super::DAY;
 use auction_terms::Config;
 use clap::error::ErrorKind;
-use settings::{FloorForm, Form, Listing, Settings, Task, WordsFault, settings};
+use settings::{FloorForm, Form, JournalFile, Listing, Settings, Task, WordsFault, settings};
 use std::test::Fail;
 
 #[test]
@@ -12,6 +12,7 @@ fn without_words_each_option_has_its_default(rt: HostRuntime) -> Result<(), Fail
         config: DAY,
         members: 4,
         task: Task::Run(Form::Lines),
+        journal: None,
     };
     assert_eq!(rt; settings(rt.alloc(), &["callboard"])?, wanted);
     Ok(())
@@ -47,6 +48,7 @@ fn each_option_is_read(rt: HostRuntime) -> Result<(), Fail> {
         },
         members: 64,
         task: Task::Floor(FloorForm::Listing(Listing::Journal)),
+        journal: None,
     };
     assert_eq!(rt; settings(rt.alloc(), words.as_slice())?, wanted);
     Ok(())
@@ -88,6 +90,7 @@ fn an_audit_stands_alone(rt: HostRuntime) -> Result<(), Fail> {
         config: DAY,
         members: 4,
         task: Task::Audit { results: false },
+        journal: None,
     };
     assert_eq!(rt; settings(rt.alloc(), &["callboard", "--audit"])?, wanted);
     for other in ["--floor", "--history", "--print=lines"] {
@@ -106,6 +109,7 @@ fn results_go_with_an_audit(rt: HostRuntime) -> Result<(), Fail> {
         config: DAY,
         members: 4,
         task: Task::Audit { results: true },
+        journal: None,
     };
     assert_eq!(rt;
         settings(rt.alloc(), &["callboard", "--audit", "--results"])?,
@@ -129,11 +133,13 @@ fn answers_as_records_come_stand_alone(rt: HostRuntime) -> Result<(), Fail> {
         config: DAY,
         members: 4,
         task: Task::Live { reserve: 16 },
+        journal: None,
     };
     let none = Settings {
         config: DAY,
         members: 4,
         task: Task::Live { reserve: 0 },
+        journal: None,
     };
     assert_eq!(rt; settings(rt.alloc(), &["callboard", "--live"])?, wanted);
     assert_eq!(rt;
@@ -151,5 +157,38 @@ fn answers_as_records_come_stand_alone(rt: HostRuntime) -> Result<(), Fail> {
             return Ok(());
         };
     }
+    Ok(())
+}
+
+#[test]
+fn a_session_may_be_kept(rt: HostRuntime) -> Result<(), Fail> {
+    for (words, is_synced) in [
+        (["--live", "--reserve=16", "--journal", "day.csv"], true),
+        (["--journal=day.csv", "--live", "--sync", "none"], false),
+    ] {
+        let [a, b, c, d] = words;
+        let wanted = Settings {
+            config: DAY,
+            members: 4,
+            task: Task::Live { reserve: 16 },
+            journal: Some(JournalFile {
+                name: "day.csv",
+                is_synced,
+            }),
+        };
+        assert_eq!(rt; settings(rt.alloc(), &["callboard", a, b, c, d])?, wanted);
+    }
+    let Err(WordsFault::WithoutLive) = settings(rt.alloc(), &["callboard", "--journal", "day.csv"])
+    else {
+        assert!(rt; false);
+        return Ok(());
+    };
+    let Err(WordsFault::SyncWithoutJournal) = settings(
+        rt.alloc(),
+        &["callboard", "--live", "--sync", "none"],
+    ) else {
+        assert!(rt; false);
+        return Ok(());
+    };
     Ok(())
 }

@@ -72,7 +72,11 @@ fn the_words_are_read(rt: HostRuntime) -> Result<(), AllocError> {
             Err(AllocError)
         }
         Err(
-            WordsFault::AuditNotAlone | WordsFault::LiveNotAlone | WordsFault::ResultsWithoutAudit,
+            WordsFault::AuditNotAlone
+            | WordsFault::LiveNotAlone
+            | WordsFault::ResultsWithoutAudit
+            | WordsFault::WithoutLive
+            | WordsFault::SyncWithoutJournal,
         ) => {
             assert!(rt; false);
             Ok(())
