@@ -8,5 +8,6 @@ pub mod PrintedJournalLaws
 pub mod KeptLaws
 pub mod LiveLaws
 pub mod KeptLiveLaws
+pub mod ServedLaws
 pub mod BlockRunLaws
 pub mod FileSaidLaws
