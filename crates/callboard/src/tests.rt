@@ -2,11 +2,12 @@
 
 ghost use Rattle.std.specs.Prelude.{◌≡◌, ◌<◌};
 
-use crate::{Fault, Finish, run_file, run_floor, serve};
+use crate::{Fault, Finish, OpenedJournal, run_file, run_floor, serve};
 use auction_terms::Config;
 use byte_streams::{Failures, FromMemory, Sink, Source, ToMemory, ToWrite};
 use input_hints::StartKeeper;
 use journal::DayHeader;
+use journal_file::{OpenFault, Opened, Tracked};
 use member_floor::Gate;
 use settings::{FloorForm, Form};
 use std::alloc::Global;
