@@ -1,7 +1,7 @@
-"""Robots of a measure: connections that each send a message, wait for its answer, and send the next.
+"""Robots of a measure: connections that each send a message, wait for its answer, send the next.
 
-On standard input it gets a line of JSON, with `url`, `hellos` (a text for each connection, empty for
-none) and `texts` (a list for each); it prints `ready` once all are connected, waits for another
+On standard input it gets a line of JSON, with `url`, `hellos` (a text for each connection, empty
+for none) and `texts` (a list for each); it prints `ready` once all are connected, waits for another
 line, and prints a line of JSON with the seconds of the clock at which it began and ended, and the
 seconds that each answer took.
 """

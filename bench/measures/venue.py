@@ -2,9 +2,9 @@
 
 200 members on connections of their own, 50 to an instrument, send 50,000 orders in a call phase,
 each the next one once the last is answered; the same robots send the same bytes to a server that
-gives back what it is sent. Prints for each the orders a second, the milliseconds of an answer at the
-middle and at the 99th of 100, and the processor's seconds of the server and its programs. All is
-right where each journal has all orders and is lawful by the program. Needs Debian's
+gives back what it is sent. Prints for each the orders a second, the milliseconds of an answer at
+the middle and at the 99th of 100, and the processor's seconds of the server and its programs. All
+is right where each journal has all orders and is lawful by the program. Needs Debian's
 python3-aiohttp.
 """
 import argparse

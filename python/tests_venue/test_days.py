@@ -59,7 +59,8 @@ def test_a_day_by_the_clock(tmp_path: pathlib.Path) -> None:
         assert (status, found["error"]) == (409, "bad_phase")
         journal = venue.call("api/download/journal/XYZ", token=venue.operator)[1]
     assert judged.is_lawful(journal)
-    replies = [reply.split(" ")[0] for record, reply in judged.entries(journal) if record == "0,uncross"]
+    entries = judged.entries(journal)
+    replies = [reply.split(" ")[0] for record, reply in entries if record == "0,uncross"]
     assert replies == ["interrupted", "opening", "intraday", "closing"]
 
 

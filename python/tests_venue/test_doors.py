@@ -90,7 +90,8 @@ def test_a_member_sees_no_others_orders_in_a_call(venue: Served) -> None:
     async def heard() -> Heard:
         found: Heard = []
         topics = ("states", "orders", "fills", "trades")
-        async with AsyncClient(venue.url, anna, topics) as me, AsyncClient(venue.url, bert) as other:
+        first, second = AsyncClient(venue.url, anna, topics), AsyncClient(venue.url, bert)
+        async with first as me, second as other:
             await other.enter("ask", 77, "1.23", peak=11)
             await me.enter("bid", 5, "1.00")
             async for event in me.events():
@@ -184,7 +185,8 @@ def test_pages_of_elsewhere_are_refused(venue: Served) -> None:
     for headers in ({"Origin": "https://evil.example"}, {"Origin": "null"},
                     {"Host": "evil.example", "Origin": "http://evil.example"},
                     {"Host": "evil.example"}):
-        for path, body in (("api/join", {"code": venue.code, "name": "x"}), ("api/day", None), ("", None)):
+        join = {"code": venue.code, "name": "x"}
+        for path, body in (("api/join", join), ("api/day", None), ("", None)):
             assert venue.call(path, body, headers=headers)[0] == 403, headers
         with pytest.raises(aiohttp.WSServerHandshakeError) as found:
             asyncio.run(said(venue, hello(token), headers=headers))
@@ -232,9 +234,8 @@ def test_a_fast_member_is_slowed_down_and_others_are_not(tmp_path: pathlib.Path)
 
 def ended(*words: object) -> tuple[int, str]:
     """How a command line that can't serve ends."""
-    ran = subprocess.run(
-        served.words_of(*words), env=served.environment(), capture_output=True, text=True, timeout=60
-    )
+    command, environment = served.words_of(*words), served.environment()
+    ran = subprocess.run(command, env=environment, capture_output=True, text=True, timeout=60)
     return ran.returncode, ran.stderr
 
 

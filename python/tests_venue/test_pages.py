@@ -137,12 +137,14 @@ def test_the_pages_are_small_and_name_nothing_elsewhere() -> None:
 def test_both_languages_have_all_words() -> None:
     text = (PAGES / "texts.js").read_text("utf-8")
     english, german = re.split(r"^  de: \{", text, flags=re.M)
-    of_languages = [set(re.findall(r"(?:^|[{,] ?)\s*(\w+): \"", it, re.M)) for it in (english, german)]
+    key = re.compile(r"(?:^|[{,] ?)\s*(\w+): \"", re.M)
+    of_languages = [set(key.findall(it)) for it in (english, german)]
     assert of_languages[0] == of_languages[1] and len(of_languages[0]) > 100
     asked = set()
     for file in PAGES.iterdir():
         if file.name != "texts.js":
-            asked |= set(re.findall(r"data-text=\"(\w+)\"|\btext\(\"(\w+)\"\)", file.read_text("utf-8")))
+            text = file.read_text("utf-8")
+            asked |= set(re.findall(r"data-text=\"(\w+)\"|\btext\(\"(\w+)\"\)", text))
     wanted = {first or second for first, second in asked}
     assert wanted <= of_languages[0]
 

@@ -55,7 +55,8 @@ def test_two_robots_trade(venue: Served) -> None:
     journal = venue.call("api/download/journal/XYZ", token=venue.operator)[1]
     assert judged.is_lawful(journal)
     assert [reply for _, reply in judged.entries(journal)] == [
-        "entered 1", "entered 2", "changed moved", "refused 2 BadLimit", "entered 3", "deleted", reply
+        *("entered 1", "entered 2", "changed moved", "refused 2 BadLimit", "entered 3", "deleted"),
+        reply,
     ]
     names = venue.call("api/download/members/XYZ", token=venue.operator)[1]
     assert names == "number,name\n1,Anna\n2,Bert\n"

@@ -6,8 +6,8 @@
     with Client("http://127.0.0.1:8080/", token) as me:
         print(me.enter("bid", 100, "2.05").reply)
 
-`python3 -m callauction.venue` serves one; docs/VENUE.md has a lesson and a robot. The program decides
-each reply, price and trade; the venue knows who may speak and who sees what.
+`python3 -m callauction.venue` serves one; docs/VENUE.md has a lesson and a robot. The program
+decides each reply, price and trade; the venue knows who may speak and who sees what.
 """
 from callauction.venue.client import Answer, AsyncClient, Client, VenueError
 

@@ -61,8 +61,8 @@ def asked(side: str, quantity: int, price: Price, peak: int | None, only: str) -
 class AsyncClient:
     """A member, connected while it is entered by `async with`. `url` is the venue's first page.
 
-    `topics` are what it is sent unasked (states, orders, fills, trades), for `events`. A call raises
-    VenueError where nothing was done.
+    `topics` are what it is sent unasked (states, orders, fills, trades), for `events`. A call
+    raises VenueError where nothing was done.
     """
 
     def __init__(

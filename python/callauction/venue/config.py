@@ -12,7 +12,7 @@ from typing import Any, Self
 from callauction.prices import BadCellError, Grid, decimal_of, tick_size_of
 
 MOST_MEMBERS = 63
-"""Members of one instrument, as number 0 is the operator's and 64 numbers are all that there are."""
+"""Members of one instrument: there are 64 numbers, and number 0 is the operator's."""
 MOST_QUANTITY = 1_000_000_000
 MOST_SECONDS = 86_400
 INSTRUMENT_NAME = re.compile(r"[A-Za-z0-9][A-Za-z0-9_-]{0,23}")

@@ -264,7 +264,9 @@ class Engine:
             self._begin(process, count)
 
     def _catch_up(self, count: int) -> None:
-        """Answers what the last run had executed and not answered. Raises RecoveryError, OSError."""
+        """Answers what the last run had executed and not answered. Raises RecoveryError and
+        OSError.
+        """
         entries = entries_of(self.journal, self._known, count - self._known)
         messages = [*self._pending]
         for message, entry in matched(messages, entries):

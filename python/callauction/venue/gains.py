@@ -11,8 +11,8 @@ Fills = Iterable[tuple[str, int, int]]
 
 @dataclasses.dataclass(frozen=True)
 class Value:
-    """What a member was handed out: it may buy (`bid`) or sell (`ask`) so many shares, each of which
-    is worth this, in ticks, or costs it.
+    """What a member was handed out: it may buy (`bid`) or sell (`ask`) so many shares, each of
+    which is worth this, in ticks, or costs it.
     """
 
     side: str

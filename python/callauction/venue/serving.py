@@ -43,7 +43,8 @@ class Address:
         if not self.is_loopback and not self.cert and not self.is_insecure:
             raise AddressError(
                 f"{self.host} is reached from other machines: --tls-cert and --tls-key, or "
-                "--insecure, by which whoever is on the network can read tokens and speak for others"
+                "--insecure, by which whoever is on the network can read tokens and speak for "
+                "others"
             )
 
     @property

@@ -98,7 +98,7 @@ class Venue:
         return total
 
     async def close(self) -> None:
-        """Ends all programs, and the log; beside each journal it leaves the names of its members."""
+        """Ends all programs and the log; beside each journal it leaves the names of its members."""
         for task in self._tasks[1:]:
             task.cancel()
         for instrument in self.instruments.values():
