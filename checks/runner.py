@@ -64,6 +64,7 @@ PARTS = [
     Part("compare", "random files by the rules", f"{COMPARE} --program {PROGRAM}"),
     Part("hostile", "bad files, failing ends, full boards", cases("hostile"), "bash", "pytest"),
     Part("live", "answers as records come", cases("live"), "bash", "pytest"),
+    Part("views", "what a session shows", cases("views"), "", "pytest"),
     Part("journal_file", "sessions killed, and gone on", cases("journal_file"), "", "pytest"),
     Part("manual", "options, versions, installing", cases("manual"), "bash install", "pytest"),
     Part("refusals", "refused memory", cases("refusals") + f" --tests {TESTS}", "cc", "pytest"),
