@@ -1,28 +1,31 @@
 -- The lines of replies, one by one.
-use Rattle.std.proofs.Common.{◌≡◌, ◌<◌, ◌≤◌, ◌+◌, ℕ, List, ◌∷◌, ◌++◌, length, drop, add-one, drop-cons, get_or}
-use Rattle.std.proofs.Common.{append_assoc, ◌∙◌, sym}
-use Rattle.std.proofs.lemmas.List.{append-nil, drop_all}
+use Rattle.std.proofs.Common.{◌≡◌, ◌≤◌, ◌+◌, ℕ, List, [], ◌∷◌, ◌++◌, length, append_assoc, ◌∙◌, sym, arith}
+use Rattle.std.proofs.lemmas.List.{append-nil}
 use Rattle.auction_terms.specs.declared.Reply.{Reply}
 use Rattle.printed_lines.specs.ReplyLines.{line, lines_after}
 
--- the reply at a place comes first of those that are left
-pub reply-next : (replies : List Reply) (front all : List ℕ) (place : ℕ) (d : Reply)
-    → front ++ lines_after place (drop place replies) ≡ all → place < length replies
-    → front ++ (line (place + 1) (get_or replies place d) ++ lines_after (place + 1) (drop (place + 1) replies)) ≡ all
+-- the next reply comes first of those that are left
+pub reply-next : (left rest : List Reply) (front all : List ℕ) (place : ℕ) (next : Reply)
+    → front ++ lines_after place left ≡ all → left ≡ next ∷ rest
+    → front ++ (line (place + 1) next ++ lines_after (place + 1) rest) ≡ all
 unfolding lines_after
-reply-next replies front all place d e h =
-    let next : drop place replies ≡ get_or replies place d ∷ drop (place + 1) replies =
-    rw (add-one place) (drop-cons replies place d h) in
-    rw next at e
+reply-next left rest front all place next e is = rw is at e
 
 -- its line was printed
-pub reply-done : (replies : List Reply) (front all : List ℕ) (place : ℕ) (d : Reply)
-    → front ++ lines_after place (drop place replies) ≡ all → place < length replies
-    → (front ++ line (place + 1) (get_or replies place d)) ++ lines_after (place + 1) (drop (place + 1) replies) ≡ all
-reply-done replies front all place d e h = append_assoc front _ _ ∙ reply-next replies front all place d e h
+pub reply-done : (left rest : List Reply) (front all : List ℕ) (place : ℕ) (next : Reply)
+    → front ++ lines_after place left ≡ all → left ≡ next ∷ rest
+    → (front ++ line (place + 1) next) ++ lines_after (place + 1) rest ≡ all
+reply-done left rest front all place next e is =
+    append_assoc front _ _ ∙ reply-next left rest front all place next e is
+
+-- and so many are left
+pub reply-count : (left rest : List Reply) (place count : ℕ) (next : Reply) → place + length left ≡ count
+    → left ≡ next ∷ rest → (place + 1) + length rest ≡ count
+reply-count left rest place count next e is = let longer = rw is at e in omega (arith, longer)
 
 -- no reply is left
-pub reply-end : (replies : List Reply) (front all : List ℕ) (place : ℕ)
-    → front ++ lines_after place (drop place replies) ≡ all → length replies ≤ place → front ≡ all
+pub reply-end : (left : List Reply) (front all : List ℕ) (place : ℕ)
+    → front ++ lines_after place left ≡ all → place + length left ≤ place → front ≡ all
 unfolding lines_after
-reply-end replies front all place e h = sym (append-nil front) ∙ rw (drop_all place replies h) at e
+reply-end [] front all place e h = sym (append-nil front) ∙ e
+reply-end (next ∷ rest) front all place e h = absurd (omega arith)

@@ -29,8 +29,9 @@ fn print_replies<S: Sink>(
 ) -> Result<(), WriteFailed>
     ensures { Prints S.Sink printer.old printer.new result (lines replies.now) }
 {
+    let mut left = replies.iter();
     for place in 0..replies.len() {
-        print_line(printer, place as u64 + 1, replies.reply_at(place))?;
+        print_line(printer, place as u64 + 1, left.next_reply())?;
     }
     Ok(())
 }

@@ -1,17 +1,18 @@
 -- The replies that codes say, as the list grows.
-use Rattle.std.proofs.Common.{◌≡◌, ◌<◌, ◌≤◌, ◌+◌, ◌-◌, ◌++◌, ◌∷◌, [], ℕ, List, length, get_or, true, false, nat_le}
-use Rattle.std.proofs.Common.{refl, sym, ap, ◌∙◌, arith, rules, length-append}
-use Rattle.std.specs.Prelude.{All}
-use Rattle.std.proofs.lemmas.List.Elements.{All-head, All-tail, All-get_or, All-push, All-weaker}
-use Rattle.std.proofs.lemmas.List.{get_or-map, get_or_append_left, get_or_default, length-map, map-append}
+use Rattle.std.proofs.Common.{◌≡◌, ◌<◌, ◌≤◌, ◌-◌, ◌++◌, ◌∷◌, [], ℕ, suc, List, length, get_or, true, false}
+use Rattle.std.proofs.Common.{Bool, refl, sym, ap, ◌∙◌, arith}
+use Rattle.std.specs.Prelude.{nat_eq}
+use Rattle.std.proofs.lemmas.List.{get_or_append_left, get_or_default}
 use Rattle.std.proofs.Math.Seq.{get_or-append_seam}
 use Rattle.auction_terms.specs.declared.Refusal.{Refusal}
 use Rattle.auction_terms.specs.declared.Refusal.TheVariants as refused
 use Rattle.auction_terms.specs.declared.Reply.{Reply}
 use Rattle.auction_terms.specs.declared.Reply.TheVariants as reply
 use Rattle.auction_terms.specs.Refusals.{refusal_number}
-use Rattle.reply_list.specs.ReplyList.{IsCode, brief_reply, replies_of, reply_of}
-use Rattle.reply_list.specs.declared.TheConstants.{FIRST_OTHER}
+use Rattle.std.proofs.lemmas.Bool.Decides.{nat_tests}
+use Rattle.reply_list.specs.ReplyList.{IsCoded, IsKept, brief_reply, entered_after, entered_by, next_id, replies_from}
+use Rattle.reply_list.specs.ReplyList.{reply_of, shown_after, shown_by}
+use Rattle.reply_list.specs.declared.TheConstants.{ENTERED, OTHER, AGAIN}
 
 -- a refusal's number is its code
 pub refusal_code : (r : Refusal) → brief_reply (refusal_number r) ≡ reply.Refused r
@@ -26,104 +27,150 @@ refusal_code refused.DayOver = refl
 refusal_code refused.NoSuchTrade = refl
 refusal_code refused.PastAuction = refl
 
--- a code below the others' says its reply by itself
-pub brief_reply-code : (others : List Reply) (code : ℕ) → code < FIRST_OTHER → reply_of others code ≡ brief_reply code
-unfolding reply_of
-brief_reply-code others code h = let low : nat_le FIRST_OTHER code ≡ false = search rules in rw low refl
+pub length-replies : (others : List Reply) (entered shown : ℕ) (codes : List ℕ)
+    → length (replies_from others entered shown codes) ≡ length codes
+length-replies others entered shown [] = refl
+length-replies others entered shown (code ∷ codes) =
+    ap suc (length-replies others (entered_after entered code) (shown_after shown code) codes)
 
--- the others' codes say where they stand
-pub other_code : (others : List Reply) (code : ℕ) → FIRST_OTHER ≤ code
-    → reply_of others code ≡ get_or others (code - FIRST_OTHER) reply.Deleted
-unfolding reply_of
-other_code others code h = let high : nat_le FIRST_OTHER code ≡ true = search rules in rw high refl
+-- ---- one code more
+
+pub replies-push : (others : List Reply) (entered shown : ℕ) (codes : List ℕ) (code : ℕ)
+    → replies_from others entered shown (codes ++ code ∷ [])
+    ≡ replies_from others entered shown codes
+    ++ reply_of others (entered_by entered codes) (shown_by shown codes) code ∷ []
+replies-push others entered shown [] code = refl
+replies-push others entered shown (first ∷ codes) code =
+    ap (λ rs. reply_of others entered shown first ∷ rs)
+    (replies-push others (entered_after entered first) (shown_after shown first) codes code)
+
+pub entered-push : (entered : ℕ) (codes : List ℕ) (code : ℕ)
+    → entered_by entered (codes ++ code ∷ []) ≡ entered_after (entered_by entered codes) code
+entered-push entered [] code = refl
+entered-push entered (first ∷ codes) code = entered-push (entered_after entered first) codes code
+
+pub shown-push : (shown : ℕ) (codes : List ℕ) (code : ℕ)
+    → shown_by shown (codes ++ code ∷ []) ≡ shown_after (shown_by shown codes) code
+shown-push shown [] code = refl
+shown-push shown (first ∷ codes) code = shown-push (shown_after shown first) codes code
+
+-- ---- others more
+
+more-after : (shown code : ℕ) → shown ≤ shown_after shown code
+more-after shown code = by (nat_eq code OTHER) refl
+  where
+    by : (b : Bool) → nat_eq code OTHER ≡ b → shown ≤ shown_after shown code
+    by true e = rw e (omega arith)
+    by false e = rw e (omega arith)
+
+shown-more : (shown : ℕ) (codes : List ℕ) → shown ≤ shown_by shown codes
+shown-more shown [] = omega arith
+shown-more shown (code ∷ codes) = omega (arith, more-after shown code, shown-more (shown_after shown code) codes)
 
 -- a code says the same once there are more others
-reply_of-append : (others more : List Reply) (code : ℕ) → IsCode (length others) code
-    → reply_of (others ++ more) code ≡ reply_of others code
+reply-grown : (others more : List Reply) (entered shown code : ℕ) → shown_after shown code ≤ length others
+    → reply_of (others ++ more) entered shown code ≡ reply_of others entered shown code
 unfolding reply_of
-reply_of-append others more code h = by (nat_le FIRST_OTHER code) refl
+reply-grown others more entered shown code h =
+    by (nat_eq code ENTERED) (nat_eq code OTHER) (nat_eq code AGAIN) refl refl refl
   where
-    by : (b : _) → nat_le FIRST_OTHER code ≡ b → reply_of (others ++ more) code ≡ reply_of others code
-    by true e = rw e (get_or_append_left others more reply.Deleted (code - FIRST_OTHER) (search rules))
-    by false e = rw e refl
+    by : (a b c : Bool) → nat_eq code ENTERED ≡ a → nat_eq code OTHER ≡ b → nat_eq code AGAIN ≡ c
+        → reply_of (others ++ more) entered shown code ≡ reply_of others entered shown code
+    by true b c e f g = rw e refl
+    by false true c e f g =
+        let within : shown < length others = omega (arith, rw f at h) in
+        rw (e, f) (get_or_append_left others more reply.Deleted shown within)
+    by false false true e f g =
+        let within : shown < length (reply.Deleted ∷ others) = omega (arith, rw f at h) in
+        rw (e, f, g) (get_or_append_left (reply.Deleted ∷ others) more reply.Deleted shown within)
+    by false false false e f g = rw (e, f, g) refl
 
--- and so do all codes
-pub replies_of-append : (others more : List Reply) (codes : List ℕ) → All (IsCode (length others)) codes
-    → replies_of (others ++ more) codes ≡ replies_of others codes
-replies_of-append others more [] h = refl
-replies_of-append others more (code ∷ codes) h =
+-- and so do all codes, which read no more of the others than there are
+pub replies-grown : (others more : List Reply) (entered shown : ℕ) (codes : List ℕ)
+    → shown_by shown codes ≤ length others
+    → replies_from (others ++ more) entered shown codes ≡ replies_from others entered shown codes
+replies-grown others more entered shown [] h = refl
+replies-grown others more entered shown (code ∷ codes) h =
+    let within : shown_after shown code ≤ length others = omega (arith, shown-more (shown_after shown code) codes) in
     rw (
-      reply_of-append others more code (All-head (IsCode (length others)) code codes h),
-      replies_of-append others more codes (All-tail (IsCode (length others)) code codes h),
+      reply-grown others more entered shown code within,
+      replies-grown others more (entered_after entered code) (shown_after shown code) codes h,
     ) refl
 
--- the code of a place among the others
-pub reply_of-other : (others : List Reply) (place : ℕ) (said : Reply) → place < length others
-    → get_or others place said ≡ said
-    → reply_of others (FIRST_OTHER + place) ≡ said
-reply_of-other others place said h e =
-    let back : (FIRST_OTHER + place) - FIRST_OTHER ≡ place = omega arith in
-    other_code others (FIRST_OTHER + place) (omega arith) ∙ ap (λ n. get_or others n reply.Deleted) back
-    ∙ get_or_default others place reply.Deleted said h ∙ e
+-- ---- what codes say
 
--- that of the last one
-pub reply_of-last_other : (others : List Reply) (count : ℕ) (said : Reply) → count ≡ length others
+not-entered : (code : ℕ) → code < ENTERED → nat_eq code ENTERED ≡ false
+not-entered code low = grind (arith, nat_tests)
+
+not-other : (code : ℕ) → code < ENTERED → nat_eq code OTHER ≡ false
+not-other code low = grind (arith, nat_tests)
+
+not-again : (code : ℕ) → code < ENTERED → nat_eq code AGAIN ≡ false
+not-again code low = grind (arith, nat_tests)
+
+brief-says : (others : List Reply) (entered shown code : ℕ) → code < ENTERED
+    → reply_of others entered shown code ≡ brief_reply code
+unfolding reply_of
+brief-says others entered shown code low = rw (not-entered code low, not-other code low, not-again code low) refl
+
+pub brief-coded : (entered code : ℕ) (said : Reply) → code < ENTERED → brief_reply code ≡ said
+    → IsCoded entered code said
+brief-coded entered code said low is = record {
+  says = λ others shown. brief-says others entered shown code low ∙ is;
+  alone = λ shown. rw (not-other code low) refl;
+}
+
+pub entered-coded : (entered : ℕ) → IsCoded entered ENTERED (reply.Entered (next_id entered))
+unfolding reply_of
+entered-coded entered = record {
+  says = λ others shown. refl;
+  alone = λ shown. refl;
+}
+
+-- the next of the others is the one that was put behind them
+pub other-says : (others all : List Reply) (entered : ℕ) (said : Reply) → all ≡ others ++ said ∷ []
+    → reply_of all entered (length others) OTHER ≡ said
+unfolding reply_of
+other-says others all entered said put = rw put (get_or-append_seam others said [] reply.Deleted)
+
+-- the last one is said again
+pub again-says : (others : List Reply) (entered : ℕ) (said : Reply)
     → (0 < length others) × (get_or others (length others - 1) said ≡ said)
-    → (reply_of others (FIRST_OTHER + (count - 1)) ≡ said) × (FIRST_OTHER + (count - 1) < FIRST_OTHER + length others)
-reply_of-last_other others count said e last =
-    (reply_of-other others (count - 1) said (omega arith) (rw e last.1), omega arith)
+    → reply_of others entered (length others) AGAIN ≡ said
+unfolding reply_of
+again-says [] entered said last = absurd (omega (arith, last.0))
+again-says (first ∷ others) entered said last =
+    let back : length (first ∷ others) - 1 ≡ length others = omega arith in
+    get_or_default (first ∷ others) (length others) reply.Deleted said (omega arith)
+    ∙ ap (λ n. get_or (first ∷ others) n said) (sym back) ∙ last.1
 
--- that of one more
-pub reply_of-new_other : (others all : List Reply) (count : ℕ) (said : Reply) → count ≡ length others
-    → all ≡ others ++ said ∷ []
-    → (reply_of all (FIRST_OTHER + count) ≡ said) × (FIRST_OTHER + count < FIRST_OTHER + length all)
-reply_of-new_other others all count said e put =
-    let more : length all ≡ length others + 1 = rw put (length-append others (said ∷ [])) in
-    (reply_of-other all count said (omega arith) (rw (put, e) (get_or-append_seam others said [] said)), omega arith)
+-- ---- a reply that is pushed: its code stands behind the others, which may have grown
 
--- one more code, beside others that may have grown
-pub replies_of-push : (others more all : List Reply) (codes after : List ℕ) (code : ℕ) (reply : Reply)
-    → All (IsCode (length others)) codes
-    → all ≡ others ++ more → reply_of all code ≡ reply → after ≡ codes ++ code ∷ []
-    → replies_of all after ≡ replies_of others codes ++ reply ∷ []
-replies_of-push others more all codes after code reply sound grown is put =
-    rw put (map-append (reply_of all) codes (code ∷ [])
-    ∙ rw (is, grown) (ap (λ rs. rs ++ reply ∷ []) (replies_of-append others more codes sound)))
+module _ (others all more : List Reply) (codes reserved after : List ℕ) (entered code : ℕ)
+    (kept : IsKept codes entered others) (grown : all ≡ others ++ more) (same : reserved ≡ codes)
+    (put : after ≡ reserved ++ code ∷ []) where
+  put-behind : after ≡ codes ++ code ∷ []
+  put-behind = put ∙ ap (λ l. l ++ code ∷ []) same
 
--- and all of them are codes then
-pub is_code-push : (others more all : List Reply) (codes after : List ℕ) (code : ℕ) → All (IsCode (length others)) codes
-    → all ≡ others ++ more → IsCode (length all) code → after ≡ codes ++ code ∷ [] → All (IsCode (length all)) after
-is_code-push others more all codes after code sound grown is put =
-    rw put
-    (All-push (IsCode (length all)) codes code
-    (All-weaker (IsCode (length others)) (IsCode (length all))
-    (λ x h. rw grown (omega (arith, length-append others more))) codes sound) is)
+  pub kept-push : (next : ℕ) → next ≡ entered_after entered code → shown_after (length others) code ≡ length all
+      → IsKept after next all
+  kept-push next is shown = record {
+    entered_is =
+        ap (entered_by 0) put-behind ∙ entered-push 0 codes code
+        ∙ ap (λ e. entered_after e code) kept.entered_is ∙ sym is;
+    shown_is =
+        ap (shown_by 0) put-behind ∙ shown-push 0 codes code ∙ ap (λ n. shown_after n code) kept.shown_is ∙ shown;
+  }
 
--- the reply at a place is what its code says
-reply-at : (others : List Reply) (codes : List ℕ) (place code : ℕ) → place < length codes
-    → code ≡ get_or codes place code
-    → get_or (replies_of others codes) place reply.Deleted ≡ reply_of others code
-reply-at others codes place code h e =
-    get_or-map (reply_of others) codes place code reply.Deleted h ∙ ap (reply_of others) (sym e)
-
-pub brief_at : (others shown : List Reply) (codes : List ℕ) (place code : ℕ) (found : Reply)
-    → replies_of others codes ≡ shown → place < length shown
-    → code ≡ get_or codes place code → code < FIRST_OTHER → found ≡ brief_reply code
-    → found ≡ get_or shown place reply.Deleted
-brief_at others shown codes place code found is h e low said =
-    let within : place < length codes = rw (← is, length-map codes (reply_of others)) at h in
-    said ∙ sym (brief_reply-code others code low) ∙ sym (reply-at others codes place code within e)
-    ∙ ap (λ rs. get_or rs place reply.Deleted) is
-
-pub other_at : (others shown : List Reply) (codes : List ℕ) (place code : ℕ) (found : Reply)
-    → replies_of others codes ≡ shown → place < length shown
-    → All (IsCode (length others)) codes → code ≡ get_or codes place code → FIRST_OTHER ≤ code
-    → found ≡ get_or others (code - FIRST_OTHER) found
-    → found ≡ get_or shown place reply.Deleted
-other_at others shown codes place code found is h sound e high said =
-    let within : place < length codes = rw (← is, length-map codes (reply_of others)) at h in
-    let good : IsCode (length others) code =
-    rw (sym e) at (All-get_or (IsCode (length others)) codes place code within sound) in
-    said ∙ get_or_default others (code - FIRST_OTHER) found reply.Deleted (omega (arith, good))
-    ∙ sym (other_code others code high)
-    ∙ sym (reply-at others codes place code within e) ∙ ap (λ rs. get_or rs place reply.Deleted) is
+  pub replies-pushed : (before : List Reply) (said : Reply) → replies_from others 0 0 codes ≡ before
+      → reply_of all entered (length others) code ≡ said → replies_from all 0 0 after ≡ before ++ said ∷ []
+  replies-pushed before said was is =
+      let front : replies_from all 0 0 codes ≡ before =
+      ap (λ l. replies_from l 0 0 codes) grown
+      ∙ replies-grown others more 0 0 codes (omega (arith, kept.shown_is)) ∙ was in
+      let last : reply_of all (entered_by 0 codes) (shown_by 0 codes) code ≡ said =
+      ap (λ e. reply_of all e (shown_by 0 codes) code) kept.entered_is
+      ∙ ap (λ n. reply_of all entered n code) kept.shown_is ∙ is in
+      ap (replies_from all 0 0) put-behind ∙ replies-push all 0 0 codes code
+      ∙ ap (λ rs. rs ++ reply_of all (entered_by 0 codes) (shown_by 0 codes) code ∷ []) front
+      ∙ ap (λ r. before ++ r ∷ []) last

@@ -1,9 +1,11 @@
--- A list of replies, each kept as a code: a short reply is said by its code, any other stands in a list of others.
-use Rattle.std.specs.Prelude.{ℕ, ◌+◌, ◌-◌, ◌<◌, List, [], ◌∷◌, get_or, map, nat_le, if◌then◌else◌, true, false}
+-- A list of replies, each kept as a code: a short reply is said by its code, an entry by those before it, and any other
+-- stands in a list of others.
+use Rattle.std.specs.Prelude.{◌≡◌, ℕ, ◌+◌, ◌%◌, ◌^◌, List, [], ◌∷◌, get_or, length, nat_eq, if◌then◌else◌}
+use Rattle.std.specs.Prelude.{true, false}
 use Rattle.auction_terms.specs.declared.Refusal.TheVariants as refused
 use Rattle.auction_terms.specs.declared.Reply.{Reply}
 use Rattle.auction_terms.specs.declared.Reply.TheVariants as reply
-use Rattle.reply_list.specs.declared.TheConstants.{FIRST_ID, FIRST_OTHER}
+use Rattle.reply_list.specs.declared.TheConstants.{ENTERED, OTHER, AGAIN}
 
 -- the replies of the lowest codes
 abbrev pub lowest_replies : List Reply
@@ -13,19 +15,53 @@ lowest_replies =
     ∷ reply.Refused refused.DayOver ∷ reply.Refused refused.NoSuchTrade ∷ reply.Refused refused.PastAuction
     ∷ reply.Changed true ∷ reply.Changed false ∷ []
 
--- the reply that a code says by itself: one of these, or an entry by its id
+-- the reply that a code says by itself
 unfoldable pub brief_reply : ℕ → Reply
-brief_reply code =
-    if nat_le FIRST_ID code then reply.Entered (code - FIRST_ID) else get_or lowest_replies code reply.Deleted
+brief_reply code = get_or lowest_replies code reply.Deleted
 
--- the reply of a code, beside these others
-unfoldable pub reply_of : List Reply → ℕ → Reply
-reply_of others code =
-    if nat_le FIRST_OTHER code then get_or others (code - FIRST_OTHER) reply.Deleted else brief_reply code
+-- the id of the entry behind the one with this id
+abbrev pub next_id : ℕ → ℕ
+next_id entered = (entered + 1) % 2 ^ 32
 
-abbrev pub replies_of : List Reply → List ℕ → List Reply
-replies_of others codes = map (reply_of others) codes
+-- the id of the last entry, once this code was read
+abbrev pub entered_after : ℕ → ℕ → ℕ
+entered_after entered code = if nat_eq code ENTERED then next_id entered else entered
 
--- a code that says a reply beside so many others
-abbrev pub IsCode : ℕ → ℕ → Type 0
-IsCode count code = code < FIRST_OTHER + count
+-- how many of the others were read then
+abbrev pub shown_after : ℕ → ℕ → ℕ
+shown_after shown code = if nat_eq code OTHER then shown + 1 else shown
+
+-- the reply of a code, where the last entry and so many others were read: one entry more, the next of the others, the
+-- last one again, or a brief reply
+unfoldable pub reply_of : List Reply → ℕ → ℕ → ℕ → Reply
+reply_of others entered shown code =
+    if nat_eq code ENTERED then reply.Entered (next_id entered)
+    else if nat_eq code OTHER then get_or others shown reply.Deleted
+    else if nat_eq code AGAIN then get_or (reply.Deleted ∷ others) shown reply.Deleted
+    else brief_reply code
+
+-- the replies of codes
+abbrev pub replies_from : List Reply → ℕ → ℕ → List ℕ → List Reply
+replies_from others entered shown [] = []
+replies_from others entered shown (code ∷ codes) =
+    reply_of others entered shown code
+    ∷ replies_from others (entered_after entered code) (shown_after shown code) codes
+
+-- what was read once all of these codes were
+abbrev pub entered_by : ℕ → List ℕ → ℕ
+entered_by entered [] = entered
+entered_by entered (code ∷ codes) = entered_by (entered_after entered code) codes
+
+abbrev pub shown_by : ℕ → List ℕ → ℕ
+shown_by shown [] = shown
+shown_by shown (code ∷ codes) = shown_by (shown_after shown code) codes
+
+-- all of the others are read then, and the id is that of the last entry
+pub record IsKept (codes : List ℕ) (entered : ℕ) (others : List Reply) : Type 0 where
+  pub entered_is : entered_by 0 codes ≡ entered
+  pub shown_is : shown_by 0 codes ≡ length others
+
+-- a code that says a reply behind the entry with this id, whatever the others are
+pub record IsCoded (entered code : ℕ) (said : Reply) : Type 0 where
+  pub says : (others : List Reply) (shown : ℕ) → reply_of others entered shown code ≡ said
+  pub alone : (shown : ℕ) → shown_after shown code ≡ shown

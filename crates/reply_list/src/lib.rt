@@ -1,77 +1,90 @@
-//! The replies of a day, kept in a few bytes each until they are printed.
+//! The replies of a day, kept in a byte each until they are printed.
 //!
-//! A [`ReplyList`] is seen by contracts as the list of its replies. Most replies take four bytes: an entry with its
-//! id, a deletion, a change, a refusal. Any other one is kept whole beside them, and once where it is the same as the
-//! last of those, as displays often are.
+//! A [`ReplyList`] is seen by contracts as the list of its replies, and [`Replies`] as those that are left to read.
+//! Most replies take one byte: an entry with the next id, a deletion, a change, a refusal, and one that is the same as
+//! the last of the others, as displays often are. Any other one is kept whole beside them.
 #![tactic(auto)]
 
-ghost use Rattle.std.specs.Prelude.{◌≡◌, ◌<◌, ◌≤◌, ◌+◌, ◌-◌, ◌∷◌, ◌++◌, []};
-ghost use Rattle.std.specs.Prelude.{List, get_or, length, true, IfOk, IfSome, OnOk};
+ghost use Rattle.std.specs.Prelude.{◌≡◌, ◌<◌, ◌≤◌, ◌+◌, ◌-◌, ◌%◌, ◌^◌, ◌∷◌, ◌++◌, []};
+ghost use Rattle.std.specs.Prelude.{ℕ, List, get_or, length, true, IfOk, IfSome, OnErr, OnOk};
 ghost use Rattle.auction_terms.specs.declared.Reply.TheVariants as replies;
 ghost use Rattle.auction_terms.specs.declared.Reply.{Reply};
-ghost use Rattle.reply_list.specs.ReplyList.{brief_reply, reply_of};
+ghost use Rattle.reply_list.specs.ReplyList.{IsCoded, brief_reply, entered_after, reply_of, shown_after};
 
 use auction_terms::{Refusal, Reply};
 use std::alloc::{AllocError, Global};
 use std::marker::Model;
 
-// The code of the entry with id 0; those below it are of replies without a number.
-const FIRST_ID: u32 = 16;
+// The codes above those of the brief replies: an entry with the next id, the next of the others, the last of them
+// again.
+const ENTERED: u8 = 12;
 
-// The code of the first of the others.
-const FIRST_OTHER: u32 = 2_147_483_648;
+const OTHER: u8 = 13;
+
+const AGAIN: u8 = 14;
 
 /// The replies of a day, in their order.
 #[derive(Drop)]
 pub struct ReplyList {
-    codes: Vec<u32>,
+    codes: Vec<u8>,
     others: Vec<Reply>,
+    // The id of the last of the codes' entries.
+    entered: u32,
 }
 
 impl Model for ReplyList {
-    ghost use Rattle.std.specs.Prelude.{List, All, length};
+    ghost use Rattle.std.specs.Prelude.{List};
     ghost use Rattle.auction_terms.specs.declared.Reply.{Reply};
-    ghost use Rattle.reply_list.specs.ReplyList.{IsCode, replies_of};
+    ghost use Rattle.reply_list.specs.ReplyList.{IsKept, replies_from};
 
     ghost Value = { List Reply };
 
-    ghost view = { λ l. replies_of l.others.items l.codes.items };
+    ghost view = { λ l. replies_from l.others.items 0 0 l.codes.items };
 
-    ghost invariant = { λ l. All (IsCode (length l.others.items)) l.codes.items };
+    ghost invariant = { λ l. IsKept l.codes.items l.entered l.others.items };
+}
+
+/// The replies of a list that are left to read.
+#[derive(Drop)]
+pub struct Replies<'a> {
+    codes: &'a [u8],
+    others: &'a [Reply],
+    entered: u32,
+    shown: usize,
+}
+
+impl<'a> Model for Replies<'a> {
+    ghost use Rattle.std.specs.Prelude.{◌<◌, ◌+◌, ◌^◌, List, length};
+    ghost use Rattle.auction_terms.specs.declared.Reply.{Reply};
+    ghost use Rattle.reply_list.specs.ReplyList.{replies_from};
+
+    ghost Value = { List Reply };
+
+    ghost view = { λ r. replies_from r.others.now r.entered r.shown r.codes.now };
+
+    ghost invariant = { λ r. r.shown + length r.codes.now < 2 ^ 64 };
 }
 
 /// The code of a refusal, which is its number.
 #[tactic(auto, using(crate::proofs::ReplyListLaws::refusal_code))]
-fn refusal_code(refusal: Refusal) -> u32
+fn refusal_code(refusal: Refusal) -> u8
     ensures code { brief_reply result ≡ replies.Refused refusal }
-    ensures brief { result < FIRST_ID }
+    ensures brief { result < ENTERED }
 {
-    u32::from(refusal.number())
+    refusal.number()
 }
 
-/// The code of an entry, if its id leaves room for it.
+/// The code of a reply that is said by its code, behind entries of which the last has this id.
 #[tactic(auto, unfolding(crate::specs::ReplyList::brief_reply))]
 #[inline]
-fn entry_code(id: u32) -> Option<u32>
-    ensures { IfSome result (λ code. (brief_reply code ≡ replies.Entered id) × (code < FIRST_OTHER)) }
-{
-    if id >= FIRST_OTHER - FIRST_ID {
-        return None;
-    }
-    Some(FIRST_ID + id)
-}
-
-/// The code of a reply that is said by its code.
-#[tactic(auto, unfolding(crate::specs::ReplyList::brief_reply))]
-#[inline]
-fn brief_code(reply: &Reply) -> Option<u32>
-    ensures { IfSome result (λ code. (brief_reply code ≡ reply.now) × (code < FIRST_OTHER)) }
+fn brief_code(entered: u32, reply: &Reply) -> Option<u8>
+    ensures { IfSome result (λ code. IsCoded entered code reply.now) }
 {
     match reply {
         Reply::Deleted => Some(0),
         Reply::Refused(refusal) => Some(refusal_code(*refusal)),
         Reply::Changed { kept } => Some(if *kept { 10 } else { 11 }),
-        Reply::Entered { id } => entry_code(*id),
+        Reply::Entered { id } if *id == entered.wrapping_add(1) => Some(ENTERED),
         _ => None,
     }
 }
@@ -88,46 +101,64 @@ fn ends_with(others: &[Reply], reply: &Reply) -> bool
 }
 
 /// The code of a reply that is kept whole: it is put behind the others, but where it is the last of them already.
-fn other_code(others: &mut Vec<Reply>, reply: &Reply) -> Result<u32, AllocError>
-    ensures code { IfOk result (λ code. (reply_of others.new.items code ≡ reply.now)
-        × (code < FIRST_OTHER + length others.new.items)) }
+fn other_code(others: &mut Vec<Reply>, reply: &Reply) -> Result<u8, AllocError>
+    ensures said { IfOk result (λ code. (entered : ℕ)
+        → reply_of others.new.items entered (length others.old.items) code ≡ reply.now) }
+    ensures shown { IfOk result (λ code. shown_after (length others.old.items) code ≡ length others.new.items) }
     ensures kept { (more : List Reply) × (others.new.items ≡ others.old.items ++ more) }
+    ensures refused { OnErr result (others.new.items ≡ others.old.items) }
 {
-    let count = others.len();
-    if count >= FIRST_OTHER as usize {
-        return Err(AllocError);
-    }
     if ends_with(others.as_slice(), reply) {
-        return Ok(FIRST_OTHER + (count as u32 - 1));
+        return Ok(AGAIN);
     }
     others.push(*reply)?;
-    Ok(FIRST_OTHER + count as u32)
+    Ok(OTHER)
 }
 
-/// The code of a reply beside these others, which may grow by it.
+/// The code of a reply behind these others, which may grow by it, and entries of which the last has this id.
 #[inline]
-fn code_of(others: &mut Vec<Reply>, reply: &Reply) -> Result<u32, AllocError>
-    ensures code { IfOk result (λ code. (reply_of others.new.items code ≡ reply.now)
-        × (code < FIRST_OTHER + length others.new.items)) }
+fn code_of(others: &mut Vec<Reply>, entered: u32, reply: &Reply) -> Result<u8, AllocError>
+    ensures said { IfOk result (λ code.
+        reply_of others.new.items entered (length others.old.items) code ≡ reply.now) }
+    ensures shown { IfOk result (λ code. shown_after (length others.old.items) code ≡ length others.new.items) }
     ensures kept { (more : List Reply) × (others.new.items ≡ others.old.items ++ more) }
+    ensures refused { OnErr result (others.new.items ≡ others.old.items) }
 {
-    match brief_code(reply) {
+    match brief_code(entered, reply) {
         Some(code) => Ok(code),
         None => other_code(others, reply),
     }
 }
 
-/// The reply that a code below that of the others says.
+/// The id of the last entry, once this code was read.
+#[inline]
+fn entered_after(entered: u32, code: u8) -> u32
+    ensures { result ≡ entered_after entered code }
+{
+    if code == ENTERED {
+        return entered.wrapping_add(1);
+    }
+    entered
+}
+
+/// How many of the others were read then.
+#[inline]
+fn shown_after(shown: usize, code: u8) -> usize
+    requires { shown + 1 < 2 ^ 64 }
+    ensures { result ≡ shown_after shown code }
+{
+    if code == OTHER {
+        return shown + 1;
+    }
+    shown
+}
+
+/// The reply of a code below those of entries.
 #[tactic(auto, unfolding(crate::specs::ReplyList::brief_reply))]
 #[inline]
-fn brief_reply(code: u32) -> Reply
+fn brief_reply(code: u8) -> Reply
     ensures { result ≡ brief_reply code }
 {
-    if code >= FIRST_ID {
-        return Reply::Entered {
-            id: code - FIRST_ID,
-        };
-    }
     match code {
         1 => Reply::Refused(Refusal::BadQuantity),
         2 => Reply::Refused(Refusal::BadLimit),
@@ -144,6 +175,44 @@ fn brief_reply(code: u32) -> Reply
     }
 }
 
+/// One of the others, by its place from 0.
+#[inline]
+fn other_at(others: &[Reply], place: usize) -> Reply
+    ensures { result ≡ get_or others.now place replies.Deleted }
+{
+    match others.get(place) {
+        Some(reply) => *reply,
+        None => Reply::Deleted,
+    }
+}
+
+/// The last of so many of the others, or a deletion where there is none.
+#[inline]
+fn last_of(others: &[Reply], shown: usize) -> Reply
+    ensures { result ≡ get_or (replies.Deleted ∷ others.now) shown replies.Deleted }
+{
+    if shown == 0 {
+        return Reply::Deleted;
+    }
+    other_at(others, shown - 1)
+}
+
+/// The reply that a code says behind so many of the others, and entries of which the last has this id.
+#[tactic(auto, unfolding(crate::specs::ReplyList::reply_of))]
+#[inline]
+fn reply_of(others: &[Reply], entered: u32, shown: usize, code: u8) -> Reply
+    ensures { result ≡ reply_of others.now entered shown code }
+{
+    match code {
+        ENTERED => Reply::Entered {
+            id: entered.wrapping_add(1),
+        },
+        OTHER => other_at(others, shown),
+        AGAIN => last_of(others, shown),
+        _ => brief_reply(code),
+    }
+}
+
 impl ReplyList {
     /// No replies.
     pub fn new(alloc: Global) -> ReplyList
@@ -152,17 +221,20 @@ impl ReplyList {
         ReplyList {
             codes: Vec::new(alloc),
             others: Vec::new(alloc),
+            entered: 0,
         }
     }
 
-    /// One more reply, behind the others. Where memory is refused, which it is too for more than 2,147,483,648 replies
-    /// that are kept whole, the list is as it was.
+    /// One more reply, behind the others. Where memory is refused, the list is as it was.
     #[inline]
     pub fn push(&mut self, reply: &Reply) -> Result<(), AllocError>
         ensures pushed { OnOk result (self.new ≡ self.old ++ reply.now ∷ []) }
+        ensures refused { OnErr result (self.new ≡ self.old) }
     {
-        let code = code_of(&mut self.others, reply)?;
-        self.codes.push(code)?;
+        self.codes.reserve(1)?;
+        let code = code_of(&mut self.others, self.entered, reply)?;
+        self.entered = entered_after(self.entered, code);
+        self.codes.push_reserved(code);
         Ok(())
     }
 
@@ -174,16 +246,31 @@ impl ReplyList {
         self.codes.len()
     }
 
-    /// The reply at a place, from 0.
-    #[inline]
-    pub fn reply_at(&self, place: usize) -> Reply
-        requires { place < length self.now }
-        ensures { result ≡ get_or self.now place replies.Deleted }
+    /// The replies, to be read one after the other.
+    pub fn iter(&self) -> Replies<'_>
+        ensures { result ≡ self.now }
     {
-        let code = self.codes[place];
-        if code >= FIRST_OTHER {
-            return self.others[(code - FIRST_OTHER) as usize];
+        Replies {
+            codes: self.codes.as_slice(),
+            others: self.others.as_slice(),
+            entered: 0,
+            shown: 0,
         }
-        brief_reply(code)
+    }
+}
+
+impl<'a> Replies<'a> {
+    /// The next reply. There is one.
+    #[inline]
+    pub fn next_reply(&mut self) -> Reply
+        requires { 0 < length self.old }
+        ensures { self.old ≡ result ∷ self.new }
+    {
+        let code = self.codes[0];
+        let reply = reply_of(self.others, self.entered, self.shown, code);
+        self.codes = &self.codes[1..];
+        self.entered = entered_after(self.entered, code);
+        self.shown = shown_after(self.shown, code);
+        reply
     }
 }

@@ -1,14 +1,14 @@
 -- Answers of `ReplyList::push` (src/lib.rt): what the prover left open; rt looks here.
-use Rattle.std.proofs.Common.{◌∙◌, ap, ◌++◌, ◌∷◌, []}
-use Rattle.reply_list.proofs.ReplyListLaws.{replies_of-push}
+use Rattle.reply_list.proofs.ReplyListLaws.{kept-push, replies-pushed}
 use Rattle.reply_list.proofs.ReplyList.push.Goals as goal
 
-pub returns : goal.returns
-returns c =
-    let kept = c.in_ok-code.ensures.kept in
-    record {
-      pushed =
-          replies_of-push c.self.inside.others.items kept.0 _ c.self.inside.codes.items _ c.in_ok-code.code
-          c.args.reply.now c.self.invariant kept.1 c.in_ok-code.ensures.code.0 c.in_ok-push.ensures.items
-          ∙ ap (λ rs. rs ++ c.args.reply.now ∷ []) c.self.view_is;
-    }
+pub invariant_of-self-2 : goal.invariant_of-self-2
+invariant_of-self-2 c =
+    kept-push _ _ c.in_ok-code.ensures.kept.0 _ _ _ _ _ c.self.invariant c.in_ok-code.ensures.kept.1
+    c.in_ok-reserve.ensures.items c.push_reserved.ensures.items _ c.entered_after-self-inside.ensures
+    c.in_ok-code.ensures.shown
+
+pub returns-clause-pushed : goal.returns-clause-pushed
+returns-clause-pushed c =
+    replies-pushed _ _ c.in_ok-code.ensures.kept.0 _ _ _ _ _ c.self.invariant c.in_ok-code.ensures.kept.1
+    c.in_ok-reserve.ensures.items c.push_reserved.ensures.items _ _ c.self.view_is c.in_ok-code.ensures.said
