@@ -314,8 +314,9 @@ CALLAUCTION_RESULT uint32_t callauction_board_open(callauction_member *members, 
 /* Calls a command of the handle's member on its board; the struct's `member` isn't read. The call is recorded in the
  * board's history after all that this member has seen, and its receipt has its number there and the reply of one
  * auction to which the history's calls were applied one by one. NO_COMMAND as callauction_apply; BUSY where another
- * call had the board at each of some hundred tries (callauction_board_call_waiting waits); CLOSED; FULL where the
- * history has max_calls entries; BEHIND; OVERTAKEN. */
+ * call had the board at each of 1,000 tries (callauction_board_call_waiting waits), or CLOSED; else FULL where the
+ * history has max_calls entries; else BEHIND where the member has seen more calls than the history has, or counted
+ * others than it has of the member; else OVERTAKEN. */
 CALLAUCTION_RESULT uint32_t callauction_board_call(callauction_member *member, const callauction_command *command,
                                                    callauction_receipt *receipt);
 
@@ -326,7 +327,8 @@ CALLAUCTION_RESULT uint32_t callauction_board_call(callauction_member *member, c
 CALLAUCTION_RESULT uint32_t callauction_board_look(callauction_member *member, callauction_shown *shown);
 
 /* As callauction_ladder and callauction_trades, after as many calls as it writes, none of which the member hasn't seen
- * then. They take the lock as a call does: BUSY, CLOSED and BEHIND as callauction_board_call; BAD_LENGTH. */
+ * then. They take the lock as a call does: BUSY or CLOSED; else BAD_LENGTH, of a ladder; else BEHIND where the member
+ * has seen more calls than the history has. */
 CALLAUCTION_RESULT uint32_t callauction_board_ladder(callauction_member *member, uint64_t *bids, size_t bid_count,
                                                      uint64_t *asks, size_t ask_count, callauction_market *market,
                                                      uint32_t *calls);
@@ -351,10 +353,11 @@ CALLAUCTION_RESULT uint32_t callauction_board_config_of(const callauction_member
  * handles are those of all members of one board, in their order. The history's entries are those of one auction of one
  * thread; they are as many as the counts add up to; and each member's account agrees: what it saw is a beginning of the
  * history's calls, and the history's calls of its number are its own. The handles hold their members still, whose calls
- * answer CLOSED; give each up by callauction_board_leave. BAD_LENGTH where there is no handle, the history has room for
- * fewer than max_calls entries, or the counts aren't as many as the members; NO_MEMBER; BUSY; CLOSED at a second close;
- * MISSING_MEMBER where the handles aren't all of the board's members in their order; BEHIND where an account doesn't
- * agree. */
+ * answer CLOSED; give each up by callauction_board_leave. BAD_LENGTH where there is no handle; else NO_MEMBER where the
+ * first holds none; else BAD_LENGTH where the history has room for fewer than max_calls entries, or the counts aren't as
+ * many as the members; else BUSY, or CLOSED at a second close; else MISSING_MEMBER where the handles aren't as many as
+ * the members; else the error of the first handle that has one: NO_MEMBER, MISSING_MEMBER where its member has another
+ * number than its place, BEHIND where the account doesn't agree. */
 CALLAUCTION_RESULT uint32_t callauction_board_close(callauction_member *members, size_t member_count,
                                                     callauction_entry *entries, size_t entry_count, uint32_t *counts,
                                                     size_t count_count, size_t *written);

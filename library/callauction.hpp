@@ -513,7 +513,7 @@ class Board;
 // A member of a board: one thread at a time has it, and its board outlives it.
 class Member {
 public:
-    // Records a command in the board's history. Error::busy where another call had the board at each of some hundred
+    // Records a command in the board's history. Error::busy where another call had the board at each of a thousand
     // tries.
     Result<Receipt> call(const Command &command) {
         const auto given = struct_of(0, command);

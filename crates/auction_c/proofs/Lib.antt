@@ -1,4 +1,5 @@
 mod AsBox
+mod BoardErrorLaws
 mod MemberAsBox
 mod CopyLaws
 mod ClosingLaws

@@ -1,19 +1,20 @@
 -- What a call from C does to the board's member that its handle holds, and what it writes.
-use Rattle.std.specs.Prelude.{◌≡◌, ◌<◌, ◌++◌, ℕ, List, length, map, get_or, min, take, drop}
-use Rattle.std.specs.Prelude.{Bool, Option, Some, is_some, IsSomeAnd}
+use Rattle.std.specs.Prelude.{◌≡◌, ◌≢◌, ◌<◌, ◌⊎◌, ◌++◌, ℕ, List, [], ◌∷◌, length, map, get_or, min, take, drop}
+use Rattle.std.specs.Prelude.{Bool, ◌||◌, not, nat_eq, nat_lt, Option, None, Some, is_some, IsSomeAnd}
 use Rattle.std.specs.List.{list_any}
 use Rattle.logbook.specs.Pages.{Book}
 use Rattle.auction_terms.specs.Day.{IsLegal, calls_of}
 use Rattle.auction_terms.specs.declared.Config.{Config}
 use Rattle.auction_terms.specs.declared.Command.{Command}
 use Rattle.auction_terms.specs.declared.Entry.{Entry}
-use Rattle.auction_terms.specs.declared.Trade.{Trade}
 use Rattle.board_terms.specs.Closings.{IsAccount}
-use Rattle.board_terms.specs.CallsAndLooks.{CallsOnce, EndsWithCall, IsLook}
+use Rattle.board_terms.specs.CallsAndLooks.{CallsOnce, EndsWithCall, IsLook, SeesFullHistory}
+use Rattle.board_terms.specs.declared.calls.CallFault.{CallFault}
 use Rattle.board_terms.specs.declared.calls.Receipt.{Receipt}
 use Rattle.board_terms.specs.declared.calls.Shown.{Shown}
 use Rattle.board_terms.specs.declared.closing.Closing.{Closing}
-use Rattle.shared_board.specs.BoardViews.{OpenedBoard, BoardMember, FloorView, IsClosingOf, SeesStory, floor_view}
+use Rattle.shared_board.specs.BoardViews.{OpenedBoard, BoardMember, FloorView, IsBehindHistory, IsClosingOf}
+use Rattle.shared_board.specs.BoardViews.{SeesStory, floor_view}
 use Rattle.shared_board.specs.BoardViews.{new_board_members, opened_board, ladder_after, tape_after}
 use Rattle.auction_c.specs.declared.member_handle.AuctionMember.{AuctionMember}
 use Rattle.auction_c.specs.declared.structs.AuctionEntry.{AuctionEntry}
@@ -21,6 +22,9 @@ use Rattle.auction_c.specs.declared.structs.AuctionMarket.{AuctionMarket}
 use Rattle.auction_c.specs.declared.structs.AuctionReceipt.{AuctionReceipt}
 use Rattle.auction_c.specs.declared.structs.AuctionShown.{AuctionShown}
 use Rattle.auction_c.specs.declared.structs.AuctionTrade.{AuctionTrade}
+use Rattle.auction_c.specs.declared.errors.TheConstants.{BAD_LENGTH, BEHIND, BUSY, CLOSED, FULL, MISSING_MEMBER}
+use Rattle.auction_c.specs.declared.errors.TheConstants.{NO_MEMBER, OVERTAKEN}
+use Rattle.auction_c.specs.Calling.{ladder_error, ticks_of}
 use Rattle.auction_c.specs.Encoding.{display_out, market_out, reply_out, trade_out}
 use Rattle.auction_c.specs.Entries.{AreEntries}
 
@@ -53,6 +57,39 @@ pub record HoldsAfter (Done : BoardMember → BoardMember → Type 0) (old new :
   pub held : old ≡ Some before
   pub holds : new ≡ Some after
   pub done : Done before after
+
+-- why the board wasn't had: another call has it, or it was closed
+abbrev pub IsLockError : ℕ → Type 0
+IsLockError error = (error ≡ BUSY) ⊎ (error ≡ CLOSED)
+
+-- why a call wasn't recorded
+abbrev pub IsCallError : ℕ → Type 0
+IsCallError error = IsLockError error ⊎ ((error ≡ FULL) ⊎ ((error ≡ BEHIND) ⊎ (error ≡ OVERTAKEN)))
+
+-- the member has seen all of a full history, and is else as before
+abbrev pub FindsFull : BoardMember → BoardMember → Type 0
+FindsFull old new = (new.board ≡ old.board) × SeesFullHistory old.board.config old.view new.view
+
+-- the member is behind a legal history of its board that isn't full
+abbrev pub IsBehindBoard : BoardMember → Type 0
+IsBehindBoard m = (fault : CallFault) × IsBehindHistory m.board.config m.view fault
+
+-- a legal history of its board has fewer entries than the member has seen
+pub record SeesMore (m : BoardMember) : Type 0 where
+  pub history : List Entry
+  pub legal : IsLegal m.board.config history
+  pub fewer : length history < length m.view.seen
+
+-- why the member wasn't shown something
+abbrev pub IsShowError : BoardMember → ℕ → Type 0
+IsShowError m error = IsLockError error ⊎ ((error ≡ BEHIND) × SeesMore m)
+
+-- the same of a ladder, whose arrays may have other lengths than there are ticks, which is looked at first
+abbrev pub IsLadderError : BoardMember → ℕ → ℕ → ℕ → Type 0
+IsLadderError m bids asks error =
+    IsLockError error
+    ⊎ (((error ≡ BAD_LENGTH) × (ladder_error (ticks_of m.board.config) bids asks ≡ BAD_LENGTH))
+    ⊎ ((error ≡ BEHIND) × (ladder_error (ticks_of m.board.config) bids asks ≡ 0) × SeesMore m))
 
 -- the member has seen all calls of this legal history, and is else as before
 pub record SeesHistory (old new : BoardMember) (history : List Entry) : Type 0 where
@@ -97,6 +134,46 @@ HoldsAccount f number h = IsSomeAnd h
 pub record HoldAccounts (f : FloorView) (handles : List AuctionMember) : Type 0 where
   pub all : length handles ≡ f.board.members
   pub each : (k : ℕ) (d : AuctionMember) → k < length handles → HoldsAccount f k (get_or handles k d).held.value
+
+-- what is wrong with the member at this place: another number, or an account that isn't one of this legal history
+abbrev pub IsAccountError : FloorView → ℕ → BoardMember → ℕ → Type 0
+IsAccountError f place m error =
+    ((m.view.number ≢ place) × (error ≡ MISSING_MEMBER))
+    ⊎ ((m.view.number ≡ place) × (error ≡ BEHIND) × IsLegal f.board.config f.history
+    × (IsAccount (calls_of f.history) m.view → ⊥))
+
+-- the same of a handle
+abbrev pub IsHandleError : FloorView → ℕ → Option BoardMember → ℕ → Type 0
+IsHandleError f place None error = error ≡ NO_MEMBER
+IsHandleError f place (Some m) error = IsAccountError f place m error
+
+-- the first error of handles that are as many as the members
+pub record IsFirstError (f : FloorView) (handles : List AuctionMember) (error : ℕ) : Type 0 where
+  pub all : length handles ≡ f.board.members
+  pub place : ℕ
+  pub within : place < length handles
+  pub before : (k : ℕ) (d : AuctionMember) → k < place → HoldsAccount f k (get_or handles k d).held.value
+  pub here : (d : AuctionMember) → IsHandleError f place (get_or handles place d).held.value error
+
+-- why these handles don't bring the accounts of all members
+abbrev pub IsAccountsError : FloorView → List AuctionMember → ℕ → Type 0
+IsAccountsError f handles error =
+    ((length handles ≢ f.board.members) × (error ≡ MISSING_MEMBER)) ⊎ IsFirstError f handles error
+
+-- arrays of these lengths have no room for a closing of the board
+abbrev pub lacks_room : OpenedBoard → ℕ → ℕ → Bool
+lacks_room board entries counts = nat_lt entries board.config.max_calls || not (nat_eq counts board.members)
+
+-- what the first handle holds
+abbrev pub first_held : List AuctionMember → Option BoardMember
+first_held [] = None
+first_held (h ∷ hs) = h.held.value
+
+-- why a board, for whose closing there is room, wasn't closed
+abbrev pub IsCloseError : OpenedBoard → List AuctionMember → ℕ → Type 0
+IsCloseError board handles error =
+    IsLockError error
+    ⊎ ((history : List Entry) × IsAccountsError (floor_view board history) handles error)
 
 -- the board's history was written, with the counts of its members: it is a closing of the board of all these handles
 pub record WritesClosing (board : OpenedBoard) (handles : List AuctionMember) (entries : List AuctionEntry)

@@ -1,5 +1,5 @@
 -- How entries of a history are written for C.
-use Rattle.std.specs.Prelude.{◌≡◌, ◌<◌, ◌≤◌, ℕ, List, Some, length, get_or}
+use Rattle.std.specs.Prelude.{◌≡◌, ◌<◌, ℕ, List, Some, get_or}
 use Rattle.auction_terms.specs.declared.Entry.{Entry}
 use Rattle.auction_c.specs.declared.structs.AuctionEntry.{AuctionEntry}
 use Rattle.auction_c.specs.Decoding.{command_in}

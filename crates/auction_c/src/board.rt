@@ -5,3 +5,4 @@ pub(crate) mod closing;
 pub(crate) mod copying;
 pub(crate) mod opening;
 pub(crate) mod showing;
+pub(crate) mod taking;

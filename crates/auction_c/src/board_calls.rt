@@ -2,10 +2,13 @@
 ghost use Rattle.std.specs.Prelude.{◌≡◌, ◌≢◌, ◌<◌, ◌≤◌, true, false, length};
 ghost use Rattle.std.specs.Prelude.{All, None, IfNone, IfSome, IsNone, IsSomeAnd};
 ghost use Rattle.auction_c.specs.BoardCalls.{HoldsAfter, HoldsNewMembers, RecordsCall, ShowsDisplay, is_in_use};
-ghost use Rattle.auction_c.specs.BoardCalls.{ShowsEntries, ShowsLadder, ShowsTrades, WritesClosing};
-ghost use Rattle.auction_c.specs.Calling.{fault_number};
+ghost use Rattle.auction_c.specs.BoardCalls.{ShowsEntries, ShowsLadder, ShowsTrades, WritesClosing, first_held};
+ghost use Rattle.auction_c.specs.BoardCalls.{IsCloseError, lacks_room};
+ghost use Rattle.auction_c.specs.BoardCalls.{FindsFull, IsBehindBoard, IsCallError, IsLadderError, IsShowError};
+ghost use Rattle.auction_c.specs.Calling.{fault_number, ladder_error, ticks_of};
 ghost use Rattle.auction_c.specs.Decoding as decoded_as;
 ghost use Rattle.auction_c.specs.Encoding as encoded_as;
+ghost use Rattle.auction_c.specs.declared.errors.TheConstants.{BAD_LENGTH, BEHIND, FULL, NO_MEMBER};
 ghost use Rattle.board_terms.specs.BoardOpening.{board_fault};
 ghost use Rattle.shared_board.specs.BoardViews.{OpenedBoard};
 
@@ -76,6 +79,10 @@ pub extern "C" fn callauction_board_call(
     ensures missing { IfNone member.old.held.value (result ≡ NO_MEMBER) }
     ensures none { IfSome member.old.held.value (λ m.
         IfNone (decoded_as.command_in command.now) (result ≡ NO_COMMAND)) }
+    ensures error { IfSome member.old.held.value (λ m. IfSome (decoded_as.command_in command.now) (λ c.
+        0 < result → IsCallError result)) }
+    ensures full { result ≡ FULL → HoldsAfter FindsFull member.old.held.value member.new.held.value }
+    ensures behind { result ≡ BEHIND → IsSomeAnd member.old.held.value IsBehindBoard }
 {
     if !member.is_open {
         return NO_MEMBER;
@@ -116,6 +123,11 @@ pub extern "C" fn callauction_board_ladder(
     ensures done { result ≡ 0 → HoldsAfter (ShowsLadder bids.new asks.new market.new calls.new)
         member.old.held.value member.new.held.value }
     ensures fault { 0 < result → member.new.held.value ≡ member.old.held.value }
+    ensures missing { IfNone member.old.held.value (result ≡ NO_MEMBER) }
+    ensures error { IfSome member.old.held.value (λ m. 0 < result →
+        IsLadderError m (length bids.old) (length asks.old) result) }
+    ensures length { IfSome member.old.held.value (λ m. result ≡ 0 →
+        ladder_error (ticks_of m.board.config) (length bids.old) (length asks.old) ≡ 0) }
     ensures arrays { 0 < result → (bids.new ≡ bids.old) × (asks.new ≡ asks.old) }
     ensures numbers { 0 < result → (market.new ≡ market.old) × (calls.new ≡ calls.old) }
 {
@@ -138,6 +150,8 @@ pub extern "C" fn callauction_board_trades(
     ensures done { result ≡ 0 → HoldsAfter (ShowsTrades seen trades.old trades.new copied.new calls.new)
         member.old.held.value member.new.held.value }
     ensures fault { 0 < result → member.new.held.value ≡ member.old.held.value }
+    ensures missing { IfNone member.old.held.value (result ≡ NO_MEMBER) }
+    ensures error { IfSome member.old.held.value (λ m. 0 < result → IsShowError m result) }
     ensures same { 0 < result → (trades.new ≡ trades.old) × (copied.new ≡ copied.old) × (calls.new ≡ calls.old) }
 {
     if !member.is_open {
@@ -158,6 +172,8 @@ pub extern "C" fn callauction_board_history(
     ensures done { result ≡ 0 → HoldsAfter (ShowsEntries seen entries.old entries.new copied.new)
         member.old.held.value member.new.held.value }
     ensures fault { 0 < result → member.new.held.value ≡ member.old.held.value }
+    ensures missing { IfNone member.old.held.value (result ≡ NO_MEMBER) }
+    ensures error { IfSome member.old.held.value (λ m. 0 < result → IsShowError m result) }
     ensures same { 0 < result → (entries.new ≡ entries.old) × (copied.new ≡ copied.old) }
 {
     if !member.is_open {
@@ -202,10 +218,11 @@ pub extern "C" fn callauction_board_config_of(
 /// many entries that has, and each member's count of them. The handles hold their members still; their calls answer
 /// `CLOSED` now.
 ///
-/// It answers `BAD_LENGTH` where there is no handle, the history has room for fewer than `max_calls` entries, or the
-/// counts aren't as many as the members; `NO_MEMBER`; `BUSY` where a call has the board; `CLOSED` at a second close;
-/// `MISSING_MEMBER` where the handles don't hold all members in their order; `BEHIND` where a member's account isn't
-/// one of the history.
+/// It answers `BAD_LENGTH` where there is no handle; else `NO_MEMBER` where the first holds none; else `BAD_LENGTH`
+/// where the history has room for fewer than `max_calls` entries, or the counts aren't as many as the members; else
+/// `BUSY` where a call has the board, or `CLOSED` at a second close; else `MISSING_MEMBER` where the handles aren't as
+/// many as the members; else the error of the first handle that has one: `NO_MEMBER`, `MISSING_MEMBER` where its member
+/// has another number than its place, `BEHIND` where the account isn't one of the history.
 #[unsafe(no_mangle)]
 pub extern "C" fn callauction_board_close(
     members: &mut [AuctionMember],
@@ -219,6 +236,13 @@ pub extern "C" fn callauction_board_close(
         (board : OpenedBoard) × WritesClosing board members.old entries.new counts.new written.new }
     ensures fault { 0 < result →
         (entries.new ≡ entries.old) × (counts.new ≡ counts.old) × (written.new ≡ written.old) }
+    ensures empty { length members.old ≡ 0 → result ≡ BAD_LENGTH }
+    ensures missing { 0 < length members.old → IfNone (first_held members.old) (result ≡ NO_MEMBER) }
+    ensures length { IfSome (first_held members.old) (λ m.
+        lacks_room m.board (length entries.old) (length counts.old) ≡ true → result ≡ BAD_LENGTH) }
+    ensures error { IfSome (first_held members.old) (λ m.
+        lacks_room m.board (length entries.old) (length counts.old) ≡ false → 0 < result →
+        IsCloseError m.board members.old result) }
 {
     close_all(members, entries, counts, written)
 }

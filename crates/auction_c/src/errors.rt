@@ -1,5 +1,6 @@
 //! The numbers that calls answer. Each has one meaning at every call.
 ghost use Rattle.std.specs.Prelude.{◌≡◌, ◌<◌};
+ghost use Rattle.auction_c.specs.BoardCalls.{IsCallError};
 ghost use Rattle.auction_c.specs.Calling.{board_fault_number, fault_number};
 
 use auction::OpenFault;
@@ -77,6 +78,7 @@ pub(crate) fn fault_out(fault: OpenFault) -> u32
 pub(crate) fn board_fault_out(fault: BoardFault) -> u32
     ensures number { result ≡ board_fault_number fault }
     ensures error { 0 < result }
+    ensures only { IsCallError result }
 {
     match fault {
         BoardFault::Busy => BUSY,

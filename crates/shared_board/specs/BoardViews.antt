@@ -1,5 +1,5 @@
 -- What contracts see of a board without a type parameter.
-use Rattle.std.specs.Prelude.{◌≡◌, ◌<◌, ℕ, zero, suc, List, [], ◌∷◌, ◌++◌, length, sum, slice_index}
+use Rattle.std.specs.Prelude.{◌≡◌, ◌≢◌, ◌<◌, ℕ, zero, suc, List, [], ◌∷◌, ◌++◌, length, sum, slice_index}
 use mathlib.Core.List.{IsPrefix}
 use Rattle.auction_terms.specs.Day.{IsLegal, calls_of, replay}
 use Rattle.auction_terms.specs.declared.Trade.{Trade}
@@ -10,9 +10,10 @@ use Rattle.logbook.specs.Pages.{Book}
 use Rattle.auction_terms.specs.declared.Call.{Call}
 use Rattle.auction_terms.specs.declared.Config.{Config}
 use Rattle.auction_terms.specs.declared.Entry.{Entry}
+use Rattle.board_terms.specs.declared.calls.CallFault.{CallFault}
 use Rattle.board_terms.specs.declared.calls.Shown.{Shown}
 use Rattle.board_terms.specs.MemberView.{MemberView, newcomer, placed_calls}
-use Rattle.board_terms.specs.CallsAndLooks.{ShowsAfter}
+use Rattle.board_terms.specs.CallsAndLooks.{IsBehind, ShowsAfter, behind_fault}
 
 -- a beginning of the story that a book has
 pub record Beginning : Type 0 where
@@ -73,6 +74,14 @@ pub record SeesStory (story : List Call) (old new : MemberView) : Type 0 where
   pub mine : new.mine ≡ old.mine
   pub begins : IsPrefix old.seen new.seen
   pub all : new.seen ≡ story
+
+-- the member is behind a legal history that isn't full, which the fault tells
+pub record IsBehindHistory (c : Config) (m : MemberView) (fault : CallFault) : Type 0 where
+  pub history : List Entry
+  pub legal : IsLegal c history
+  pub room : length history ≢ c.max_calls
+  pub behind : IsBehind history m
+  pub told : fault ≡ behind_fault history m.number
 
 -- the quantities of the orders that count after these calls, and the trades
 abbrev pub ladder_after : Config → List Call → LadderView

@@ -1,6 +1,6 @@
 //! The floor, taken out of its lock: what it shows, and the closing, at which the history is handed out and each
 //! member's account is held against it.
-ghost use Rattle.std.specs.Prelude.{◌≡◌, ◌⊎◌, length, IfErr, IfOk, IsTrue, MatchBool};
+ghost use Rattle.std.specs.Prelude.{◌≡◌, ◌<◌, ◌⊎◌, length, IfErr, IfOk, IsTrue, MatchBool};
 ghost use Rattle.auction_terms.specs.Day.{IsLegal, calls_of};
 ghost use Rattle.board_terms.specs.Closings.{IsAccount};
 ghost use Rattle.shared_board.specs.BoardViews.{IsClosingOf, SeesStory, ladder_after, tape_after};
@@ -42,10 +42,11 @@ fn closing_of(floor: SharedFloor) -> Closing
 }
 
 // Whether what the account has seen begins the story, and it has counted as many calls as the history has of it.
-#[tactic(auto, using(crate::proofs::AccountCountLaws::account_by_count))]
 fn is_account(floor: &SharedFloor, account: &Account) -> bool
     requires { account.now.board ≡ floor.now.board }
-    ensures { IsTrue result → IsAccount (calls_of floor.now.history) account.now.view }
+    ensures account { IsTrue result → IsAccount (calls_of floor.now.history) account.now.view }
+    ensures only { IsAccount (calls_of floor.now.history) account.now.view → IsTrue result }
+    ensures legal { IsLegal floor.now.board.config floor.now.history }
 {
     let counted = floor.counted[usize::from(account.number())];
     account.follows(&floor.front) && account.calls() == counted
@@ -133,7 +134,8 @@ impl SharedMember {
         requires { floor.now.board ≡ self.old.board }
         ensures board { self.new.board ≡ self.old.board }
         ensures seen { MatchBool result (SeesStory (calls_of floor.now.history) self.old.view self.new.view)
-            (self.new ≡ self.old) }
+            ((self.new ≡ self.old) × (length floor.now.history < length self.old.view.seen)) }
+        ensures legal { IsLegal floor.now.board.config floor.now.history }
     {
         let view = floor.room.floor.shown();
         self.account.see(view)
@@ -143,7 +145,9 @@ impl SharedMember {
     /// own.
     pub fn is_settled(&self, floor: &TakenFloor) -> bool
         requires { self.now.board ≡ floor.now.board }
-        ensures { IsTrue result → IsAccount (calls_of floor.now.history) self.now.view }
+        ensures account { IsTrue result → IsAccount (calls_of floor.now.history) self.now.view }
+        ensures only { IsAccount (calls_of floor.now.history) self.now.view → IsTrue result }
+        ensures legal { IsLegal floor.now.board.config floor.now.history }
     {
         let account = &self.account;
         is_account(&floor.room.floor, account)

@@ -7,7 +7,7 @@ ghost use Rattle.board_terms.specs.Closings.{HasSeenBeginning};
 ghost use Rattle.board_terms.specs.MemberView.{call_by, placed_calls};
 ghost use Rattle.board_terms.specs.CallsAndLooks.{behind_fault, entry, CallsOnce, EndsWithCall, IsBehind, IsLook};
 ghost use Rattle.board_terms.specs.CallsAndLooks.{SeesFullHistory};
-ghost use Rattle.shared_board.specs.BoardViews.{IsViewOf};
+ghost use Rattle.shared_board.specs.BoardViews.{IsBehindHistory, IsViewOf};
 
 use crate::day::Day;
 use crate::member::Account;
@@ -72,7 +72,7 @@ impl SharedFloor {
             SeesFullHistory self.old.board.config by.old.view by.new.view }
         ensures fault { IfErr result (λ e. e ≢ CallFault.HistoryFull → by.new ≡ by.old) }
         ensures behind { (h k : ℕ) → result ≡ Err (CallFault.Behind h k) →
-            (h < length by.old.view.seen) ⊎ (by.old.view.calls ≢ k) }
+            IsBehindHistory self.old.board.config by.old.view (CallFault.Behind h k) }
     {
         let result = self.record(by, command);
         if result == Err(CallFault::HistoryFull) {
@@ -154,6 +154,7 @@ impl SharedFloor {
     pub(crate) fn shown(&self) -> View
         ensures view { IsViewOf self.now.board result.front result.shown }
         ensures all { result.front.log ≡ calls_of self.now.history }
+        ensures legal { IsLegal self.now.board.config self.now.history }
     {
         let calls = self.auction.calls();
         View {

@@ -5,7 +5,7 @@ ghost use Rattle.auction_terms.specs.declared.limits.TheConstants.{MAX_CALLS};
 ghost use Rattle.board_terms.specs.Closings.{HasSeenBeginning};
 ghost use Rattle.board_terms.specs.MemberView.{placed_calls, after_call};
 ghost use Rattle.board_terms.specs.CallsAndLooks.{CallsOnce, EndsWithCall, IsLook, SeesFullHistory, ShowsAfter};
-ghost use Rattle.shared_board.specs.BoardViews.{IsViewOf, SeesStory, board_member};
+ghost use Rattle.shared_board.specs.BoardViews.{IsBehindHistory, IsViewOf, SeesStory, board_member};
 
 use crate::shared::{Shared, Unwatched};
 use crate::story::Front;
@@ -195,8 +195,8 @@ impl SharedMember {
     /// A recorded call stands in the history after all that this member had seen and calls of others only; its receipt
     /// has its place there and the auction's reply at that place; the member's own calls are the ones before and this
     /// one. After a fault nothing was recorded, and the member is as it was, except that at `HistoryFull` it has seen
-    /// the whole history, of at least `max_calls` entries. `Behind` comes only where the member has seen more than the
-    /// history has, or counted other calls than the history has of it.
+    /// the whole history, of at least `max_calls` entries. `Behind` comes only where the history isn't full, and the
+    /// member has seen more than it has, or counted other calls than it has of the member.
     pub fn call(&mut self, command: Command) -> Result<Receipt, BoardFault>
         ensures board { self.new.board ≡ self.old.board }
         ensures call { IfOk result (λ r. CallsOnce self.old.board.config self.old.view self.new.view command r) }
@@ -206,7 +206,7 @@ impl SharedMember {
             SeesFullHistory self.old.board.config self.old.view self.new.view }
         ensures fault { IfErr result (λ e. e ≢ BoardFault.Call CallFault.HistoryFull → self.new ≡ self.old) }
         ensures behind { (h k : ℕ) → result ≡ Err (BoardFault.Call (CallFault.Behind h k)) →
-            (h < length self.old.view.seen) ⊎ (self.old.view.calls ≢ k) }
+            IsBehindHistory self.old.board.config self.old.view (CallFault.Behind h k) }
     {
         let SharedMember { shared, account } = self;
         call_on(shared, account, command)
@@ -273,7 +273,7 @@ fn call_on(shared: &Shared, account: &mut Account, command: Command) -> Result<R
         SeesFullHistory account.old.board.config account.old.view account.new.view }
     ensures fault { IfErr result (λ e. e ≢ BoardFault.Call CallFault.HistoryFull → account.new ≡ account.old) }
     ensures behind { (h k : ℕ) → result ≡ Err (BoardFault.Call (CallFault.Behind h k)) →
-        (h < length account.old.view.seen) ⊎ (account.old.view.calls ≢ k) }
+        IsBehindHistory account.old.board.config account.old.view (CallFault.Behind h k) }
 {
     let mut room = match shared.take() {
         Ok(room) => room,

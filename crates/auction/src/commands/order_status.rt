@@ -4,16 +4,7 @@ ghost use Rattle.auction_terms.specs.Day as day;
 ghost use Rattle.auction.specs.AuctionState.{outcome};
 
 use super::DayState;
-use auction_terms::{Order, Refusal, Reply};
-
-// The shares that are visible: the lesser of peak and open quantity.
-fn visible_of(order: Order) -> u64
-    ensures { result ≡ day.visible_of order }
-{
-    order
-        .peak
-        .map_or(order.quantity, |peak| peak.min(order.quantity))
-}
+use auction_terms::{Refusal, Reply};
 
 impl DayState {
     /// What is open of the member's own order, also after the day.
@@ -26,7 +17,7 @@ impl DayState {
             side: order.side,
             limit: order.limit,
             quantity: order.quantity,
-            visible: visible_of(order),
+            visible: order.visible(),
         })
     }
 }

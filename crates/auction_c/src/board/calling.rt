@@ -1,6 +1,7 @@
 //! A member's call and its look.
 ghost use Rattle.std.specs.Prelude.{◌≡◌, ◌≢◌, ◌<◌};
-ghost use Rattle.auction_c.specs.BoardCalls.{RecordsCall, ShowsDisplay};
+ghost use Rattle.auction_c.specs.declared.errors.TheConstants.{BEHIND, FULL};
+ghost use Rattle.auction_c.specs.BoardCalls.{FindsFull, IsBehindBoard, IsCallError, RecordsCall, ShowsDisplay};
 
 use crate::encoding::{display_out, reply_out};
 use crate::errors::{DONE, FULL, board_fault_out};
@@ -19,6 +20,9 @@ pub(crate) fn call_one(
     ensures fault { 0 < result → receipt.new ≡ receipt.old }
     ensures same { 0 < result → result ≢ FULL → member.new ≡ member.old }
     ensures board { member.new.board ≡ member.old.board }
+    ensures error { 0 < result → IsCallError result }
+    ensures full { result ≡ FULL → FindsFull member.old member.new }
+    ensures behind { result ≡ BEHIND → IsBehindBoard member.old }
 {
     match member.call(command) {
         Ok(answer) => {

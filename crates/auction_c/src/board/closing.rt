@@ -1,14 +1,18 @@
 //! The closing, as C gets it.
-ghost use Rattle.std.specs.Prelude.{◌≡◌, ◌≤◌, ◌<◌, All, IfOk, IfErr, IfSome, IsSomeAnd, length};
+ghost use Rattle.std.specs.Prelude.{◌≡◌, ◌≤◌, ◌<◌, All, Err, IfOk, IfErr, IfNone, IfSome, IsSomeAnd, length};
+ghost use Rattle.std.specs.Prelude.{true, false};
 ghost use Rattle.auction_terms.specs.Day.{calls_of};
 ghost use Rattle.board_terms.specs.Closings.{IsAccount};
 ghost use Rattle.board_terms.specs.declared.closing.Closing.{Closing};
 ghost use Rattle.shared_board.specs.BoardViews.{IsClosingOf, OpenedBoard};
 ghost use Rattle.auction_c.specs.Entries.{AreEntries};
-ghost use Rattle.auction_c.specs.BoardCalls.{HoldAccounts, HoldsAccount, WritesClosing};
+ghost use Rattle.auction_c.specs.BoardCalls.{HoldAccounts, HoldsAccount, IsAccountError, IsAccountsError, IsCloseError};
+ghost use Rattle.auction_c.specs.BoardCalls.{IsHandleError, IsLockError, WritesClosing, first_held, lacks_room};
+ghost use Rattle.auction_c.specs.declared.errors.TheConstants.{BAD_LENGTH, NO_MEMBER};
 
 use crate::board::copying::copy_entries;
-use crate::errors::{BAD_LENGTH, BEHIND, DONE, MISSING_MEMBER, NO_MEMBER, board_fault_out};
+use crate::board::taking::take_floor;
+use crate::errors::{BAD_LENGTH, BEHIND, DONE, MISSING_MEMBER, NO_MEMBER};
 use crate::member_handle::AuctionMember;
 use crate::structs::AuctionEntry;
 use board_terms::Closing;
@@ -20,6 +24,7 @@ fn account_error(member: &mut SharedMember, number: usize, floor: &TakenFloor) -
     ensures same { member.new ≡ member.old }
     ensures account { result ≡ 0 →
         (member.old.view.number ≡ number) × IsAccount (calls_of floor.now.history) member.old.view }
+    ensures error { 0 < result → IsAccountError floor.now number member.old result }
 {
     if usize::from(member.number()) != number {
         return MISSING_MEMBER;
@@ -35,6 +40,7 @@ fn held_error(handle: &mut AuctionMember, number: usize, floor: &TakenFloor) -> 
     requires board { IfSome handle.old.held.value (λ m. m.board ≡ floor.now.board) }
     ensures same { handle.new ≡ handle.old }
     ensures account { result ≡ 0 → HoldsAccount floor.now number handle.old.held.value }
+    ensures error { 0 < result → IsHandleError floor.now number handle.old.held.value result }
 {
     if !handle.is_open {
         return NO_MEMBER;
@@ -49,6 +55,7 @@ fn accounts_error(handles: &mut [AuctionMember], members: usize, floor: &TakenFl
     requires members { members ≡ floor.now.board.members }
     ensures same { handles.new ≡ handles.old }
     ensures accounts { result ≡ 0 → HoldAccounts floor.now handles.old }
+    ensures error { 0 < result → IsAccountsError floor.now handles.old result }
 {
     if handles.len() != members {
         return MISSING_MEMBER;
@@ -81,19 +88,18 @@ fn hand_out(
 }
 
 // The floor of the member's board, where the arrays have room for what the closing writes.
-fn take_floor(member: &mut SharedMember, room: usize, counts: usize) -> Result<TakenFloor, u32>
+fn take_with_room(member: &mut SharedMember, room: usize, counts: usize) -> Result<TakenFloor, u32>
     ensures same { member.new ≡ member.old }
     ensures board { IfOk result (λ f. f.board ≡ member.old.board) }
     ensures room { IfOk result (λ f. (f.board.config.max_calls ≤ room) × (counts ≡ f.board.members)) }
     ensures error { IfErr result (λ e. 0 < e) }
+    ensures length { lacks_room member.old.board room counts ≡ true → result ≡ Err BAD_LENGTH }
+    ensures lock { lacks_room member.old.board room counts ≡ false → IfErr result IsLockError }
 {
     if room < member.max_calls() as usize || counts != usize::from(member.members()) {
         return Err(BAD_LENGTH);
     }
-    match member.take_floor() {
-        Ok(floor) => Ok(floor),
-        Err(fault) => Err(board_fault_out(fault)),
-    }
+    take_floor(member)
 }
 
 // The same of the first handle's member.
@@ -106,11 +112,16 @@ fn take_first_floor(
     ensures board { IfOk result (λ f. IsSomeAnd first.old.held.value (λ m. f.board ≡ m.board)) }
     ensures room { IfOk result (λ f. (f.board.config.max_calls ≤ room) × (counts ≡ f.board.members)) }
     ensures error { IfErr result (λ e. 0 < e) }
+    ensures missing { IfNone first.old.held.value (result ≡ Err NO_MEMBER) }
+    ensures length { IfSome first.old.held.value (λ m.
+        lacks_room m.board room counts ≡ true → result ≡ Err BAD_LENGTH) }
+    ensures lock { IfSome first.old.held.value (λ m.
+        lacks_room m.board room counts ≡ false → IfErr result IsLockError) }
 {
     if !first.is_open {
         return Err(NO_MEMBER);
     }
-    take_floor(first.held.get_mut(), room, counts)
+    take_with_room(first.held.get_mut(), room, counts)
 }
 
 fn give_back(first: &mut AuctionMember, floor: TakenFloor)
@@ -142,8 +153,15 @@ pub(crate) fn close_all(
     ensures same { handles.new ≡ handles.old }
     ensures done { result ≡ 0 →
         (board : OpenedBoard) × WritesClosing board handles.old entries.new counts.new written.new }
-    ensures error { 0 < result →
+    ensures unchanged { 0 < result →
         (entries.new ≡ entries.old) × (counts.new ≡ counts.old) × (written.new ≡ written.old) }
+    ensures empty { length handles.old ≡ 0 → result ≡ BAD_LENGTH }
+    ensures missing { 0 < length handles.old → IfNone (first_held handles.old) (result ≡ NO_MEMBER) }
+    ensures length { IfSome (first_held handles.old) (λ m.
+        lacks_room m.board (length entries.old) (length counts.old) ≡ true → result ≡ BAD_LENGTH) }
+    ensures error { IfSome (first_held handles.old) (λ m.
+        lacks_room m.board (length entries.old) (length counts.old) ≡ false → 0 < result →
+        IsCloseError m.board handles.old result) }
 {
     if handles.is_empty() {
         return BAD_LENGTH;

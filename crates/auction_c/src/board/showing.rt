@@ -1,10 +1,12 @@
 //! What a member is shown of the floor: the ladder, the trades, the entries of the history.
-ghost use Rattle.std.specs.Prelude.{◌≡◌, ◌<◌, drop};
-ghost use Rattle.auction_c.specs.BoardCalls.{ShowsEntries, ShowsLadder, ShowsTrades};
+ghost use Rattle.std.specs.Prelude.{◌≡◌, ◌<◌, drop, length};
+ghost use Rattle.auction_c.specs.BoardCalls.{IsLadderError, IsShowError, ShowsEntries, ShowsLadder, ShowsTrades};
+ghost use Rattle.auction_c.specs.Calling.{ladder_error, ticks_of};
 
 use crate::board::copying::copy_entries;
+use crate::board::taking::{see_floor, take_floor, take_seen_floor};
 use crate::copying::{copy_ladder, copy_trades};
-use crate::errors::{BAD_LENGTH, BEHIND, DONE, board_fault_out};
+use crate::errors::{BAD_LENGTH, DONE};
 use crate::structs::{AuctionEntry, AuctionMarket, AuctionTrade};
 use auction_terms::{Entry, Trade};
 use shared_board::SharedMember;
@@ -24,6 +26,7 @@ fn entries_after(history: &[Entry], seen: usize) -> &[Entry]
 }
 
 /// Copies the quantities of the orders that count, once the member has seen all calls.
+#[tactic(auto, using(crate::proofs::LadderTicksLaws::ticks_after))]
 pub(crate) fn show_ladder(
     member: &mut SharedMember,
     bids: &mut [u64],
@@ -33,22 +36,25 @@ pub(crate) fn show_ladder(
 ) -> u32
     ensures done { result ≡ 0 → ShowsLadder bids.new asks.new market.new calls.new member.old member.new }
     ensures member { 0 < result → member.new ≡ member.old }
+    ensures error { 0 < result → IsLadderError member.old (length bids.old) (length asks.old) result }
+    ensures length { result ≡ 0 →
+        ladder_error (ticks_of member.old.board.config) (length bids.old) (length asks.old) ≡ 0 }
     ensures arrays { 0 < result → (bids.new ≡ bids.old) × (asks.new ≡ asks.old) }
     ensures numbers { 0 < result → (market.new ≡ market.old) × (calls.new ≡ calls.old) }
 {
-    let floor = match member.take_floor() {
+    let floor = match take_floor(member) {
         Ok(floor) => floor,
-        Err(fault) => return board_fault_out(fault),
+        Err(error) => return error,
     };
     let ticks = floor.ladder().bids().len();
     if bids.len() != ticks || asks.len() != ticks {
         member.give_floor(floor);
         return BAD_LENGTH;
     }
-    if !member.see(&floor) {
-        member.give_floor(floor);
-        return BEHIND;
-    }
+    let floor = match see_floor(member, floor) {
+        Ok(floor) => floor,
+        Err(error) => return error,
+    };
     let error = copy_ladder(floor.ladder(), bids, asks, market);
     *calls = floor.calls();
     member.give_floor(floor);
@@ -65,16 +71,13 @@ pub(crate) fn show_trades(
 ) -> u32
     ensures done { result ≡ 0 → ShowsTrades seen trades.old trades.new copied.new calls.new member.old member.new }
     ensures member { 0 < result → member.new ≡ member.old }
+    ensures error { 0 < result → IsShowError member.old result }
     ensures same { 0 < result → (trades.new ≡ trades.old) × (copied.new ≡ copied.old) × (calls.new ≡ calls.old) }
 {
-    let floor = match member.take_floor() {
+    let floor = match take_seen_floor(member) {
         Ok(floor) => floor,
-        Err(fault) => return board_fault_out(fault),
+        Err(error) => return error,
     };
-    if !member.see(&floor) {
-        member.give_floor(floor);
-        return BEHIND;
-    }
     *copied = copy_trades(trades_after(floor.tape(), seen), trades);
     *calls = floor.calls();
     member.give_floor(floor);
@@ -90,16 +93,13 @@ pub(crate) fn show_entries(
 ) -> u32
     ensures done { result ≡ 0 → ShowsEntries seen entries.old entries.new copied.new member.old member.new }
     ensures member { 0 < result → member.new ≡ member.old }
+    ensures error { 0 < result → IsShowError member.old result }
     ensures same { 0 < result → (entries.new ≡ entries.old) × (copied.new ≡ copied.old) }
 {
-    let floor = match member.take_floor() {
+    let floor = match take_seen_floor(member) {
         Ok(floor) => floor,
-        Err(fault) => return board_fault_out(fault),
+        Err(error) => return error,
     };
-    if !member.see(&floor) {
-        member.give_floor(floor);
-        return BEHIND;
-    }
     *copied = copy_entries(entries_after(floor.history(), seen), entries);
     member.give_floor(floor);
     DONE

@@ -1,17 +1,16 @@
 -- Answers of `is_account` (src/closing.rt): what the prover left open; rt looks here.
-use Rattle.std.proofs.Common.{arith, rules, ◌≡◌, ◌<◌, ◌∙◌, ap, sym, length, slice_index, ℕ}
+use Rattle.std.proofs.Common.{arith, rules, ◌≡◌, ◌<◌, ◌∙◌, ap, sym, length, slice_index, subst, ℕ}
 use Rattle.std.proofs.lemmas.List.{get_or_default}
-use Rattle.std.proofs.lemmas.Bool.{eqb-true}
-use Rattle.auction_terms.specs.Day.{calls_of}
+use Rattle.std.proofs.lemmas.Bool.{eq-eqb, eqb-true}
+use Rattle.auction_terms.specs.Day.{IsLegal, calls_of}
 use Rattle.board_terms.specs.MemberView.{placed_calls}
 use Rattle.board_terms.specs.Closings.{HasSeenBeginning}
 use Rattle.shared_board.specs.BoardViews.{FloorView}
-use Rattle.shared_board.proofs.AccountCountLaws.{account_by_count}
+use Rattle.shared_board.proofs.AccountCountLaws.{account-counts, account_by_count}
 use Rattle.shared_board.proofs.closing.is_account.Goals as goal
 
 pub returns-then-follows : goal.returns-then-follows
 returns-then-follows c =
-    λ same.
     let f = c.floor.inside in
     let k = c.floor.invariant.0 in
     let m = c.args.account.now.view in
@@ -25,9 +24,14 @@ returns-then-follows c =
     let was : c.index-counted.result.now ≡ slice_index f.counted.items m.number =
     c.index-counted.ensures ∙ get_or_default f.counted.items c.from.result _ 0 inside
     ∙ ap (λ (j : ℕ). slice_index f.counted.items j) at in
-    let equal : c.calls.result ≡ c.index-counted.result.now = eqb-true _ _ same in
-    let counted : m.calls ≡ length (placed_calls story m.number) =
-    sym c.calls.ensures ∙ equal ∙ was ∙ k.counts m.number one_of
+    let counted : c.index-counted.result.now ≡ length (placed_calls story m.number) =
+    was ∙ k.counts m.number one_of
     ∙ ap (λ (v : FloorView). length (placed_calls (calls_of v.history) m.number)) c.floor.view_is in
     let follows : HasSeenBeginning c.args.account.now.board.members story m = search rules in
-    account_by_count c.args.account.now.board.members story m follows counted
+    record {
+      account = λ same.
+          account_by_count c.args.account.now.board.members story m follows
+          (sym c.calls.ensures ∙ eqb-true _ _ same ∙ counted);
+      only = λ is. eq-eqb _ _ (c.calls.ensures ∙ account-counts story m is ∙ sym counted);
+      legal = subst (λ (v : FloorView). IsLegal v.board.config v.history) c.floor.view_is k.legal;
+    }

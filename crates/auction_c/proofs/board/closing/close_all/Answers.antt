@@ -1,9 +1,10 @@
 -- Answers of `close_all` (src/board/closing.rt): what the prover left open; rt looks here.
-use Rattle.std.proofs.Common.{◌≡◌, ◌∙◌, ap, refl, set, subst}
+use Rattle.std.proofs.Common.{◌≡◌, ◌∙◌, ◌<◌, IsSomeAnd, List, ap, arith, length, set, subst, sym}
 use Rattle.std.proofs.lemmas.List.{set-get_or}
-use Rattle.shared_board.specs.BoardViews.{FloorView}
-use Rattle.auction_c.specs.BoardCalls.{HoldAccounts}
-use Rattle.auction_c.proofs.ClosingLaws.{writes_closing}
+use Rattle.shared_board.specs.BoardViews.{BoardMember, FloorView}
+use Rattle.auction_c.specs.declared.member_handle.AuctionMember.{AuctionMember}
+use Rattle.auction_c.specs.BoardCalls.{HoldAccounts, IsAccountsError}
+use Rattle.auction_c.proofs.ClosingLaws.{close_error, writes_closing}
 use Rattle.auction_c.proofs.board.closing.close_all.Goals as goal
 
 pub returns-clause-done : goal.returns-clause-done
@@ -18,3 +19,19 @@ returns-clause-done c =
       writes_closing f now c.hand_out.new.entries c.hand_out.new.counts c.hand_out.new.written accounts
           c.hand_out.ensures.closing,
     )
+
+pub returns-then-error-ne-DONE-clause-error : goal.returns-then-error-ne-DONE-clause-error
+returns-then-error-ne-DONE-clause-error c =
+    let f : FloorView = c.in-Ok.floor in
+    let now = c.args.handles.now in
+    let error = c.accounts_error-error.result in
+    let back : set now 0 c.take_first_floor.new.first ≡ now =
+    ap (set now 0) c.take_first_floor.ensures.same ∙ set-get_or now 0 c.index-handles-0.result in
+    let some : 0 < error = omega (arith, c.if-error-ne-DONE.true) in
+    let accounts : IsAccountsError f now error =
+    subst (λ (hs : List AuctionMember). IsAccountsError f hs error) back (c.accounts_error-error.ensures.error some) in
+    let held : IsSomeAnd c.index-handles-0.result.held.value (λ (m : BoardMember). f.board ≡ m.board) =
+    subst (λ (a : AuctionMember). IsSomeAnd a.held.value (λ (m : BoardMember). f.board ≡ m.board))
+    (sym c.index-handles-0.is) c.in-Ok.ensures.board in
+    close_error f now c.index-handles-0.result (length c.args.entries.now) (length c.args.counts.now) error
+    (sym c.is_empty.ensures ∙ c.if-is_empty.false) c.index-handles-0.is held accounts

@@ -1,5 +1,5 @@
 -- Answers of `hand_out` (src/board/closing.rt): what the prover left open; rt looks here.
-use Rattle.std.proofs.Common.{rules, ◌≡◌, ◌≤◌, ◌∙◌, ap, arith, length, subst, List}
+use Rattle.std.proofs.Common.{rules, ◌≡◌, ◌≤◌, ap, arith, length, subst, List}
 use Rattle.auction_terms.specs.declared.Entry.{Entry}
 use Rattle.auction_c.specs.Entries.{AreEntries}
 use Rattle.auction_c.proofs.board.closing.hand_out.Goals as goal

@@ -1,26 +1,23 @@
 -- Answers of `show_ladder` (src/board/showing.rt): what the prover left open; rt looks here.
-use Rattle.std.proofs.Common.{rules, ◌≡◌, ◌∙◌, ap, sym, subst, length}
-use Rattle.auction_terms.specs.Day.{IsLegal, calls_of}
+use Rattle.std.proofs.Common.{rules, ◌≡◌, ◌∙◌, ap}
+use Rattle.auction_terms.specs.Day.{calls_of}
 use Rattle.auction_terms.specs.Ladder.{LadderView}
-use Rattle.shared_board.specs.BoardViews.{OpenedBoard, BoardMember, ladder_after}
+use Rattle.shared_board.specs.BoardViews.{FloorView, OpenedBoard, ladder_after}
 use Rattle.auction_c.specs.Encoding.{market_out}
-use Rattle.auction_c.specs.BoardCalls.{SeesHistory}
 use Rattle.auction_c.proofs.board.showing.show_ladder.Goals as goal
 
 pub returns-clause-done : goal.returns-clause-done
 returns-clause-done c =
     λ e.
-    let board : c.in-Ok.floor.board ≡ c.args.member.now.board = search rules in
-    let history = c.in-Ok.floor.history in
+    let floor = c.in-Ok-see_floor.floor in
+    let board : floor.board ≡ c.args.member.now.board =
+    ap (λ (f : FloorView). f.board) c.in-Ok-see_floor.ensures.floor ∙ c.in-Ok.ensures.board in
+    let history = floor.history in
     let ladder : c.ladder-2.result.now ≡ ladder_after c.args.member.now.board.config (calls_of history) =
     c.ladder-2.ensures ∙ ap (λ (b : OpenedBoard). ladder_after b.config (calls_of history)) board in
     record {
       history = history;
-      sees = record {
-        board = search rules;
-        legal = subst (λ (b : OpenedBoard). IsLegal b.config history) board c.calls.ensures.legal;
-        story = search rules;
-      };
+      sees = search rules;
       bids_are = c.copy_ladder-error.ensures.bids e ∙ ap (λ (l : LadderView). l.bids) ladder;
       asks_are = c.copy_ladder-error.ensures.asks e ∙ ap (λ (l : LadderView). l.asks) ladder;
       market_is = c.copy_ladder-error.ensures.market e ∙ ap market_out ladder;

@@ -1,5 +1,5 @@
 -- Answers of `show_trades` (src/board/showing.rt): what the prover left open; rt looks here.
-use Rattle.std.proofs.Common.{rules, ◌≡◌, ◌++◌, ◌∙◌, ap, sym, subst, length, drop, map, min, take, List}
+use Rattle.std.proofs.Common.{rules, ◌≡◌, ◌++◌, ◌∙◌, ap, subst, length, drop, map, min, take, List}
 use Rattle.auction_terms.specs.Day.{IsLegal, calls_of}
 use Rattle.auction_terms.specs.declared.Trade.{Trade}
 use Rattle.shared_board.specs.BoardViews.{OpenedBoard, tape_after}
