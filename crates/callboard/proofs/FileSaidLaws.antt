@@ -1,6 +1,6 @@
 -- What an input says of which the start was read apart.
 use Rattle.std.proofs.Common.{◌≡◌, ◌≤◌, ◌<◌, ◌⊎◌, inl, inr, ◌++◌, ◌∷◌, ◌∙◌, [], ℕ, List, length, Option, None, Some}
-use Rattle.std.proofs.Common.{Result, Ok, Err, Bool, true, false, nat_lt, refl, ap, sym, subst, arith, rules}
+use Rattle.std.proofs.Common.{Result, Ok, Err, Bool, true, false, nat_lt, refl, ap, sym, arith, rules}
 use Rattle.std.specs.Prelude.{IfSome}
 use Rattle.csv.specs.Records.{field_at}
 use Rattle.std.specs.Io.KnownBytes.{Consumes, prepend_known}
@@ -25,7 +25,7 @@ use Rattle.callboard.specs.declared.fault.Fault.{Fault}
 use Rattle.callboard.specs.declared.fault.Fault.TheVariants as fault
 use Rattle.callboard.specs.declared.kept.Kept.{Kept}
 use Rattle.callboard.specs.declared.kept_day.KeptDay.{KeptDay}
-use Rattle.callboard.specs.KeptEntries.{KeepsEntries, IsClosedDay, KeepsFile, KeepsDay, KeepsDayOfText, after_calls}
+use Rattle.callboard.specs.KeptEntries.{KeepsEntries, IsClosedDay, KeepsFile, KeepsDay, KeepsDayOfText}
 use Rattle.callboard.specs.KeptEntries.{calls_for, form_of}
 use Rattle.callboard.specs.Printed.{history_of}
 use Rattle.callboard.proofs.BlockRunLaws.{fails-then}

@@ -1,33 +1,22 @@
 -- A live session on the program's ends.
-use Rattle.std.proofs.Common.{◌≡◌, ◌<◌, ℕ, [], ◌++◌, Option, None, Some, Ok, Err, IfSome, refl, ap₂, sym}
-use Rattle.std.proofs.Common.{subst, arith, ◌∙◌}
+use Rattle.std.proofs.Common.{◌≡◌, ◌<◌, ℕ, Option, None, Some, Ok, Err, IfSome, refl, ap₂, sym, subst, arith, ◌∙◌}
 use Rattle.std.specs.Prelude.{Result, unwrap_or}
-use Rattle.std.proofs.KnownBytes.{Consumes-nil}
 use Rattle.auction_terms.specs.Auxiliary.RunningAuction.{RunningAuction, opened_auction}
 use Rattle.auction.specs.ConfigFault.{open_fault}
 use Rattle.auction.specs.declared.OpenFault.{OpenFault}
 use Rattle.auction.specs.declared.OpenFault.TheVariants.{NoMemory}
 use Rattle.journal.specs.declared.day.DayHeader.{DayHeader}
-use Rattle.live_session.specs.Talk.{BreaksOff, EndsSession}
+use Rattle.kept_session.proofs.KeptRunLaws.{as-ends, seen_as}
+use Rattle.live_session.specs.Talk.{EndsSession}
 use Rattle.live_session.specs.declared.conversation.Conversation.{Ghosts}
 use Rattle.live_session.specs.declared.fault.Ending.{Ending}
 use Rattle.live_session.specs.declared.fault.LiveFault.{LiveFault}
-use Rattle.live_session.specs.declared.fault.LiveFault.TheVariants as fault
 use Rattle.live_session.specs.declared.terms.SessionTerms.{SessionTerms}
 use Rattle.byte_streams.specs.declared.sink.Sink as sink
 use Rattle.byte_streams.specs.declared.source.Source as source
-use Rattle.callboard.specs.declared.live.SessionFault.TheVariants.{Live, Open}
+use Rattle.callboard.specs.declared.live.SessionFault.TheVariants.{Open}
 use Rattle.callboard.specs.FileRun.{Ends, ends_of}
-use Rattle.callboard.specs.LiveRun.{BrokeOff, RunsLive, as_session, terms_of}
-
--- the device stays the one that it was
-pub became : {C : Type 0} (c : Ghosts C) (terms : SessionTerms) (start : RunningAuction) (old new : C)
-    (ended : Result Ending LiveFault) → EndsSession c terms start old new ended → c.Becomes old new
-became c terms start old new (Ok ending) h = h.device.same
-became c terms start old new (Err fault.ReadFailed) h = h.device.same
-became c terms start old new (Err fault.WriteFailed) h = h.0.device.same
-became c terms start old new (Err fault.CommitFailed) h = h.0.device.same
-became c terms start old new (Err fault.NoMemory) h = h.0.device.same
+use Rattle.callboard.specs.LiveRun.{RanSession, RunsLive, as_session, terms_of}
 
 -- a device before and after a session, as the ends of a run
 abbrev pub ends_between : {C : Type 0} → Ghosts C → C → C → Ends
@@ -40,55 +29,28 @@ ends_between c old new = record {
   WriteFailed = c.write_failures old < c.write_failures new;
 }
 
-same-count : {n m : ℕ} → m ≡ n → n < m → ⊥
-same-count e h = omega (arith, e, h)
+-- what a session does, by its ends alone
+ran-session : {C : Type 0} (c : Ghosts C) (terms : SessionTerms) (start : RunningAuction) (old new : C)
+    (ended : Result Ending LiveFault)
+    → EndsSession c terms start old new ended → RanSession terms start (ends_between c old new) ended
+ran-session c terms start old new ended h = record {
+  before = seen_as c old;
+  after = seen_as c new;
+  session = as-ends c terms start old new ended h;
+  left = refl;
+  rest = refl;
+  old = refl;
+  new = refl;
+  read_failed = (λ f. f, λ f. f);
+  write_failed = (λ f. f, λ f. f);
+}
 
--- what a session that broke off has written
-broke-off : {C : Type 0} (c : Ghosts C) (day : DayHeader) (reserve : ℕ) (old new : C)
-    → (h : BreaksOff c (terms_of day reserve) (opened_auction day.config) old new)
-    → BrokeOff day reserve (ends_between c old new) (h.before ++ h.last)
-broke-off c day reserve old new h =
-    record { before = h.before; last = h.last; heard_is = refl; short = h.short; text = h.text }
-
-pub ran-live : {C : Type 0} (c : Ghosts C) (day : DayHeader) (reserve : ℕ) (old new : C)
+ran-live : {C : Type 0} (c : Ghosts C) (day : DayHeader) (reserve : ℕ) (old new : C)
     (ended : Result Ending LiveFault) → open_fault day.config ≡ None
     → EndsSession c (terms_of day reserve) (opened_auction day.config) old new ended
     → RunsLive day reserve (ends_between c old new) (as_session ended)
-ran-live c day reserve old new (Ok ending) opens h = record {
-  heard = h.heard;
-  consumed = h.device.read;
-  wrote = (opens, h.all, h.answered.text, h.ending_is);
-  read_failed = (λ e. absurd (cc (e)), λ f. absurd (same-count h.reads f));
-  write_failed = (λ e. absurd (cc (e)), λ f. absurd (same-count h.answered.writes f));
-}
-ran-live c day reserve old new (Err fault.ReadFailed) opens h = record {
-  heard = h.heard;
-  consumed = h.device.read;
-  wrote = h.answered.text;
-  read_failed = (λ e. omega (arith, h.reads), λ f. refl);
-  write_failed = (λ e. absurd (cc (e)), λ f. absurd (same-count h.answered.writes f));
-}
-ran-live c day reserve old new (Err fault.WriteFailed) opens h = record {
-  heard = h.0.before ++ h.0.last;
-  consumed = h.0.device.read;
-  wrote = broke-off c day reserve old new h.0;
-  read_failed = (λ e. absurd (cc (e)), λ f. absurd (same-count h.0.reads f));
-  write_failed = (λ e. h.1, λ f. refl);
-}
-ran-live c day reserve old new (Err fault.CommitFailed) opens h = record {
-  heard = h.0.before ++ h.0.last;
-  consumed = h.0.device.read;
-  wrote = broke-off c day reserve old new h.0;
-  read_failed = (λ e. absurd (cc (e)), λ f. absurd (same-count h.0.reads f));
-  write_failed = (λ e. absurd (cc (e)), λ f. absurd (same-count h.1 f));
-}
-ran-live c day reserve old new (Err fault.NoMemory) opens h = record {
-  heard = h.0.before ++ h.0.last;
-  consumed = h.0.device.read;
-  wrote = broke-off c day reserve old new h.0;
-  read_failed = (λ e. absurd (cc (e)), λ f. absurd (same-count h.0.reads f));
-  write_failed = (λ e. absurd (cc (e)), λ f. absurd (same-count h.1 f));
-}
+ran-live c day reserve old new (Ok ending) opens h = (opens, ran-session c _ _ old new (Ok ending) h)
+ran-live c day reserve old new (Err f) opens h = (opens, ran-session c _ _ old new (Err f) h)
 
 -- by the reader and the writer that a session was given, and what they are at last
 pub ran-by : {C R O : Type 0} (c : Ghosts C) (day : DayHeader) (reserve : ℕ) (start : RunningAuction) (old new : C)
@@ -110,11 +72,11 @@ pub not-opened : {R O : Type 0} (reads : source.Ghosts R) (writes : sink.Ghosts 
     (f : OpenFault) → f ≡ unwrap_or (open_fault day.config) NoMemory
     → RunsLive day reserve (ends_of reads writes reader reader out out) (Err (Open f))
 not-opened reads writes reader out day reserve f is = record {
-  heard = [];
-  consumed = Consumes-nil _;
-  wrote = (refl, refl, is);
-  read_failed = (λ e. absurd (cc (e)), λ k. absurd (same-count refl k));
-  write_failed = (λ e. absurd (cc (e)), λ k. absurd (same-count refl k));
+  why = is;
+  rest = refl;
+  new = refl;
+  none_read = λ k. omega (arith, k);
+  none_written = λ k. omega (arith, k);
 }
 
 -- an auction was opened only where there is no reason against it

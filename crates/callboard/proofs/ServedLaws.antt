@@ -1,13 +1,23 @@
 -- What the program answers, by what it was asked to do.
-use Rattle.std.proofs.Common.{◌≡◌, ◌<◌, ◌≤◌, ◌⊎◌, ◌∙◌, ℕ, Option, None, Some, true, false, Ok, Err, inl, inr, ap, sym}
-use Rattle.std.proofs.Common.{arith}
+use Rattle.std.proofs.Common.{◌≡◌, ◌≢◌, ◌<◌, ◌≤◌, ◌⊎◌, ◌∙◌, ℕ, List, Option, None, Some, true, false, Ok, Err, inl, inr}
+use Rattle.std.proofs.Common.{ap, arith, refl, subst, sym}
 use Rattle.auction.specs.declared.OpenFault.{OpenFault}
 use Rattle.auction.specs.declared.OpenFault.TheVariants as opening
+use Rattle.clap.specs.Walk.{Text}
+use Rattle.clap.specs.declared.error.kind.ErrorKind.{ErrorKind}
+use Rattle.clap.specs.declared.error.kind.ErrorKind.TheVariants as kinds
+use Rattle.clap.specs.declared.error.Error.{Error}
 use Rattle.journal.specs.declared.day.DayHeader.{DayHeader}
 use Rattle.live_session.specs.declared.fault.Ending.TheVariants.{AllGood, SomeBad}
 use Rattle.order_file.specs.declared.fault.FileFault.{FileFault}
 use Rattle.order_file.specs.declared.fault.FileFault.TheVariants as file
+use Rattle.settings.specs.CommandLine.{AcceptsWords, RefusesWords}
+use Rattle.settings.specs.Ranges.{IsInRange}
+use Rattle.settings.specs.declared.fault.WordsFault.{WordsFault}
+use Rattle.settings.specs.declared.fault.WordsFault.TheVariants.{AuditNotAlone, LiveNotAlone, Parse}
+use Rattle.settings.specs.declared.fault.WordsFault.TheVariants.{ResultsWithoutAudit, SyncWithoutJournal, WithoutLive}
 use Rattle.settings.specs.declared.types.JournalFile.{JournalFile}
+use Rattle.settings.specs.declared.types.Settings.{Settings}
 use Rattle.settings.specs.declared.types.Task.{Task}
 use Rattle.settings.specs.declared.types.Task.TheVariants.{Audit, Floor, Live, Run}
 use Rattle.callboard.specs.AuctionRun.{auction_job}
@@ -16,7 +26,8 @@ use Rattle.callboard.specs.BoardRun.{board_job}
 use Rattle.callboard.specs.FileRun.{Ends, IsRunOf, Job}
 use Rattle.callboard.specs.KeptLive.{RunsKeptSession}
 use Rattle.callboard.specs.LiveRun.{RunsLive, SessionResult, session_status}
-use Rattle.callboard.specs.Served.{DoesTask, is_session}
+use Rattle.callboard.specs.Served.{AnswersFault, DoesTask, RefusesMix, RunsSession, Serves, ServesSettings, day_of}
+use Rattle.callboard.specs.Served.{is_session, words_status}
 use Rattle.callboard.specs.Status.{RunResult, file_status, open_status, run_status}
 use Rattle.callboard.specs.declared.fault.Fault.TheVariants as fault
 use Rattle.callboard.specs.declared.fault.Finish.TheVariants.{Lawful, Unlawful}
@@ -79,8 +90,22 @@ session-quiet : (day : DayHeader) (reserve : ℕ) (ends : Ends) (ended : Session
     → session_status ended ≡ 2 → ends.new ≡ ends.old
 session-quiet day reserve ends (Ok AllGood) h e = absurd (omega (arith, e))
 session-quiet day reserve ends (Ok SomeBad) h e = absurd (omega (arith, e))
-session-quiet day reserve ends (Err (session.Open f)) h e = h.wrote.1
+session-quiet day reserve ends (Err (session.Open f)) h e = h.new
 session-quiet day reserve ends (Err (session.Live f)) h e = absurd (omega (arith, e))
+
+session-read : (day : DayHeader) (reserve : ℕ) (ends : Ends) (ended : SessionResult) → RunsLive day reserve ends ended
+    → ends.ReadFailed → session_status ended ≡ 3
+session-read day reserve ends (Ok ending) (opens, ran) f =
+    let same = ran.session.reads in let more = ran.read_failed.0 f in absurd (omega (arith, same, more))
+session-read day reserve ends (Err (session.Open x)) h f = absurd (h.none_read f)
+session-read day reserve ends (Err (session.Live x)) h f = refl
+
+session-write : (day : DayHeader) (reserve : ℕ) (ends : Ends) (ended : SessionResult) → RunsLive day reserve ends ended
+    → ends.WriteFailed → session_status ended ≡ 3
+session-write day reserve ends (Ok ending) (opens, ran) f =
+    let same = ran.session.answered.writes in let more = ran.write_failed.0 f in absurd (omega (arith, same, more))
+session-write day reserve ends (Err (session.Open x)) h f = absurd (h.none_written f)
+session-write day reserve ends (Err (session.Live x)) h f = refl
 
 -- ---- each task
 
@@ -109,7 +134,7 @@ pub does-read : (day : DayHeader) (journal : Option JournalFile) (task : Task) (
 does-read day journal (Run form) ends status h f = h.2 ∙ ap run_status (h.1.read_failed.1 f)
 does-read day journal (Floor form) ends status h f = h.2 ∙ ap run_status (h.1.read_failed.1 f)
 does-read day journal (Audit results) ends status h f = h.2 ∙ ap run_status (h.1.read_failed.1 f)
-does-read day None (Live reserve) ends status h f = h.2 ∙ ap session_status (h.1.read_failed.1 f)
+does-read day None (Live reserve) ends status h f = h.2 ∙ session-read day reserve ends h.0 h.1 f
 does-read day (Some file) (Live reserve) ends status h f = h.read_failed f
 
 pub does-write : (day : DayHeader) (journal : Option JournalFile) (task : Task) (ends : Ends) (status : ℕ)
@@ -117,7 +142,7 @@ pub does-write : (day : DayHeader) (journal : Option JournalFile) (task : Task) 
 does-write day journal (Run form) ends status h f = h.2 ∙ ap run_status (h.1.write_failed.1 f)
 does-write day journal (Floor form) ends status h f = h.2 ∙ ap run_status (h.1.write_failed.1 f)
 does-write day journal (Audit results) ends status h f = h.2 ∙ ap run_status (h.1.write_failed.1 f)
-does-write day None (Live reserve) ends status h f = h.2 ∙ ap session_status (h.1.write_failed.1 f)
+does-write day None (Live reserve) ends status h f = h.2 ∙ session-write day reserve ends h.0 h.1 f
 does-write day (Some file) (Live reserve) ends status h f = h.write_failed f
 
 pub does-small : (day : DayHeader) (journal : Option JournalFile) (task : Task) (ends : Ends) (status : ℕ)
@@ -129,7 +154,103 @@ does-small day None (Live reserve) ends status h = rw h.2 (session-small h.0)
 does-small day (Some file) (Live reserve) ends status h = h.small
 
 -- a session with a journal
-pub does-kept : (day : DayHeader) (journal : Option JournalFile) (task : Task) (file : JournalFile) (reserve : ℕ)
-    (ends : Ends) (status : ℕ) → journal ≡ Some file → task ≡ Live reserve
-    → RunsKeptSession day reserve ends status → DoesTask day journal task ends status
-does-kept day journal task file reserve ends status is_kept is_live h = rw (is_kept, is_live) h
+pub does-kept : (day : DayHeader) (journal : Option JournalFile) (file : JournalFile) (reserve : ℕ) (ends : Ends)
+    (status : ℕ) → journal ≡ Some file → RunsKeptSession day reserve ends status
+    → DoesTask day journal (Live reserve) ends status
+does-kept day journal file reserve ends status is h = rw is h
+
+-- and without one
+pub does-live : (day : DayHeader) (journal : Option JournalFile) (reserve : ℕ) (ends : Ends) (status : ℕ)
+    → journal ≡ None → RunsSession day reserve ends status → DoesTask day journal (Live reserve) ends status
+does-live day journal reserve ends status is h = rw is h
+
+-- ---- the words
+
+-- settings that were served
+pub serves-settings : (words : List Text) (s : Settings) (task : Task) (ends : Ends) (status : ℕ)
+    → AcceptsWords words s → IsInRange s → s.task ≡ task → DoesTask (day_of s) s.journal task ends status
+    → Serves words ends status
+serves-settings words s task ends status accepts ranges is h =
+    let does : ServesSettings s ends status =
+    subst (λ (t : Task). DoesTask (day_of s) s.journal t ends status) (sym is) h in
+    record {
+      answer = inl (s, accepts, ranges, does);
+      quiet = λ q. does-quiet (day_of s) s.journal s.task ends status does
+          (as-task _ s.task status accepts.1.task q);
+      read_failed = does-read (day_of s) s.journal s.task ends status does;
+      write_failed = does-write (day_of s) s.journal s.task ends status does;
+      few = does-small (day_of s) s.journal s.task ends status does;
+    }
+
+-- a status that isn't that of help
+not-help : {K W : Type 0} (n status : ℕ) → (status ≡ n) ⊎ W → (W → status ≡ 3) → (n ≢ 0 → K)
+    → (status ≡ 2) ⊎ (status ≡ 1) → K
+not-help n status (inl is) fails kept (inl e) = kept (λ z. omega (arith, is, e, z))
+not-help n status (inl is) fails kept (inr e) = kept (λ z. omega (arith, is, e, z))
+not-help n status (inr f) fails kept (inl e) = let late = fails f in absurd (omega (arith, late, e))
+not-help n status (inr f) fails kept (inr e) = let late = fails f in absurd (omega (arith, late, e))
+
+words-small : (kind : ErrorKind) → words_status kind ≤ 4
+words-small kinds.InvalidValue = omega arith
+words-small kinds.UnknownArgument = omega arith
+words-small kinds.InvalidSubcommand = omega arith
+words-small kinds.NoEquals = omega arith
+words-small kinds.ValueValidation = omega arith
+words-small kinds.TooManyValues = omega arith
+words-small kinds.TooFewValues = omega arith
+words-small kinds.WrongNumberOfValues = omega arith
+words-small kinds.ArgumentConflict = omega arith
+words-small kinds.MissingRequiredArgument = omega arith
+words-small kinds.MissingSubcommand = omega arith
+words-small kinds.DisplayHelp = omega arith
+words-small kinds.DisplayHelpOnMissingArgumentOrSubcommand = omega arith
+words-small kinds.DisplayVersion = omega arith
+words-small kinds.Io = omega arith
+words-small kinds.Format = omega arith
+words-small kinds.OutOfMemory = omega arith
+
+few-of-words : {W : Type 0} (kind : ErrorKind) (status : ℕ) → (status ≡ words_status kind) ⊎ W → (W → status ≡ 3)
+    → status ≤ 4
+few-of-words kind status (inl is) fails = rw is (words-small kind)
+few-of-words kind status (inr f) fails = let late = fails f in omega (arith, late)
+
+-- words that say none
+pub serves-words : (words : List Text) (ends : Ends) (status : ℕ) → AnswersFault words ends status
+    → Serves words ends status
+serves-words words ends status (inl h) = record {
+  answer = inr (inl h);
+  quiet = λ q. not-help (words_status h.kind) status h.status_is h.write_failed h.kept (one-or-two status q refl);
+  read_failed = λ f. absurd (h.none_read f);
+  write_failed = h.write_failed;
+  few = few-of-words h.kind status h.status_is h.write_failed;
+}
+serves-words words ends status (inr h) = record {
+  answer = inr (inr h);
+  quiet = λ q. h.kept;
+  read_failed = λ f. absurd (h.none_read f);
+  write_failed = λ f. absurd (h.none_written f);
+  few = let two = h.status_is in omega (arith, two);
+}
+
+-- why words that options were given do not go together
+pub mix-refused : (words : List Text) (fault : WordsFault) (ends : Ends) (status : ℕ) → RefusesWords words fault
+    → ((error : Error) → fault ≡ Parse error → ⊥) → status ≡ 2 → ends.new ≡ ends.old → (ends.ReadFailed → ⊥)
+    → (ends.WriteFailed → ⊥) → RefusesMix words ends status
+mix-refused words fault ends status refused mixed two kept none_read none_written = record {
+  refused = by fault refused mixed;
+  status_is = two;
+  kept = kept;
+  none_read = none_read;
+  none_written = none_written;
+}
+  where
+    by : (f : WordsFault) → RefusesWords words f → ((error : Error) → f ≡ Parse error → ⊥)
+        → RefusesWords words AuditNotAlone
+        ⊎ (RefusesWords words LiveNotAlone ⊎ (RefusesWords words ResultsWithoutAudit
+        ⊎ (RefusesWords words WithoutLive ⊎ RefusesWords words SyncWithoutJournal)))
+    by (Parse error) h other = absurd (other error refl)
+    by AuditNotAlone h other = inl h
+    by LiveNotAlone h other = inr (inl h)
+    by ResultsWithoutAudit h other = inr (inr (inl h))
+    by WithoutLive h other = inr (inr (inr (inl h)))
+    by SyncWithoutJournal h other = inr (inr (inr (inr h)))

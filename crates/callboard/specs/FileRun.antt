@@ -35,6 +35,17 @@ ends_of reads writes reader reader' writer writer' = record {
   WriteFailed = writes.failures writer < writes.failures writer';
 }
 
+-- what a run had and gave, with the failures counted before and after it
+abbrev pub ends_by : Option (List ℕ) → Option (List ℕ) → Option (List ℕ) → Option (List ℕ) → ℕ → ℕ → ℕ → ℕ → Ends
+ends_by left rest old new reads reads_after writes writes_after = record {
+  left = left;
+  rest = rest;
+  old = old;
+  new = new;
+  ReadFailed = reads < reads_after;
+  WriteFailed = writes < writes_after;
+}
+
 -- What is to be run: what an input gives it, why that can't be opened, if there is a reason, which text may be written
 -- of it with which finish, and which faults the run may end with.
 pub record Job : Type 1 where

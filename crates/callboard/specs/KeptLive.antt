@@ -1,5 +1,5 @@
 -- What a session does whose commands are kept in a journal's file.
-use Rattle.std.specs.Prelude.{◌≡◌, ◌<◌, ◌≤◌, ◌↔◌, ◌⊎◌, ℕ, List, Bool, true, false, Result, Ok, Err}
+use Rattle.std.specs.Prelude.{◌≡◌, ◌≤◌, ◌⊎◌, ℕ, List, Bool, true, false, Result, Ok}
 use Rattle.auction_terms.specs.Auxiliary.RunningAuction.{RunningAuction, opened_auction}
 use Rattle.journal.specs.JournalFile.{journal_of}
 use Rattle.journal.specs.declared.day.DayHeader.{DayHeader}
@@ -27,7 +27,6 @@ resume_status (resume.AnotherDay day) = 2
 resume_status (resume.Unlawful entry recorded) = 4
 
 abbrev pub begin_status : BeginFault → ℕ
-begin_status (begin.Open f) = open_status f
 begin_status (begin.Resume f) = resume_status f
 begin_status f = 3
 
@@ -37,7 +36,7 @@ opening_status Busy = 2
 opening_status (Failed error) = 3
 
 abbrev pub kept_status : KeptFault → ℕ
-kept_status kept.NotOpened = 3
+kept_status (kept.Day f) = open_status f
 kept_status (kept.Opening f) = opening_status f
 kept_status (kept.Begin f) = begin_status f
 

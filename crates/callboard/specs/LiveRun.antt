@@ -1,18 +1,15 @@
--- What a live session does with an input that comes.
-use Rattle.std.specs.Prelude.{◌≡◌, ◌≤◌, ◌↔◌, ℕ, List, [], ◌++◌, length, None, IfSome, Result, Ok, Err, IsErrOf}
-use Rattle.std.specs.Prelude.{unwrap_or}
-use Rattle.std.specs.Io.KnownBytes.{Appends, Consumes}
-use Rattle.auction_terms.specs.Auxiliary.RunningAuction.{opened_auction}
+-- What a live session does with an input that comes: what any session does (`EndsSession`), by the ends of a run.
+use Rattle.std.specs.Prelude.{◌≡◌, ◌<◌, ◌↔◌, ℕ, None, Result, Ok, Err, unwrap_or}
+use Rattle.auction_terms.specs.Auxiliary.RunningAuction.{RunningAuction, opened_auction}
 use Rattle.auction.specs.ConfigFault.{open_fault}
+use Rattle.auction.specs.declared.OpenFault.{OpenFault}
 use Rattle.auction.specs.declared.OpenFault.TheVariants.{NoMemory}
 use Rattle.journal.specs.declared.day.DayHeader.{DayHeader}
-use Rattle.live_session.specs.Answered.{Answered, answered, answered_whole, ending_of}
-use Rattle.live_session.specs.Talk.{AppendsBetween}
+use Rattle.kept_session.specs.KeptRun.{KeptEnds, kept_ends}
+use Rattle.live_session.specs.Talk.{EndsSession}
 use Rattle.live_session.specs.declared.fault.Ending.{Ending}
 use Rattle.live_session.specs.declared.fault.Ending.TheVariants.{AllGood, SomeBad}
 use Rattle.live_session.specs.declared.fault.LiveFault.{LiveFault}
-use Rattle.live_session.specs.declared.fault.LiveFault.TheVariants as fault
-use Rattle.live_session.specs.declared.run.TheConstants.{ROOM_OF_A_READ}
 use Rattle.live_session.specs.declared.terms.SessionTerms.{SessionTerms}
 use Rattle.callboard.specs.declared.live.SessionFault.{SessionFault}
 use Rattle.callboard.specs.declared.live.SessionFault.TheVariants.{Live, Open}
@@ -46,40 +43,32 @@ session_status (Err f) = live_status f
 abbrev pub terms_of : DayHeader → ℕ → SessionTerms
 terms_of day reserve = record { members = day.members; reserve = reserve }
 
--- the answers to the lines that have ended once these bytes have come, and to all of an input that has ended so
-abbrev pub so_far : DayHeader → ℕ → List ℕ → Answered
-so_far day reserve heard = answered (terms_of day reserve) (opened_auction day.config) heard
+-- A session ran between these ends, on an auction that began so.
+pub record RanSession (terms : SessionTerms) (start : RunningAuction) (ends : Ends) (ended : Result Ending LiveFault)
+    : Type 0 where
+  pub before : KeptEnds
+  pub after : KeptEnds
+  pub session : EndsSession kept_ends terms start before after ended
+  pub left : ends.left ≡ before.left
+  pub rest : ends.rest ≡ after.left
+  pub old : ends.old ≡ before.written
+  pub new : ends.new ≡ after.written
+  pub read_failed : ends.ReadFailed ↔ (before.read_failures < after.read_failures)
+  pub write_failed : ends.WriteFailed ↔ (before.write_failures < after.write_failures)
 
-abbrev pub in_all : DayHeader → ℕ → List ℕ → Answered
-in_all day reserve heard = answered_whole (terms_of day reserve) (opened_auction day.config) heard
+-- The day couldn't be opened: nothing was read, and nothing written.
+pub record DidNotOpen (day : DayHeader) (ends : Ends) (fault : OpenFault) : Type 0 where
+  pub why : fault ≡ unwrap_or (open_fault day.config) NoMemory
+  pub rest : ends.rest ≡ ends.left
+  pub new : ends.new ≡ ends.old
+  pub none_read : ends.ReadFailed → ⊥
+  pub none_written : ends.WriteFailed → ⊥
 
--- The session broke off while it answered what its last read had brought: all that came before is answered, and of the
--- rest a beginning.
-pub record BrokeOff (day : DayHeader) (reserve : ℕ) (ends : Ends) (heard : List ℕ) : Type 0 where
-  pub before : List ℕ
-  pub last : List ℕ
-  pub heard_is : heard ≡ before ++ last
-  pub short : length last ≤ ROOM_OF_A_READ
-  pub text : AppendsBetween ends.old ends.new (so_far day reserve before).text (in_all day reserve heard).text
-
--- What was written once these bytes had come. The session ended with its input, or before anything came, as the day
--- can't be opened, or at a read that failed, with all before it answered; or it broke off while it answered.
-abbrev pub WroteAnswers : DayHeader → ℕ → Ends → List ℕ → SessionResult → Type 0
-WroteAnswers day reserve ends heard (Ok ending) =
-    (open_fault day.config ≡ None) × IfSome ends.left (λ input. input ≡ heard)
-    × Appends ends.old ends.new (in_all day reserve heard).text
-    × (ending ≡ ending_of (in_all day reserve heard).faults)
-WroteAnswers day reserve ends heard (Err (Open f)) =
-    (heard ≡ []) × (ends.new ≡ ends.old) × (f ≡ unwrap_or (open_fault day.config) NoMemory)
-WroteAnswers day reserve ends heard (Err (Live fault.ReadFailed)) =
-    Appends ends.old ends.new (so_far day reserve heard).text
-WroteAnswers day reserve ends heard (Err (Live f)) = BrokeOff day reserve ends heard
-
--- What came of a session of this day, with so many calls for the operator: which bytes of its input it took, and what
--- it wrote of them.
-pub record RunsLive (day : DayHeader) (reserve : ℕ) (ends : Ends) (ended : SessionResult) : Type 0 where
-  pub heard : List ℕ
-  pub consumed : Consumes ends.left ends.rest heard
-  pub wrote : WroteAnswers day reserve ends heard ended
-  pub read_failed : IsErrOf ended (Live fault.ReadFailed) ↔ ends.ReadFailed
-  pub write_failed : IsErrOf ended (Live fault.WriteFailed) ↔ ends.WriteFailed
+-- what came of a session of this day, with so many calls for the operator
+abbrev pub RunsLive : DayHeader → ℕ → Ends → SessionResult → Type 0
+RunsLive day reserve ends (Ok ending) =
+    (open_fault day.config ≡ None)
+    × RanSession (terms_of day reserve) (opened_auction day.config) ends (Ok ending)
+RunsLive day reserve ends (Err (Live f)) =
+    (open_fault day.config ≡ None) × RanSession (terms_of day reserve) (opened_auction day.config) ends (Err f)
+RunsLive day reserve ends (Err (Open f)) = DidNotOpen day ends f

@@ -1,5 +1,5 @@
 -- What the program answers to its words.
-use Rattle.std.specs.Prelude.{◌≡◌, Option, ◌<◌, ◌≢◌, ◌⊎◌, ℕ, List, Some, None, Bool, true, false}
+use Rattle.std.specs.Prelude.{◌≡◌, Option, ◌<◌, ◌≤◌, ◌≢◌, ◌⊎◌, ℕ, List, Some, None, Bool, true, false}
 use Rattle.clap.specs.Kinds.{IsAmong}
 use Rattle.clap.specs.Simple.{matches_of}
 use Rattle.clap.specs.Walk.{Text}
@@ -19,7 +19,7 @@ use Rattle.settings.specs.declared.types.Task.TheVariants.{Audit, Floor, Live, R
 use Rattle.callboard.specs.AuctionRun.{auction_job}
 use Rattle.callboard.specs.AuditRun.{audit_job}
 use Rattle.callboard.specs.BoardRun.{board_job}
-use Rattle.callboard.specs.FileRun.{Ends, Job, IsRunOf}
+use Rattle.callboard.specs.FileRun.{Ends, Job, IsRunOf, ends_by}
 use Rattle.callboard.specs.KeptLive.{RunsKeptSession}
 use Rattle.callboard.specs.LiveRun.{SessionResult, RunsLive, session_status}
 use Rattle.callboard.specs.Status.{RunResult, run_status}
@@ -77,11 +77,15 @@ pub record RefusesMix (words : List Text) (ends : Ends) (status : ℕ) : Type 0 
   pub none_read : ends.ReadFailed → ⊥
   pub none_written : ends.WriteFailed → ⊥
 
+-- words that say no settings were answered
+abbrev pub AnswersFault : List Text → Ends → ℕ → Type 0
+AnswersFault words ends status = AnswersWords words ends status ⊎ RefusesMix words ends status
+
 -- the words say settings, each in its range, which were served, or they were answered
 abbrev pub AnswersCommandLine : List Text → Ends → ℕ → Type 0
 AnswersCommandLine words ends status =
     ((s : Settings) × AcceptsWords words s × IsInRange s × ServesSettings s ends status)
-    ⊎ (AnswersWords words ends status ⊎ RefusesMix words ends status)
+    ⊎ AnswersFault words ends status
 
 -- records are answered as they come
 abbrev pub is_session : Option Task → Bool
@@ -92,16 +96,14 @@ is_session task = false
 abbrev pub IsQuiet : List Text → ℕ → Type 0
 IsQuiet words status = (status ≡ 2) ⊎ ((status ≡ 1) × (is_session (task_at (matches_of callboard words)) ≡ false))
 
--- what a run had and gave, with the failures counted before and after it
-abbrev pub ends_by : Option (List ℕ) → Option (List ℕ) → Option (List ℕ) → Option (List ℕ) → ℕ → ℕ → ℕ → ℕ → Ends
-ends_by left rest old new reads reads_after writes writes_after = record {
-  left = left;
-  rest = rest;
-  old = old;
-  new = new;
-  ReadFailed = reads < reads_after;
-  WriteFailed = writes < writes_after;
-}
+-- What the program does on these words, and what that says of its status: a bad command line or input prints nothing
+-- but in a session, and a read or a write that fails is 3.
+pub record Serves (words : List Text) (ends : Ends) (status : ℕ) : Type 0 where
+  pub answer : AnswersCommandLine words ends status
+  pub quiet : IsQuiet words status → ends.new ≡ ends.old
+  pub read_failed : ends.ReadFailed → status ≡ 3
+  pub write_failed : ends.WriteFailed → status ≡ 3
+  pub few : status ≤ 4
 
 -- a status that the program answers to some words with some ends
 abbrev pub IsAnswer : ℕ → Type 0

@@ -1,16 +1,16 @@
 //! A live session whose commands are kept in a journal's file.
 
-ghost use Rattle.std.specs.Prelude.{◌≡◌, ◌≢◌, ◌≤◌, ◌<◌, Err, IfOk, IfSome};
+ghost use Rattle.std.specs.Prelude.{◌≡◌, Err, IfOk};
 ghost use Rattle.journal_file.specs.Device.{IsOnlyOutcome};
 ghost use Rattle.journal_file.specs.Settled.{IsSettled};
 ghost use Rattle.live_session.specs.declared.fault.LiveFault.TheVariants.{CommitFailed};
 ghost use Rattle.callboard.specs.FileRun.{ends_of};
 ghost use Rattle.callboard.specs.KeptLive.{EndsAs, IsBegunFor, RunsKeptSession, begin_status, kept_status};
-ghost use Rattle.callboard.specs.KeptLive.{opening_status, resume_status};
-ghost use Rattle.callboard.specs.LiveRun.{terms_of};
+ghost use Rattle.callboard.specs.KeptLive.{resume_status};
 
 use crate::fault::Fault;
-use crate::serve::write_line;
+use crate::serve::{tell_open, write_line};
+use auction::Auction;
 use auction_terms::Config;
 use byte_streams::{Sink, Source, write_all};
 use journal::DayHeader;
@@ -19,6 +19,7 @@ use kept_session::{BeginFault, Begun, ResumeFault, UnlawfulEntry, begin, run_kep
 use live_session::{Ending, LiveFault, SessionTerms};
 use order_file::FileFault;
 use printed_lines::{Page, put_reply};
+use settings::JournalFile;
 use std::alloc::Global;
 use std::fmt::InlineText;
 
@@ -31,11 +32,17 @@ pub struct OpenedJournal<D: Device> {
     pub ghost durable: { IsOnlyOutcome (D.seen device) (D.may_leave device) },
 }
 
+/// What opens the file of a journal.
+pub trait OpensJournal<D: Device> {
+    /// Opens a file, or makes it, and reads it.
+    fn open(self, alloc: Global, file: JournalFile<'_>) -> Result<OpenedJournal<D>, OpenFault>;
+}
+
 /// Why a session with a journal doesn't begin.
 #[derive(Drop)]
 pub enum KeptFault {
-    /// The file wasn't opened.
-    NotOpened,
+    /// No auction can be opened for the day. The file wasn't touched.
+    Day(auction::OpenFault),
     /// The file couldn't be opened.
     Opening(OpenFault),
     /// It isn't begun with what the file has.
@@ -122,11 +129,6 @@ fn tell_begin<E: Sink>(err: &mut E, fault: &BeginFault, day: DayHeader) -> u8
     ensures { result ≡ begin_status fault.now }
 {
     match fault {
-        BeginFault::Open(fault) => {
-            let fault = Fault::Open(*fault);
-            write_line(err, InlineText::<64>::of(fault).as_str());
-            fault.status()
-        }
         BeginFault::Resume(fault) => tell_resume(err, fault, day),
         BeginFault::Device(_) => {
             write_line(err, "journal failed");
@@ -144,10 +146,7 @@ fn tell_kept<E: Sink>(err: &mut E, fault: &KeptFault, day: DayHeader) -> u8
     ensures { result ≡ kept_status fault.now }
 {
     match fault {
-        KeptFault::NotOpened => {
-            write_line(err, "journal open failed");
-            3
-        }
+        KeptFault::Day(fault) => tell_open(err, *fault, day),
         KeptFault::Opening(OpenFault::Busy) => {
             write_line(err, "journal in use");
             2
@@ -169,20 +168,24 @@ fn tell_entries<E: Sink>(err: &mut E, count: u32) {
     let _ = write_all(err, page.as_slice());
 }
 
-/// Begins a session of this day on the file that was opened.
-fn begin_kept<D: Device + Drop>(
+/// Begins a session of this day on a file, which isn't opened where no auction can be.
+fn begin_kept<D: Device + Drop, P: OpensJournal<D> + Drop>(
     alloc: Global,
-    opened: Option<Result<OpenedJournal<D>, OpenFault>>,
+    files: P,
+    file: JournalFile<'_>,
     day: DayHeader,
 ) -> Result<Begun<D>, KeptFault>
     ensures { IfOk result (λ begun. IsSettled D.seen D.may_leave begun.journal × IsBegunFor day begun.auction) }
 {
-    let OpenedJournal { device, mut bytes } = match opened {
-        Some(Ok(opened)) => opened,
-        Some(Err(fault)) => return Err(KeptFault::Opening(fault)),
-        None => return Err(KeptFault::NotOpened),
+    let auction = match Auction::open(alloc, day.config) {
+        Ok(auction) => auction,
+        Err(fault) => return Err(KeptFault::Day(fault)),
     };
-    match begin(alloc, device, &mut bytes, day) {
+    let OpenedJournal { device, bytes } = match files.open(alloc, file) {
+        Ok(opened) => opened,
+        Err(fault) => return Err(KeptFault::Opening(fault)),
+    };
+    match begin(alloc, auction, device, bytes.as_slice(), day) {
         Ok(begun) => Ok(begun),
         Err(fault) => Err(KeptFault::Begin(fault)),
     }
@@ -228,12 +231,13 @@ fn close_journal<D: Device>(journal: &mut Journal<D>, ended: Result<Ending, Live
 
 /// Answers each record of the input as soon as its line has ended, with its command in the journal's file before its
 /// answer is written, and goes on with what the file has. It says how many entries that is.
-pub fn serve_kept<R: Source, O: Sink, E: Sink, D: Device + Drop>(
+pub fn serve_kept<R: Source, O: Sink, E: Sink, D: Device + Drop, P: OpensJournal<D> + Drop>(
     alloc: Global,
     reader: &mut R,
     out: &mut O,
     err: &mut E,
-    opened: Option<Result<OpenedJournal<D>, OpenFault>>,
+    files: P,
+    file: JournalFile<'_>,
     day: DayHeader,
     reserve: u32,
 ) -> u8
@@ -242,7 +246,7 @@ pub fn serve_kept<R: Source, O: Sink, E: Sink, D: Device + Drop>(
     let Begun {
         mut journal,
         auction,
-    } = match begin_kept(alloc, opened, day) {
+    } = match begin_kept(alloc, files, file, day) {
         Ok(begun) => begun,
         Err(fault) => return tell_kept(err, &fault, day),
     };

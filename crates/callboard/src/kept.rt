@@ -16,7 +16,7 @@ use reply_list::ReplyList;
 use settings::{Form, Listing};
 use std::alloc::{AllocError, Global};
 
-/// What a form needs of a day's entries: lines the replies, which are kept in a few bytes each, a journal its lines,
+/// What a form needs of a day's entries: lines the replies, which are kept in a byte each, a journal its lines,
 /// the trades all entries, and the book its tables.
 #[derive(Drop)]
 pub enum Kept {

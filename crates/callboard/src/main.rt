@@ -30,12 +30,12 @@ pub use fault::{Fault, Finish};
 pub use floor::run_floor;
 use input_hints::StartKeeper;
 use journal_file::{OpenFault, Opened, Syncing, Tracked, open};
-pub use keeping::OpenedJournal;
+pub use keeping::{OpenedJournal, OpensJournal};
 pub use laws::printed_journals_are_lawful;
 use process_ends::Patient;
 pub use run::run_file;
 pub use serve::serve;
-use settings::settings;
+use settings::JournalFile;
 use std::alloc::{AllocError, Global};
 use std::marker::Brand;
 use std::process::ExitCode;
@@ -55,24 +55,28 @@ fn lend<'a>(alloc: Global, words: &'a [String]) -> Result<Vec<&'a str>, AllocErr
     Ok(lent)
 }
 
-/// The journal's file that the words name, opened; none where they name none.
-fn open_journal<'a>(
-    host: &HostRuntime,
-    words: &'a [&'a str],
-) -> Option<Result<OpenedJournal<Tracked<Opened>>, OpenFault>> {
-    let file = match settings(host.alloc(), words) {
-        Ok(settings) => settings.journal?,
-        Err(_) => return None,
-    };
-    let syncing = if file.is_synced {
-        Syncing::Each
-    } else {
-        Syncing::Never
-    };
-    let mut bytes = Vec::new(host.alloc());
-    match open(host, file.name, syncing, &mut bytes) {
-        Ok(device) => Some(Ok(OpenedJournal { device, bytes })),
-        Err(fault) => Some(Err(fault)),
+/// The files of the file system.
+#[derive(Drop)]
+struct Files<'a> {
+    host: &'a HostRuntime,
+}
+
+impl OpensJournal<Tracked<Opened>> for Files<'_> {
+    fn open(
+        self,
+        alloc: Global,
+        file: JournalFile<'_>,
+    ) -> Result<OpenedJournal<Tracked<Opened>>, OpenFault> {
+        let syncing = if file.is_synced {
+            Syncing::Each
+        } else {
+            Syncing::Never
+        };
+        let mut bytes = Vec::new(alloc);
+        match open(self.host, file.name, syncing, &mut bytes) {
+            Ok(device) => Ok(OpenedJournal { device, bytes }),
+            Err(fault) => Err(fault),
+        }
     }
 }
 
@@ -121,14 +125,14 @@ fn run_program<I: Ledger, O: Ledger, E: Ledger, T: Wait + Threads + Sync>(
     };
     let owned: Vec<String> = env::args(host)?.collect(alloc)?;
     let words = lend(alloc, owned.as_slice())?;
-    let opened = open_journal(host, words.as_slice());
+    let files = Files { host };
     Ok(serve(
         alloc,
         words.as_slice(),
         &mut reader,
         &mut out,
         &mut err,
-        opened,
+        files,
         rt,
     ))
 }

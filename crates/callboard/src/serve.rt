@@ -1,26 +1,29 @@
 //! The whole program, but for the process's own ends.
 
-ghost use Rattle.std.specs.Prelude.{◌≡◌, ◌≢◌, ◌<◌, ◌≤◌, ◌⊎◌, None};
+ghost use Rattle.std.specs.Prelude.{◌≡◌, ◌≢◌, ◌<◌, ◌⊎◌, ℕ, List, None, Option};
 ghost use Rattle.clap.specs.Values.{kind_of};
 ghost use Rattle.clap.specs.Walk.{texts};
 ghost use Rattle.clap.specs.declared.error.kind.ErrorKind.TheVariants.{OutOfMemory};
-ghost use Rattle.callboard.specs.FileRun.{ends_of};
+ghost use Rattle.callboard.specs.FileRun.{ends_by, ends_of};
 ghost use Rattle.callboard.specs.LiveRun.{live_status};
-ghost use Rattle.callboard.specs.Served.{AnswersCommandLine, IsQuiet, RunsSession, ServesSettings, words_status};
-ghost use Rattle.callboard.specs.Status.{run_status, status_of};
+ghost use Rattle.callboard.specs.Served.{AnswersFault, RunsSession, Serves, words_status};
+ghost use Rattle.callboard.specs.Status.{open_status, run_status, status_of};
+ghost use Rattle.settings.specs.CommandLine.{RefusesWords};
 
 use crate::audit::run_audit;
 use crate::fault::{Fault, Finish};
 use crate::floor::run_floor;
-use crate::keeping::{OpenedJournal, serve_kept};
+use crate::keeping::{OpensJournal, serve_kept};
 use crate::live::{SessionFault, run_session};
 use crate::run::run_file;
 use byte_streams::{Sink, Source, write_all};
 use clap::Error;
 use clap::error::ErrorKind;
-use input_hints::{DayTerms, KeepsStart, hint_of, is_like_file};
+use input_hints::{
+    Bounds, DayTerms, KeepsStart, bounds_hint, hint_of, hint_of_bounds, is_like_file,
+};
 use journal::DayHeader;
-use journal_file::{Device, OpenFault};
+use journal_file::Device;
 use live_session::{Ending, LiveFault};
 use member_floor::OpenGate;
 use order_file::FileFault;
@@ -54,6 +57,44 @@ fn terms_of(day: DayHeader) -> DayTerms {
     }
 }
 
+/// The bounds and the reference of a day.
+fn bounds_of(day: DayHeader) -> Bounds {
+    Bounds {
+        low: day.config.low,
+        high: day.config.high,
+        reference: day.config.reference,
+    }
+}
+
+/// Writes the line of a fault of this day's config, and behind it one with what is wrong with its bounds or its
+/// reference, if anything is.
+pub(crate) fn tell_open<E: Sink>(err: &mut E, fault: auction::OpenFault, day: DayHeader) -> u8
+    ensures { result ≡ open_status fault }
+{
+    let status = tell(err, Fault::Open(fault));
+    if let Some(hint) = bounds_hint(bounds_of(day)) {
+        write_line(err, InlineText::<64>::of(hint).as_str());
+    }
+    status
+}
+
+/// Writes a line with the likely cause of this fault of an input that begins so, where there is one.
+fn tell_cause<E: Sink>(alloc: Global, err: &mut E, fault: Fault, start: &[u8], day: DayHeader) {
+    match fault {
+        Fault::File(fault) => {
+            if let Ok(Some(hint)) = hint_of(alloc, fault, start, terms_of(day)) {
+                write_line(err, InlineText::<64>::of(hint).as_str());
+            }
+        }
+        Fault::Open(_) => {
+            if let Ok(Some(hint)) = hint_of_bounds(alloc, start, bounds_of(day)) {
+                write_line(err, InlineText::<64>::of(hint).as_str());
+            }
+        }
+        _ => {}
+    }
+}
+
 /// Writes the line of a fault, and behind it one with its likely cause in an input that begins so, where there is one.
 fn tell_of_input<E: Sink>(
     alloc: Global,
@@ -65,11 +106,7 @@ fn tell_of_input<E: Sink>(
     ensures { result ≡ status_of fault }
 {
     let status = tell(err, fault);
-    if let Fault::File(fault) = fault {
-        if let Ok(Some(hint)) = hint_of(alloc, fault, start, terms_of(day)) {
-            write_line(err, InlineText::<64>::of(hint).as_str());
-        }
-    }
+    tell_cause(alloc, err, fault, start, day);
     status
 }
 
@@ -126,12 +163,36 @@ fn print_text<O: Sink, E: Sink>(out: &mut O, err: &mut E, error: &Error, text: &
     0
 }
 
-/// Tells why a session ended before its input, and answers its status.
-fn tell_end<E: Sink>(err: &mut E, fault: SessionFault) -> u8
+/// Prints the help that these words ask for, or tells why they say no settings, and answers the status.
+fn answer_words<O: Sink, E: Sink>(
+    alloc: Global,
+    out: &mut O,
+    err: &mut E,
+    words: &[&str],
+    fault: &WordsFault,
+) -> u8
+    requires { RefusesWords (texts words.now) fault.now }
+    ensures { (left : Option (List ℕ)) (reads : ℕ) → AnswersFault (texts words.now)
+        (ends_by left left (O.written out.old) (O.written out.new) reads reads (O.failures out.old)
+        (O.failures out.new)) result }
+{
+    let WordsFault::Parse(error) = fault else {
+        return refuse_mix(err, fault);
+    };
+    let Some(text) = text_of(alloc, error) else {
+        return tell(err, Fault::NoMemory);
+    };
+    let status = print_text(out, err, error, text.as_str());
+    tell_of_file(err, error, words);
+    status
+}
+
+/// Tells why a session of this day ended before its input, and answers its status.
+fn tell_end<E: Sink>(err: &mut E, fault: SessionFault, day: DayHeader) -> u8
     ensures { result ≡ live_status fault }
 {
     match fault {
-        SessionFault::Open(fault) => tell(err, Fault::Open(fault)),
+        SessionFault::Open(fault) => tell_open(err, fault, day),
         SessionFault::Live(LiveFault::ReadFailed) => tell(err, Fault::File(FileFault::ReadFailed)),
         SessionFault::Live(LiveFault::WriteFailed | LiveFault::CommitFailed) => {
             tell(err, Fault::WriteFailed)
@@ -154,7 +215,7 @@ fn serve_live<R: Source, O: Sink, E: Sink>(
     match run_session(alloc, reader, out, day, reserve) {
         Ok(Ending::AllGood) => 0,
         Ok(Ending::SomeBad) => 1,
-        Err(fault) => tell_end(err, fault),
+        Err(fault) => tell_end(err, fault, day),
     }
 }
 
@@ -174,19 +235,39 @@ fn tell_run<E: Sink>(
     }
 }
 
-/// Does with the input what the settings say, and answers the status: answers its records as they come, or runs its
-/// commands, or audits it.
-fn serve_settings<R: KeepsStart, O: Sink, E: Sink, D: Device + Drop, T: Wait + Threads + Sync>(
+/// Runs the program on these words, the first being its name, and answers its status: 0 done, or the
+/// help that was asked for, 1 a bad input, 2 a bad command line or bounds, a reference or limits that no
+/// auction has, 3 want of memory, a read or a write that failed, or a floor that couldn't be closed, 4 a
+/// journal of an unlawful day.
+///
+/// What it prints goes to `out`, the help too; a fault is one line on `err`, and for a bad command line the text of
+/// `clap`, in either case with a line more where its likely cause is known. Where the input or the command line is bad,
+/// nothing goes to `out`, but where records are answered as they come. The file of a journal that the words name is
+/// opened by `files`.
+pub fn serve<
+    'a,
+    R: KeepsStart,
+    O: Sink,
+    E: Sink,
+    D: Device + Drop,
+    P: OpensJournal<D> + Drop,
+    T: Wait + Threads + Sync,
+>(
     alloc: Global,
-    settings: Settings<'_>,
+    words: &'a [&'a str],
     reader: &mut R,
     out: &mut O,
     err: &mut E,
-    opened: Option<Result<OpenedJournal<D>, OpenFault>>,
+    files: P,
     rt: &T,
 ) -> u8
-    ensures { ServesSettings settings.entry (ends_of R.Source O.Sink reader.old reader.new out.old out.new) result }
+    ensures { Serves (texts words.now)
+        (ends_of R.Source O.Sink reader.old reader.new out.old out.new) result }
 {
+    let settings = match settings(alloc, words) {
+        Ok(settings) => settings,
+        Err(fault) => return answer_words(alloc, out, err, words, &fault),
+    };
     let Settings {
         config,
         members,
@@ -196,7 +277,7 @@ fn serve_settings<R: KeepsStart, O: Sink, E: Sink, D: Device + Drop, T: Wait + T
     let day = DayHeader { config, members };
     match task {
         Task::Live { reserve } => match journal {
-            Some(_) => serve_kept(alloc, reader, out, err, opened, day, reserve),
+            Some(file) => serve_kept(alloc, reader, out, err, files, file, day, reserve),
             None => serve_live(alloc, reader, out, err, day, reserve),
         },
         Task::Audit { results } => {
@@ -212,52 +293,4 @@ fn serve_settings<R: KeepsStart, O: Sink, E: Sink, D: Device + Drop, T: Wait + T
             tell_run(alloc, err, run, reader.start(), day)
         }
     }
-}
-
-/// Runs the program on these words, the first being its name, and answers its status: 0 done, or the
-/// help that was asked for, 1 a bad input, 2 a bad command line or bounds, a reference or limits that no
-/// auction has, 3 want of memory, a read or a write that failed, or a floor that couldn't be closed, 4 a
-/// journal of an unlawful day.
-///
-/// What it prints goes to `out`, the help too; a fault is one line on `err`, and for a bad command line the text of
-/// `clap`, in either case with a line more where its likely cause is known. Where the input or the command line is bad,
-/// nothing goes to `out`, but where records are answered as they come. `opened` is the journal's file, where the words
-/// name one.
-pub fn serve<'a, R: KeepsStart, O: Sink, E: Sink, D: Device + Drop, T: Wait + Threads + Sync>(
-    alloc: Global,
-    words: &'a [&'a str],
-    reader: &mut R,
-    out: &mut O,
-    err: &mut E,
-    opened: Option<Result<OpenedJournal<D>, OpenFault>>,
-    rt: &T,
-) -> u8
-    ensures answer { AnswersCommandLine (texts words.now)
-        (ends_of R.Source O.Sink reader.old reader.new out.old out.new) result }
-    ensures quiet { IsQuiet (texts words.now) result → O.written out.new ≡ O.written out.old }
-    ensures read_failed { R.failures reader.old < R.failures reader.new → result ≡ 3 }
-    ensures write_failed { O.failures out.old < O.failures out.new → result ≡ 3 }
-    ensures status { result ≤ 4 }
-{
-    let settings = match settings(alloc, words) {
-        Ok(settings) => settings,
-        Err(WordsFault::AuditNotAlone) => return refuse_mix(err, &WordsFault::AuditNotAlone),
-        Err(WordsFault::LiveNotAlone) => return refuse_mix(err, &WordsFault::LiveNotAlone),
-        Err(WordsFault::ResultsWithoutAudit) => {
-            return refuse_mix(err, &WordsFault::ResultsWithoutAudit);
-        }
-        Err(WordsFault::WithoutLive) => return refuse_mix(err, &WordsFault::WithoutLive),
-        Err(WordsFault::SyncWithoutJournal) => {
-            return refuse_mix(err, &WordsFault::SyncWithoutJournal);
-        }
-        Err(WordsFault::Parse(error)) => {
-            let Some(text) = text_of(alloc, &error) else {
-                return tell(err, Fault::NoMemory);
-            };
-            let status = print_text(out, err, &error, text.as_str());
-            tell_of_file(err, &error, words);
-            return status;
-        }
-    };
-    serve_settings(alloc, settings, reader, out, err, opened, rt)
 }

@@ -2,14 +2,14 @@
 
 ghost use Rattle.std.specs.Prelude.{◌≡◌, ◌<◌};
 
-use crate::{Fault, Finish, OpenedJournal, run_file, run_floor, serve};
+use crate::{Fault, Finish, OpenedJournal, OpensJournal, run_file, run_floor, serve};
 use auction_terms::Config;
 use byte_streams::{Failures, FromMemory, Sink, Source, ToMemory, ToWrite};
 use input_hints::StartKeeper;
 use journal::DayHeader;
-use journal_file::{OpenFault, Opened, Tracked};
+use journal_file::{Device, OpenFault, Opened, Tracked};
 use member_floor::Gate;
-use settings::{FloorForm, Form};
+use settings::{FloorForm, Form, JournalFile};
 use std::alloc::Global;
 use std::fmt;
 use std::io::Cursor;
@@ -47,14 +47,29 @@ struct Printed {
     err: Vec<u8>,
 }
 
+/// No file can be opened.
+#[derive(Drop)]
+struct NoFiles;
+
+impl OpensJournal<Tracked<Opened>> for NoFiles {
+    fn open(
+        self,
+        _alloc: Global,
+        _file: JournalFile<'_>,
+    ) -> Result<OpenedJournal<Tracked<Opened>>, OpenFault> {
+        Err(OpenFault::Busy)
+    }
+}
+
 /// Serves the program on this input and output: its status, and what it told as its error.
-fn served<R: Source + Drop, S: Sink, E: Ledger, T: AllocGlobal + Wait + Threads + Sync>(
-    rt: &T,
-    errors: Blank,
-    words: &[&str],
-    reader: R,
-    out: &mut S,
-) -> (u8, Vec<u8>)
+fn served<
+    R: Source + Drop,
+    S: Sink,
+    E: Ledger,
+    D: Device + Drop,
+    P: OpensJournal<D> + Drop,
+    T: AllocGlobal + Wait + Threads + Sync,
+>(rt: &T, errors: Blank, words: &[&str], reader: R, out: &mut S, files: P) -> (u8, Vec<u8>)
     requires name { errors.name ≡ E.name }
     requires parts { errors.parts ≡ E.parts }
     requires backed { 0 < E.parts }
@@ -64,18 +79,17 @@ fn served<R: Source + Drop, S: Sink, E: Ledger, T: AllocGlobal + Wait + Threads 
         failures: Failures::<E>::new(errors),
     };
     let mut reader = StartKeeper::new(reader);
-    let opened: Option<Result<OpenedJournal<Tracked<Opened>>, OpenFault>> = None;
-    let status = serve(rt.alloc(), words, &mut reader, out, &mut err, opened, rt);
+    let status = serve(rt.alloc(), words, &mut reader, out, &mut err, files, rt);
     let ToMemory { bytes, failures: _ } = err;
     (status, bytes)
 }
 
-fn run_to_memory<O: Ledger, T: AllocGlobal + Wait + Threads + Sync>(
-    rt: &T,
-    output: Blank,
-    words: &[&str],
-    input: &[u8],
-) -> Printed
+fn run_to_memory<
+    O: Ledger,
+    D: Device + Drop,
+    P: OpensJournal<D> + Drop,
+    T: AllocGlobal + Wait + Threads + Sync,
+>(rt: &T, output: Blank, words: &[&str], input: &[u8], files: P) -> Printed
     requires name { output.name ≡ O.name }
     requires parts { output.parts ≡ O.parts }
     requires backed { 0 < O.parts }
@@ -85,7 +99,14 @@ fn run_to_memory<O: Ledger, T: AllocGlobal + Wait + Threads + Sync>(
         bytes: Vec::new(rt.alloc()),
         failures: Failures::<O>::new(output),
     };
-    let (status, err) = served::<_, _, Brand, T>(rt, Blank::new(1), words, reader, &mut out);
+    let (status, err) = served::<_, _, Brand, D, P, T>(
+        rt,
+        Blank::new(1),
+        words,
+        reader,
+        &mut out,
+        files,
+    );
     let ToMemory {
         bytes: out,
         failures: _,
@@ -95,7 +116,7 @@ fn run_to_memory<O: Ledger, T: AllocGlobal + Wait + Threads + Sync>(
 
 /// What a file of these bytes, run with these words, comes to.
 fn run<T: AllocGlobal + Wait + Threads + Sync>(rt: &T, words: &[&str], input: &[u8]) -> Printed {
-    run_to_memory::<Brand, T>(rt, Blank::new(1), words, input)
+    run_to_memory::<Brand, Tracked<Opened>, NoFiles, T>(rt, Blank::new(1), words, input, NoFiles)
 }
 
 /// A file of these bytes, run with these words, gives this output, this error and this status.

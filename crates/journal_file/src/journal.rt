@@ -7,7 +7,6 @@ ghost use Rattle.journal_file.specs.Committed.{committed, IsBegun};
 ghost use Rattle.journal_file.specs.Device.{IsOnlyOutcome, LeavesOnly};
 ghost use Rattle.journal_file.specs.Settled.{IsSettled};
 
-use crate::committed::committed_len;
 use crate::device::{Device, DeviceError};
 
 const MAX_BYTES: usize = 1 << 60;
@@ -175,14 +174,13 @@ impl<D: Device> Journal<D> {
     }
 }
 
-/// Cuts a file that a crash may have left behind its last whole line, and its bytes with it, as they were read.
+/// Cuts a file that a crash may have left behind its last whole line, where its lines end, as it was read.
 /// It may crash too.
-pub fn recover<D: Device>(device: &mut D, bytes: &mut Vec<u8>) -> Result<(), DeviceError>
+pub fn recover<D: Device>(device: &mut D, end: usize) -> Result<(), DeviceError>
     // After a restart, what is read is what is on the disk.
-    requires read { bytes.old.items ≡ D.seen device.old }
+    requires end { end ≡ length (committed (D.seen device.old)) }
     requires durable { IsOnlyOutcome (D.seen device.old) (D.may_leave device.old) }
 
-    ensures text { OnOk result (bytes.new.items ≡ committed (D.seen device.old)) }
     ensures file { OnOk result (D.seen device.new ≡ committed (D.seen device.old)) }
     ensures same { OnOk result (committed (D.seen device.new) ≡ committed (D.seen device.old)) }
     ensures durable { OnOk result (IsOnlyOutcome (D.seen device.new) (D.may_leave device.new)) }
@@ -200,16 +198,15 @@ pub fn recover<D: Device>(device: &mut D, bytes: &mut Vec<u8>) -> Result<(), Dev
     ensures failed { IsErrOf result DeviceError.Failed → D.faults device.old < D.faults device.new }
     ensures full { IsErrOf result DeviceError.Full → ⊥ }
 {
-    repair(device, bytes)
+    repair(device, end)
 }
 
-/// Cuts a file behind its last whole line, and its bytes with it.
-fn repair<D: Device>(device: &mut D, bytes: &mut Vec<u8>) -> Result<(), DeviceError>
+/// Cuts a file behind its last whole line, where its lines end.
+fn repair<D: Device>(device: &mut D, end: usize) -> Result<(), DeviceError>
     // After a restart, what is read is what is on the disk.
-    requires read { bytes.old.items ≡ D.seen device.old }
+    requires end { end ≡ length (committed (D.seen device.old)) }
     requires durable { IsOnlyOutcome (D.seen device.old) (D.may_leave device.old) }
 
-    ensures text { OnOk result (bytes.new.items ≡ committed (D.seen device.old)) }
     ensures file { OnOk result (D.seen device.new ≡ committed (D.seen device.old)) }
     ensures same { OnOk result (committed (D.seen device.new) ≡ committed (D.seen device.old)) }
     ensures durable { OnOk result (IsOnlyOutcome (D.seen device.new) (D.may_leave device.new)) }
@@ -221,9 +218,7 @@ fn repair<D: Device>(device: &mut D, bytes: &mut Vec<u8>) -> Result<(), DeviceEr
     ensures failed { IsErrOf result DeviceError.Failed → D.faults device.old < D.faults device.new }
     ensures full { IsErrOf result DeviceError.Full → ⊥ }
 {
-    let end = committed_len(bytes);
     device.resize(end)?;
     device.sync()?;
-    bytes.truncate(end);
     Ok(())
 }

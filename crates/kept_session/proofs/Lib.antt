@@ -5,3 +5,4 @@ mod ResumeLaws
 mod PrintableLineLaws
 mod KeptPromiseLaws
 mod BegunSessionLaws
+mod FromOpeningLaws

@@ -1,6 +1,7 @@
 //! A session that begins on a journal's file.
 
-ghost use Rattle.std.specs.Prelude.{◌≡◌, [], IfOk, OnOk};
+ghost use Rattle.std.specs.Prelude.{◌≡◌, [], length, IfOk, OnOk};
+ghost use Rattle.auction_terms.specs.Auxiliary.RunningAuction.{opened_auction};
 ghost use Rattle.journal.specs.JournalText.{journal_text};
 ghost use Rattle.journal_file.specs.Committed.{committed};
 ghost use Rattle.journal_file.specs.Device.{IsOnlyOutcome, LeavesOnly};
@@ -28,20 +29,18 @@ pub struct Begun<D: Device> {
     pub auction: Auction,
 }
 
-/// Cuts a file behind its last whole line, and makes a journal of it.
-fn repair<D: Device + Drop>(device: D, bytes: &mut Vec<u8>) -> Result<Journal<D>, DeviceError>
-    requires read { bytes.old.items ≡ D.seen device }
+/// Cuts a file behind its last whole line, where its lines end, and makes a journal of it.
+fn repair<D: Device + Drop>(device: D, end: usize) -> Result<Journal<D>, DeviceError>
+    requires end { end ≡ length (committed (D.seen device)) }
     requires durable { IsOnlyOutcome (D.seen device) (D.may_leave device) }
     ensures settled { IfOk result (λ journal. IsSettled D.seen D.may_leave journal) }
-    ensures bytes { OnOk result (bytes.new.items ≡ committed (D.seen device)) }
     ensures lines { IfOk result (λ journal. AddsLines D.seen D.moment D.left_since device journal.device []) }
 {
-    let mut device = device;
-    recover(&mut device, bytes)?;
-    let end = bytes.len();
     if end > MAX_BYTES {
         return Err(DeviceError::Full);
     }
+    let mut device = device;
+    recover(&mut device, end)?;
     Ok(Journal::new(device, end, SPARE))
 }
 
@@ -66,33 +65,31 @@ fn keep_day<D: Device>(
 }
 
 /// Begins a session of this day on a file that was read, or goes on with the one that the file holds. Its bytes are
-/// those that were read.
+/// those that were read, and the auction was opened for the day.
 ///
 /// A file without a whole line gets the record of the day. Else its lines have to be a journal of this day with lawful
 /// replies, whose entries the auction then has had, and what a crash may have left behind them is cut off. Before that
 /// is known, the file stays as it was.
 pub fn begin<D: Device + Drop>(
     alloc: Global,
+    auction: Auction,
     device: D,
-    bytes: &mut Vec<u8>,
+    bytes: &[u8],
     day: DayHeader,
 ) -> Result<Begun<D>, BeginFault>
+    requires opened { auction ≡ opened_auction day.config }
     // After a restart, what is read is what is on the disk.
-    requires read { bytes.old.items ≡ D.seen device }
+    requires read { bytes.now ≡ D.seen device }
     requires durable { IsOnlyOutcome (D.seen device) (D.may_leave device) }
     ensures { IfOk result (λ begun.
         HasBegun D.seen D.may_leave D.moment D.left_since day device begun.journal begun.auction) }
 {
-    let auction = match Auction::open(alloc, day.config) {
-        Ok(auction) => auction,
-        Err(fault) => return Err(BeginFault::Open(fault)),
-    };
-    let end = committed_len(bytes.as_slice());
+    let end = committed_len(bytes);
     let auction = match resume(alloc, auction, &bytes[..end], day) {
         Ok(auction) => auction,
         Err(fault) => return Err(BeginFault::Resume(fault)),
     };
-    let mut journal = match repair(device, bytes) {
+    let mut journal = match repair(device, end) {
         Ok(journal) => journal,
         Err(error) => return Err(BeginFault::Device(error)),
     };

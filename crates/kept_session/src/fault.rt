@@ -1,6 +1,5 @@
 //! Why a session doesn't go on with a journal's file.
 
-use auction::OpenFault;
 use auction_terms::Reply;
 use journal::DayHeader;
 use journal_file::DeviceError;
@@ -27,8 +26,6 @@ pub enum ResumeFault {
 /// Why a session doesn't begin on a journal's file.
 #[derive(Drop)]
 pub enum BeginFault {
-    /// No auction can be opened for the day.
-    Open(OpenFault),
     /// It isn't gone on with what the file holds.
     Resume(ResumeFault),
     /// The file can't be written. Open it again.

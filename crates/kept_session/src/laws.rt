@@ -1,6 +1,9 @@
 //! Laws of journals that are kept. Each is what the function's contract says; the functions do nothing.
 
 ghost use Rattle.kept_session.specs.KeptPromises.{AreWholeLines, LawfulIsGoneOnWith, LeavesFirstEntries};
+ghost use Rattle.kept_session.specs.KeptPromises.{LeavesFromOpening};
+
+use journal_file::Device;
 
 /// A journal is whole lines, and what a crash leaves of a session's entries is the journal of the first of them.
 pub fn leaves_first_entries()
@@ -11,4 +14,9 @@ pub fn leaves_first_entries()
 /// A session goes on with the journal of a lawful history where that leaves the auction.
 pub fn lawful_is_gone_on_with()
     ensures { LawfulIsGoneOnWith }
+{}
+
+/// From the opening of its file on, a session that has begun leaves what the file had, and the first of its entries.
+pub fn leaves_from_opening<D: Device>()
+    ensures { LeavesFromOpening D.seen D.may_leave D.moment D.left_since }
 {}

@@ -2,8 +2,9 @@
 
 ghost use Rattle.std.specs.Prelude.{◌≡◌, ◌<◌, ⊤};
 
-use super::{Printed, served};
+use super::{NoFiles, Printed, served};
 use byte_streams::{Failures, FromRead, Reader, SinkFailed, SourceFailed, ToWrite, Writer};
+use journal_file::{Opened, Tracked};
 use std::io;
 use std::io::{ErrorKind, Read, Write};
 use std::marker::Brand;
@@ -141,7 +142,14 @@ fn printed_by<I: Ledger, O: Ledger, T: AllocGlobal + Wait + Threads + Sync>(
         writer: taker,
         failures: Failures::<O>::new(blanks.1),
     };
-    let (status, err) = served::<_, _, Brand, T>(rt, Blank::new(1), words, reader, &mut out);
+    let (status, err) = served::<_, _, Brand, Tracked<Opened>, NoFiles, T>(
+        rt,
+        Blank::new(1),
+        words,
+        reader,
+        &mut out,
+        NoFiles,
+    );
     let ToWrite {
         writer,
         failures: _,

@@ -1,6 +1,7 @@
 //! Each limit at its value, one below and one above: in files and on the command line.
 
 use super::{Example, PLAIN, SHOWN, each_gives_its_lines, gives, gives_fault, run};
+use std::alloc::{AllocError, Global};
 use std::process::Abort;
 use std::str::from_utf8;
 use std::sync::Wait;
@@ -315,48 +316,76 @@ fn numbers_that_are_too_long(rt: HostRuntime) -> Result<(), Fail> {
     Ok(())
 }
 
-const BAD_BOUNDS: &str = "bad bounds\n";
+/// What is wrong with bounds and a reference.
+#[derive(Clone, Copy)]
+enum Wrong {
+    Nothing,
+    Order,
+    Ticks,
+    Reference,
+}
 
-const BAD_REFERENCE: &str = "bad reference\n";
-
-static BOUNDS: [(&str, &str, &str, &str); 28] = [
-    ("1", "1", "1", ""),
-    ("2", "1", "1", BAD_BOUNDS),
-    ("2", "2", "1", BAD_REFERENCE),
-    ("1", "1", "2", BAD_REFERENCE),
+static BOUNDS: [(&str, &str, &str, Wrong); 28] = [
+    ("1", "1", "1", Wrong::Nothing),
+    ("2", "1", "1", Wrong::Order),
+    ("2", "2", "1", Wrong::Reference),
+    ("1", "1", "2", Wrong::Reference),
     // There are at most 65,536 ticks.
-    ("1", "65535", "65535", ""),
-    ("1", "65536", "65536", ""),
-    ("1", "65536", "65537", BAD_REFERENCE),
-    ("1", "65537", "65537", BAD_BOUNDS),
-    ("2", "65537", "65537", ""),
-    ("1", "1000000", "1", BAD_BOUNDS),
+    ("1", "65535", "65535", Wrong::Nothing),
+    ("1", "65536", "65536", Wrong::Nothing),
+    ("1", "65536", "65537", Wrong::Reference),
+    ("1", "65537", "65537", Wrong::Ticks),
+    ("2", "65537", "65537", Wrong::Nothing),
+    ("1", "1000000", "1", Wrong::Ticks),
     // They end at 1,000,000.
-    ("1000000", "1000000", "1000000", ""),
-    ("1000000", "999999", "1000000", BAD_BOUNDS),
-    ("999999", "1000000", "999999", ""),
-    ("999999", "1000000", "999998", BAD_REFERENCE),
-    ("934466", "1000000", "1000000", ""),
-    ("934465", "1000000", "1000000", ""),
-    ("934465", "1000000", "934465", ""),
-    ("934465", "1000000", "934464", BAD_REFERENCE),
-    ("934464", "1000000", "1000000", BAD_BOUNDS),
+    ("1000000", "1000000", "1000000", Wrong::Nothing),
+    ("1000000", "999999", "1000000", Wrong::Order),
+    ("999999", "1000000", "999999", Wrong::Nothing),
+    ("999999", "1000000", "999998", Wrong::Reference),
+    ("934466", "1000000", "1000000", Wrong::Nothing),
+    ("934465", "1000000", "1000000", Wrong::Nothing),
+    ("934465", "1000000", "934465", Wrong::Nothing),
+    ("934465", "1000000", "934464", Wrong::Reference),
+    ("934464", "1000000", "1000000", Wrong::Ticks),
     // The reference lies within them.
-    ("10", "20", "9", BAD_REFERENCE),
-    ("10", "20", "10", ""),
-    ("10", "20", "11", ""),
-    ("10", "20", "19", ""),
-    ("10", "20", "20", ""),
-    ("10", "20", "21", BAD_REFERENCE),
-    ("10", "20", "1", BAD_REFERENCE),
-    ("10", "20", "1000000", BAD_REFERENCE),
+    ("10", "20", "9", Wrong::Reference),
+    ("10", "20", "10", Wrong::Nothing),
+    ("10", "20", "11", Wrong::Nothing),
+    ("10", "20", "19", Wrong::Nothing),
+    ("10", "20", "20", Wrong::Nothing),
+    ("10", "20", "21", Wrong::Reference),
+    ("10", "20", "1", Wrong::Reference),
+    ("10", "20", "1000000", Wrong::Reference),
     // Bad bounds are found before a bad reference.
-    ("20", "10", "15", BAD_BOUNDS),
+    ("20", "10", "15", Wrong::Order),
 ];
 
+/// What is told of these bounds and this reference on standard error.
+fn told(
+    alloc: Global,
+    low: &str,
+    high: &str,
+    reference: &str,
+    wrong: Wrong,
+) -> Result<String, AllocError> {
+    match wrong {
+        Wrong::Nothing => Ok(String::new(alloc)),
+        Wrong::Order => format!(in alloc; "bad bounds\nlow {low} is above high {high}\n"),
+        Wrong::Ticks => {
+            format!(in alloc; "bad bounds\nlow {low} to high {high} are more than 65536 ticks\n")
+        }
+        Wrong::Reference => {
+            format!(in alloc;
+                "bad reference\nthe reference {reference} is outside {low} to {high}\n"
+            )
+        }
+    }
+}
+
 #[test]
-fn bounds_and_reference(rt: HostRuntime) {
-    for &(low, high, first, err) in BOUNDS.as_slice() {
+fn bounds_and_reference(rt: HostRuntime) -> Result<(), Fail> {
+    let alloc = rt.alloc();
+    for &(low, high, first, wrong) in BOUNDS.as_slice() {
         let words = [
             "callboard",
             "--low",
@@ -366,9 +395,11 @@ fn bounds_and_reference(rt: HostRuntime) {
             "--reference",
             first,
         ];
+        let err = told(alloc, low, high, first, wrong)?;
         let status = if err.is_empty() { 0 } else { 2 };
-        gives(&rt, words.as_slice(), b"", "", err, status);
+        gives(&rt, words.as_slice(), b"", "", err.as_str(), status);
     }
+    Ok(())
 }
 
 static OPTIONS: [(&str, &str, bool); 33] = [

@@ -118,13 +118,37 @@ static ROWS: [Row; 10] = [
         1,
     ),
     // A fault of the file comes before one of the config.
-    (BAD_BOUNDS, b"", "", "bad bounds\n", 2),
+    (
+        BAD_BOUNDS,
+        b"",
+        "",
+        "bad bounds\nlow 5 is above high 4\n",
+        2,
+    ),
     (BAD_BOUNDS, b"-", "", "record 1: bad member\n", 1),
-    (MANY_TICKS, b"", "", "bad bounds\n", 2),
+    (
+        MANY_TICKS,
+        b"",
+        "",
+        "bad bounds\nlow 1 to high 70000 are more than 65536 ticks\n",
+        2,
+    ),
     (MANY_TICKS, b"-", "", "record 1: bad member\n", 1),
-    (HIGH_REFERENCE, b"", "", "bad reference\n", 2),
+    (
+        HIGH_REFERENCE,
+        b"",
+        "",
+        "bad reference\nthe reference 2000 is outside 1 to 1000\n",
+        2,
+    ),
     (HIGH_REFERENCE, b"-", "", "record 1: bad member\n", 1),
-    (LOW_REFERENCE, b"", "", "bad reference\n", 2),
+    (
+        LOW_REFERENCE,
+        b"",
+        "",
+        "bad reference\nthe reference 200 is outside 300 to 1000\n",
+        2,
+    ),
     (LOW_REFERENCE, b"-", "", "record 1: bad member\n", 1),
 ];
 

@@ -78,9 +78,21 @@ audit legal
         "record 2: bad field 4\n",
         1,
     ),
-    (BAD_BOUNDS, b"", "", "bad bounds\n", 2),
+    (
+        BAD_BOUNDS,
+        b"",
+        "",
+        "bad bounds\nlow 5 is above high 4\n",
+        2,
+    ),
     (BAD_BOUNDS, b"-", "", "record 1: bad member\n", 1),
-    (BAD_REFERENCE, b"", "", "bad reference\n", 2),
+    (
+        BAD_REFERENCE,
+        b"",
+        "",
+        "bad reference\nthe reference 2000 is outside 1 to 1000\n",
+        2,
+    ),
     (BAD_REFERENCE, b"-", "", "record 1: bad member\n", 1),
 ];
 

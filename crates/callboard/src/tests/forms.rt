@@ -145,7 +145,7 @@ const RECORDED_LINES: &str = "\
 3: opening no price
 ";
 
-static ROWS: [Row; 20] = [
+static ROWS: [Row; 21] = [
     (PLAIN, ORDERS, ORDERS_LINES, "", 0),
     (LINES, ORDERS, ORDERS_LINES, "", 0),
     (JOURNAL, ORDERS, ORDERS_JOURNAL, "", 0),
@@ -218,7 +218,15 @@ day,10,20,15,2,3,4,
         FLOOR,
         b"day,10,9,15,2,3,4,\n1,ask,\n",
         "",
-        "bad bounds\n",
+        "bad bounds\nlow 10 is above high 9\n",
+        2,
+    ),
+    // A journal's own day is at fault, whatever the options say.
+    (
+        &["callboard", "--low", "5", "--high", "4"],
+        b"day,10,20,25,2,3,4,\n1,ask,\n",
+        "",
+        "bad reference\nthe reference 25 is outside 10 to 20\n",
         2,
     ),
     (
@@ -298,8 +306,20 @@ audit bad 1
         "record 2: wrong number of fields\n",
         1,
     ),
-    (AUDIT, b"day,10,20,25,2,3,4,\n", "", "bad reference\n", 2),
-    (AUDIT, b"day,20,10,15,2,3,4,\n", "", "bad bounds\n", 2),
+    (
+        AUDIT,
+        b"day,10,20,25,2,3,4,\n",
+        "",
+        "bad reference\nthe reference 25 is outside 10 to 20\n",
+        2,
+    ),
+    (
+        AUDIT,
+        b"day,20,10,15,2,3,4,\n",
+        "",
+        "bad bounds\nlow 20 is above high 10\n",
+        2,
+    ),
     (
         RESULTS,
         b"day,10,20,15,2,3,4,\n",

@@ -84,7 +84,7 @@ const ROWS: &[Row] = &[
         &["callboard", "--live", "--low", "2", "--high", "1"],
         b"1,sell\n",
         "",
-        "bad bounds\n",
+        "bad bounds\nlow 2 is above high 1\n",
         2,
     ),
 ];

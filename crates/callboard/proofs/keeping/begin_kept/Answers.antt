@@ -2,8 +2,8 @@
 use Rattle.callboard.proofs.KeptLiveLaws.{begun-for}
 use Rattle.callboard.proofs.keeping.begin_kept.Goals as goal
 
-pub returns-in-Ok : goal.returns-in-Ok
-returns-in-Ok g c = (
-  c.in-Ok.ensures.settled,
-  begun-for _ c.args.day c.in-Ok.begun.auction c.in-Ok.ensures.new_day c.in-Ok.ensures.gone_on,
+pub returns-in-Ok-begin : goal.returns-in-Ok-begin
+returns-in-Ok-begin g c = (
+  c.in-Ok-begin.ensures.settled,
+  begun-for _ c.args.day c.in-Ok-begin.begun.auction c.in-Ok-begin.ensures.new_day c.in-Ok-begin.ensures.gone_on,
 )

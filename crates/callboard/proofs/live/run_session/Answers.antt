@@ -1,12 +1,13 @@
 -- Answers of `run_session` (src/live.rt): what the prover left open; rt looks here.
 use Rattle.std.proofs.Common.{refl, rules}
-use Rattle.callboard.proofs.LiveLaws.{became, opened-well, ran-by}
+use Rattle.kept_session.proofs.KeptRunLaws.{same-device}
+use Rattle.callboard.proofs.LiveLaws.{opened-well, ran-by}
 use Rattle.callboard.proofs.live.run_session.Goals as goal
 
 pub returns : goal.returns
 returns g c =
     let ran = rw c.new-channels.ensures at c.run_live-ended.ensures in
-    let same = became _ _ _ _ _ c.run_live-ended.result ran in
+    let same = same-device _ _ _ _ _ c.run_live-ended.result ran in
     let reader = same.0 in
     let out = same.1 in
     rw c.as_session.ensures (

@@ -1,30 +1,13 @@
 -- Answers of `serve` (src/serve.rt): what the prover left open; rt looks here.
-use Rattle.callboard.specs.FileRun.{ends_of}
 use Rattle.callboard.specs.Served.{day_of}
-use Rattle.callboard.proofs.ServedLaws.{as-task, does-quiet, does-read, does-small, does-write}
+use Rattle.callboard.proofs.ServedLaws.{does-kept, does-live, serves-settings, serves-words}
 use Rattle.callboard.proofs.serve.serve.Goals as goal
 
-pub returns-clause-quiet : goal.returns-clause-quiet
-returns-clause-quiet g c = λ q.
-    does-quiet (day_of c.in-Ok.settings) c.in-Ok.settings.journal c.in-Ok.settings.task
-    (ends_of g.R.Source g.O.Sink c.args.reader.now c.serve_settings.new.reader c.args.out.now c.serve_settings.new.out)
-    c.serve_settings.result c.serve_settings.ensures
-    (as-task _ c.in-Ok.settings.task c.serve_settings.result c.in-Ok.ensures.words.1.task q)
+pub returns-in-Err : goal.returns-in-Err
+returns-in-Err g c = serves-words _ _ c.answer_words.result (c.answer_words.ensures _ _)
 
-pub returns-clause-read_failed : goal.returns-clause-read_failed
-returns-clause-read_failed g c = λ f.
-    does-read (day_of c.in-Ok.settings) c.in-Ok.settings.journal c.in-Ok.settings.task
-    (ends_of g.R.Source g.O.Sink c.args.reader.now c.serve_settings.new.reader c.args.out.now c.serve_settings.new.out)
-    c.serve_settings.result c.serve_settings.ensures f
-
-pub returns-clause-write_failed : goal.returns-clause-write_failed
-returns-clause-write_failed g c = λ f.
-    does-write (day_of c.in-Ok.settings) c.in-Ok.settings.journal c.in-Ok.settings.task
-    (ends_of g.R.Source g.O.Sink c.args.reader.now c.serve_settings.new.reader c.args.out.now c.serve_settings.new.out)
-    c.serve_settings.result c.serve_settings.ensures f
-
-pub returns-clause-status : goal.returns-clause-status
-returns-clause-status g c =
-    does-small (day_of c.in-Ok.settings) c.in-Ok.settings.journal c.in-Ok.settings.task
-    (ends_of g.R.Source g.O.Sink c.args.reader.now c.serve_settings.new.reader c.args.out.now c.serve_settings.new.out)
-    c.serve_settings.result c.serve_settings.ensures
+pub returns-in-Some : goal.returns-in-Some
+returns-in-Some g c =
+    serves-settings _ c.in-Ok.settings _ _ c.serve_kept.result c.in-Ok.ensures.words c.in-Ok.ensures.ranges c.in-Live.is
+    (does-kept (day_of c.in-Ok.settings) c.in-Ok.settings.journal c.in-Some.file c.in-Live.reserve _
+    c.serve_kept.result c.in-Some.is c.serve_kept.ensures)

@@ -1,5 +1,5 @@
 -- Answers of `repair` (src/journal.rt): what the prover left open; rt looks here.
-use Rattle.std.proofs.Common.{◌≡◌, List, ℕ, length, ◌∙◌, ap, subst, arith}
+use Rattle.std.proofs.Common.{◌≡◌, List, ℕ, ◌∙◌, ap, subst, arith}
 use Rattle.journal_file.specs.Device.{IsResized}
 use Rattle.journal_file.specs.Committed.{committed}
 use Rattle.journal_file.proofs.Lines.{committed-twice}
@@ -11,15 +11,12 @@ pub returns-in_err-resize-clause-any_moment : goal.returns-in_err-resize-clause-
 returns-in_err-resize-clause-any_moment g c =
     let device = c.args.device.now in
     let file = g.D.Device.seen device in
-    let len = c.committed_len-end.result in
-    let is : len ≡ length (committed file) =
-    c.committed_len-end.ensures.count
-    ∙ ap (λ (l : List ℕ). length (committed l)) (c.deref.ensures.value ∙ c.requires.read) in
+    let len = c.args.end in
     let P : List ℕ → Type 0 = λ f. committed f ≡ committed file in
     let here : (f : List ℕ) → g.D.Device.may_leave device f → P f = λ f now. ap committed (c.requires.durable f now) in
     let after : (f : List ℕ) → g.D.Device.may_leave c.resize.new.self f → P f = λ f now.
     let from = c.resize.ensures.crash f now in
-    resized_keeps file len f (omega (arith, is))
+    resized_keeps file len f (omega (arith, c.requires.end))
     (subst (λ d. IsResized len d f) (c.requires.durable from.0 from.1) from.2) in
     one g.D.Device.moment g.D.Device.left_since g.D.Device.may_leave g.met.D.Device.only_now device c.resize.new.self P
     here c.resize.ensures.time after
@@ -28,15 +25,12 @@ pub returns-in_err-sync-clause-any_moment : goal.returns-in_err-sync-clause-any_
 returns-in_err-sync-clause-any_moment g c =
     let device = c.args.device.now in
     let file = g.D.Device.seen device in
-    let len = c.committed_len-end.result in
-    let is : len ≡ length (committed file) =
-    c.committed_len-end.ensures.count
-    ∙ ap (λ (l : List ℕ). length (committed l)) (c.deref.ensures.value ∙ c.requires.read) in
+    let len = c.args.end in
     let P : List ℕ → Type 0 = λ f. committed f ≡ committed file in
     let here : (f : List ℕ) → g.D.Device.may_leave device f → P f = λ f now. ap committed (c.requires.durable f now) in
     let after : (f : List ℕ) → g.D.Device.may_leave c.resize.new.self f → P f = λ f now.
     let from = c.resize.ensures.crash f now in
-    resized_keeps file len f (omega (arith, is))
+    resized_keeps file len f (omega (arith, c.requires.end))
     (subst (λ d. IsResized len d f) (c.requires.durable from.0 from.1) from.2) in
     two g.D.Device.moment g.D.Device.left_since g.D.Device.may_leave g.met.D.Device.only_now device c.resize.new.self
     c.sync.new.self P here c.resize.ensures.time after c.sync.ensures.time c.sync.ensures.crash
@@ -45,24 +39,21 @@ pub returns-clause-any_moment : goal.returns-clause-any_moment
 returns-clause-any_moment g c =
     let device = c.args.device.now in
     let file = g.D.Device.seen device in
-    let len = c.committed_len-end.result in
-    let is : len ≡ length (committed file) =
-    c.committed_len-end.ensures.count
-    ∙ ap (λ (l : List ℕ). length (committed l)) (c.deref.ensures.value ∙ c.requires.read) in
+    let len = c.args.end in
     let P : List ℕ → Type 0 = λ f. committed f ≡ committed file in
     let here : (f : List ℕ) → g.D.Device.may_leave device f → P f = λ f now. ap committed (c.requires.durable f now) in
     let after : (f : List ℕ) → g.D.Device.may_leave c.resize.new.self f → P f = λ f now.
     let from = c.resize.ensures.crash f now in
-    resized_keeps file len f (omega (arith, is))
+    resized_keeps file len f (omega (arith, c.requires.end))
     (subst (λ d. IsResized len d f) (c.requires.durable from.0 from.1) from.2) in
     two g.D.Device.moment g.D.Device.left_since g.D.Device.may_leave g.met.D.Device.only_now device c.resize.new.self
     c.sync.new.self P here c.resize.ensures.time after c.sync.ensures.time c.sync.ensures.crash
 
+pub returns-clause-file : goal.returns-clause-file
+returns-clause-file g c =
+    c.sync.ensures.seen ∙ c.in_ok-resize.ensures.resized
+    ∙ cut_done (g.D.Device.seen c.args.device.now) c.args.end c.requires.end
+
 pub returns-clause-same : goal.returns-clause-same
 returns-clause-same g c =
-    let file = g.D.Device.seen c.args.device.now in
-    let len = c.committed_len-end.result in
-    let is : len ≡ length (committed file) =
-    c.committed_len-end.ensures.count
-    ∙ ap (λ (l : List ℕ). length (committed l)) (c.deref.ensures.value ∙ c.requires.read) in
-    ap committed (c.sync.ensures.seen ∙ c.in_ok-resize.ensures.resized ∙ cut_done file len is) ∙ committed-twice file
+    ap committed (returns-clause-file g c) ∙ committed-twice (g.D.Device.seen c.args.device.now)
