@@ -1,3 +1,4 @@
+pub mod BoundsHints
 pub mod FieldLooks
 pub mod Hints
 pub mod InputHints

@@ -56,7 +56,11 @@ fn row_at(alloc: Global, text: &[u8], before: u64) -> Result<Option<ByteRecord>,
 
 /// The record with a number, from 1, of an input that begins so, if it is whole: where more of the input may follow,
 /// another record has to stand behind it.
-fn whole_row(alloc: Global, start: &[u8], number: u64) -> Result<Option<ByteRecord>, AllocError>
+pub(crate) fn whole_row(
+    alloc: Global,
+    start: &[u8],
+    number: u64,
+) -> Result<Option<ByteRecord>, AllocError>
     ensures { IfOk result (λ row. option_map (λ r. fields_of r) row ≡ whole_row number start.now) }
 {
     if start.len() == ROOM && row_at(alloc, start, number)?.is_none() {
