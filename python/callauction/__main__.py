@@ -12,7 +12,7 @@ import os
 import pathlib
 import sys
 from collections.abc import Iterable
-from typing import TYPE_CHECKING, NoReturn
+from typing import TYPE_CHECKING, Any, NoReturn
 
 import tqdm
 
@@ -58,7 +58,7 @@ def main(words: list[str] | None = None) -> int:
         sys.stdout.flush()
         return status
     except ProgramError as fault:
-        return _told(fault.text, fault.status)
+        return _told("\n".join([fault.text, *getattr(fault, "__notes__", [])]), fault.status)
     except (OSError, MemoryError) as fault:
         # The rest of a text that nobody reads is given up.
         if isinstance(fault, BrokenPipeError):
@@ -83,7 +83,10 @@ def _parser() -> argparse.ArgumentParser:
     made = {
         name: commands.add_parser(name, help=text, description=text, epilog=_AFTER)
         for name, text in (
-            ("report", "write the report of an order file, a journal or an extract as an HTML file"),
+            (
+                "report",
+                "write the report of an order file, a journal or an extract as an HTML file",
+            ),
             ("audit", "say whether what was published is lawful: of a journal or an extract"),
             ("plot", "draw a book, the course of the day, or who trades with whom"),
             ("convert", "make a journal of a CSV file of order events"),
@@ -179,7 +182,8 @@ def _values(file: str | None) -> dict[int, float] | None:
 
 
 def _watch(unit: str) -> "Watch":
-    found: Watch = functools.partial(Watched, unit=f" {unit}")
+    bar: Any = functools.partial(Watched, unit=f" {unit}")  # mypy: a partial isn't generic
+    found: Watch = bar
     return found
 
 

@@ -222,7 +222,7 @@ class Auction:
         return reply
 
     def indicate(self, member: int, *, check: bool = False) -> Price | NoPrice | Refused:
-        """The indicative price, or the best limits where there is none."""
+        """The indicative price, or the best bid and ask where there is none."""
         if type(member) is not int:
             (member,) = numbers(_MEMBER, (member,))
         try:

@@ -2,8 +2,8 @@
 reference price before a command. The day is played by an Auction, command by command.
 """
 import dataclasses
-from collections.abc import Callable, Iterable
-from typing import TYPE_CHECKING, Any
+from collections.abc import Iterable
+from typing import TYPE_CHECKING, Protocol, TypeVar
 
 import numpy
 import pandas
@@ -56,8 +56,14 @@ _TAGS = {
 """The tags of the commands by their words in a file."""
 _SIDES = {"bid": Side.BID, "ask": Side.ASK}
 _RESTRICTIONS = {"opening": Restriction.OPENING_ONLY, "closing": Restriction.CLOSING_ONLY}
-Watch = Callable[[Iterable[Any]], Iterable[Any]]
-"""What steps are taken through, such as a progress bar."""
+Step = TypeVar("Step")
+
+
+class Watch(Protocol):
+    """What steps are taken through, such as a progress bar."""
+
+    def __call__(self, steps: Iterable[Step], /) -> Iterable[Step]:
+        ...
 
 
 @dataclasses.dataclass(frozen=True)

@@ -2,7 +2,6 @@
 import dataclasses
 import math
 from collections.abc import Iterator, Mapping
-from typing import Any
 
 import pandas
 
@@ -54,22 +53,25 @@ def surplus(day: Playable, values: Mapping[int, float] | pandas.Series) -> Gains
     without a value.
     """
     orders = outcomes_of(day)
-    worth = [_worth(values, order) for order in orders.itertuples()]
+    worth = [
+        _worth(values, id, None if pandas.isna(limit) else limit)
+        for id, limit in zip(orders["order"], orders["limit"])
+    ]
     sign = orders["side"].map({"bid": 1, "ask": -1})
     gains = sign * (worth * orders["traded"] - orders["paid"]) + 0.0
     frame = orders.assign(value=worth, gain=gains.astype("float64"))[list(GAINS)]
     return Gains(frame, _members(frame), float(frame["gain"].sum()), most_possible(frame))
 
 
-def _worth(values: Mapping[int, float] | pandas.Series, order: Any) -> float:
-    """What a share of an order is worth to its member."""
-    value = values.get(order.order)
+def _worth(values: Mapping[int, float] | pandas.Series, id: int, limit: int | None) -> float:
+    """What a share of the order with this id is worth to its member: its limit without a value."""
+    value = values.get(id)
     if value is None:
-        value = None if pandas.isna(order.limit) else order.limit
+        value = limit
     if value is None:
-        raise ValueError(f"values: market order {order.order} has none")
+        raise ValueError(f"values: market order {id} has none")
     if not math.isfinite(found := float(value)):
-        raise ValueError(f"values: that of order {order.order}, {value}, is no finite number")
+        raise ValueError(f"values: that of order {id}, {value}, is no finite number")
     return found
 
 
@@ -77,7 +79,8 @@ def _members(orders: pandas.DataFrame) -> pandas.DataFrame:
     """The gains of members, each of its orders together."""
     rows = []
     for member, those in orders.groupby("member"):
-        bought, sold = (int(those["traded"][those["side"] == side].sum()) for side in ("bid", "ask"))
+        traded, side = those["traded"], those["side"]
+        bought, sold = int(traded[side == "bid"].sum()), int(traded[side == "ask"].sum())
         rows.append((member, bought, sold, float(those["gain"].sum())))
     return pandas.DataFrame(rows, columns=list(GAINED))
 

@@ -426,10 +426,10 @@ def from_frame(
     gives it. `ignore` names columns that are passed over, `*` each unknown one. `watch` is given
     the rows, such as tqdm.tqdm.
 
-    Raises ColumnError for an unknown column; FrameError with the row and the value where a price is off the grid of ticks, an id is
-    unknown or used twice, a word or a number is none, the prices span more than 65,536 ticks, there
-    are more than 1,048,576 entries, times fall, or the board would refuse a new order; ValueError
-    for the other arguments.
+    Raises ColumnError for an unknown column; FrameError with the row and the value where a price is
+    off the grid of ticks, an id is unknown or used twice, a word or a number is none, the prices
+    span more than 65,536 ticks, there are more than 1,048,576 entries, times fall, or the board
+    would refuse a new order; ValueError for the other arguments.
     """
     frame = frame.rename(columns=OTHER_NAMES)
     if not frame.columns.is_unique:

@@ -1,5 +1,5 @@
-"""What the lessons of python/notebooks use: small books, exercises that look at what was to be kept,
-and a slider. All prices and trades are the proved library's and program's.
+"""What the lessons of python/notebooks use: small books, exercises that look at what was to be
+kept, and a slider. All prices and trades are the proved library's and program's.
 """
 import dataclasses
 from collections.abc import Mapping, Sequence
@@ -23,8 +23,8 @@ MOVED = ("limit", "price", "volume", "surplus")
 def auction_of(
     *orders: Order, reference: int = 200, range: int | None = None
 ) -> RecordedAuction:
-    """An auction with these orders, the first one of member 1, the second one of member 2 and so on.
-    Raises RefusedError for one that is refused.
+    """An auction with these orders, the first one of member 1, the second one of member 2 and so
+    on. Raises RefusedError for one that is refused.
     """
     auction = RecordedAuction(low=1, high=1000, reference=reference, range=range)
     for member, (side, quantity, limit) in enumerate(orders, 1):
@@ -109,7 +109,8 @@ class Exercise:
             faults.append(f"the price is {price}, and not {self.price}")
         if self.rule not in (None, rule):
             faults.append(f"the rule is {rule}, and not {self.rule}")
-        limits = [int(limit) for limit in book["limit"][(book["bid"] > 0) | (book["ask"] > 0)].dropna()]
+        has_orders = (book["bid"] > 0) | (book["ask"] > 0)
+        limits = [int(limit) for limit in book["limit"][has_orders].dropna()]
         if self.is_off_limits and price in limits:
             faults.append(f"the price, {price}, is the limit of an order")
         return faults

@@ -4,7 +4,7 @@ A day is played by an Auction of the library, command by command; the places in 
 its replies tell.
 """
 import dataclasses
-from typing import Any, Protocol, TypeAlias
+from typing import Protocol, TypeAlias
 
 import numpy
 import pandas
@@ -54,8 +54,8 @@ QUEUE = {
     "visible": "int64",
     "executed": "int64",
 }
-"""The columns of a queue: the orders that count, bids before asks, each side in price-time priority,
-with their open shares before the uncross and those that it executes.
+"""The columns of a queue: the orders that count, bids before asks, each side in price-time
+priority, with their open shares before the uncross and those that it executes.
 """
 _ONLY = {
     Restriction.NONE: None,
@@ -164,7 +164,7 @@ class _Walk:
         """The open orders that count in the auction that is next."""
         return [order for order in self.book.values() if order.only in (None, self.kind)]
 
-    def take(self, number: int, command: Any, reply: Any) -> None:
+    def take(self, number: int, command: numpy.void, reply: numpy.void) -> None:
         """A command, by its number, with its reply."""
         tag = reply["tag"]
         if tag == ReplyTag.ENTERED:
@@ -178,7 +178,7 @@ class _Walk:
         elif tag == ReplyTag.UNCROSSED:
             self._uncross(int(reply["trades"]))
 
-    def _enter(self, number: int, command: Any, id: int) -> None:
+    def _enter(self, number: int, command: numpy.void, id: int) -> None:
         quantity = int(command["quantity"])
         peak = int(command["peak"]) if command["has_peak"] else None
         only = _ONLY[Restriction(command["restriction"])]
@@ -217,7 +217,7 @@ class _Walk:
             self._remove(order, "left")
 
 
-def _limit(command: Any) -> int | None:
+def _limit(command: numpy.void) -> int | None:
     return int(command["limit"]) if command["has_limit"] else None
 
 
@@ -296,7 +296,8 @@ def queue_of(day: Day | pandas.DataFrame | HasDay, command: int | None = None) -
         trades = auction.trades(len(made))
     tags = (ReplyTag.UNCROSSED, ReplyTag.INTERRUPTED)
     if reply["tag"] not in tags or (command is not None and not _is_uncross(commands, command)):
-        raise ValueError("the day is over" if command is None else f"command {command} is no uncross")
+        why = "the day is over" if command is None else f"command {command} is no uncross"
+        raise ValueError(why)
     walk = _walked(Played(before, replies, made))
     return Queue(
         _queue_frame(walk.counting(), trades),

@@ -131,10 +131,19 @@ def _answer(words: list[str], content: bytes) -> tuple[int, str]:
         raise FailedError(f"callboard can't be run: {fault.strerror}") from None
     if ran.returncode in (DONE, UNLAWFUL):
         return ran.returncode, ran.stdout.decode("ascii")
-    # A second line may tell the likely cause.
-    text = ran.stderr.decode("utf-8", "replace").strip().partition("\n")[0]
-    if ran.returncode == BAD_FILE:
-        raise BadFileError(text)
-    if ran.returncode == BAD_DAY:
-        raise BadDayError(text)
-    raise FailedError(text or f"callboard ended with status {ran.returncode}")
+    text, *causes = ran.stderr.decode("utf-8", "replace").strip().splitlines() or [""]
+    refused = fault_of(text, ran.returncode)
+    for cause in causes:
+        refused.add_note(cause)
+    raise refused
+
+
+def fault_of(text: str, status: int) -> ProgramError:
+    """The exception of a run that ended with this status and this line; a second line that tells
+    the likely cause is a note of it.
+    """
+    if status == BAD_FILE:
+        return BadFileError(text)
+    if status == BAD_DAY:
+        return BadDayError(text)
+    return FailedError(text or f"callboard ended with status {status}")

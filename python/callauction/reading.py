@@ -43,10 +43,13 @@ _REFUSED, _UNCROSSED = int(ReplyTag.REFUSED), int(ReplyTag.UNCROSSED)
 # ---- errors
 
 _CONFIG_FAULTS = {
-    lib.CALLAUCTION_ERROR_BAD_BOUNDS: "low, high: not 1 <= low <= high <= 1,000,000, or more than 65,536 "
-    "ticks",
+    lib.CALLAUCTION_ERROR_BAD_BOUNDS: (
+        "low, high: not 1 <= low <= high <= 1,000,000, or more than 65,536 ticks"
+    ),
     lib.CALLAUCTION_ERROR_BAD_REFERENCE: "reference: not a tick from low to high",
-    lib.CALLAUCTION_ERROR_BAD_CAPACITY: "max_open, max_calls: not from 1 to 65,536 and from 1 to 1,048,576",
+    lib.CALLAUCTION_ERROR_BAD_CAPACITY: (
+        "max_open, max_calls: not from 1 to 65,536 and from 1 to 1,048,576"
+    ),
 }
 
 

@@ -4,7 +4,6 @@ What decided is read from the columns `best` and `price` of a book that the prog
 """
 import dataclasses
 from collections.abc import Callable
-from typing import Any
 
 import pandas
 
@@ -33,7 +32,7 @@ class Book:
 
     market: "pandas.Series"
     levels: pandas.DataFrame
-    named: Callable[[Any], str]
+    named: Callable[[int], str]
 
     @property
     def limits(self) -> pandas.DataFrame:
@@ -62,8 +61,8 @@ class Book:
 def explain(
     table: pandas.DataFrame,
     command: int | None = None,
-    reference: object = None,
-    named: Callable[[Any], str] = str,
+    reference: int | None = None,
+    named: Callable[[int], str] = str,
 ) -> Explanation:
     """Why the book before this command has its price, or none: the last book of the table without
     a command.
@@ -150,7 +149,7 @@ def _best(book: Book) -> list[str]:
     return sentences
 
 
-def _decided(book: Book, price: "pandas.Series", reference: object) -> list[str]:
+def _decided(book: Book, price: "pandas.Series", reference: int | None) -> list[str]:
     """Which rule made one of the best limits, or the reference, the price. No more than two limits
     have one demand and one supply, as each limit changes one of them.
     """
@@ -171,7 +170,7 @@ def _decided(book: Book, price: "pandas.Series", reference: object) -> list[str]
     return [why, f"The reference, {name}, lies between them, so it is the price."]
 
 
-def _kept(book: Book) -> tuple[Any, Any, str]:
+def _kept(book: Book) -> tuple[int, int, str]:
     """The lower and the upper kept limit of the best ones, with the sentence that says why."""
     best = book.best
     bids, asks = (best[best["side"] == side] for side in ("bid", "ask"))

@@ -123,7 +123,7 @@ class OrderStatus:
 
 @dataclasses.dataclass(frozen=True, slots=True)
 class Indicate:
-    """Asks for the indicative price, or the best limits."""
+    """Asks for the indicative price, or the best bid and ask."""
 
 
 @dataclasses.dataclass(frozen=True, slots=True)

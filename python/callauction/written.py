@@ -81,7 +81,8 @@ def command_of(record: numpy.void) -> Command:
     match tag:
         case CommandTag.ENTER:
             peak = int(record["peak"]) if record["has_peak"] else None
-            return Enter(Side(record["side"]), quantity, limit, peak, Restriction(record["restriction"]))
+            restriction = Restriction(record["restriction"])
+            return Enter(Side(record["side"]), quantity, limit, peak, restriction)
         case CommandTag.CHANGE:
             return Change(id, quantity, limit)
         case CommandTag.DELETE:

@@ -40,13 +40,14 @@ def by_the_rules(day: Day, form: str) -> tuple[int, str, str]:
 
 def orders() -> strategies.SearchStrategy[words.Enter]:
     """New orders, most of them good: near a few ticks, a third of them market orders."""
+    restricted = [words.Restriction.OPENING_ONLY, words.Restriction.CLOSING_ONLY]
     return strategies.builds(
         words.Enter,
         strategies.sampled_from([words.Side.BID, words.Side.ASK]),
         strategies.sampled_from([0, 1, 10, 10, 20, 50, 1_000_000_000, 1_000_000_001]),
         strategies.none() | TICKS | TICKS,
         strategies.none() | strategies.none() | strategies.sampled_from([0, 1, 10, 60]),
-        strategies.sampled_from([words.Restriction.NONE] * 4 + [words.Restriction.OPENING_ONLY, words.Restriction.CLOSING_ONLY]),
+        strategies.sampled_from([words.Restriction.NONE] * 4 + restricted),
     )
 
 

@@ -136,8 +136,9 @@ class Recorder:
         if tick is None:
             self.add("uncross", auction=auction, quantity="0")
         else:
+            count = None if is_interrupted else len(trades)
             self.add("uncross", auction=words[0], price=price_of(tick), quantity=words[4],
-                     surplus=words[6], side=words[7], trades=None if is_interrupted else len(trades))
+                     surplus=words[6], side=words[7], trades=count)
         for each in trades:
             self.add("trade", bid=f"N{each.bid}", ask=f"N{each.ask}", quantity=each.quantity,
                      price=price_of(tick), bid_member=f"M{each.bid_member}",

@@ -11,7 +11,11 @@ sys.path.insert(0, str(TOP))
 
 NAMES = {refusal: refusal.name.title().replace("_", "") for refusal in words.Refusal}
 SIDES = {"bid": words.Side.BID, "ask": words.Side.ASK}
-FOR = {"": words.Restriction.NONE, "opening": words.Restriction.OPENING_ONLY, "closing": words.Restriction.CLOSING_ONLY}
+FOR = {
+    "": words.Restriction.NONE,
+    "opening": words.Restriction.OPENING_ONLY,
+    "closing": words.Restriction.CLOSING_ONLY,
+}
 
 
 def command_of(fields: list[str]) -> words.Command:

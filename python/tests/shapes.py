@@ -110,7 +110,8 @@ def other_words(chance: random.Random, it: Written) -> None:
 
 
 def market_word(chance: random.Random, it: Written) -> None:
-    word = chance.choice(["MKT", "0", "-1", "0,00" if it.settings.get("decimal") == "," else "0.00"])
+    zero = "0,00" if it.settings.get("decimal") == "," else "0.00"
+    word = chance.choice(["MKT", "0", "-1", zero])
     it.settings["market"] = (word.replace(",", "."), "Market")
     for row in it.rows:
         if row["event"] in ("new", "NEU", "replace") and "price" not in row:

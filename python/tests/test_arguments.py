@@ -102,7 +102,12 @@ def test_a_side_that_no_order_has() -> None:
 
 @pytest.mark.parametrize("restriction", [1, "opening", None, BID])
 def test_no_auctions(restriction: object) -> None:
-    fails(TypeError, "restriction", lambda auction, value: auction.enter(1, BID, 1, restriction=value), restriction)
+    fails(
+        TypeError,
+        "restriction",
+        lambda auction, value: auction.enter(1, BID, 1, restriction=value),
+        restriction,
+    )
 
 
 @pytest.mark.parametrize("command", [None, "ask", 5, {}, Auction, object()])

@@ -136,7 +136,12 @@ REFUSED: list[tuple[Opening, int, Command, Refusal]] = [
     (ended, 0, Uncross(), Refusal.DAY_OVER),
     (Auction, 1, ReadTrade(0), Refusal.NO_SUCH_TRADE),
     (Auction, 1, ReadTrade(1), Refusal.NO_SUCH_TRADE),
-    (after_the_opening, 1, Enter(BID, 10, 5, restriction=Restriction.OPENING_ONLY), Refusal.PAST_AUCTION),
+    (
+        after_the_opening,
+        1,
+        Enter(BID, 10, 5, restriction=Restriction.OPENING_ONLY),
+        Refusal.PAST_AUCTION,
+    ),
 ]
 
 

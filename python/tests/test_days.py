@@ -81,7 +81,8 @@ def test_the_tape_is_that_of_the_trades_asked_for() -> None:
     with opened(options) as auction:
         auction.apply_many(array_of(commands_of(text)))
         tape = auction.trades()
-        asked = [] if auction.is_full else [auction.read_trade(1, k) for k in range(1, len(tape) + 1)]
+        numbers = range(0) if auction.is_full else range(1, len(tape) + 1)
+        asked = [auction.read_trade(1, k) for k in numbers]
     for trade, row in zip(asked, tape):
         assert trade == Traded(*(int(row[name]) for name in ("bid", "ask", "quantity", "tick")))
 

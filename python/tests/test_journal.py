@@ -153,7 +153,14 @@ def test_orders_have_all_their_fields() -> None:
     rows = [
         new(7.0, 3.0, price=20, quantity="100", peak="10", restriction="closing"),
         new(8, 3, side="sell", quantity=30.0, peak=None, restriction="opening"),
-        new(Decimal(9), "x", side="ask", price=Decimal("20.00"), peak=math.nan, restriction=pandas.NA),
+        new(
+            Decimal(9),
+            "x",
+            side="ask",
+            price=Decimal("20.00"),
+            peak=math.nan,
+            restriction=pandas.NA,
+        ),
     ]
     journal = converted(pandas.DataFrame(rows))
     assert entries_of(journal) == [
@@ -289,7 +296,8 @@ def test_an_error_names_the_label_of_the_row() -> None:
 
 def test_an_order_behind_its_auction_is_an_error() -> None:
     rows = [dict(event="uncross"), new(1, restriction="opening")]
-    with pytest.raises(FrameError, match="^row 1: restriction 'opening' can't be entered: refused 9"):
+    why = "^row 1: restriction 'opening' can't be entered: refused 9"
+    with pytest.raises(FrameError, match=why):
         converted(pandas.DataFrame(rows))
     rows = [*[dict(event="uncross")] * 3, new(1)]
     with pytest.raises(FrameError, match="^row 3: order 1 can't be entered: refused 7 DayOver"):
@@ -371,7 +379,8 @@ def cents(limit: int | None) -> str | None:
 def entered(member: int, order: words.Enter, id: int) -> dict[str, Any]:
     restriction = {0: None, 1: "opening", 2: "closing"}[order.restriction]
     return dict(event="new", order=f"#{id}", member=f"M{member}", side=order.side.name.lower(),
-                quantity=order.quantity, price=cents(order.limit), peak=order.peak, restriction=restriction)
+                quantity=order.quantity, price=cents(order.limit), peak=order.peak,
+                restriction=restriction)
 
 
 def published(price: words.Price | None) -> dict[str, Any]:

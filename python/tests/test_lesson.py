@@ -63,7 +63,9 @@ def test_a_price_off_all_limits() -> None:
 
 
 def test_executed_shares_and_pairs() -> None:
-    wanted = Exercise(kept=[(BID, 300, 200), (ASK, 120, 199)], executed={1: 300}, pairs=[(1, 2), (1, 3)])
+    wanted = Exercise(
+        kept=[(BID, 300, 200), (ASK, 120, 199)], executed={1: 300}, pairs=[(1, 2), (1, 3)]
+    )
     assert wanted.check((ASK, 180, 200)) == wanted.check((ASK, 299, None)) == "solved"
     assert wanted.check((ASK, 100, 200)).splitlines()[1] == (
         "order 1 executes 220 shares, and not 300"

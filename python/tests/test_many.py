@@ -181,7 +181,8 @@ def command_in(row: numpy.void) -> words.Command | None:
             return None
         peak = int(row["peak"]) if row["has_peak"] else None
         restriction = words.Restriction(int(row["restriction"]))
-        return words.Enter(Side(int(row["side"])), int(row["quantity"]), limit_of(row), peak, restriction)
+        side, quantity = Side(int(row["side"])), int(row["quantity"])
+        return words.Enter(side, quantity, limit_of(row), peak, restriction)
     if tag == CommandTag.CHANGE:
         if not has_its_flag(row, "limit"):
             return None

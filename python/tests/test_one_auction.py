@@ -145,11 +145,12 @@ def test_a_day_with_continuous_trading_is_judged_auction_by_auction(seed: int) -
 
 def book(**changes: Any) -> pandas.DataFrame:
     rows = [
-        dict(order="X", member="Adler", side="bid", price="20.05", quantity=100, time="09:00:02.400"),
-        dict(order="Y", member="Birk", side="bid", price="20.05", quantity=100, time="09:00:01.123"),
-        dict(order="Z", member="Cohn", side="ask", price="20.00", quantity=100, time="09:00:03.000"),
+        ("X", "Adler", "bid", "20.05", 100, "09:00:02.400"),
+        ("Y", "Birk", "bid", "20.05", 100, "09:00:01.123"),
+        ("Z", "Cohn", "ask", "20.00", 100, "09:00:03.000"),
     ]
-    return pandas.DataFrame(rows).assign(**changes)
+    columns = ["order", "member", "side", "price", "quantity", "time"]
+    return pandas.DataFrame(rows, columns=columns).assign(**changes)
 
 
 def trades(*rows: tuple[str, str, int, str]) -> pandas.DataFrame:

@@ -20,7 +20,9 @@ from hypothesis import given, settings, strategies
 from checks.model import day as model
 from checks.model.files import journal
 
-KEPT = ["order", "member", "side", "quantity", "offered", "traded", "paid", "better", "open", "became"]
+KEPT = [
+    "order", "member", "side", "quantity", "offered", "traded", "paid", "better", "open", "became"
+]  # fmt: skip
 
 
 def example(name: str) -> list[list[object]]:

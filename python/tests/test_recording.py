@@ -130,7 +130,7 @@ def test_what_a_journal_cannot_say_is_refused_before_it_is_applied() -> None:
 
 def test_many_commands_are_kept_up_to_an_error() -> None:
     with RecordedAuction(max_calls=4) as auction:
-        bad = array_of([(1, words.Enter(Side.BID, 5, 200)), (1, words.Indicate()), (1, words.Indicate())])
+        bad = array_of([(1, words.Enter(Side.BID, 5, 200)), *[(1, words.Indicate())] * 2])
         bad["tag"][2] = 99
         with pytest.raises(NoCommandError) as none:
             auction.apply_many(bad)

@@ -214,7 +214,10 @@ def test_an_extract_is_converted_as_it_comes(tmp_path: Path) -> None:
 
 @pytest.mark.parametrize("words, status, text", [
     (["report", "none.csv", "-o", "x"], 3, "No such file or directory"),
-    (["report", str(EXAMPLES[0]), "--low", "5", "--high", "2", "-o", "x"], 2, "bad bounds"),
+    (["report", str(EXAMPLES[0]), "--low", "5", "--high", "2", "-o", "x"], 2,
+     "callauction: bad bounds / low 5 is above high 2\n"),
+    (["report", str(EXAMPLES[0]), "--high", "9", "-o", "x"], 2,
+     "the reference 200 is outside 1 to 9"),
     (["report", str(CHANGED) + ".x", "-o", "x"], 3, "No such file"),
     (["audit", str(EXAMPLES[0])], 1, "record 1: not a day record"),
     (["plot", str(EXAMPLES[0]), "--command", "1", "-o", "x.svg"], 2, "no book before command 1"),

@@ -127,6 +127,7 @@ def test_faults_are_raised_with_the_status(tmp_path: Path) -> None:
     with pytest.raises(BadDayError, match="^bad reference$") as worse:
         callauction.read_trades(path, reference=2000)
     assert worse.value.status == 2
+    assert worse.value.__notes__ == ["the reference 2000 is outside 1 to 1000"]
     with pytest.raises(TypeError, match="no option ticks"):
         callauction.read_book(path, ticks=5)
     with pytest.raises(OSError):

@@ -231,7 +231,8 @@ def test_frames_have_numbers_and_times_of_their_own() -> None:
             if name in frame:
                 frame[name] = frame[name].str[1:].astype("float64")
         frame["time"] = pandas.to_datetime("2026-11-25 " + frame["time"])
-        frame["kept"] = frame["kept"].map({"true": True, "false": False}) if "kept" in frame else None
+        truths = {"true": True, "false": False}
+        frame["kept"] = frame["kept"].map(truths) if "kept" in frame else None
         verdict = audit_events(
             frame, reference=float(extract.reference), range=extract.range, tick_size=0.01
         )

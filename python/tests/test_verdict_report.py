@@ -1,15 +1,18 @@
 """The report of an extract: the verdict and the findings first, each with its rule and queue."""
 import html
 import re
+from decimal import Decimal
 from pathlib import Path
 
+import pandas
 import pytest
 from callauction.__main__ import main
 from callauction.verdict import page
+from callauction.verdict.orders import members_of
 from test_verdict import frame_of, judged
 from test_wrong_answers import small_day, verdict_of
 
-from extracts import TOP, random_day
+from extracts import TOP, Rows, random_day
 
 EXTRACT = TOP / "examples/extracts/german.csv"
 
@@ -27,6 +30,8 @@ def test_the_verdict_and_the_findings_come_first(tmp_path: Path) -> None:
         "Verdict",
         "Finding 1: trade, row 10, 09:00:00,000, opening",
         "Opening, uncrossed, row 9, 09:00:00,000",
+        "Members",
+        "Orders",
     ]
     first = text.index("Finding 1: trade", text.index("<main>"))
     assert "<strong>unlawful</strong>: 1 finding. Compared: prices 1 of 1, " in text[:first]
@@ -39,6 +44,108 @@ def test_the_verdict_and_the_findings_come_first(tmp_path: Path) -> None:
     assert "<script" not in text and "http" not in text
 
 
+def cells_of(text: str, name: str) -> list[list[str]]:
+    """The rows of a table without its head."""
+    [table] = re.findall(rf'<table id="{name}">.*?</table>', text, re.S)
+    rows = re.findall(r"<tr[^>]*>(.*?)</tr>", table, re.S)[1:]
+    return [[html.unescape(it) for it in re.findall(r"<t[hd][^>]*>([^<]*)<", row)] for row in rows]
+
+
+def test_members_and_orders_have_what_is_lawful_beside_what_is_recorded(tmp_path: Path) -> None:
+    words = EXTRACT.with_suffix(".args").read_text(encoding="utf-8").split()
+    path = tmp_path / "day.html"
+    assert main(["report", str(EXTRACT), *words, "-o", str(path)]) == 0
+    text = path.read_text(encoding="utf-8")
+    assert cells_of(text, "orders") == [
+        ["A17", "Adler", "bid", "1,200", "20.02", "1,000", "0", "0", "executed"],
+        ["C3", "Cohn", "bid", "1,000", "20.02", "0", "1,000", "1,000", "left"],
+        ["B4", "Birk", "ask", "1,000", "market", "1,000", "1,000", "0", "executed"],
+        ["D9", "Dorn", "ask", "500", "20.03", "0", "0", "500", "deleted"],
+        ["E2", "Ehrl", "bid", "300", "20.00", "0", "0", "300", "left"],
+    ]
+    assert cells_of(text, "members")[:2] == [
+        ["Adler", "1", "1,200", "1,000", "0", "0"],
+        ["Birk", "1", "1,000", "0", "1,000", "0"],
+    ]
+
+
+class Tracked:
+    """An order by the rows of an extract alone."""
+
+    def __init__(self, row: dict[str, str]) -> None:
+        self.left = self.entered = int(row["quantity"])
+        self.is_bid, self.limit = row["side"] == "bid", row.get("price")
+        self.member, self.only = row["member"], row.get("restriction", "")
+        self.traded, self.better, self.became = 0, Decimal(0), ""
+
+    def trade(self, shares: int, price: Decimal) -> None:
+        self.traded += shares
+        self.left -= shares
+        if self.limit:
+            gap = Decimal(self.limit) - price
+            self.better += shares * (gap if self.is_bid else -gap)
+        if not self.left:
+            self.became = "executed"
+
+
+def tracked(rows: Rows) -> dict[str, Tracked]:
+    """The orders of a day, by the rows of a lawful extract in their order."""
+    found: dict[str, Tracked] = {}
+    ended = ""
+    for row in [*rows, {"event": "uncross"}]:
+        if row["event"] not in ("trade", "fill"):
+            for order in found.values():
+                if not order.became and ended and ended == order.only:
+                    order.became = "lapsed"
+            ended = ""
+        match row["event"]:
+            case "new":
+                found[row["order"]] = Tracked(row)
+            case "replace":
+                order = found[row["order"]]
+                order.left, order.limit = int(row["quantity"]), row.get("price")
+            case "cancel":
+                order = found[row["order"]]
+                if row.get("quantity"):
+                    order.left -= int(row["quantity"])
+                else:
+                    order.became = "deleted"
+            case "uncross":
+                ended = row.get("auction", "")
+            case "trade":
+                for side in ("bid", "ask"):
+                    found[row[side]].trade(int(row["quantity"]), Decimal(row["price"]))
+    return found
+
+
+@pytest.mark.parametrize("seed", range(60))
+def test_orders_and_members_of_random_days_are_those_of_their_rows(seed: int) -> None:
+    extract = random_day(seed, most=25)
+    orders = judged(extract).orders()
+    expected = tracked(extract.rows)
+    assert [*orders["order"]] == [*expected]
+    for row in orders.itertuples():
+        order = expected[row.order]
+        assert (row.quantity, row.traded, row.open) == (order.entered, order.traded, order.left)
+        assert row.became == (order.became or "left"), row
+        assert row.better == (order.better if order.limit else None)
+        assert row.recorded is pandas.NA or row.recorded == order.traded
+    for row in members_of(orders).itertuples():
+        those = [order for order in expected.values() if order.member == row.member]
+        assert row.orders == len(those) and row.entered == sum(it.entered for it in those)
+        assert row.bought == sum(it.traded for it in those if it.is_bid)
+        assert row.sold == sum(it.traded for it in those if not it.is_bid)
+        assert row.better == sum(it.better for it in those if it.limit)
+
+
+def test_orders_behind_the_last_uncross_are_open() -> None:
+    rows = small_day()[:8]
+    rows.append(dict(event="cancel", order="B2", quantity=20, time="17:31:00"))
+    found = verdict_of(rows).orders()
+    last = found[found["order"] == "B2"]
+    assert last[["quantity", "open", "became"]].values.tolist() == [[860, 840, "open"]]
+
+
 def test_members_and_prices_are_those_of_the_extract() -> None:
     rows = small_day()
     text = page.html_of(verdict_of(rows), "day")
@@ -47,7 +154,7 @@ def test_members_and_prices_are_those_of_the_extract() -> None:
     assert trades.count("<tr") == 87 and ">member of S88<" in trades and ">10.00<" in trades
     [book] = re.findall(r'<table id="book-closing-94">.*?</table>', text, re.S)
     assert '<tr class="price"><th scope="row">10.00</th>' in book
-    assert len(sections(text)) == 4
+    assert len(sections(text)) == 6
 
 
 @pytest.mark.parametrize("seed", range(5))
@@ -55,7 +162,7 @@ def test_random_days_have_a_section_for_each_uncross(seed: int) -> None:
     extract = random_day(seed)
     verdict = judged(extract)
     text = page.html_of(verdict, "<day>")
-    assert len(sections(text)) == 1 + len(extract.lawful) and "&lt;day&gt;" in text
+    assert len(sections(text)) == 3 + len(extract.lawful) and "&lt;day&gt;" in text
     assert text.count("<img ") == len(extract.lawful)
 
 

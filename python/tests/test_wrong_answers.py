@@ -343,14 +343,16 @@ COMMAS = GERMAN.replace(",", ".").replace(";", ",")
      "the file has order events: say --reference and --tick-size"),
     (["report", "day.csv", "-o", "x.html"], "event,order,side,price,quantity\n", 2,
      "the file has order events: say --reference and --tick-size"),
-    (LINE, "event,order,side,price,quantity,Only\n", 1, "unknown column 'Only' (is it restriction?)"),
+    (LINE, "event,order,side,price,quantity,Only\n", 1,
+     "unknown column 'Only' (is it restriction?)"),
     (LINE, "", 1, "record 1: not a day record"),
     (LINE, "event\n", 1, "the table has no column order, side, price, quantity"),
     ([*LINE, "--where", "x"], "event,order,side,price,quantity\n", 1, "where 'x' is no condition"),
     ([*LINE, "--values", "x"], "event,order,side,price,quantity\n", 2, "--values 'x' is none such"),
     ([*LINE, "--auctions", "noon"], "event,order,side,price,quantity\n", 2, "auctions 'noon' must"),
     ([*LINE, "--encoding", "no"], "event,order,side,price,quantity\n", 1, "no encoding 'no'"),
-    ([*LINE[:3], "x", *LINE[4:]], "event,order,side,price,quantity\n", 2, "reference 'x' is no dec"),
+    ([*LINE[:3], "x", *LINE[4:]], "event,order,side,price,quantity\n", 2,
+     "reference 'x' is no dec"),
     (["plot", "day.csv", "-o", "x.svg"], "event,order,side,price,quantity\n", 1, "record 1: bad "),
     ([*LINE, "--by", "isin"], "event,order,side,price,quantity\n", 1, "has no column 'isin'"),
 ])
@@ -372,7 +374,10 @@ def test_other_bytes_are_one_line(
 ) -> None:
     monkeypatch.chdir(tmp_path)
     for content, line in (
-        ("event,member\nnew,Mäkler\n".encode("latin-1"), "line 2 is no utf-8: say encoding latin-1"),
+        (
+            "event,member\nnew,Mäkler\n".encode("latin-1"),
+            "line 2 is no utf-8: say encoding latin-1",
+        ),
         ("event,order\n".encode("utf-16"), "line 1 is no utf-8: say encoding utf-16"),
         (b"\x1f\x8bxx", "the file is cut or no gzip file: fetch it again"),
     ):

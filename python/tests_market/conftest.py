@@ -8,7 +8,8 @@ import os
 import pathlib
 import subprocess
 import sys
-from collections.abc import Iterator
+import time
+from collections.abc import Callable, Iterator
 from typing import Any
 
 import dask
@@ -22,6 +23,8 @@ Ran = subprocess.CompletedProcess[str]
 TOP = pathlib.Path(__file__).resolve().parents[2]
 PACKAGE = TOP / "python"
 LOOPBACK = "127.0.0.1"
+SECONDS = 600
+"""How long a test waits for what is to come: much longer than a slow machine takes."""
 DONE = "".join(f"0,uncross,{auction} no price\n" for auction in rules.AUCTIONS)
 """The end of a day without orders, with its recorded replies."""
 HARMFUL = """#!/bin/sh
@@ -149,6 +152,14 @@ def runs_of(harmful: pathlib.Path) -> list[tuple[str, int]]:
     return [(line.rsplit(" ", 1)[0], int(line.rsplit(" ", 1)[1])) for line in lines]
 
 
+def until(holds: Callable[[], bool]) -> None:
+    """Waits until this holds. Raises AssertionError."""
+    deadline = time.monotonic() + SECONDS
+    while not holds():
+        assert time.monotonic() < deadline
+        time.sleep(0.02)
+
+
 def write(folder: pathlib.Path, texts: rules.Texts) -> list[str]:
     """Writes journals: their paths."""
     folder.mkdir(exist_ok=True)
@@ -187,7 +198,7 @@ def command(*words: object, program: object, before: list[str] = []) -> Ran:
         env=environment(program),
         capture_output=True,
         text=True,
-        timeout=100,
+        timeout=SECONDS,
     )
 
 

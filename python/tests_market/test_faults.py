@@ -1,14 +1,15 @@
 """What goes wrong with one instrument, or with a worker, is no matter to the others."""
 import os
 import pathlib
+import signal
 import time
 
 import dask
 import pytest
 import rules
 from callauction import market
-from callauction.market import forms, task
-from conftest import Keys, cluster, columns, runs_of, write
+from callauction.market import forms, rows, runs, task, workers
+from conftest import SECONDS, Keys, cluster, columns, runs_of, until, write
 from distributed import Client
 
 TEXTS = {f"good {seed}": text for seed, text in enumerate(rules.random_texts(8).values())}
@@ -74,9 +75,9 @@ def test_a_program_that_takes_too_long(
 ) -> None:
     paths = write(tmp_path / "journals", TEXTS | {name: EMPTY_DAY})
     begin = time.monotonic()
-    found = market.audit(paths, workers=2, program=harmful, seconds=5)
-    assert columns(found) == rows_with({name: "not done in 5 seconds"})
-    assert time.monotonic() - begin < 60
+    found = market.audit(paths, workers=2, program=harmful, seconds=10)
+    assert columns(found) == rows_with({name: "not done in 10 seconds"})
+    assert time.monotonic() - begin < SECONDS
 
 
 def test_limits_go_by_the_size() -> None:
@@ -122,6 +123,22 @@ def test_a_killed_workers_task_runs_again_elsewhere(
     workers = [worker for name, worker in runs_of(harmful) if name == "kills its worker once"]
     assert len(workers) == 2 and workers[0] != workers[1]  # killed, and run again elsewhere
     assert len({worker for _, worker in runs_of(harmful)}) >= 2
+
+
+def test_results_that_are_lost_with_their_worker_are_found_again(
+    keys: Keys, program: str, tmp_path: pathlib.Path
+) -> None:
+    paths = write(tmp_path, TEXTS)
+    with cluster(2, keys) as client:
+        crew = workers.Cluster(client)
+        results = crew.results(paths, task.Request(runs.AUDIT, program))
+        found = next(results)
+        until(lambda: not any(client.processing().values()))
+        address, process = min(client.run(os.getpid).items())
+        os.kill(process, signal.SIGKILL)
+        until(lambda: address not in client.scheduler_info()["workers"])
+        found += [each for some in results for each in some]
+    assert columns(rows.frame(each.row for each in found)) == rules.rows_of(TEXTS)
 
 
 def test_who_kills_each_worker_is_told(

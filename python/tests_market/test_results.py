@@ -9,7 +9,6 @@ import pathlib
 import signal
 import subprocess
 import sys
-import time
 from collections.abc import Callable, Iterator
 
 import psutil
@@ -19,6 +18,7 @@ from callauction.market import files, read_rows, rows
 from conftest import (
     DONE,
     LOOPBACK,
+    SECONDS,
     Keys,
     children_of,
     closing,
@@ -28,6 +28,7 @@ from conftest import (
     environment,
     runs_of,
     started,
+    until,
     words_of,
     write,
 )
@@ -49,10 +50,7 @@ def again(harmful: pathlib.Path) -> set[str]:
 
 def wait_for(log: pathlib.Path, count: int) -> None:
     """Waits until a log has the rows of so many slow files."""
-    deadline = time.monotonic() + 60
-    while not (log.exists() and log.read_text().count("slow") >= count):
-        assert time.monotonic() < deadline
-        time.sleep(0.02)
+    until(lambda: log.exists() and log.read_text().count("slow") >= count)
 
 
 def test_a_second_run_gives_the_same_bytes(program: str, tmp_path: pathlib.Path) -> None:
@@ -256,7 +254,7 @@ def test_an_interrupted_run(name: str, harmful: pathlib.Path, tmp_path: pathlib.
         wait_for(log, 1)
         those = psutil.Process(child.pid).children()
         child.send_signal(getattr(signal, f"SIG{name}"))
-        _, told = child.communicate(timeout=60)
+        _, told = child.communicate(timeout=SECONDS)
         if name == "INT":
             assert not any(process.is_running() for process in those)
     if name == "INT":
@@ -293,10 +291,7 @@ def scheduler(keys: Keys, folder: pathlib.Path) -> Iterator[tuple[str, subproces
         null = subprocess.DEVNULL
         first = subprocess.Popen([*words, *common], env=env, stdout=null, stderr=null)
         stack.callback(end, first)
-        deadline = time.monotonic() + 60
-        while not told.exists() or not told.read_text().endswith("}"):
-            assert time.monotonic() < deadline
-            time.sleep(0.05)
+        until(lambda: told.exists() and told.read_text().endswith("}"))
         address = str(json.loads(told.read_text())["address"])
         words = [*dask, "worker", address, *common, "--nthreads", "1", "--nworkers", "2"]
         words += ["--local-directory", str(folder)]
@@ -325,7 +320,7 @@ def test_a_scheduler_that_dies(
             with started(*away, program=harmful) as child:
                 wait_for(tmp_path / "result.csv.log", 1)
                 first.kill()
-                told = child.communicate(timeout=100)
+                told = child.communicate(timeout=SECONDS)
     assert (child.returncode, *told) == (3, "", "market: the scheduler is lost\n")
     assert not output.exists()
     ran = command(*words, output, "--resume", program=harmful)

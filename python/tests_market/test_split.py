@@ -130,7 +130,11 @@ def cells_of(call: Any) -> dict[str, Any]:
 BAD = [
     (TABLE.drop(columns="member"), DAYS, "the table: there is no column 'member'"),
     (TABLE.rename(columns={"instrument": "name"}), DAYS, "there is no column 'instrument'"),
-    (TABLE.rename(columns={"limit": "price"}), DAYS, r"the table: unknown column 'price' \(is it limit\?"),
+    (
+        TABLE.rename(columns={"limit": "price"}),
+        DAYS,
+        r"the table: unknown column 'price' \(is it limit\?",
+    ),
     (TABLE, DAYS.assign(tick=1), "the days: unknown column 'tick'"),
     (pandas.concat([TABLE, TABLE[["limit"]]], axis=1), DAYS, "'limit' is there twice"),
     (TABLE.rename(columns={"limit": ""}), DAYS, "the table: column 6 has no name"),

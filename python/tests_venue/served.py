@@ -16,7 +16,8 @@ from typing import Any
 HERE = pathlib.Path(__file__).resolve().parent
 PACKAGE = HERE.parent
 STAND_IN = HERE / "stand_in.py"
-SECONDS = 60.0
+SECONDS = 300.0
+"""How long a test waits for what is to come: much longer than a slow machine takes."""
 
 
 def program() -> str:

@@ -29,7 +29,7 @@ async def said(venue: Served, *texts: str, headers: dict[str, str] = {}, count: 
             for text in texts:
                 await socket.send_str(text)
             while len(heard) < count:
-                message = await socket.receive(timeout=20)
+                message = await socket.receive(timeout=served.SECONDS)
                 if message.type is not aiohttp.WSMsgType.TEXT:
                     break
                 found = json.loads(message.data)
@@ -161,7 +161,7 @@ async def operator_sees(venue: Served) -> dict[str, Any]:
         async with web.ws_connect(f"{venue.url}api/socket") as socket:
             await socket.send_str(hello(venue.operator))
             while True:
-                found: dict[str, Any] = await socket.receive_json(timeout=20)
+                found: dict[str, Any] = await socket.receive_json(timeout=served.SECONDS)
                 if found["type"] == "members":
                     return found
 
@@ -235,7 +235,9 @@ def test_a_fast_member_is_slowed_down_and_others_are_not(tmp_path: pathlib.Path)
 def ended(*words: object) -> tuple[int, str]:
     """How a command line that can't serve ends."""
     command, environment = served.words_of(*words), served.environment()
-    ran = subprocess.run(command, env=environment, capture_output=True, text=True, timeout=60)
+    ran = subprocess.run(
+        command, env=environment, capture_output=True, text=True, timeout=served.SECONDS
+    )
     return ran.returncode, ran.stderr
 
 
@@ -297,6 +299,6 @@ def test_there_is_no_program(tmp_path: pathlib.Path) -> None:
         env=environment | {"PATH": os.environ["PATH"]},
         capture_output=True,
         text=True,
-        timeout=60,
+        timeout=served.SECONDS,
     )
     assert (ran.returncode, ran.stderr) == (3, "venue: CALLBOARD names no program: /nothing\n")

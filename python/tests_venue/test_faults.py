@@ -39,6 +39,10 @@ exec "$@"
 # ---- clients
 
 
+MOST_WAIT = 5.0
+"""Seconds that an order may wait beside slow clients, half the time: without end where it waits for
+them.
+"""
 FLOOD = """
 import asyncio, sys, aiohttp
 async def flood(web, url, hello):
@@ -72,7 +76,7 @@ def test_slow_clients_hold_up_nobody(tmp_path: pathlib.Path) -> None:
                 assert flooding.poll() is None
             finally:
                 flooding.kill()
-        assert waits[len(waits) // 2] < 0.5, waits
+        assert waits[len(waits) // 2] < MOST_WAIT, waits
 
 
 def wait_of(me: Client) -> float:
@@ -84,7 +88,7 @@ def wait_of(me: Client) -> float:
 
 async def is_sent_away(venue: Served, text: str) -> bool:
     """Whether a connection that says this is ended."""
-    async with aiohttp.ClientSession() as web, asyncio.timeout(20):
+    async with aiohttp.ClientSession() as web, asyncio.timeout(served.SECONDS):
         async with web.ws_connect(f"{venue.url}api/socket") as socket:
             await socket.send_str(text)
             while (await socket.receive()).type is aiohttp.WSMsgType.TEXT:
@@ -175,10 +179,12 @@ def test_a_program_that_loses_an_entry(tmp_path: pathlib.Path, place: int) -> No
             async with AsyncClient(venue.url, token) as me:
                 assert [(await me.enter("bid", 1, "2.00")).entry for _ in range(2)] == [1, 2]
                 third = asyncio.create_task(me.enter("bid", 1, "2.00"))
+                async with asyncio.timeout(served.SECONDS):
+                    while (halted := (await me.look("state"))["halted"]) is None:
+                        await asyncio.sleep(0.02)
+                assert halted == f"the program answers entry {place} after entry 2"
                 await asyncio.wait({third}, timeout=2)
                 assert not third.done()
-                halted = (await me.look("state"))["halted"]
-                assert halted == f"the program answers entry {place} after entry 2"
                 third.cancel()
 
         asyncio.run(orders())
@@ -191,7 +197,7 @@ def test_a_program_without_views(tmp_path: pathlib.Path) -> None:
         env=served.environment(CALLBOARD=program),
         capture_output=True,
         text=True,
-        timeout=60,
+        timeout=served.SECONDS,
     )
     error = "venue: the program answers 'record 1: bad member' to show\n"
     assert (ran.returncode, ran.stderr) == (2, error)
@@ -219,11 +225,15 @@ def on_small_disk(folder: pathlib.Path, what: str, size: str) -> Iterator[Served
 
 
 async def fill(me: AsyncClient) -> tuple[list[Answer], "asyncio.Task[Answer]"]:
-    """Sends orders until one isn't answered: the answers, and what waits."""
+    """Sends orders until the day halts, and a while longer: the answers, and what waits."""
     answers: list[Answer] = []
     while True:
         sent = asyncio.create_task(me.enter("bid", 1, "2.00"))
-        done, _ = await asyncio.wait({sent}, timeout=4)
+        done: set[asyncio.Task[Answer]] = set()
+        async with asyncio.timeout(served.SECONDS):
+            while not done and (await me.look("state"))["halted"] is None:
+                done, _ = await asyncio.wait({sent}, timeout=0.5)
+        done, _ = await asyncio.wait({sent}, timeout=0 if done else 2)
         if not done:
             return answers, sent
         answers.append(sent.result())
@@ -240,7 +250,7 @@ async def full_disk(venue: Served, token: str, enlarge: Callable[[], None]) -> t
         assert [it.entry for it in answers] == [*range(1, len(answers) + 1)]
         enlarge()
         await asyncio.to_thread(venue.do, "resume")
-        async with asyncio.timeout(20):
+        async with asyncio.timeout(served.SECONDS):
             assert (await waits).entry == len(answers) + 1
             assert (await me.enter("bid", 1, "2.00")).entry == len(answers) + 2
         return halted, len(answers) + 2
@@ -329,6 +339,6 @@ def test_a_venue_ends_by_a_signal(venue: Served) -> None:
     programs = psutil.Process(venue.child.pid).children()
     with Client(venue.url, token):
         os.kill(venue.child.pid, signal.SIGINT)
-        _, error = venue.child.communicate(timeout=30)
+        _, error = venue.child.communicate(timeout=served.SECONDS)
         assert (venue.child.returncode, error) == (0, "")
     assert not any(it.is_running() for it in programs)

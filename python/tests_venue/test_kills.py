@@ -21,8 +21,13 @@ from conftest import FAST
 KILLS = int(os.environ.get("VENUE_KILLS", "200"))
 VENUE_SHARE, LISTENS_SHARE = 0.15, 0.7
 MOST_PAUSE = 0.2
+MOST_AT_ONCE = 5
+"""Kills without an answer in between, fewer than the venue's own MOST_ENDS."""
 ROBOTS, AT_ONCE = 4, 3
-MOST_ORDERS = 12_000
+ORDERS_A_KILL = 15
+"""How many orders a robot sends before the next kill: on a fast machine the book would else be full
+long before the last kill, and no answer come any more.
+"""
 
 
 class Keeper:
@@ -34,6 +39,7 @@ class Keeper:
             *("--day", folder / "day.toml", "--folder", folder / "venue", "--port", port)
         )
         self.killed = {"venue": 0, "program": 0}
+        self.answered = self.since = 0
         self.child: "subprocess.Popen[str] | None" = None
 
     def start(self) -> None:
@@ -42,6 +48,18 @@ class Keeper:
         self.child = subprocess.Popen(
             self.words, env=served.environment(), stdout=pipe, stderr=pipe, text=True
         )
+
+    def kills(self) -> int:
+        """How often the venue or its program was killed."""
+        return sum(self.killed.values())
+
+    def is_waited_for(self, answered: int) -> bool:
+        """Whether an answer is due after so many kills: on a slow machine the program might else
+        never come to one, which ends the day. So many were answered up to now.
+        """
+        if answered > self.answered:
+            self.answered, self.since = answered, self.kills()
+        return self.kills() - self.since >= MOST_AT_ONCE
 
     def kill(self, target: str, waits: bool) -> None:
         """Kills the venue, and starts it again, perhaps until it listens; or its program, if that
@@ -68,7 +86,7 @@ class Keeper:
         """Ends the venue."""
         if self.child is not None:
             self.child.terminate()
-            self.child.communicate(timeout=20)
+            self.child.communicate(timeout=served.SECONDS)
 
 
 @dataclasses.dataclass
@@ -82,14 +100,17 @@ class Robot:
     own: list[int] = dataclasses.field(default_factory=list)
     sent: int = 0
 
-    async def play(self, url: str, done: asyncio.Event) -> None:
+    async def play(self, url: str, keeper: Keeper, done: asyncio.Event) -> None:
         """Sends orders until it is done, and waits for all answers."""
         async with AsyncClient(url, self.token) as client:
-            await asyncio.gather(*(self.send(client, done) for _ in range(AT_ONCE)))
+            await asyncio.gather(*(self.send(client, keeper, done) for _ in range(AT_ONCE)))
 
-    async def send(self, client: AsyncClient, done: asyncio.Event) -> None:
-        """Sends one order after the other."""
-        while not done.is_set() and self.sent < MOST_ORDERS // ROBOTS:
+    async def send(self, client: AsyncClient, keeper: Keeper, done: asyncio.Event) -> None:
+        """Sends one order after the other, so many a kill."""
+        while not done.is_set():
+            if self.sent >= ORDERS_A_KILL * (keeper.kills() + 1):
+                await asyncio.sleep(0.01)
+                continue
             self.sent += 1
             kind, fields = self.choice()
             record = f"{kind},{','.join(str(it) for it in fields.values())}"
@@ -114,11 +135,15 @@ class Robot:
         return kind, {"order": order}
 
 
-async def kills(keeper: Keeper, chance: random.Random, done: asyncio.Event) -> None:
-    """Kills the venue and its program, often."""
+async def kills(
+    keeper: Keeper, robots: list[Robot], chance: random.Random, done: asyncio.Event
+) -> None:
+    """Kills the venue and its program, often; a few times before the next answer."""
     try:
-        while sum(keeper.killed.values()) < KILLS:
+        while keeper.kills() < KILLS:
             await asyncio.sleep(chance.random() * MOST_PAUSE)
+            if keeper.is_waited_for(sum(len(robot.answers) for robot in robots)):
+                continue
             target = "venue" if chance.random() < VENUE_SHARE else "program"
             await asyncio.to_thread(keeper.kill, target, chance.random() < LISTENS_SHARE)
     finally:
@@ -128,9 +153,10 @@ async def kills(keeper: Keeper, chance: random.Random, done: asyncio.Event) -> N
 async def play(keeper: Keeper, url: str, robots: list[Robot], chance: random.Random) -> None:
     """The day of robots under kills."""
     done = asyncio.Event()
-    async with asyncio.timeout(900):
+    async with asyncio.timeout(1800):
         await asyncio.gather(
-            kills(keeper, chance, done), *(robot.play(url, done) for robot in robots)
+            kills(keeper, robots, chance, done),
+            *(robot.play(url, keeper, done) for robot in robots),
         )
 
 
@@ -197,10 +223,11 @@ async def finds_its_orders(
 ) -> None:
     """Raises AssertionError where a member doesn't find its orders."""
     async with AsyncClient(venue.url, robot.token) as client:
-        for _ in range(100):
-            with contextlib.suppress(VenueError):
-                shown = (await client.look("orders"))["orders"]
-                break
-            await asyncio.sleep(0.1)
+        async with asyncio.timeout(served.SECONDS):
+            while True:
+                with contextlib.suppress(VenueError):
+                    shown = (await client.look("orders"))["orders"]
+                    break
+                await asyncio.sleep(0.1)
         wanted = {it.id: it.quantity for it in day.book.values() if it.member == number}
         assert {it["order"]: it["open"] for it in shown} == wanted

@@ -10,6 +10,7 @@ import time
 from collections.abc import Callable, Iterator
 from typing import Any
 
+import contrast
 import pytest
 import served
 from callauction.venue import Client
@@ -22,7 +23,7 @@ from selenium.webdriver.support.wait import WebDriverWait
 
 PAGES = served.PACKAGE / "callauction/venue/pages"
 MOST_BYTES = 200 * 1024
-SECONDS = 30
+SECONDS = 120
 TELEPHONE, SCREEN = (390, 1000), (1280, 1000)
 DAY = """
 title = "Monday's lesson"
@@ -90,12 +91,11 @@ class Page:
 
 
 @contextlib.contextmanager
-def browser(folder: pathlib.Path, dark: bool = False) -> Iterator[webdriver.Chrome]:
+def browser(folder: pathlib.Path) -> Iterator[webdriver.Chrome]:
     """A browser without a window, and without a network beyond this machine."""
     options: Any = Options()
     words = ["--headless=new", "--no-sandbox", "--disable-gpu", "--hide-scrollbars", "--lang=en"]
     words += ["--host-resolver-rules=MAP * ~NOTFOUND, EXCLUDE 127.0.0.1"]
-    words += ["--force-dark-mode", "--enable-features=WebContentsForceDark"] if dark else []
     for word in [*words, f"--user-data-dir={folder}"]:
         options.add_argument(word)
     options.binary_location = "/usr/bin/chromium"
@@ -169,6 +169,13 @@ def rows(page: Page, table: str) -> list[list[str]]:
     return [[it.text for it in row.find_elements(By.TAG_NAME, "td")] for row in found]
 
 
+def can_be_read(lesson: dict[str, Any]) -> None:
+    """Raises AssertionError where something of a page is hard to read, by day or by night."""
+    for name in ("anna", "teacher", "beamer"):
+        for scheme in ("dark", "light"):
+            assert contrast.faults(lesson[name].driver, scheme) == [], (name, scheme)
+
+
 def test_a_lesson(lesson: dict[str, Any]) -> None:
     venue, anna, bert = lesson["venue"], lesson["anna"], lesson["bert"]
     teacher, beamer = lesson["teacher"], lesson["beamer"]
@@ -178,6 +185,7 @@ def test_a_lesson(lesson: dict[str, Any]) -> None:
     beamer.waits(lambda it: it.text("code") == venue.code)
     teacher.waits(lambda it: {row[0] for row in rows(it, "members")} == {"Anna", "Bert"})
     assert not anna.driver.find_element(By.ID, "send").is_enabled()
+    can_be_read(lesson)
     venue.do("give", values=[
         {"member": "Anna", "side": "bid", "price": "6.00", "quantity": 100},
         {"member": "Bert", "side": "ask", "price": "4.00", "quantity": 100},
@@ -193,6 +201,7 @@ def test_a_lesson(lesson: dict[str, Any]) -> None:
     beamer.waits(lambda it: bool(it.driver.find_elements(By.CSS_SELECTOR, "#book path.bids")))
     for name in ("anna", "teacher", "beamer"):
         assert len(lesson[name].picture()) > 10_000
+    can_be_read(lesson)
     teacher.clicks("[data-do=uncross]")
     anna.waits(lambda it: "Price 5.40, Volume 60" in it.text("result"))
     anna.waits(lambda it: [row[:3] for row in rows(it, "fills")] == [["Buy", "60", "5.40"]])
@@ -224,6 +233,7 @@ def test_a_refusal_is_said(lesson: dict[str, Any]) -> None:
     bert.types(quantity="5", price="9.01")
     bert.clicks("#send")
     bert.waits(lambda it: it.text("news") == "refused: price out of bounds")
+    assert contrast.faults(bert.driver, "dark") == contrast.faults(bert.driver, "light") == []
 
 
 def test_a_member_comes_again_and_speaks_german(lesson: dict[str, Any]) -> None:
@@ -269,6 +279,7 @@ def test_a_crowd(lesson: dict[str, Any]) -> None:
     venue.do("uncross")
     lesson["beamer"].waits(lambda it: len(rows(it, "trades")) > 3)
     lesson["beamer"].waits(lambda it: " %" in it.text("efficiency"))
+    can_be_read(lesson)
     assert all(page.errors() == [] for page in pages)
 
 

@@ -17,7 +17,7 @@ from served import Served
 from test_messages import RECEIVED, SENT
 
 
-def until(holds: Callable[[], bool], seconds: float = 20.0) -> None:
+def until(holds: Callable[[], bool], seconds: float = served.SECONDS) -> None:
     """Waits until this holds. Raises AssertionError."""
     last = time.monotonic() + seconds
     while not holds():
@@ -84,7 +84,7 @@ class Wire:
     async def says(self, message: dict[str, Any]) -> dict[str, Any]:
         """What is answered to this."""
         await self.socket.send_str(json.dumps(message))
-        found: dict[str, Any] = await self.socket.receive_json(timeout=20)
+        found: dict[str, Any] = await self.socket.receive_json(timeout=served.SECONDS)
         return found
 
 

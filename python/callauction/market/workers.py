@@ -15,7 +15,7 @@ from callauction.market.rows import Found, Row
 from callauction.market.task import Children, Request, examine
 
 if TYPE_CHECKING:
-    from distributed import Client, Security
+    from distributed import Client, Future, Security
 
 SHARES = 32
 """How many tasks, about, a thread of Dask's workers is to get: enough that the last ones end
@@ -23,8 +23,8 @@ together.
 """
 START = 1 << 18
 """How many bytes of a journal take as long as starting the program once or twice."""
-CONNECT_SECONDS = 10
-"""How long a scheduler and its first worker are waited for."""
+CONNECT_SECONDS, WORKER_SECONDS = 20, 60
+"""How long a scheduler, and then its first worker, is waited for."""
 
 
 class MarketError(Exception):
@@ -129,26 +129,33 @@ class Cluster:
         suspects: list[str] = []
         futures = self.client.map(examine, batches, request=request, pure=False, key="callboard")
         tasks = dict(zip(futures, batches))
-        for future, found in as_completed(futures, with_results=True, raise_errors=False):
-            if future.status == "finished":
-                yield found
-            elif future.status == "error":
+        for future in as_completed(futures):
+            found = result_of(future)
+            if isinstance(found, Exception):
                 suspects += tasks[future]
             else:
-                raise MarketError("the scheduler is lost")
+                yield found
             future.release()
         for path in sorted(suspects):
             yield self.alone(path, request)
 
     def alone(self, path: str, request: Request) -> list[Found]:
         """What is found of a file that no other shares a task with. Raises MarketError."""
-        future = self.client.submit(examine, [path], request, pure=False)
-        try:
-            return list(future.result())
-        except Exception as fault:
-            if future.status != "error":
-                raise MarketError("the scheduler is lost") from fault
-            return [blamed(path, fault)]
+        found = result_of(self.client.submit(examine, [path], request, pure=False))
+        return [blamed(path, found)] if isinstance(found, Exception) else found
+
+
+def result_of(future: "Future") -> list[Found] | Exception:
+    """What a task has found, or the exception with which it ended. Where its worker has ended
+    since, with the result, the task runs again, which is waited for. Raises MarketError where the
+    scheduler is lost.
+    """
+    try:
+        return list(future.result())
+    except Exception as fault:
+        if future.status != "error":
+            raise MarketError("the scheduler is lost") from fault
+        return fault
 
 
 def blamed(path: str, fault: BaseException) -> Found:
@@ -166,5 +173,5 @@ def connected(scheduler: str, security: "Security | None") -> Iterator[Cluster]:
     from distributed import Client
 
     with Client(scheduler, security=security, timeout=CONNECT_SECONDS) as client:
-        client.wait_for_workers(1, timeout=CONNECT_SECONDS)
+        client.wait_for_workers(1, timeout=WORKER_SECONDS)
         yield Cluster(client)

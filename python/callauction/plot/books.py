@@ -56,9 +56,9 @@ def book(
     tick_size: object = None,
     ax: Axes | None = None,
 ) -> Axes:
-    """Draws a book: demand and supply as steps, each of which stands at a limit, where the higher of
-    its ends holds; the executable volume at each limit; the best limits, the auction price with its
-    volume and surplus, and the reference.
+    """Draws a book: demand and supply as steps, each of which stands at a limit, where the higher
+    of its ends holds; the executable volume at each limit; the best limits, the auction price with
+    its volume and surplus, and the reference.
 
     `auction` is a RecordedAuction or a table of books (tables.BOOK). The book is the one before the
     command with this number, without one the last. A RecordedAuction knows the reference; to a

@@ -108,9 +108,9 @@ def allocation(
     tick_size: object = None,
     ax: Axes | None = None,
 ) -> Axes:
-    """Draws who trades with whom: the executed shares of the bids laid end to end in their priority,
-    those of the asks below them, and between them each trade, which is where a bid and an ask
-    overlap.
+    """Draws who trades with whom: the executed shares of the bids laid end to end in their
+    priority, those of the asks below them, and between them each trade, which is where a bid and an
+    ask overlap.
 
     The uncross is the one that was this command; without one it is an uncross now. With a
     `tick_size` the price is a decimal. Draws on `ax`, or on a new figure, and answers the axes.

@@ -8,6 +8,7 @@ import pathlib
 import random
 import time
 from collections.abc import Callable, Iterable
+from typing import Any, Self
 
 from callauction.venue import config, views
 from callauction.venue.gains import Value
@@ -48,6 +49,16 @@ class Point:
 
     time: float
     indication: views.Indication
+
+    def kept(self) -> dict[str, Any]:
+        """What is written down of it."""
+        return {"time": self.time} | dataclasses.asdict(self.indication)
+
+    @classmethod
+    def of(cls, kept: dict[str, Any]) -> Self:
+        """What was written down. Raises KeyError for anything else."""
+        names = [field.name for field in dataclasses.fields(views.Indication)]
+        return cls(kept["time"], views.Indication(**{name: kept[name] for name in names}))
 
 
 @dataclasses.dataclass(frozen=True, slots=True)
@@ -148,6 +159,16 @@ class Instrument:
         if message.member == OPERATOR:
             self._uncrosses = max(self._uncrosses, message.number)
             self._uncrossed(entry)
+
+    def replay_phase(self, state: State) -> None:
+        """A phase of an earlier run."""
+        if self.state.phase is Phase.WAITING and state.phase is Phase.CALL:
+            self.course = []
+        self.state = state
+
+    def replay_point(self, point: Point) -> None:
+        """A point of the course of an earlier run."""
+        self._keep_point(point)
 
     def _uncrossed(self, entry: Entry) -> None:
         """The phase behind an uncross."""
@@ -275,13 +296,19 @@ class Instrument:
         self.on_shown(frozenset(asked), bool(trades))
 
     def _indicated(self, found: views.Indication) -> None:
-        """What is indicated now."""
-        if found != self.indication and self.state.phase in (Phase.CALL, Phase.EXTENDED):
+        """What is indicated now: a point of the course, where that ends with something else."""
+        last = self.course[-1].indication if self.course else views.Indication()
+        if found != last and self.state.phase in (Phase.CALL, Phase.EXTENDED):
             point = Point(time.time(), found)
-            self.course.append(point)
-            if len(self.course) > MOST_POINTS:
-                del self.course[1::2]
+            self._keep_point(point)
+            self._log.note(kind="point", instrument=self.terms.name, **point.kept())
         self.indication = found
+
+    def _keep_point(self, point: Point) -> None:
+        """The course has one point more."""
+        self.course.append(point)
+        if len(self.course) > MOST_POINTS:
+            del self.course[1::2]
 
     def add_trades(self, trades: Iterable[views.Trade]) -> None:
         """Trades that weren't known, and whose they are."""

@@ -17,7 +17,7 @@ def price_of(instrument: Instrument, tick: int | None) -> str | None:
 
 
 def indication_of(instrument: Instrument, found: Indication) -> Json:
-    """The indicative price with its volume and surplus, or the best limits."""
+    """The indicative price with its volume and surplus, or the best bid and ask."""
     ticks = {name: price_of(instrument, getattr(found, name)) for name in ("price", "bid", "ask")}
     return ticks | {"volume": found.volume, "surplus": found.surplus, "side": found.side}
 

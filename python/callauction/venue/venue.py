@@ -12,7 +12,7 @@ from typing import Any, Protocol
 
 from callauction.venue import config, downloads, shown, tokens
 from callauction.venue.gains import Value
-from callauction.venue.instrument import Given, Instrument, opened
+from callauction.venue.instrument import Given, Instrument, Point, opened
 from callauction.venue.log import Line, Log, LogError
 from callauction.venue.members import Done, Member, Members
 from callauction.venue.messages import MessageError, Order
@@ -394,7 +394,9 @@ def replay_instrument(instrument: Instrument, line: Line) -> None:
     if line["kind"] == "number":
         instrument.give_number(line["member"], line["number"])
     elif line["kind"] == "phase":
-        instrument.state = State.of(line)
+        instrument.replay_phase(State.of(line))
+    elif line["kind"] == "point":
+        instrument.replay_point(Point.of(line))
     elif line["kind"] == "value":
         value = Value(line["side"], line["tick"], line["quantity"])
         instrument.values[line["member"]] = Given(value, line["since"])

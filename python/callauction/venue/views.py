@@ -11,7 +11,7 @@ DAY = re.compile(r"show day (\w+) reference (\d+) calls (\d+) left (\d+)$")
 
 @dataclasses.dataclass(frozen=True, slots=True)
 class Indication:
-    """The indicative price with its volume and surplus, or else the best limits."""
+    """The indicative price with its volume and surplus, or else the best bid and ask."""
 
     price: int | None = None
     volume: int = 0

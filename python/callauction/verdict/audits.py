@@ -102,12 +102,13 @@ def _on_grid(extract: Extract, rules: Rules) -> Extract:
         return extract
     grid, bad, events = Grid(rules.tick_size), [*extract.bad_rows], []
     for event in extract.events:
+        price = event.price if isinstance(event, New | Replace) else None
         try:
-            if isinstance(event, New | Replace) and event.price is not None:
-                grid.tick(event.price)
+            if price is not None:
+                grid.tick(price)
             events.append(event)
         except BadCellError as fault:
-            bad.append(BadRow(event.row.label, f"price {event.price} {fault}", True))  # type: ignore
+            bad.append(BadRow(event.row.label, f"price {price} {fault}", True))
     return dataclasses.replace(extract, events=tuple(events), bad_rows=tuple(bad))
 
 
@@ -133,9 +134,9 @@ def audit_auction(
     `restriction`, `time` and `sequence`, which say the priority in time; without them it is that of
     the rows. `published` has what was published: `price`, `volume`, `surplus`, `side`, `auction`,
     `trades` (how many, or a frame with `bid`, `ask`, `quantity` and where known `price`,
-    `bid_member`, `ask_member`) and `fills` (a frame with `order`, `quantity`, `price`), as far as it
-    is known; or it is a frame of events `uncross`, `trade` and `fill`, as of an extract. `auction`
-    is which one it is, where that isn't published and an order is for one auction alone.
+    `bid_member`, `ask_member`) and `fills` (a frame with `order`, `quantity`, `price`), as far as
+    it is known; or it is a frame of events `uncross`, `trade` and `fill`, as of an extract.
+    `auction` is which one it is, where that isn't published and an order is for one auction alone.
 
     The other arguments, the verdict and what is raised are as of audit_events.
     """

@@ -69,7 +69,9 @@ LIKELY = {
     "reply": "reply",
     "only": "restriction",
 }
-"""Names of other systems in small letters without signs, and the column that each is likely to be."""
+"""Names of other systems in small letters without signs, and the column that each is likely to
+be.
+"""
 
 
 class ColumnError(ValueError):

@@ -143,8 +143,8 @@ def table_of(content: bytes, asked: argparse.Namespace) -> tuple[Table, Reading]
 
 
 def plain_table(content: bytes, asked: argparse.Namespace) -> pandas.DataFrame:
-    """The rows of an extract in our columns, words and numbers. Raises as read_table, and UsageError
-    for what a journal hasn't.
+    """The rows of an extract in our columns, words and numbers. Raises as read_table, and
+    UsageError for what a journal hasn't.
     """
     table, reading = table_of(content, asked)
     if reading.quantity != "open":

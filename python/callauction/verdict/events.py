@@ -4,7 +4,6 @@ import dataclasses
 import re
 from collections.abc import Callable, Iterable
 from decimal import Decimal
-from typing import Any
 
 import pandas
 
@@ -154,10 +153,10 @@ class Extract:
 class _Cells:
     """The cells of a row. Its methods raise BadCellError, whose text names the column."""
 
-    def __init__(self, cells: dict[str, Any], row: Row, reading: Reading) -> None:
+    def __init__(self, cells: dict[str, object], row: Row, reading: Reading) -> None:
         self.cells, self.row, self.reading = cells, row, reading
 
-    def get(self, column: str) -> Any:
+    def get(self, column: str) -> object:
         """A cell, a text without blanks around it and in the words that `values` gives it; None
         where it is missing.
         """
@@ -171,7 +170,7 @@ class _Cells:
             return None
         return self.reading.values.get(column, {}).get(str(found), found)
 
-    def needed(self, column: str) -> Any:
+    def needed(self, column: str) -> object:
         found = self.get(column)
         if found is None:
             raise BadCellError(f"{column} is missing")
@@ -197,7 +196,7 @@ class _Cells:
             raise BadCellError(f"{column} {text!r} is none of {', '.join(words)}")
         return text.casefold()
 
-    def number(self, column: str) -> Any:
+    def number(self, column: str) -> object:
         """A cell for a reader of numbers: a text with the signs of this reading made plain."""
         found = self.get(column)
         if not isinstance(found, str):
@@ -235,7 +234,7 @@ class _Cells:
             raise BadCellError("price is missing")
         return self.price()
 
-    def plain(self) -> dict[str, Any]:
+    def plain(self) -> dict[str, object]:
         """The cells in our words and plain numbers."""
         found = {
             name: self.number(name) if name in NUMBERS else self.get(name) for name in self.cells
@@ -243,12 +242,12 @@ class _Cells:
         if found.get("price") is not None and self._is_market(self.get("price")):
             found["price"] = None
         for name in WORDS:
-            if isinstance(found.get(name), str):
-                found[name] = found[name].casefold()
+            if isinstance(word := found.get(name), str):
+                found[name] = word.casefold()
         found["kept"] = TRUTHS.get(str(found.get("kept")).casefold(), found.get("kept"))
         return found
 
-    def _is_market(self, found: Any) -> bool:
+    def _is_market(self, found: object) -> bool:
         words = [word.casefold() for word in self.reading.market]
         if str(found).strip().casefold() in words:
             return True
@@ -387,7 +386,7 @@ def plain_frame(table: Table, reading: Reading = Reading()) -> pandas.DataFrame:
 
 def _rows(
     frame: pandas.DataFrame, notes: collections.Counter[str]
-) -> list[tuple[Row, dict[str, Any]]]:
+) -> list[tuple[Row, dict[str, object]]]:
     """The rows of a frame with their cells."""
     found = []
     for place, (label, cells) in enumerate(zip(frame.index, frame.to_dict("records"))):
@@ -399,8 +398,8 @@ def _rows(
 
 
 def _ordered(
-    rows: list[tuple[Row, dict[str, Any]]], frame: pandas.DataFrame, reading: Reading
-) -> list[tuple[Row, dict[str, Any]]]:
+    rows: list[tuple[Row, dict[str, object]]], frame: pandas.DataFrame, reading: Reading
+) -> list[tuple[Row, dict[str, object]]]:
     """The rows by time, then sequence, then place, where that is asked; a row without a time stays
     behind the one above it.
     """

@@ -5,7 +5,6 @@ import dataclasses
 import functools
 from collections.abc import Iterator
 from decimal import Decimal
-from typing import Any
 
 from callauction.reasons import explain as explain_book
 from callauction.verdict.comparing import FILL, Difference, Fill, Trade
@@ -16,6 +15,12 @@ from callauction.verdict.queue import recorded_fills
 from callauction.verdict.replay import OpenOrder, Result, Rules
 
 PRICE_ITEMS = ("volume", "surplus", "side")
+
+
+def price_text(price: Decimal, tick_size: Decimal | None) -> str:
+    """A price with the decimals of the tick size, where that is known."""
+    fixed = price if tick_size is None else price.quantize(tick_size)
+    return format(fixed if fixed == price else price, "f")
 
 
 @dataclasses.dataclass(frozen=True)
@@ -31,9 +36,7 @@ class Context:
 
     def price(self, price: Decimal) -> str:
         """A price with the decimals of the tick size, where that is known."""
-        size = self.rules.tick_size
-        fixed = price if size is None else price.quantize(size)
-        return format(fixed if fixed == price else price, "f")
+        return price_text(price, self.rules.tick_size)
 
     @property
     def book(self) -> dict[str, OpenOrder]:
@@ -116,7 +119,7 @@ def book_sentences(context: Context) -> list[str]:
     assert replayed is not None
     ticks = replayed.ticks
 
-    def named(tick: Any) -> str:
+    def named(tick: int) -> str:
         return context.price(ticks.price(int(tick)))
 
     return [*explain_book(replayed.books, None, ticks.tick(replayed.phase.reference), named)]
@@ -315,8 +318,8 @@ def _share(context: Context, order: OpenOrder) -> str:
     place, count = replayed.places[order.key] + 1, len(replayed.queues[order.side])
     return (
         f"{order.order} is number {place:,} of {count:,} in the queue of {order.side}s: of the "
-        f"volume, {context.result.volume:,}, {replayed.ahead[order.key]:,} fall to those before it, "
-        f"and {replayed.fills.get(order.key, 0):,} to it, which has {order.quantity:,} open."
+        f"volume, {context.result.volume:,}, {replayed.ahead[order.key]:,} fall to those before "
+        f"it, and {replayed.fills.get(order.key, 0):,} to it, which has {order.quantity:,} open."
     )
 
 

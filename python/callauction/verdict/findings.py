@@ -14,6 +14,7 @@ from callauction.verdict.events import BadRow, NoPrice
 from callauction.verdict.explain import Context, book_sentences, rule_of, sentences_of
 from callauction.verdict.judging import Judged, Judgement
 from callauction.verdict.names import Names
+from callauction.verdict.orders import orders_of
 from callauction.verdict.queue import AROUND, queue_of
 from callauction.verdict.replay import Rules
 
@@ -109,6 +110,12 @@ class Verdict:
         """
         context, difference = finding._of
         return queue_of(context.judged, self.names.keys, difference.orders, around)
+
+    def orders(self) -> pandas.DataFrame:
+        """The orders that the rules accept, with what became of each: the columns are
+        orders.ORDERS.
+        """
+        return orders_of(self.judgement, self.names, self.rules)
 
     def why(self, judged: Judged) -> Explanation:
         """Why an auction has its lawful price, or none. Raises ProgramError."""

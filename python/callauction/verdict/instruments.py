@@ -99,8 +99,8 @@ def terms_of(given: Mapping[str, object], name: str) -> dict[str, Any]:
     missing = [f"--{it.replace('_', '-')}" for it in TERMS[:2] if given.get(it) is None]
     if missing:
         raise TermsError(
-            f"{name or 'the file'} has order events: say {' and '.join(missing)} (the last price before the day "
-            "is the reference; the tick size is none where it depends on the price)"
+            f"{name or 'the file'} has order events: say {' and '.join(missing)} (the last price "
+            "before the day is the reference; the tick size is none where it depends on the price)"
         )
     terms: dict[str, Any] = {name: given.get(name) for name in TERMS}
     terms["tick_size"] = None if terms["tick_size"] == NO_TICK_SIZE else terms["tick_size"]

@@ -55,6 +55,20 @@ MOST_PATHS = 12
 
 
 @dataclasses.dataclass(frozen=True)
+class State:
+    """What is open before a call phase in the order of time, the reference, the shares of each
+    order that were executed, whether the auction was interrupted before, and the number of the
+    current auction among those of the day.
+    """
+
+    orders: tuple[OpenOrder, ...]
+    reference: Decimal
+    executed: dict[str, int]
+    is_extended: bool = False
+    ended: int = 0
+
+
+@dataclasses.dataclass(frozen=True)
 class Judged:
     """An uncross with what was published of it, and how that differs from what the rules give.
 
@@ -71,6 +85,8 @@ class Judged:
     filled: tuple[Filled, ...] = ()
     is_ended: bool = False
     """Whether the auction is over behind the uncross."""
+    behind: State | None = None
+    """What the next call phase begins with."""
 
 
 @dataclasses.dataclass(frozen=True)
@@ -87,20 +103,8 @@ class Judgement:
     has_trades: bool
     has_fills: bool
     owners: dict[str, Owner]
-
-
-@dataclasses.dataclass(frozen=True)
-class State:
-    """What is open before a call phase in the order of time, the reference, the shares of each
-    order that were executed, whether the auction was interrupted before, and the number of the
-    current auction among those of the day.
-    """
-
-    orders: tuple[OpenOrder, ...]
-    reference: Decimal
-    executed: dict[str, int]
-    is_extended: bool = False
-    ended: int = 0
+    total_quantity: bool = False
+    """Whether replaces say the total of an order, and not what is open."""
 
 
 @dataclasses.dataclass(frozen=True)
@@ -180,6 +184,7 @@ class Judge:
             self.has_trades,
             self.has_fills,
             self.names.owners,
+            self.extract.total_quantity,
         )
 
     def _count(self, path: Path) -> int:
@@ -200,7 +205,8 @@ class Judge:
 
     def _uncross_of(self, event: Traded | Filled) -> int:
         """Which uncross a trade or a fill is recorded of: by the nearest time, or else by its place
-        among the rows; -1 where there is none. Uncrosses that are recorded as interrupted have none.
+        among the rows; -1 where there is none. Uncrosses that are recorded as interrupted have
+        none.
         """
         done = [number for number, it in enumerate(self.uncrosses) if it.auction != INTERRUPTED]
         if not done:
@@ -384,7 +390,7 @@ class Judge:
         ]
         return dataclasses.replace(
             path,
-            judged=(*path.judged, judged),
+            judged=(*path.judged, dataclasses.replace(judged, behind=state)),
             state=state,
             taken=path.taken + len(moment.events),
             bad_rows=(*path.bad_rows, *refused),

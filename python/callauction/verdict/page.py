@@ -1,5 +1,5 @@
 """The report of an extract as one HTML file: the verdict and the findings first, then each finding
-with its rule and its queue, then the auctions. See html_of.
+with its rule and its queue, then the auctions, the members and the orders. See html_of.
 """
 import fractions
 import html
@@ -24,7 +24,9 @@ from callauction.pages import (
 from callauction.verdict.events import INTERRUPTED
 from callauction.verdict.findings import LAWFUL, MOST_BAD_ROWS, Verdict
 from callauction.verdict.judging import Judged
-from callauction.verdict.explain import Context
+from callauction.verdict.explain import Context, price_text
+from callauction.verdict.orders import members_of
+from callauction.verdict.replay import Rules
 
 MOST_FIRST = 12
 """How many findings the first page shows; the others follow below."""
@@ -43,6 +45,8 @@ def html_of(verdict: Verdict, title: str, watch: Watch = iter) -> str:
     """
     parts = [_first(verdict), *_explained(verdict)]
     parts += [_auction(verdict, judged) for judged in watch(_replayed(verdict))]
+    orders = verdict.orders()
+    parts += [_members(orders), _orders(orders, verdict.rules)]
     return html_page(title, [*parts, *_bad_rows(verdict)])
 
 
@@ -175,6 +179,35 @@ def _namer(context: Context, first: Decimal, step: fractions.Fraction) -> Callab
         return context.price(Decimal(price.numerator) / Decimal(price.denominator))
 
     return named
+
+
+def _members(orders: pandas.DataFrame) -> Part:
+    """What each member entered and traded by the rules, and how much better than its limits."""
+    found = members_of(orders)
+    if not len(found):
+        return "Members", "<p>No order was entered.</p>"
+    told = (
+        "<p>Bought, sold: lawful shares. Better: how much better than their limits a member's "
+        "limit orders traded, in prices times shares.</p>"
+    )
+    found["better"] = [f"{it:,f}" if it else "0" for it in found["better"]]
+    found["member"] = found["member"].where(found["member"] != "", "not recorded")
+    caption = f"{counted(len(found), 'member')}: shares entered, bought and sold"
+    counts = ("orders", "entered", "bought", "sold")
+    return "Members", told + html_table(found, caption, "members", counts)
+
+
+def _orders(orders: pandas.DataFrame, rules: Rules) -> Part:
+    """What became of each order."""
+    if not len(orders):
+        return "Orders", "<p>No order was entered.</p>"
+    listed = orders.drop(columns="better")
+    listed["limit"] = [
+        "market" if it is None else price_text(it, rules.tick_size) for it in orders["limit"]
+    ]
+    caption = f"{counted(len(orders), 'order')}: {UNIT}; traded: lawful shares"
+    counts = ("quantity", "traded", "recorded", "open")
+    return "Orders", html_table(listed, caption, "orders", counts)
 
 
 def _bad_rows(verdict: Verdict) -> Iterator[Part]:
