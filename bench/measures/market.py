@@ -3,9 +3,10 @@
 Each file is audited with its results, by a plain loop of the shell over bench/market_file.sh, by
 GNU parallel and by xargs over the same, and by `python3 -m callauction.market audit`, from its
 start to its end, and without its start (`run`; the processor's time is the whole's). Prints a table
-of these, what was wanted, and a table of the splits with their peak memory. All is right where each found what bench/write_market.py changed, and
-all is as wanted. --entries and --instruments name the market, which is written to --keep where it
-isn't there. Needs Debian's python3-pandas, python3-tqdm and parallel.
+of these, what was wanted, and a table of the splits with their peak memory. All is right where each
+found what bench/write_market.py changed, and all is as wanted. --entries and --instruments name the
+market, which is written to --keep where it isn't there. Needs Debian's python3-pandas, python3-tqdm
+and parallel.
 """
 import argparse
 import csv

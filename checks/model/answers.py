@@ -49,4 +49,4 @@ def answer(text: str, options: Options, form: str) -> Answer:
     except FileFault as fault:
         return 1, "", f"{fault}\n{likely_cause(str(fault), text, options)}"
     except OpenFault as fault:
-        return 2, "", f"{fault}\n"
+        return 2, "", f"{fault}\n{likely_cause(str(fault), text, options)}"

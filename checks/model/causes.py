@@ -1,10 +1,10 @@
-"""The likely cause of a record's fault, by the rules of docs/FORMATS.md.
+"""The likely cause of a record's fault or of a day's, by the rules of docs/FORMATS.md.
 
 It shares no code with the program. It takes plain fields alone, as checks.model.files does.
 """
 import re
 
-from checks.model.day import Options
+from checks.model.day import MOST_TICKS, Options
 from checks.model.files import FIELDS, is_journal, number, records
 
 START_BYTES = 16_384
@@ -15,6 +15,7 @@ FAULT = re.compile(
 BYTE_ORDER_MARKS = ("\xff\xfe", "\xfe\xff")
 FIRST_NAMES = 5  # fields of a header that begin with letters
 DAY_FIELDS = {"low": 1, "high": 2, "members": 4}
+BOUNDS_FIELDS = {"low": 1, "high": 2, "reference": 3}
 
 
 def form_cause(place: int, fields: list[str]) -> str | None:
@@ -79,21 +80,36 @@ def record_cause(what: str, place: int, fields: list[str], options: Options) -> 
     return None
 
 
-def day_options(text: str, options: Options) -> Options:
-    """These options, with what the first record of a journal says in their place."""
+def day_options(text: str, options: Options, places: dict[str, int]) -> Options:
+    """These options, with what the first record of a journal says in these places instead."""
     if not is_journal(text):
         return options
     day = next(records(text))
-    told = {name: number(day[k]) for name, k in DAY_FIELDS.items() if k < len(day)}
-    if len(told) < len(DAY_FIELDS) or None in told.values():
+    told = {name: number(day[k]) for name, k in places.items() if k < len(day)}
+    if len(told) < len(places) or None in told.values():
         return options
     return {**options, **told}
+
+
+def bounds_cause(start: str, options: Options) -> str:
+    """What is wrong with the bounds or the reference of the day of an input that begins so."""
+    if len(start) == START_BYTES and len(list(records(start))) < 2:
+        return ""
+    day = day_options(start, options, BOUNDS_FIELDS)
+    low, high, reference = day["low"], day["high"], day["reference"]
+    if low > high:
+        return f"low {low} is above high {high}\n"
+    if high - low + 1 > MOST_TICKS:
+        return f"low {low} to high {high} are more than {MOST_TICKS} ticks\n"
+    return f"the reference {reference} is outside {low} to {high}\n"
 
 
 def likely_cause(fault: str, text: str, options: Options) -> str:
     """The line that follows this fault of this input, for a day of these options, on standard
     error, or nothing.
     """
+    if fault in ("bad bounds", "bad reference"):
+        return bounds_cause(text[:START_BYTES], options)
     told = FAULT.fullmatch(fault)
     if told is None:
         return ""
@@ -105,5 +121,6 @@ def likely_cause(fault: str, text: str, options: Options) -> str:
     is_reply = place > 1 and is_journal(text) and told["field"] == str(len(fields))
     if is_reply:
         return ""
-    cause = record_cause(told["what"], place, fields, day_options(text[:START_BYTES], options))
+    day = day_options(text[:START_BYTES], options, DAY_FIELDS)
+    cause = record_cause(told["what"], place, fields, day)
     return f"{cause}\n" if cause else ""

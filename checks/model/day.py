@@ -183,7 +183,7 @@ class Day:
         return f"price {tick} volume {min(demand, supply)} surplus {abs(demand - supply)} {side}"
 
     def display(self) -> str:
-        """What an ask is answered: the price, or the best limits."""
+        """What an ask is answered: the price, or the best bid and ask."""
         tick = self.price()
         if tick is not None:
             return self.price_text(tick)

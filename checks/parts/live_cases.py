@@ -313,8 +313,12 @@ def run_table() -> Iterator[Run]:
     yield "--reserve alone", ["--reserve", "16"], "< /dev/null", 2, "", without
     yield "--reserve 1048577", ["--live", "--reserve=1048577"], "< /dev/null", 2, "", "*"
     yield "a form that there isn't", ["--live", "--print", "x"], "< /dev/null", 2, "", "*"
-    yield "bounds", ["--live", "--low", "9", "--high", "8"], "< /", 2, "", "bad bounds\n"
-    yield "a reference", ["--live", "--high", "100"], "< /", 2, "", "bad reference\n"
+    yield "bounds", ["--live", "--low", "9", "--high", "8"], "< /", 2, "", (
+        "bad bounds\nlow 9 is above high 8\n"
+    )
+    yield "a reference", ["--live", "--high", "100"], "< /", 2, "", (
+        "bad reference\nthe reference 200 is outside 1 to 100\n"
+    )
     lines = (EXAMPLES / "opening.txt").read_text()
     yield "the lines by their name", [
         "--live",

@@ -2,19 +2,23 @@
 
 An order file is run for its lines, also record by record (--live), and for its journal, trades and
 book, which examples/forms has; its journal is run for the same and audited. The journals of
-examples/audits are audited. `rt ci` runs copies of the order files: the examples of
-crates/callboard/src/tests/examples.rt, one for each file and with its name. They are compared with
-the files, and the journals with the records and the lines that they have in them. The program's own
-stored run, crates/callboard/args, stdin and stdout, is no copy of a file, and is run here too.
+examples/audits are audited. README's session and its script are held. `rt ci` runs copies of the
+order files: the examples of crates/callboard/src/tests/examples.rt, one for each file and with its
+name. They are compared with the files, and the journals with the records and the lines that they
+have in them. The program's own stored run, crates/callboard/args, stdin and stdout, is no copy of a
+file, and is run here too.
 """
+import itertools
 import pathlib
 import re
 import subprocess
+import sys
 from collections.abc import Iterator
 
 import pytest
 
 from checks import built
+from checks.parts.sessions import Session
 
 EXAMPLES = built.TOP / "examples"
 FORMS = ["journal", "trades", "book"]
@@ -130,3 +134,43 @@ def test_the_run_prints_what_is_stored(program: str, row: Row) -> None:
         [program, *words], input=text, capture_output=True, text=True, timeout=MOST_SECONDS
     )
     assert (run.returncode, run.stdout) == (status, wanted), run.stderr
+
+
+def readme_block(begin: str) -> list[str]:
+    """The lines of README's block that begins so, without their indent. Raises ValueError."""
+    lines = (built.TOP / "README.md").read_text().splitlines()
+    first = lines.index(begin)
+    return [line[4:] for line in itertools.takewhile(str.strip, lines[first:])]
+
+
+def test_readme_session(program: str, tmp_path: pathlib.Path) -> None:
+    command, *lines = readme_block("    ./callboard --live --journal today.csv")
+    records, said = lines[1::2], [lines[0], *lines[2::2]]
+    session = Session([program, *command.split()[1:-1], str(tmp_path / "today.csv")], False)
+    try:
+        session.hears("", f"{said[0]}\n")
+        for record, answer in zip(records, said[1:], strict=True):
+            session.send(f"{record}\n".encode())
+            session.hears(f"{answer}\n", "")
+        session.end_input()
+        session.ends(1)
+    finally:
+        session.close()
+
+
+def test_readme_script(program: str, tmp_path: pathlib.Path) -> None:
+    (tmp_path / "callboard").symlink_to(program)
+    script = "\n".join(readme_block("    import subprocess"))
+    for place in (0, 3):
+        run = subprocess.run(
+            [sys.executable, "-c", script],
+            cwd=tmp_path,
+            capture_output=True,
+            text=True,
+            timeout=MOST_SECONDS,
+        )
+        printed = run.stdout.splitlines()
+        assert [line.split(":")[0] for line in printed] == [f"{place + k}" for k in (1, 2, 3)]
+        if place == 0:
+            assert printed[2] == "3: opening price 200 volume 300 surplus 200 bid trades 1"
+    assert len((tmp_path / "robot.csv").read_text().splitlines()) == 7

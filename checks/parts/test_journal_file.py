@@ -1,9 +1,9 @@
-"""Sessions that keep a journal (`--live --journal FILE`): 200 that are killed and gone on with, beside
-the model; files that a crash or a hand has left; another day's, unlawful, faulty and foreign ones;
-a file that can't grow; options.
+"""Sessions that keep a journal (`--live --journal FILE`): 200 that are killed and gone on with,
+beside the model; files that a crash or a hand has left; another day's, unlawful, faulty and foreign
+ones; a file that can't grow; options.
 
-After each crash the file must begin as the model's journal does, with all that was answered, and the
-next session must go on behind it. The expected texts are the model's.
+After each crash the file must begin as the model's journal does, with all that was answered, and
+the next session must go on behind it. The expected texts are the model's.
 """
 import contextlib
 import dataclasses
@@ -12,10 +12,12 @@ import pathlib
 import random
 import resource
 import select
+import shutil
 import signal
 import subprocess
+import tempfile
 import time
-from collections.abc import Callable
+from collections.abc import Callable, Iterator
 
 import pytest
 
@@ -270,6 +272,22 @@ def test_foreign_lines(
     refused(program, file, [], status, told)
 
 
+@pytest.mark.parametrize(
+    ("words", "told"),
+    [
+        (["--low", "5", "--high", "1"], "bad bounds\nlow 5 is above high 1\n"),
+        (["--reference", "1001"], "bad reference\nthe reference 1001 is outside 1 to 1000\n"),
+    ],
+    ids=["bounds", "reference"],
+)
+def test_bad_day(program: str, tmp_path: pathlib.Path, words: list[str], told: str) -> None:
+    new, torn = tmp_path / "new", tmp_path / "torn"
+    torn.write_bytes(b"day,\0\0")
+    for file in (new, torn, tmp_path / "no/such/folder"):
+        refused(program, file, words, 2, told)
+    assert list(tmp_path.iterdir()) == [torn]
+
+
 def test_in_use(program: str, tmp_path: pathlib.Path) -> None:
     file = tmp_path / "day.journal"
     session = Session([program, "--live", "--journal", str(file)], False)
@@ -301,6 +319,53 @@ def test_no_regular_file(program: str, tmp_path: pathlib.Path) -> None:
     dangling.symlink_to(tmp_path / "none")
     refused(program, dangling, [], 3, failed)
     assert not (tmp_path / "none").exists()
+
+
+@pytest.fixture(name="as_nobody")
+def nobodys_program(program: str) -> Iterator[list[str]]:
+    """The command of the program, by somebody who may write only where modes say so. Root may write
+    anywhere, and so runs it as nobody, from a copy that all may read.
+    """
+    if os.geteuid() != 0:
+        yield [program]
+        return
+    with tempfile.TemporaryDirectory() as folder:
+        copy = shutil.copy(program, folder)
+        os.chmod(folder, 0o755)
+        os.chmod(copy, 0o755)
+        yield ["setpriv", "--reuid=nobody", "--regid=nogroup", "--clear-groups", copy]
+
+
+@pytest.mark.parametrize(
+    ("of_folder", "of_file"),
+    [(0o777, 0o444), (0o555, 0o666), (0o555, None), (0o555, 0o444), (0o777, 0o222)],
+    ids=["file", "folder", "folder, no file", "both", "not readable"],
+)
+def test_read_only(as_nobody: list[str], of_folder: int, of_file: int | None) -> None:
+    with tempfile.TemporaryDirectory() as above:
+        folder = pathlib.Path(above) / "day"
+        folder.mkdir()
+        file = folder / "day.journal"
+        if of_file is not None:
+            file.write_text(DAY)
+            file.chmod(of_file)
+        os.chmod(above, 0o755)
+        folder.chmod(of_folder)
+        goes_on = of_file == 0o666
+        got = subprocess.run(
+            [*as_nobody, "--live", "--journal", str(file)],
+            input="1,ask\n",
+            capture_output=True,
+            text=True,
+            timeout=MOST_SECONDS,
+        )
+        folder.chmod(0o755)
+        left = file.read_text() if file.exists() else None
+    if goes_on:
+        said = (0, f"1: {ASK}\n", "journal 0 entries\n", f"{DAY}1,ask,{ASK}\n")
+    else:
+        said = (3, "", "journal open failed\n", None if of_file is None else DAY)
+    assert (got.returncode, got.stdout, got.stderr, left) == said
 
 
 def limited(most: int) -> Callable[[], None]:

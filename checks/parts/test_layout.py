@@ -122,6 +122,15 @@ def test_a_long_line(tmp_path: pathlib.Path) -> None:
     assert len(faults_of(sources.long_lines, tree)) == 2
 
 
+@pytest.mark.parametrize("name", ["python/callauction/a.py", "build/a"])
+def test_a_long_line_of_python(tmp_path: pathlib.Path, name: str) -> None:
+    most = "# " + "ä" * (sources.MOST_COLUMNS_OF_PYTHON - 2)
+    text = f"#!/usr/bin/env python3\n{most}\n{most}ä\n"
+    other = f"#!/usr/bin/env bash\n{most}ä\n"
+    tree = planted(tmp_path, **{name: text, "build/other": other})
+    assert faults_of(sources.long_lines, tree) == [f"{name}:3: 101 columns, 100 at most"]
+
+
 HEADS = [
     "use one.Thing",
     "-- Answers of `f` (src/lib.rt): what the prover left open.",

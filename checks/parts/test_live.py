@@ -4,19 +4,21 @@ sent once the one before it is answered.
 The order files of examples/, records that come byte by byte, in quotes, with other line ends, bad
 ones among good ones, and the ends that a session has. Random order files with bad records among
 theirs come record by record, at once and in pieces; the lines are those of the model. What a long
-session takes in memory, devices that fail, and options that exclude --live.
+session takes in memory, devices that fail or don't wait, and options that exclude --live.
 """
+import os
 import random
 import subprocess
 import sys
 import tempfile
+import time
 
 import pytest
 
 from checks import built
 from checks.parts import live_cases
 from checks.parts.live_cases import Run
-from checks.parts.sessions import MOST_SECONDS, Session, Talk, hold
+from checks.parts.sessions import MOST_SECONDS, STILL_SECONDS, Session, Talk, hold
 
 SEEDS = range(1, 151)
 MOST_KIB_MORE = 2_048  # of memory that a long session takes beside a short one
@@ -96,6 +98,25 @@ def memory_of(program: str, count: int) -> int:
             check=False,
         )
         return int(figures.read().split()[2])
+
+
+def test_ends_that_do_not_wait(program: str) -> None:
+    reading, sending = os.pipe()
+    answering, writing = os.pipe()
+    for end in (reading, writing):
+        os.set_blocking(end, False)
+    count = 10_000  # whose records a pipe takes, and whose answers it doesn't
+    with subprocess.Popen([program, "--live"], stdin=reading, stdout=writing) as child:
+        os.close(reading)
+        os.close(writing)
+        time.sleep(STILL_SECONDS)  # in which there is nothing to read
+        os.write(sending, b"1,ask\n" * count)
+        os.close(sending)
+        time.sleep(STILL_SECONDS)  # in which there is no room for more answers
+        with os.fdopen(answering) as answers:
+            said = answers.readlines()
+        assert child.wait(timeout=MOST_SECONDS) == 0
+    assert said == [f"{place}: no price bid - ask -\n" for place in range(1, count + 1)]
 
 
 def test_memory_does_not_grow_with_the_records(program: str) -> None:

@@ -226,8 +226,9 @@ def test_bad_words_and_files(program: str, sweep: Sweep, name: str) -> None:
 
 def test_bad_bounds(program: str, sweep: Sweep) -> None:
     words = [program, "--low", "5", "--high", "4"]
-    right = 2, "", "bad bounds\n"
-    sweep("bad bounds", words, b"1,ask\n", right.__eq__, is_refusal_of_program)
+    told = "bad bounds\n"
+    right = (2, "", told + "low 5 is above high 4\n"), (2, "", told)
+    sweep("bad bounds", words, b"1,ask\n", right.__contains__, is_refusal_of_program)
 
 
 def pytest_generate_tests(metafunc: pytest.Metafunc) -> None:

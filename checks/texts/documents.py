@@ -18,7 +18,7 @@ from collections.abc import Iterator
 
 from checks.texts.tree import Tree
 
-MOST_BYTES = 105 * 1024
+MOST_BYTES = 95_000
 FORBIDDEN = {
     r"\bstands?\b": "say what it is, or where",
     r"\btells?\b|\btold\b": "says, prints, shows, names",

@@ -1,6 +1,8 @@
-"""Rules for the texts of crates: each gives its faults as `FILE:LINE: ..` or `FILE: ..`.
+"""Rules for the texts of crates and of Python: each gives its faults as `FILE:LINE: ..` or
+`FILE: ..`.
 
-- A line of crates/*/src, crates/*/specs or crates/*/proofs has at most 120 characters.
+- A line of crates/*/src, crates/*/specs or crates/*/proofs has at most 120 characters, one of
+  Python at most 100.
 - No name of a file is shared by specs or proofs of two crates, but for Lib, Answers, Invariants and
   Proof, and for the folders of proofs that are named as a module or a function.
 - No file is named `..Lemmas.antt`: we say Laws.
@@ -19,7 +21,7 @@ from collections.abc import Iterator
 from checks.texts import banned
 from checks.texts.tree import Tree
 
-MOST_COLUMNS = 120
+MOST_COLUMNS, MOST_COLUMNS_OF_PYTHON = 120, 100
 LIMITS = {
     1_000_000: "MAX_TICK",
     65_536: "MAX_TICKS or MAX_OPEN_ORDERS",
@@ -41,10 +43,12 @@ BLOCK = re.compile(MODIFIERS + r"(?P<word>module|record|data)\b")
 
 
 def long_lines(tree: Tree) -> Iterator[str]:
-    for file in [*tree.sources, *tree.specs, *tree.proofs]:
+    most = dict.fromkeys([*tree.sources, *tree.specs, *tree.proofs], MOST_COLUMNS)
+    most |= dict.fromkeys(tree.python, MOST_COLUMNS_OF_PYTHON)
+    for file, columns in most.items():
         for place, line in enumerate(tree.lines(file), 1):
-            if len(line) > MOST_COLUMNS:
-                yield f"{tree.name(file)}:{place}: {len(line)} columns, {MOST_COLUMNS} at most"
+            if len(line) > columns:
+                yield f"{tree.name(file)}:{place}: {len(line)} columns, {columns} at most"
 
 
 def shared_names(tree: Tree) -> Iterator[str]:

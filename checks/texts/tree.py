@@ -41,16 +41,25 @@ class Tree:
         ]
 
     @functools.cached_property
+    def python(self) -> list[pathlib.Path]:
+        """The files of Python: `*.py`, and scripts without a suffix whose first line names it."""
+        return [
+            file
+            for file in self.files
+            if file.suffix == ".py" or not file.suffix and self.is_script(file, b"python")
+        ]
+
+    @functools.cached_property
     def documents(self) -> list[pathlib.Path]:
         """The documents that a person wrote."""
         found = [self.top / "README.md", *sorted((self.top / "docs").glob("*.md"))]
         found += [self.top / "python/README.md"]
         return [file for file in found if file.is_file() and file.name != "WRONG_BODIES.md"]
 
-    def is_script(self, file: pathlib.Path) -> bool:
-        """Whether a file begins with a line `#!`."""
+    def is_script(self, file: pathlib.Path, language: bytes = b"") -> bool:
+        """Whether a file begins with a line `#!`, which names this language."""
         with open(file, "rb") as begun:
-            return begun.read(2) == b"#!"
+            return begun.read(2) == b"#!" and language in begun.readline()
 
     def name(self, file: pathlib.Path) -> str:
         """The path of a file in the repository."""
