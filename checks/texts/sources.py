@@ -9,6 +9,8 @@
 - The first line of a file in a folder of proofs that is named as a function says what it belongs
   to, and that `rt` looks there.
 - No two lemmas have names that differ by hyphens and underscores alone.
+- No type, trait, record or definition with a capital letter has its name in two crates, but for the
+  types of the two boards (TWINS) and for a type and the record that it is in contracts (MODELS).
 - A limit of the market or of memory (LIMITS) isn't written as a number, where it isn't the value of
   a constant: in sources, definitions and proofs, but for tests, examples, comments and texts.
 - No name of before comes back (checks/texts/banned.py).
@@ -33,6 +35,11 @@ LIMITS = {
     268_435_456: "the most bytes of a journal",
 }
 SHARED = {"Lib", "Answers", "Invariants", "Proof"}
+TWINS, MODELS = {"member_board", "shared_board"}, {"Leaders"}
+TYPE = re.compile(r"(?:pub(?:\([a-z]+\))? )?(?:struct|enum|trait|union) (?P<name>\w+)")
+DEFINED = re.compile(
+    r"(?:(?:pub|abbrev|unfoldable|opaque|record|data) +)+(?P<name>[A-Z]\w*)(?= *[:({])"
+)
 NUMBER = re.compile(r"(?<![\w.\"])[0-9][0-9_]*(?!\w)")
 CONSTANT = re.compile(r"(pub(\([a-z]+\))? )?(const|static) (?P<name>[A-Z][A-Z0-9_]*) *:")
 TEXT = re.compile(r'"(?:[^"\\]|\\.)*"')
@@ -106,6 +113,22 @@ def near_names(tree: Tree) -> Iterator[str]:
             yield f"these names differ by a hyphen alone: {told}"
 
 
+def names_of_two_crates(tree: Tree) -> Iterator[str]:
+    places: dict[str, dict[str, str]] = collections.defaultdict(dict)
+    for file in [*tree.sources, *tree.specs, *tree.proofs]:
+        pattern = TYPE if file.suffix == ".rt" else DEFINED
+        if is_test(tree, file):
+            continue
+        for place, line in enumerate(tree.lines(file), 1):
+            found = pattern.match(line)
+            if found:
+                where = f"{tree.name(file)}:{place}"
+                places[found["name"]].setdefault(tree.crate(file), where)
+    for name, crates in sorted(places.items()):
+        if len(crates) > 1 and name not in MODELS and not set(crates) <= TWINS:
+            yield f"{name} has two meanings: {', '.join(crates.values())}"
+
+
 def names_of_before(tree: Tree) -> Iterator[str]:
     for file in tree.code:
         text = tree.text(file)
@@ -155,6 +178,7 @@ RULES = [
     walks_without_a_head,
     lemma_files,
     near_names,
+    names_of_two_crates,
     retyped_limits,
     names_of_before,
 ]

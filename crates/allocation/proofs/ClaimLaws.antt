@@ -33,7 +33,7 @@ use Rattle.auction_terms.proofs.RankLaws.{sum_by-filter}
 use Rattle.auction_terms.proofs.FillLaws.{sum_by-map, total-requested_fill}
 use Rattle.auction_terms.proofs.CountedLaws.{counted_is_line, orders_of-auction_orders, sum-auction_orders}
 use Rattle.auction_terms.proofs.CountedLaws.{few-auction_orders}
-use Rattle.order_book.specs.Orders.{OrdersView, HasAllOrders, present, slot_at}
+use Rattle.order_book.specs.Orders.{OrdersView, PassesAllOrders, present, slot_at}
 use Rattle.order_book.proofs.WalkLaws.{present_more, present_all, length-ones}
 use Rattle.allocation.specs.declared.claims.Claim.{Claim}
 use Rattle.allocation.specs.declared.claims.Claimants.{Claimants}
@@ -265,7 +265,7 @@ filter_both p q (x ∷ xs) = grind (arith, common_steps, (filter_both p q xs))
 
 -- all claims, sorted
 pub claims-ranked : (claimants : Claimants) (orders : OrdersView) (places : ℕ) (gathered claims : List Claim)
-    → HasAllOrders places orders → gathered ≡ claims_of claimants (present (take places orders.slots))
+    → PassesAllOrders places orders → gathered ≡ claims_of claimants (present (take places orders.slots))
     → AreNarrow (present (take places orders.slots)) → IsPermutation gathered claims → AreInOrder claims
     → IsRanked claimants.side claimants.price (orders_in_auction claimants.kind orders) claims
 unfolding wide

@@ -28,7 +28,7 @@ use Rattle.auction_terms.proofs.RankLaws.{by_rank_total, all_agree_by_place, all
 use Rattle.auction_terms.proofs.RankLaws.{PlacesRise-filter, sum_by-filter}
 use Rattle.auction_terms.proofs.SortLaws.{Before, Rising, map-in_order, rising_in_order, sum_by-in_order}
 use Rattle.auction_terms.proofs.SortLaws.{up_from_sorted}
-use Rattle.order_book.specs.Orders.{OrdersView, HasAllOrders, present, slot_at}
+use Rattle.order_book.specs.Orders.{OrdersView, PassesAllOrders, present, slot_at}
 use Rattle.order_book.proofs.WalkLaws.{present_more, present_all}
 use Rattle.allocation.specs.declared.listing.Listed.{Listed}
 use Rattle.allocation.specs.declared.listing.RankedOrder.{RankedOrder}
@@ -178,7 +178,7 @@ ranked_more listed slots i ranked more found so_far at pushed =
 
 -- all orders, sorted
 pub listed_in_priority : (listed : Listed) (orders : OrdersView) (places : ℕ) (gathered ranked : List RankedOrder)
-    → HasAllOrders places orders → gathered ≡ ranked_orders_of listed (present (take places orders.slots))
+    → PassesAllOrders places orders → gathered ≡ ranked_orders_of listed (present (take places orders.slots))
     → AreNarrow (present (take places orders.slots)) → IsPermutation gathered ranked → AreByRank ranked
     → AreInPriority listed (orders_of orders.line) ranked
 listed_in_priority listed orders places gathered ranked walk is passed permuted sorted =

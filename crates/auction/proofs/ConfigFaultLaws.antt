@@ -11,7 +11,7 @@ none_holds : (a b d : Bool) → cond a (Some BadBounds) (cond b (Some BadReferen
     ≡ None → (a ≡ false) × ((b ≡ false) × (d ≡ false))
 none_holds a b d e = grind (arith, common_steps)
 
-pub record IsWithin (config : Config) : Type 0 where
+pub record HasReferenceWithin (config : Config) : Type 0 where
   pub low : config.low ≤ config.reference
   pub high : config.reference ≤ config.high
   pub last : config.high ≤ MAX_TICK
@@ -47,7 +47,7 @@ module _ (config : Config) (bounds : has_bad_bounds config ≡ false) (reference
   few_calls : config.max_calls ≤ MAX_CALLS
   few_calls = grind (arith, nat_tests)
 
-  all_within : IsWithin config
+  all_within : HasReferenceWithin config
   all_within = record {
     low = from_low;
     high = to_high;
@@ -60,6 +60,6 @@ module _ (config : Config) (bounds : has_bad_bounds config ≡ false) (reference
     calls = few_calls;
   }
 
-pub terms_within : (config : Config) → open_fault config ≡ None → IsWithin config
+pub terms_within : (config : Config) → open_fault config ≡ None → HasReferenceWithin config
 unfolding open_fault
 terms_within config e = grind (arith, common_steps, none_holds, all_within)

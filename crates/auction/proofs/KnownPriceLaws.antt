@@ -20,7 +20,8 @@ use Rattle.auction_terms.specs.declared.Display.TheVariants.{Unpriced}
 use Rattle.auction_terms.specs.Day.{display_of}
 use Rattle.auction_terms.proofs.EditLaws.{change_is}
 use Rattle.auction_terms.proofs.LadderLaws.{stands_by, market_by, by_order, by_market, standing_is, market_is}
-use Rattle.auction_terms.proofs.LadderSums.{IsMore, more-push, more-without_id, more-changed, more-moved, counted_sums}
+use Rattle.auction_terms.proofs.LadderSums.{HasOrderMore, more-push, more-without_id}
+use Rattle.auction_terms.proofs.LadderSums.{more-changed, more-moved, counted_sums}
 use Rattle.auction_terms.proofs.LadderSums.{order_additive, market_additive}
 use Rattle.auction_terms.proofs.TickListLaws.{All_at, has-highest, has-lowest, highest_agree, lowest_agree}
 use Rattle.auction_terms.proofs.StandingLaws.{standing_limit, limit_standing, side_limit}
@@ -63,7 +64,7 @@ no_market s Ask Ask Market q true e = absurd (cc)
 no_market s Ask Ask (At l) q true e = refl
 
 -- the books with and without an order that is beyond, or doesn't count
-more_same : (kind : AuctionKind) (s : KnownPrice) (o : Order) (old new : List Order) → IsMore o old new
+more_same : (kind : AuctionKind) (s : KnownPrice) (o : Order) (old new : List Order) → HasOrderMore o old new
     → participates_in kind o && not (is_beyond s o.side o.limit) ≡ false
     → IsSameWithin s.lowest s.highest (auction_orders old kind) (auction_orders new kind)
 unfolding by_order by_market
@@ -128,13 +129,13 @@ known_once low n kind (Some s) o old new same known =
     at false e = known_of low n s (auction_orders old kind) (auction_orders new kind) (same s e) known
 
 known_more : (low n : ℕ) (kind : AuctionKind) (found : Option KnownPrice) (o : Order) (old new : List Order)
-    → IsMore o old new → IfSome found (IsKnown low n (auction_orders old kind))
+    → HasOrderMore o old new → IfSome found (IsKnown low n (auction_orders old kind))
     → IfSome (still_known found kind o) (IsKnown low n (auction_orders new kind))
 known_more low n kind found o old new is known =
     known_once low n kind found o old new (λ s e. more_same kind s o old new is e) known
 
 known_fewer : (low n : ℕ) (kind : AuctionKind) (found : Option KnownPrice) (o : Order) (old new : List Order)
-    → IsMore o new old → IfSome found (IsKnown low n (auction_orders old kind))
+    → HasOrderMore o new old → IfSome found (IsKnown low n (auction_orders old kind))
     → IfSome (still_known found kind o) (IsKnown low n (auction_orders new kind))
 known_fewer low n kind found o old new is known =
     known_once low n kind found o old new
@@ -174,7 +175,7 @@ module _ (old new : OpenOrders) where
           cond k (changed_at o.id (with_terms limit quantity) old.orders)
           (moved_to_end o.id (with_terms limit quantity) old.orders)
 
-      back : (k : Bool) → IsMore (with_terms limit quantity o) (without_id o.id old.orders) (list k)
+      back : (k : Bool) → HasOrderMore (with_terms limit quantity o) (without_id o.id old.orders) (list k)
       back true = more-changed o.id (with_terms limit quantity) old.orders o d is
       back false = more-moved o.id (with_terms limit quantity) old.orders o d is
 

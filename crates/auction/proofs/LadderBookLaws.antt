@@ -18,7 +18,8 @@ use Rattle.auction_terms.specs.Ladder.{LadderView, ladder_of, IsTickOf}
 use Rattle.auction_terms.proofs.LadderLaws.{length-tick_values}
 use Rattle.auction_terms.proofs.RestIdLaws.{IdsDiffer-filter}
 use Rattle.auction_terms.proofs.EditLaws.{change_is, moved_is}
-use Rattle.auction_terms.proofs.LadderSums.{with_quantity, IsMore, more-push, more-without_id, more-changed, more-moved}
+use Rattle.auction_terms.proofs.LadderSums.{with_quantity, HasOrderMore, more-push}
+use Rattle.auction_terms.proofs.LadderSums.{more-without_id, more-changed, more-moved}
 use Rattle.auction_terms.proofs.LadderSums.{more-book_after_fill, more-auction_orders, ladder-more, ladder-fewer}
 use Rattle.auction_terms.proofs.LadderSums.{ladder-others}
 use Rattle.auction_terms.specs.Ladder.{quantity_in}
@@ -53,10 +54,10 @@ ticks_of low n book ladder same = ap (λ (v : LadderView). length v.bids) same �
 module _ {low n : ℕ} {kind : AuctionKind} {old : List Order} {ladder : LadderView}
     (was : HasLadder low n kind old ladder) (new : List Order) (o : Order) (orderly : IsOrderly new)
     (within : All (HasTick low n) new) (tick : IsTickOf low n o.limit) where
-  kept_more : IsMore o old new → HasLadder low n kind new (ladder_with kind o ladder)
+  kept_more : HasOrderMore o old new → HasLadder low n kind new (ladder_with kind o ladder)
   kept_more is = grind (arith, common_steps, ladder-more, open_counted, more-auction_orders, ladder-others)
 
-  kept_fewer : IsMore o new old → HasLadder low n kind new (ladder_less kind o o.quantity ladder)
+  kept_fewer : HasOrderMore o new old → HasLadder low n kind new (ladder_less kind o o.quantity ladder)
   kept_fewer is = grind (arith, common_steps, ladder-fewer, open_counted, more-auction_orders, ladder-others)
 
 changed_ticks : (low n id : ℕ) (change : Order → Order) (book : List Order)

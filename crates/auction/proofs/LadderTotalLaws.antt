@@ -13,7 +13,7 @@ use Rattle.auction_terms.specs.Book.{is_same_side, is_market, quantity_of}
 use Rattle.auction_terms.specs.Ladder.{is_at, quantity_at, market_quantity, tick_values, ladder_of, IsTickOf}
 use Rattle.auction_terms.proofs.LadderLaws.{same_spread, at_spread, stands_by, market_by, by_order, by_market}
 use Rattle.auction_terms.proofs.LadderLaws.{standing_is, market_is}
-use Rattle.auction_terms.proofs.LadderSums.{IsMore, order_additive, market_additive}
+use Rattle.auction_terms.proofs.LadderSums.{HasOrderMore, order_additive, market_additive}
 use Rattle.auction_terms.specs.Ladder.{quantity_in}
 use Rattle.tick_ladder.specs.TickLadder.{total_quantity}
 
@@ -33,7 +33,7 @@ unfolding ladder_of
 at_limit low n book side limit q tick stands sums = grind (arith, common_steps, at_spread, stands, cond-same)
 
 -- an order of the book stands at its limit
-pub quantity_in-least : (low n : ℕ) (old new : List Order) (o : Order) → IsTickOf low n o.limit → IsMore o old new
+pub quantity_in-least : (low n : ℕ) (old new : List Order) (o : Order) → IsTickOf low n o.limit → HasOrderMore o old new
     → o.quantity ≤ quantity_in (ladder_of low n new) o.side o.limit
 unfolding by_order by_market
 quantity_in-least low n old new o tick is =

@@ -61,7 +61,7 @@ pub record IsBookOf (config : Config) (auction : Option AuctionKind) (book : Ope
   pub few : length book.orders ≤ config.max_open
 
 -- the reference lies within the bounds, and the tape has room for the trades of the day
-pub record IsSound (config : Config) (auction : Option AuctionKind) (book : OpenOrders) (at : ℕ) (tape : Vec Trade)
+pub record IsSoundDay (config : Config) (auction : Option AuctionKind) (book : OpenOrders) (at : ℕ) (tape : Vec Trade)
     : Type 0 where
   pub same : IsBookOf config auction book
   pub reference : IsBoundedBy config at

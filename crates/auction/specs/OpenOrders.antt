@@ -41,8 +41,8 @@ abbrev pub without_orders : OpenOrders → OpenOrders
 without_orders book = record book { orders = []; kind = Opening; entered = 0; stamps = 0 }
 
 -- as many orders may be open and as many calls be had, and the ticks are the same
-abbrev pub HasSameRoom : OpenOrders → OpenOrders → Type 0
-HasSameRoom book other =
+abbrev pub HasSameTicksAndRoom : OpenOrders → OpenOrders → Type 0
+HasSameTicksAndRoom book other =
     (other.low ≡ book.low) × (other.ticks ≡ book.ticks)
     × (other.max_open ≡ book.max_open) × (other.max_calls ≡ book.max_calls)
 

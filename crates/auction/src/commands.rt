@@ -43,7 +43,7 @@ pub(crate) struct DayState {
 
 impl Model for DayState {
     ghost use Rattle.std.specs.Prelude.{◌+◌};
-    ghost use Rattle.auction.specs.AuctionState.{AuctionState, IsSound};
+    ghost use Rattle.auction.specs.AuctionState.{AuctionState, IsSoundDay};
 
     ghost Value = { AuctionState };
 
@@ -60,7 +60,7 @@ impl Model for DayState {
       stamps = d.book.stamps;
     } };
 
-    ghost invariant = { λ d. IsSound d.config d.auction d.book d.reference d.tape };
+    ghost invariant = { λ d. IsSoundDay d.config d.auction d.book d.reference d.tape };
 }
 
 // Refuses a command for this reason where the check holds.

@@ -68,8 +68,8 @@ applied_each a cs rs i now rs_now so end =
 
 -- ---- an error changes nothing
 
-abbrev IsSame : RunningAuction → AuctionReply → ApplyResult → Type 0
-IsSame a reply o = (o.auction ≡ a) × (o.reply ≡ reply)
+abbrev IsUnchanged : RunningAuction → AuctionReply → ApplyResult → Type 0
+IsUnchanged a reply o = (o.auction ≡ a) × (o.reply ≡ reply)
 
 if-error : (b : Bool) (x y : ApplyResult) → y.error ≡ 0 → ((if b then x else y).error ≡ 0 → ⊥)
     → (if b then x else y) ≡ x
@@ -77,12 +77,12 @@ if-error true x y done fails = refl
 if-error false x y done fails = absurd (fails done)
 
 command_kept : (a : RunningAuction) (member : ℕ) (c : Command) (r : AuctionReply)
-    → ((apply_command a member c r).error ≡ 0 → ⊥) → IsSame a r (apply_command a member c r)
+    → ((apply_command a member c r).error ≡ 0 → ⊥) → IsUnchanged a r (apply_command a member c r)
 command_kept a member c r fails =
-    subst (IsSame a r) (sym (if-error (nat_eq a.calls a.config.max_calls) _ _ refl fails)) (refl, refl)
+    subst (IsUnchanged a r) (sym (if-error (nat_eq a.calls a.config.max_calls) _ _ refl fails)) (refl, refl)
 
 decoded_kept : (a : RunningAuction) (member : ℕ) (c : Option Command) (r : AuctionReply)
-    → ((apply_decoded a member c r).error ≡ 0 → ⊥) → IsSame a r (apply_decoded a member c r)
+    → ((apply_decoded a member c r).error ≡ 0 → ⊥) → IsUnchanged a r (apply_decoded a member c r)
 decoded_kept a member None r fails = (refl, refl)
 decoded_kept a member (Some c) r fails = command_kept a member c r fails
 

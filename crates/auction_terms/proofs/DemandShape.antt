@@ -14,7 +14,7 @@ use Rattle.auction_terms.proofs.DemandSums.{demand-nil, demand-cons, supply-nil,
 -- ---- an order at two ticks
 
 -- P of the limit's tick, if it has one
-abbrev AtTick : (ℕ → Type 0) → Limit → Type 0
+abbrev pub AtTick : (ℕ → Type 0) → Limit → Type 0
 AtTick P Market = Unit {0}
 AtTick P (At l) = P l
 
@@ -28,7 +28,7 @@ ask_same : (limit : Limit) (side : Side) (n p q : ℕ) → p ≤ q → AtTick (�
 ask_same limit side n p q h clear = grind (arith, common_steps)
 
 -- what holds of each limit holds of the first order's and of the others'
-limits_parts : (P : ℕ → Type 0) (limit : Limit) (order : Order) (book : List Order) → order.limit ≡ limit
+pub limits_parts : (P : ℕ → Type 0) (limit : Limit) (order : Order) (book : List Order) → order.limit ≡ limit
     → All P (limits (order ∷ book)) → AtTick P order.limit × All P (limits book)
 unfolding limits
 limits_parts P Market order book e all = rw e (tt, rw e at all)

@@ -74,15 +74,15 @@ filter_tells a P (p ∷ ps) all = elim (cases_Bool (a p)) [
 -- ---- the two kept limits
 
 -- a kept limit has the leaders' volume and surplus, and with a surplus it is on its side
-abbrev pub Kept : List Order → Leaders → (ℕ → Bool) → ℕ → Type 0
-Kept book leaders side p =
+abbrev pub IsKeptLimit : List Order → Leaders → (ℕ → Bool) → ℕ → Type 0
+IsKeptLimit book leaders side p =
     (volume book p ≡ leaders.volume) × (surplus book p ≡ leaders.surplus) × (0 < leaders.surplus → side p ≡ true)
 
 pub key_parts : (book : List Order) (v s p : ℕ) → has_key book v s p ≡ true → (volume book p ≡ v) × (surplus book p ≡ s)
 key_parts book v s p key = grind (arith, common_steps, and_parts, eqb-true)
 
 pub lower_is_kept : (book : List Order) (leaders : Leaders) (low : ℕ) → AreLeadersOf book (limits book) leaders
-    → leaders.lower ≡ Some low → Kept book leaders (has_bid_surplus book) low
+    → leaders.lower ≡ Some low → IsKeptLimit book leaders (has_bid_surplus book) low
 lower_is_kept book leaders low lead e =
     let v = leaders.volume in
     let s = leaders.surplus in
@@ -111,7 +111,7 @@ lower_is_kept book leaders low lead e =
     ]
 
 pub upper_is_kept : (book : List Order) (leaders : Leaders) (high : ℕ) → AreLeadersOf book (limits book) leaders
-    → leaders.upper ≡ Some high → Kept book leaders (has_ask_surplus book) high
+    → leaders.upper ≡ Some high → IsKeptLimit book leaders (has_ask_surplus book) high
 upper_is_kept book leaders high lead e =
     let v = leaders.volume in
     let s = leaders.surplus in
@@ -160,7 +160,8 @@ ask_amounts book p ask = ltb-true (demand book p) (supply book p) ask
 
 -- no limit stands strictly between the kept limits of a book with a surplus
 clear_between : (book : List Order) (leaders : Leaders) (low high : ℕ) → 0 < leaders.surplus
-    → Kept book leaders (has_bid_surplus book) low → Kept book leaders (has_ask_surplus book) high → (q : ℕ)
+    → IsKeptLimit book leaders (has_bid_surplus book) low → IsKeptLimit book leaders (has_ask_surplus book) high
+    → (q : ℕ)
     → IsNoBetterThan book leaders q
     → (has_key book leaders.volume leaders.surplus q ≡ true → has_bid_surplus book q ≡ true → q ≤ low)
     → (has_key book leaders.volume leaders.surplus q ≡ true → has_ask_surplus book q ≡ true → high ≤ q)

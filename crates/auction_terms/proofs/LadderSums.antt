@@ -27,30 +27,30 @@ pub record IsAdditive (w : Order → ℕ) : Type 0 where
   pub nothing : (o : Order) → o.quantity ≡ 0 → w o ≡ 0
 
 -- the second book has the order, or part of an order, more
-pub record IsMore (o : Order) (old new : List Order) : Type 0 where
+pub record HasOrderMore (o : Order) (old new : List Order) : Type 0 where
   pub sums : (w : Order → ℕ) → IsAdditive w → sum_by w new ≡ sum_by w old + w o
 
 -- ---- the edits of a book
 
-pub more-push : (book : List Order) (o : Order) → IsMore o book (book ++ o ∷ [])
+pub more-push : (book : List Order) (o : Order) → HasOrderMore o book (book ++ o ∷ [])
 more-push book o = record { sums = λ w additive. sum-push w book o }
 
 pub more-without_id : (id : ℕ) (book : List Order) (o : Order) → IdsDiffer book → order_with id book ≡ Some o
-    → IsMore o (without_id id book) book
+    → HasOrderMore o (without_id id book) book
 more-without_id id book o d e = record { sums = λ w additive. sym (sum-without_id w id book o d e) }
 
 pub more-changed : (id : ℕ) (change : Order → Order) (book : List Order) (o : Order) → IdsDiffer book
-    → order_with id book ≡ Some o → IsMore (change o) (without_id id book) (changed_at id change book)
+    → order_with id book ≡ Some o → HasOrderMore (change o) (without_id id book) (changed_at id change book)
 more-changed id change book o d e =
     record { sums = λ w additive. omega (arith, sum-changed w change id book o d e, sum-without_id w id book o d e) }
 
 pub more-moved : (id : ℕ) (change : Order → Order) (book : List Order) (o : Order) → IdsDiffer book
-    → order_with id book ≡ Some o → IsMore (change o) (without_id id book) (moved_to_end id change book)
+    → order_with id book ≡ Some o → HasOrderMore (change o) (without_id id book) (moved_to_end id change book)
 more-moved id change book o d e =
     record { sums = λ w additive. omega (arith, sum-moved w id change book o d e, sum-without_id w id book o d e) }
 
 pub more-book_after_fill : (f : Fill) (book : List Order) (o : Order) → IdsDiffer book → order_with f.id book ≡ Some o
-    → f.quantity ≤ o.quantity → IsMore (with_quantity f.quantity o) (book_after_fill f book) book
+    → f.quantity ≤ o.quantity → HasOrderMore (with_quantity f.quantity o) (book_after_fill f book) book
 more-book_after_fill f book o d e within = grind (arith, common_steps, sum-book_after_fill)
 
 -- ---- what counts
@@ -58,14 +58,14 @@ more-book_after_fill f book o d e within = grind (arith, common_steps, sum-book_
 counted_weight : AuctionKind → (Order → ℕ) → Order → ℕ
 counted_weight kind w o = cond (participates_in kind o) (w o) 0
 
-pub counted_sums : (kind : AuctionKind) (o : Order) (old new : List Order) → IsMore o old new → (w : Order → ℕ)
+pub counted_sums : (kind : AuctionKind) (o : Order) (old new : List Order) → HasOrderMore o old new → (w : Order → ℕ)
     → IsAdditive w → sum_by w (auction_orders new kind) ≡ sum_by w (auction_orders old kind)
     + cond (participates_in kind o) (w o) 0
 unfolding counted_weight
 counted_sums kind o old new is w additive = search (arith, sum-auction_orders)
 
 pub more-auction_orders : (kind : AuctionKind) (o : Order) (old new : List Order) → participates_in kind o ≡ true
-    → IsMore o old new → IsMore o (auction_orders old kind) (auction_orders new kind)
+    → HasOrderMore o old new → HasOrderMore o (auction_orders old kind) (auction_orders new kind)
 more-auction_orders kind o old new e is = record {
   sums =
       λ w additive. counted_sums kind o old new is w additive
@@ -102,7 +102,7 @@ module _ (low n : ℕ) (old new : List Order) (was : All (λ o. 0 < o.quantity) 
         ∙ sym (ladder_is low n old was)
 
     module _ (o : Order) (tick : IsTickOf low n o.limit) where
-      pub ladder-more : IsMore o old new
+      pub ladder-more : HasOrderMore o old new
           → ladder_of low n new ≡ with_added (ladder_of low n old) o.side o.limit o.quantity
       unfolding by_order by_market
       ladder-more is =
@@ -112,7 +112,7 @@ module _ (low n : ℕ) (old new : List Order) (was : All (λ o. 0 < o.quantity) 
           (λ s. market_is s new ∙ is.sums (by_market s) (market_additive s)
           ∙ ap (λ k. k + market_by s o.side o.limit o.quantity) (sym (market_is s old)))
 
-      pub ladder-fewer : IsMore o new old
+      pub ladder-fewer : HasOrderMore o new old
           → ladder_of low n new ≡ with_removed (ladder_of low n old) o.side o.limit o.quantity
       unfolding by_order by_market
       ladder-fewer is =
@@ -124,7 +124,7 @@ module _ (low n : ℕ) (old new : List Order) (was : All (λ o. 0 < o.quantity) 
 
 -- the ladder of those that count, where the order counts and where it doesn't
 pub ladder-others : (low n : ℕ) (kind : AuctionKind) (o : Order) (old new : List Order) → All (λ o. 0 < o.quantity) old
-    → All (λ o. 0 < o.quantity) new → participates_in kind o ≡ false → IsMore o old new
+    → All (λ o. 0 < o.quantity) new → participates_in kind o ≡ false → HasOrderMore o old new
     → ladder_of low n (auction_orders new kind) ≡ ladder_of low n (auction_orders old kind)
 ladder-others low n kind o old new was now e is =
     ladder-same low n (auction_orders old kind) (auction_orders new kind)

@@ -3,20 +3,20 @@ use Rattle.std.proofs.Common.{◌≡◌, ◌<◌, ◌+◌, ◌++◌, ℕ, List, 
 use Rattle.std.proofs.Common.{◌-◌, append_assoc, length-drop, suc}
 use Rattle.auction_terms.specs.declared.Trade.{Trade}
 use Rattle.printed_lines.specs.ReplyWords.{words_text}
-use Rattle.printed_lines.proofs.Lists.{IsText, text-done}
+use Rattle.printed_lines.proofs.Lists.{IsListText, text-done}
 use Rattle.auction_views.specs.TableLines.{trade_line, trade_lines}
 
 pub lines-by-one : {X : Type 0} (line : X → List ℕ)
-    → IsText (λ before x. line x) (λ before xs. words_text (map line xs))
+    → IsListText (λ before x. line x) (λ before xs. words_text (map line xs))
 lines-by-one line = record { none = λ before. refl; more = λ before x xs. refl }
 
-pub trades-by-one : IsText (λ before trade. trade_line (before + 1) trade)
+pub trades-by-one : IsListText (λ before trade. trade_line (before + 1) trade)
     (λ before trades. words_text (trade_lines before trades))
 unfolding trade_lines
 trades-by-one = record { none = λ before. refl; more = λ before trade trades. refl }
 
 -- one more was put behind a text
-pub line-put : {X : Type 0} (one : ℕ → X → List ℕ) (texts : ℕ → List X → List ℕ) → IsText one texts
+pub line-put : {X : Type 0} (one : ℕ → X → List ℕ) (texts : ℕ → List X → List ℕ) → IsListText one texts
     → (xs : List X) (now after all : List ℕ) (i : ℕ) (d : X)
     → now ++ texts i (drop i xs) ≡ all → i < length xs → after ≡ now ++ one i (get_or xs i d)
     → after ++ texts (i + 1) (drop (i + 1) xs) ≡ all

@@ -104,11 +104,11 @@ start-said form start (Some xs) (Some ys) r says read (said, keeps, known) = (sa
 pub start-unread : (form : Form) (text : Option (List ℕ)) (f : FileFault) (says : List ℕ
     → Result DayWithCalls FileFault)
     → (f ≡ faults.ReadFailed) ⊎ (f ≡ faults.NoMemory) → KeepsDayOfText form (Err (fault.File f)) text says
-start-unread form text f says (inl is) = rw is (by text)
+start-unread form text f says (inl is) = rw is (by_option text)
   where
-    by : (text : Option (List ℕ)) → KeepsDayOfText form (Err (fault.File faults.ReadFailed)) text says
-    by None = (Err faults.ReadFailed, tt, tt)
-    by (Some bytes) = (says bytes, tt, refl)
+    by_option : (text : Option (List ℕ)) → KeepsDayOfText form (Err (fault.File faults.ReadFailed)) text says
+    by_option None = (Err faults.ReadFailed, tt, tt)
+    by_option (Some bytes) = (says bytes, tt, refl)
 start-unread form text f says (inr is) = rw is (said-memory form text says)
 
 -- ---- what begins with a digit
@@ -126,14 +126,14 @@ digit-journal d rest low high =
 digit-run_input : (day : DayHeader) (d : ℕ) (rest : List ℕ) → 48 ≤ d → d ≤ 57
     → orders_for day (d ∷ rest) ≡ run_input day (d ∷ rest)
 unfolding run_input run_input_of within_limit
-digit-run_input day d rest low high = by (nat_lt MAX_JOURNAL_BYTES (length (d ∷ rest))) refl
+digit-run_input day d rest low high = by_less (nat_lt MAX_JOURNAL_BYTES (length (d ∷ rest))) refl
   where
-    by : (b : Bool) → nat_lt MAX_JOURNAL_BYTES (length (d ∷ rest)) ≡ b
+    by_less : (b : Bool) → nat_lt MAX_JOURNAL_BYTES (length (d ∷ rest)) ≡ b
         → orders_for day (d ∷ rest) ≡ (within_limit MAX_JOURNAL_BYTES (d ∷ rest) >>= run_input_of day)
-    by true e =
+    by_less true e =
         let long : MAX_JOURNAL_BYTES < length (d ∷ rest) = search rules in
         rw e (orders-long day (d ∷ rest) (omega (arith, long)))
-    by false e = rw (e, digit-journal d rest low high) refl
+    by_less false e = rw (e, digit-journal d rest low high) refl
 
 pub digit-said : (form : Form) (day : DayHeader) (start : List ℕ) (b : Option (List ℕ)) (r : Result KeptDay Fault)
     → ((digit : ℕ) × (rest : List ℕ) × (start ≡ digit ∷ rest) × (48 ≤ digit) × (digit ≤ 57))

@@ -28,7 +28,8 @@ use Rattle.callboard.specs.declared.fault.Fault.{Fault}
 use Rattle.callboard.specs.declared.fault.Fault.TheVariants as fault
 use Rattle.callboard.specs.BoardRun.{IsDayOf, IsSplit, commands_of, counts_of}
 use Rattle.callboard.specs.PlayedDay.{IsPlayedOut, fault_after, is_kept_open, is_refused_memory, lacks_thread}
-use Rattle.callboard.proofs.SplitLaws.{IsNew, all_new, at_each, calls_of_from, none_beyond, none_from, own_commands}
+use Rattle.callboard.proofs.SplitLaws.{IsNewMember, all_new, at_each}
+use Rattle.callboard.proofs.SplitLaws.{calls_of_from, none_beyond, none_from, own_commands}
 use Rattle.callboard.proofs.SplitLaws.{recorded_commands, sum_counts}
 
 -- ---- a run without a fault
@@ -82,7 +83,7 @@ HasScriptCalls counts story s =
     (slice_index counts s.member ≡ length s.commands.items) × (commands_of s.member story ≡ s.commands.items)
 
 played_script-calls : (c : Config) (counts : List ℕ) (story : List Call) (m : MemberView) (s : Script)
-    (r : PlayedScript) → PlaysScript c m s.commands.items r → m.number ≡ s.member → IsNew m → IsWhole r
+    (r : PlayedScript) → PlaysScript c m s.commands.items r → m.number ≡ s.member → IsNewMember m → IsWhole r
     → HasCountedCalls counts story r.member → HasScriptCalls counts story s
 played_script-calls c counts story m s r plays same new whole told =
     let many : length r.receipts ≡ length s.commands.items = plays.whole whole in
@@ -100,7 +101,7 @@ played_script-calls c counts story m s r plays same new whole told =
 
 all-played_script-calls : (c : Config) (counts : List ℕ) (story : List Call) (ms : List MemberView) (ss : List Script)
     (rs : List PlayedScript)
-    → AllPlayScripts c ms ss rs → HaveSameNumbers ms ss → All IsNew ms → All IsWhole rs
+    → AllPlayScripts c ms ss rs → HaveSameNumbers ms ss → All IsNewMember ms → All IsWhole rs
     → All (HasCountedCalls counts story) (map (λ (p : PlayedScript). p.member) rs)
     → All (HasScriptCalls counts story) ss
 all-played_script-calls c counts story [] [] rs plays same new whole told = All-nil (HasScriptCalls counts story)
@@ -110,9 +111,10 @@ all-played_script-calls c counts story (m ∷ ms) (s ∷ ss) [] plays same new w
 all-played_script-calls c counts story (m ∷ ms) (s ∷ ss) (r ∷ rs) plays same new whole told =
     let members : List MemberView = map (λ (p : PlayedScript). p.member) rs in
     All-cons (HasScriptCalls counts story) s ss
-    (played_script-calls c counts story m s r plays.0 same.0 (All-head IsNew m ms new) (All-head IsWhole r rs whole)
+    (played_script-calls c counts story m s r plays.0 same.0 (All-head IsNewMember m ms new)
+    (All-head IsWhole r rs whole)
     (All-head (HasCountedCalls counts story) r.member members told))
-    (all-played_script-calls c counts story ms ss rs plays.1 same.1 (All-tail IsNew m ms new)
+    (all-played_script-calls c counts story ms ss rs plays.1 same.1 (All-tail IsNewMember m ms new)
     (All-tail IsWhole r rs whole) (All-tail (HasCountedCalls counts story) r.member members told))
 
 pub as_many : (c : Config) (ms : List MemberView) (ss : List Script) (rs : List PlayedScript)
@@ -135,7 +137,7 @@ played_out c n ms ss rs closing is_new fit plays whole closed accounts =
     let told : All (HasCountedCalls counts story) (map (λ (p : PlayedScript). p.member) rs) =
     λ j d lt. (closed.each j d lt, accounts j d lt) in
     let all : All (HasScriptCalls counts story) ss =
-    all-played_script-calls c counts story ms ss rs plays fit.numbers (subst (All IsNew) (sym is_new) (all_new n))
+    all-played_script-calls c counts story ms ss rs plays fit.numbers (subst (All IsNewMember) (sym is_new) (all_new n))
     whole told in
     record {
       legal = closed.legal;

@@ -40,15 +40,15 @@ commands-fit : (members member : ℕ) (calls : List Call) → AllByRecursion (Fi
     → AllByRecursion (FitsCommand members member) (commands_of member calls)
 commands-fit members member [] fits = tt
 commands-fit members member (call ∷ calls) fits =
-    by (call.member == member) refl (commands-fit members member calls fits.1)
+    by_member (call.member == member) refl (commands-fit members member calls fits.1)
   where
-    by : (b : Bool) → (call.member == member) ≡ b
+    by_member : (b : Bool) → (call.member == member) ≡ b
         → AllByRecursion (FitsCommand members member) (commands_of member calls)
         → AllByRecursion (FitsCommand members member) (commands_of member (call ∷ calls))
-    by true t rest =
+    by_member true t rest =
         let same : call.member ≡ member = search rules in
         rw t ((subst (λ (m : ℕ). m < members) same fits.0.0, fits.0.1), rest)
-    by false t rest = rw t rest
+    by_member false t rest = rw t rest
 
 calls-fit : (members : ℕ) (calls : List Call)
     → ((member : ℕ) → AllByRecursion (FitsCommand members member) (commands_of member calls))

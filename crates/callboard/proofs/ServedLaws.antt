@@ -244,13 +244,13 @@ mix-refused words fault ends status refused mixed two kept none_read none_writte
   none_written = none_written;
 }
   where
-    by : (f : WordsFault) → RefusesWords words f → ((error : Error) → f ≡ Parse error → ⊥)
+    by_fault : (f : WordsFault) → RefusesWords words f → ((error : Error) → f ≡ Parse error → ⊥)
         → RefusesWords words AuditNotAlone
         ⊎ (RefusesWords words LiveNotAlone ⊎ (RefusesWords words ResultsWithoutAudit
         ⊎ (RefusesWords words WithoutLive ⊎ RefusesWords words SyncWithoutJournal)))
-    by (Parse error) h other = absurd (other error refl)
-    by AuditNotAlone h other = inl h
-    by LiveNotAlone h other = inr (inl h)
-    by ResultsWithoutAudit h other = inr (inr (inl h))
-    by WithoutLive h other = inr (inr (inr (inl h)))
-    by SyncWithoutJournal h other = inr (inr (inr (inr h)))
+    by_fault (Parse error) h other = absurd (other error refl)
+    by_fault AuditNotAlone h other = inl h
+    by_fault LiveNotAlone h other = inr (inl h)
+    by_fault ResultsWithoutAudit h other = inr (inr (inl h))
+    by_fault WithoutLive h other = inr (inr (inr (inl h)))
+    by_fault SyncWithoutJournal h other = inr (inr (inr (inr h)))

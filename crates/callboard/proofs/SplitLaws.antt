@@ -153,12 +153,13 @@ newcomer_numbers (suc n) =
     ∙ sym (range_push 0 n n (omega arith))
 
 -- a member that has made no call
-abbrev pub IsNew : MemberView → Type 0
-IsNew m = (m.calls ≡ 0) × (m.mine ≡ [])
+abbrev pub IsNewMember : MemberView → Type 0
+IsNewMember m = (m.calls ≡ 0) × (m.mine ≡ [])
 
-pub all_new : (n : ℕ) → All IsNew (newcomers n)
-all_new zero = All-nil IsNew
-all_new (suc n) = All-append IsNew (newcomers n) _ (all_new n) (All-cons IsNew _ [] (refl, refl) (All-nil IsNew))
+pub all_new : (n : ℕ) → All IsNewMember (newcomers n)
+all_new zero = All-nil IsNewMember
+all_new (suc n) = All-append IsNewMember (newcomers n) _ (all_new n)
+    (All-cons IsNewMember _ [] (refl, refl) (All-nil IsNewMember))
 
 same_numbers : (ms : List MemberView) (ss : List Script) → map (λ (m : MemberView). m.number) ms
     ≡ map (λ (s : Script). s.member) ss → HaveSameNumbers ms ss

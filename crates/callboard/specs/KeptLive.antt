@@ -3,8 +3,8 @@ use Rattle.std.specs.Prelude.{◌≡◌, ◌≤◌, ◌⊎◌, ℕ, List, Bool, 
 use Rattle.auction_terms.specs.Auxiliary.RunningAuction.{RunningAuction, opened_auction}
 use Rattle.journal.specs.JournalFile.{journal_of}
 use Rattle.journal.specs.declared.day.DayHeader.{DayHeader}
-use Rattle.journal_file.specs.declared.file.OpenFault.{OpenFault}
-use Rattle.journal_file.specs.declared.file.OpenFault.TheVariants.{Busy, Failed}
+use Rattle.journal_file.specs.declared.file.OpenFileFault.{OpenFileFault}
+use Rattle.journal_file.specs.declared.file.OpenFileFault.TheVariants.{Busy, Failed}
 use Rattle.kept_session.specs.KeptRun.{KeptEnds, kept_ends}
 use Rattle.kept_session.specs.Resumed.{IsResumedFrom}
 use Rattle.kept_session.specs.declared.fault.BeginFault.{BeginFault}
@@ -31,7 +31,7 @@ begin_status (begin.Resume f) = resume_status f
 begin_status f = 3
 
 -- 2 where another session has the file
-abbrev pub opening_status : OpenFault → ℕ
+abbrev pub opening_status : OpenFileFault → ℕ
 opening_status Busy = 2
 opening_status (Failed error) = 3
 

@@ -13,7 +13,7 @@ use left_right::Absorb;
 use member_board::{
     Board, BoardIdentity, CloseFault, Closing, Fresh, Member, Update, Version, close,
 };
-use member_floor::{Gate, Outcome, RunFault, Script, ScriptRun, run};
+use member_floor::{FloorOutcome, Gate, RunFault, Script, ScriptRun, run};
 use std::alloc::Global;
 use std::sync::Wait;
 use std::thread::Threads;
@@ -102,7 +102,7 @@ where
 /// members that come back.
 fn close_after<K: BoardIdentity, T: Wait>(
     board: Board<K>,
-    outcome: Outcome<K>,
+    outcome: FloorOutcome<K>,
     room: Vec<Member<K>>,
     rt: &T,
 ) -> Result<Closing, Fault>
@@ -117,7 +117,7 @@ where
         (map (λ p. p.member) outcome.played.items)) }
     ensures fault { IfErr result (λ f. f ≡ unclosed_fault outcome.fault outcome.played.items) }
 {
-    let Outcome {
+    let FloorOutcome {
         played,
         unplayed: _unplayed,
         fault,

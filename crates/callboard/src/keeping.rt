@@ -14,7 +14,7 @@ use auction::Auction;
 use auction_terms::Config;
 use byte_streams::{Sink, Source, write_all};
 use journal::DayHeader;
-use journal_file::{Device, Journal, OpenFault};
+use journal_file::{CommittedLines, Device, OpenFileFault};
 use kept_session::{BeginFault, Begun, ResumeFault, UnlawfulEntry, begin, run_kept};
 use live_session::{Ending, LiveFault, SessionTerms};
 use order_file::FileFault;
@@ -35,7 +35,7 @@ pub struct OpenedJournal<D: Device> {
 /// What opens the file of a journal.
 pub trait OpensJournal<D: Device> {
     /// Opens a file, or makes it, and reads it.
-    fn open(self, alloc: Global, file: JournalFile<'_>) -> Result<OpenedJournal<D>, OpenFault>;
+    fn open(self, alloc: Global, file: JournalFile<'_>) -> Result<OpenedJournal<D>, OpenFileFault>;
 }
 
 /// Why a session with a journal doesn't begin.
@@ -44,7 +44,7 @@ pub enum KeptFault {
     /// No auction can be opened for the day. The file wasn't touched.
     Day(auction::OpenFault),
     /// The file couldn't be opened.
-    Opening(OpenFault),
+    Opening(OpenFileFault),
     /// It isn't begun with what the file has.
     Begin(BeginFault),
 }
@@ -147,11 +147,11 @@ fn tell_kept<E: Sink>(err: &mut E, fault: &KeptFault, day: DayHeader) -> u8
 {
     match fault {
         KeptFault::Day(fault) => tell_open(err, *fault, day),
-        KeptFault::Opening(OpenFault::Busy) => {
+        KeptFault::Opening(OpenFileFault::Busy) => {
             write_line(err, "journal in use");
             2
         }
-        KeptFault::Opening(OpenFault::Failed(_)) => {
+        KeptFault::Opening(OpenFileFault::Failed(_)) => {
             write_line(err, "journal open failed");
             3
         }
@@ -220,7 +220,10 @@ fn tell_ended<E: Sink>(err: &mut E, ended: Result<Ending, LiveFault>, is_closed:
 }
 
 /// Closes the journal of a session, unless a commit has failed. Whether it is closed.
-fn close_journal<D: Device>(journal: &mut Journal<D>, ended: Result<Ending, LiveFault>) -> bool
+fn close_journal<D: Device>(
+    journal: &mut CommittedLines<D>,
+    ended: Result<Ending, LiveFault>,
+) -> bool
     requires { (ended ≡ Err CommitFailed → ⊥) → IsSettled D.seen D.may_leave journal.old }
 {
     match ended {

@@ -29,7 +29,7 @@ use byte_streams::{Failures, FromRead, ToWrite};
 pub use fault::{Fault, Finish};
 pub use floor::run_floor;
 use input_hints::StartKeeper;
-use journal_file::{OpenFault, Opened, Syncing, Tracked, open};
+use journal_file::{OpenFileFault, Opened, Syncing, Tracked, open};
 pub use keeping::{OpenedJournal, OpensJournal};
 pub use laws::printed_journals_are_lawful;
 use process_ends::Patient;
@@ -66,7 +66,7 @@ impl OpensJournal<Tracked<Opened>> for Files<'_> {
         self,
         alloc: Global,
         file: JournalFile<'_>,
-    ) -> Result<OpenedJournal<Tracked<Opened>>, OpenFault> {
+    ) -> Result<OpenedJournal<Tracked<Opened>>, OpenFileFault> {
         let syncing = if file.is_synced {
             Syncing::Each
         } else {

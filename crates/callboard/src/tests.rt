@@ -7,7 +7,7 @@ use auction_terms::Config;
 use byte_streams::{Failures, FromMemory, Sink, Source, ToMemory, ToWrite};
 use input_hints::StartKeeper;
 use journal::DayHeader;
-use journal_file::{Device, OpenFault, Opened, Tracked};
+use journal_file::{Device, OpenFileFault, Opened, Tracked};
 use member_floor::Gate;
 use settings::{FloorForm, Form, JournalFile};
 use std::alloc::Global;
@@ -56,8 +56,8 @@ impl OpensJournal<Tracked<Opened>> for NoFiles {
         self,
         _alloc: Global,
         _file: JournalFile<'_>,
-    ) -> Result<OpenedJournal<Tracked<Opened>>, OpenFault> {
-        Err(OpenFault::Busy)
+    ) -> Result<OpenedJournal<Tracked<Opened>>, OpenFileFault> {
+        Err(OpenFileFault::Busy)
     }
 }
 

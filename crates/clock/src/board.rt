@@ -3,7 +3,7 @@
 ghost use Rattle.std.specs.Prelude.{◌≡◌};
 
 use crate::commands;
-use crate::tasks::{self, Task, perform};
+use crate::tasks::{self, MeasuredTask, perform};
 use auction::Auction;
 use auction_terms::{Config, MAX_CALLS};
 use left_right::Absorb;
@@ -44,7 +44,7 @@ fn all_at_once<K: BoardIdentity + Send + Sync, R: Wait + Threads + Sync>(
     alloc: Global,
     board: &Board<K>,
     members: Vec<Member<K>>,
-    tasks: &[Task],
+    tasks: &[MeasuredTask],
 ) -> Result<Vec<Member<K>>, AllocError>
 where
     Version<K>: Absorb<Update<K>, State = ()> + Send + Sync,
@@ -90,7 +90,7 @@ fn board_time<K: BoardIdentity + Send + Sync, R: Wait + Threads + Sync + Clock>(
     alloc: Global,
     board: Board<K>,
     members: Vec<Member<K>>,
-    tasks: &[Task],
+    tasks: &[MeasuredTask],
 ) -> io::Result<Taken>
 where
     Version<K>: Absorb<Update<K>, State = ()> + Send + Sync,
@@ -112,7 +112,7 @@ fn day<K: BoardIdentity + Send + Sync, R: Wait + Threads + Sync + Clock>(
     rt: &R,
     alloc: Global,
     fresh: Fresh,
-    tasks: &[Task],
+    tasks: &[MeasuredTask],
 ) -> io::Result<Taken>
     requires config { K.config ≡ fresh.config }
     requires parts { K.parts ≡ fresh.members }
@@ -158,56 +158,62 @@ fn measure_alone<R: Clock + Print + AllocGlobal>(
 #[derive(Clone, Copy)]
 struct Row {
     name: &'static str,
-    tasks: &'static [Task],
+    tasks: &'static [MeasuredTask],
     count: u32,
 }
 
 const ROWS: [Row; 9] = [
     Row {
         name: "calls-of-1-member",
-        tasks: &[Task::Call(CALLS)],
+        tasks: &[MeasuredTask::Call(CALLS)],
         count: CALLS,
     },
     Row {
         name: "calls-of-2-members",
-        tasks: &[Task::Call(CALLS / 2); 2],
+        tasks: &[MeasuredTask::Call(CALLS / 2); 2],
         count: CALLS,
     },
     Row {
         name: "calls-of-4-members",
-        tasks: &[Task::Call(CALLS / 4); 4],
+        tasks: &[MeasuredTask::Call(CALLS / 4); 4],
         count: CALLS,
     },
     Row {
         name: "look",
-        tasks: &[Task::Look(LOOKS)],
+        tasks: &[MeasuredTask::Look(LOOKS)],
         count: LOOKS,
     },
     Row {
         name: "look-of-4-members",
-        tasks: &[Task::Look(LOOKS); 4],
+        tasks: &[MeasuredTask::Look(LOOKS); 4],
         count: LOOKS * 4,
     },
     Row {
         name: "look-beside-calls",
-        tasks: &[Task::CallOn { pauses: 0 }, Task::Look(LOOKS)],
+        tasks: &[
+            MeasuredTask::CallOn { pauses: 0 },
+            MeasuredTask::Look(LOOKS),
+        ],
         count: LOOKS,
     },
     Row {
         name: "look-beside-calls-now-and-then",
-        tasks: &[Task::CallOn { pauses: PAUSES }, Task::Look(LOOKS)],
+        tasks: &[
+            MeasuredTask::CallOn { pauses: PAUSES },
+            MeasuredTask::Look(LOOKS),
+        ],
         count: LOOKS,
     },
     Row {
         name: "look-under-lock",
-        tasks: &[Task::LookUnderLock(LOCKED_LOOKS)],
+        tasks: &[MeasuredTask::LookUnderLock(LOCKED_LOOKS)],
         count: LOCKED_LOOKS,
     },
     Row {
         name: "look-under-lock-beside-calls",
         tasks: &[
-            Task::CallOn { pauses: 0 },
-            Task::LookUnderLock(LOCKED_LOOKS),
+            MeasuredTask::CallOn { pauses: 0 },
+            MeasuredTask::LookUnderLock(LOCKED_LOOKS),
         ],
         count: LOCKED_LOOKS,
     },

@@ -10,7 +10,7 @@ use std::sync::atomic::Ordering::SeqCst;
 
 /// What a member does while it is measured.
 #[derive(Clone, Copy, Debug, PartialEq, Eq)]
-pub enum Task {
+pub enum MeasuredTask {
     /// So many calls.
     Call(u32),
     /// Calls until a member that looks is done, with so many pauses of the processor after each.
@@ -85,7 +85,7 @@ pub fn perform<K: BoardIdentity, R: Wait>(
     rt: &R,
     board: &Board<K>,
     member: Member<K>,
-    task: Task,
+    task: MeasuredTask,
     is_done: &AtomicBool,
 ) -> (Member<K>, u32)
 where
@@ -94,12 +94,26 @@ where
     let mut member = member;
     let mut seen = 0;
     match task {
-        Task::Call(count) => call_many(rt, board, &mut member, count, 0, &AtomicBool::new(false)),
-        Task::CallOn { pauses } => call_many(rt, board, &mut member, u32::MAX, pauses, is_done),
-        Task::Look(count) => seen = look_many(&mut member, count),
-        Task::LookUnderLock(count) => seen = look_under_lock(rt, board, count),
+        MeasuredTask::Call(count) => call_many(
+            rt,
+            board,
+            &mut member,
+            count,
+            0,
+            &AtomicBool::new(false),
+        ),
+        MeasuredTask::CallOn { pauses } => call_many(
+            rt,
+            board,
+            &mut member,
+            u32::MAX,
+            pauses,
+            is_done,
+        ),
+        MeasuredTask::Look(count) => seen = look_many(&mut member, count),
+        MeasuredTask::LookUnderLock(count) => seen = look_under_lock(rt, board, count),
     }
-    if matches!(task, Task::Look(_) | Task::LookUnderLock(_)) {
+    if matches!(task, MeasuredTask::Look(_) | MeasuredTask::LookUnderLock(_)) {
         is_done.store(true, SeqCst);
     }
     (member, seen)

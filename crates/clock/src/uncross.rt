@@ -30,7 +30,7 @@ const OPERATOR: u8 = 0;
 
 /// Bids and asks that fill each other whole.
 #[derive(Clone, Copy)]
-struct Book {
+struct BookShape {
     name: &'static str,
     /// Over how many ticks the limits of a side lie, 1 to 100.
     ticks: u32,
@@ -48,7 +48,7 @@ fn fill(auction: &mut Auction, ticks: u32) {
 }
 
 /// Has an empty auction with the orders of this book, after the auctions before.
-fn begin(auction: &mut Auction, book: Book) {
+fn begin(auction: &mut Auction, book: BookShape) {
     auction.reset();
     for _ in 0..book.before {
         fill(auction, book.ticks);
@@ -58,7 +58,7 @@ fn begin(auction: &mut Auction, book: Book) {
 }
 
 /// Measures one book, and prints nanoseconds for each of its orders.
-fn measure<R: Clock + Print + AllocGlobal>(rt: &R, book: Book) -> io::Result<()> {
+fn measure<R: Clock + Print + AllocGlobal>(rt: &R, book: BookShape) -> io::Result<()> {
     let mut auction = Auction::open(rt.alloc(), CONFIG).map_err(|_| AllocError)?;
     let mut least = u128::MAX;
     for _ in 0..ROUNDS {
@@ -75,18 +75,18 @@ fn measure<R: Clock + Print + AllocGlobal>(rt: &R, book: Book) -> io::Result<()>
 
 /// The books: one tick, in slots as they come, so that the claims are in rank order as they are found; one tick, in
 /// slots that were freed; and limits that lie apart.
-const BOOKS: [Book; 3] = [
-    Book {
+const BOOKS: [BookShape; 3] = [
+    BookShape {
         name: "in-rank-order",
         ticks: 1,
         before: 0,
     },
-    Book {
+    BookShape {
         name: "slots-used-again",
         ticks: 1,
         before: 1,
     },
-    Book {
+    BookShape {
         name: "limits-apart",
         ticks: 100,
         before: 0,

@@ -12,7 +12,7 @@ day_of audit = recorded audit.journal.now
 
 -- nothing was counted, and the auction is the one that the day begins with; it can have all of the day's calls, each of
 -- which has a text
-pub record IsBegun (audit : Audit) : Type 0 where
+pub record IsNewAudit (audit : Audit) : Type 0 where
   pub counts : audit.counts ≡ no_counts
   pub auction : audit.auction ≡ opened_auction (day_of audit).day.config
   pub few : length (day_of audit).calls ≤ (day_of audit).day.config.max_calls

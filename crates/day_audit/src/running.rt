@@ -11,7 +11,7 @@ ghost use Rattle.journal.specs.declared.reading.TheConstants.{MAX_JOURNAL_BYTES}
 ghost use Rattle.printed_lines.specs.Printing.{Prints};
 ghost use Rattle.printed_lines.specs.ReplyWords.{reply_text};
 ghost use Rattle.day_audit.specs.Answers.{answers_in, finding_of};
-ghost use Rattle.day_audit.specs.BegunAudit.{IsBegun, IsSameDay, day_of};
+ghost use Rattle.day_audit.specs.BegunAudit.{IsNewAudit, IsSameDay, day_of};
 ghost use Rattle.day_audit.specs.AuditCounts.{counts_of, no_counts};
 ghost use Rattle.day_audit.specs.AuditText.{audit_text, differences};
 ghost use Rattle.day_audit.specs.ResultsText.{printed_text, results_text};
@@ -66,7 +66,7 @@ impl<'a> Audit<'a> {
         &mut self,
         printer: &mut Printer<'_, S>,
     ) -> Result<(), WriteFailed>
-        requires { IsBegun self.old }
+        requires { IsNewAudit self.old }
         ensures printed { Prints S.Sink printer.old printer.new result (differences 0 (answers_in (day_of self.old))) }
         ensures counts { OnOk result (self.new.counts ≡ counts_of (answers_in (day_of self.old))) }
         ensures day { IsSameDay self.old self.new }
@@ -85,7 +85,7 @@ impl<'a> Audit<'a> {
 
     /// Prints what is found of the day: the differences, and then what was counted.
     fn print_findings<S: Sink>(&mut self, printer: &mut Printer<'_, S>) -> Result<(), WriteFailed>
-        requires { IsBegun self.old }
+        requires { IsNewAudit self.old }
         ensures printed { Prints S.Sink printer.old printer.new result (audit_text (answers_in (day_of self.old))) }
         ensures counts { OnOk result (self.new.counts ≡ counts_of (answers_in (day_of self.old))) }
         ensures day { IsSameDay self.old self.new }
@@ -111,7 +111,7 @@ impl<'a> Audit<'a> {
         printer: &mut Printer<'_, S>,
         results: bool,
     ) -> Result<(), WriteFailed>
-        requires { IsBegun self.old }
+        requires { IsNewAudit self.old }
         ensures printed { Prints S.Sink printer.old printer.new result (printed_text results (day_of self.old)) }
         ensures counts { OnOk result (self.new.counts ≡ counts_of (answers_in (day_of self.old))) }
     {
@@ -124,7 +124,7 @@ impl<'a> Audit<'a> {
 
     /// Writes the whole text of an audit, or at a failure a beginning of it.
     fn write<S: Sink>(&mut self, writer: &mut S, results: bool) -> Result<(), WriteFailed>
-        requires { IsBegun self.old }
+        requires { IsNewAudit self.old }
         ensures written { WritesAll S.Sink writer.old writer.new result (printed_text results (day_of self.old)) }
         ensures counts { OnOk result (self.new.counts ≡ counts_of (answers_in (day_of self.old))) }
     {

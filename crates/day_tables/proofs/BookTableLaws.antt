@@ -28,7 +28,7 @@ use Rattle.day_tables.specs.DecidingRule.{rule_of}
 use Rattle.day_tables.specs.BookTable.{ShownBook, shown_book, is_among, is_price, has_record, rule_field, rule_word}
 use Rattle.day_tables.specs.BookTable.{tick_record, tick_records, market_record, book_table, table_before, text_before}
 use Rattle.day_tables.specs.BookTable.{tables_after}
-use Rattle.day_tables.specs.TableCurves.{HasRoom, AreCurves, IsDecidingRule}
+use Rattle.day_tables.specs.TableCurves.{HasRoomForTicks, AreCurves, IsDecidingRule}
 use Rattle.day_tables.specs.TableRows.{HasPlaces, IsTableOf, is_at_price, is_row, side_between, rule_at, row, row_if}
 use Rattle.day_tables.specs.TableRows.{rows_below, market_row, tick_shown}
 use Rattle.day_tables.proofs.TickTableLaws.{limit_present, long_present}
@@ -197,7 +197,7 @@ pub record IsDrawn (v : LadderView) (table : Table) : Type 0 where
   pub present : table.present.now ≡ v.present
 
 pub places_drawn : (v : LadderView) (table : Table) → IsLadder v → IsDrawn v table
-    → HasRoom (length v.bids) table.curves.now → HasPlaces table
+    → HasRoomForTicks (length v.bids) table.curves.now → HasPlaces table
 places_drawn v table sound drawn room = record {
   present = rw (drawn.present, drawn.bids) (long_present v sound);
   asks = rw (drawn.asks, drawn.bids) sound.same;
@@ -311,24 +311,24 @@ stepped_from old middle new call config is same of = rw (is, same, of) refl
 
 pub room_of : (old new : RunningAuction) (v : LadderView) (curves : Curves) → new ≡ old
     → v ≡ ladder_over new.config (current_orders new.state)
-    → HasRoom (old.config.high + 1 - old.config.low) curves → HasRoom (length v.bids) curves
+    → HasRoomForTicks (old.config.high + 1 - old.config.low) curves → HasRoomForTicks (length v.bids) curves
 room_of old new v curves same over room =
     let long =
     ladder_ticks old.config.low (old.config.high + 1 - old.config.low) (current_orders old.state) v
     (rw same at over) in
-    subst (λ n. HasRoom n curves) (sym long) room
+    subst (λ n. HasRoomForTicks n curves) (sym long) room
 
 pub room_back : (old new : RunningAuction) (v : LadderView) (curves : Curves) → new ≡ old
     → v ≡ ladder_over new.config (current_orders new.state)
-    → HasRoom (length v.bids) curves → HasRoom (old.config.high + 1 - old.config.low) curves
+    → HasRoomForTicks (length v.bids) curves → HasRoomForTicks (old.config.high + 1 - old.config.low) curves
 room_back old new v curves same over room =
     let long =
     ladder_ticks old.config.low (old.config.high + 1 - old.config.low) (current_orders old.state) v
     (rw same at over) in
-    subst (λ n. HasRoom n curves) long room
+    subst (λ n. HasRoomForTicks n curves) long room
 
-pub own_room : (n : ℕ) (curves : Curves) → HasRoom n curves → HasRoom (length curves.best.items) curves
-own_room n curves room = subst (λ m. HasRoom m curves) (sym room.best) room
+pub own_room : (n : ℕ) (curves : Curves) → HasRoomForTicks n curves → HasRoomForTicks (length curves.best.items) curves
+own_room n curves room = subst (λ m. HasRoomForTicks m curves) (sym room.best) room
 
 pub own_curves : (low n : ℕ) (curves : Curves) (book : List Order) → AreCurves low n curves book
     → AreCurves low (length curves.best.items) curves book

@@ -16,7 +16,7 @@ use Rattle.day_tables.specs.AnsweredCalls.{entry_of}
 use Rattle.day_tables.specs.BookTable.{table_before, tables_after, text_before}
 use Rattle.day_tables.specs.KeptBook.{AreTables, HasTablesSoFar, HasRoomFor, HasAllTables, tables_of}
 use Rattle.day_tables.specs.ShownTable.{IsShownIn}
-use Rattle.day_tables.specs.TableCurves.{HasRoom}
+use Rattle.day_tables.specs.TableCurves.{HasRoomForTicks}
 use Rattle.day_tables.proofs.BookTableLaws.{ladder_ticks}
 
 -- one table more

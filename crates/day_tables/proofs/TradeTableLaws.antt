@@ -79,13 +79,13 @@ auctions-all entries i all e h = e ∙ ap trade_auctions (take_all i entries h)
 members_push : (entries : List Entry) (entry : Entry) → entering_members (entries ++ entry ∷ [])
     ≡ entering_members entries ++ entering_members (entry ∷ [])
 members_push [] entry = refl
-members_push (first ∷ entries) entry = by (members_push entries entry) (is_some (entered_id first.reply)) refl
+members_push (first ∷ entries) entry = by_some (members_push entries entry) (is_some (entered_id first.reply)) refl
   where
-    by : entering_members (entries ++ entry ∷ []) ≡ entering_members entries ++ entering_members (entry ∷ [])
+    by_some : entering_members (entries ++ entry ∷ []) ≡ entering_members entries ++ entering_members (entry ∷ [])
         → (b : Bool) → is_some (entered_id first.reply) ≡ b → entering_members (first ∷ entries ++ entry ∷ [])
         ≡ entering_members (first ∷ entries) ++ entering_members (entry ∷ [])
-    by rest true e = rw e (ap (λ t. first.member ∷ t) rest)
-    by rest false e = rw e rest
+    by_some rest true e = rw e (ap (λ t. first.member ∷ t) rest)
+    by_some rest false e = rw e rest
 
 pub members-next : (entries : List Entry) (i : ℕ) (d : Entry) (old new : List ℕ) → i < length entries
     → old ≡ entering_members (take i entries) → new ≡ old ++ entering_members (get_or entries i d ∷ [])

@@ -8,7 +8,7 @@ use Rattle.day_tables.specs.declared.keeping.KeptTable.{KeptTable}
 use Rattle.day_tables.specs.declared.keeping.KeptBook.{KeptBook}
 use Rattle.day_tables.specs.BookTable.{table_before, tables_after}
 use Rattle.day_tables.specs.ShownTable.{IsShownIn}
-use Rattle.day_tables.specs.TableCurves.{HasRoom}
+use Rattle.day_tables.specs.TableCurves.{HasRoomForTicks}
 
 -- these tables have this text
 abbrev pub AreTables : Config → List KeptTable → List ℕ → Type 0
@@ -24,7 +24,7 @@ tables_of config entries = tables_after config 0 (opening_state config) entries
 
 -- the curves have room for the ladder of a day
 abbrev pub HasRoomFor : Config → KeptBook → Type 0
-HasRoomFor config book = HasRoom (config.high + 1 - config.low) book.curves
+HasRoomFor config book = HasRoomForTicks (config.high + 1 - config.low) book.curves
 
 -- The tables before the uncrosses among these entries are kept, after which the auction stands: whatever comes then,
 -- its tables are those that follow.

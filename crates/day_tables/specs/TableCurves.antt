@@ -11,7 +11,7 @@ use Rattle.day_tables.specs.declared.rule.Rule.{Rule}
 use Rattle.day_tables.specs.DecidingRule.{rule_of}
 
 -- room for so many ticks
-pub record HasRoom (ticks : ℕ) (curves : Curves) : Type 0 where
+pub record HasRoomForTicks (ticks : ℕ) (curves : Curves) : Type 0 where
   pub demands : length curves.demands.items ≡ ticks
   pub supplies : length curves.supplies.items ≡ ticks
   pub volumes : length curves.volumes.items ≡ ticks

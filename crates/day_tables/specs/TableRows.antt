@@ -12,17 +12,17 @@ use Rattle.auction_terms.specs.Ladder.{quantity_at, market_quantity, limit_flag,
 use Rattle.auction_terms.specs.AuctionPrice.{price_tick}
 use Rattle.printed_lines.specs.ReplyWords.{kind_word, side_word}
 use Rattle.day_tables.specs.declared.book.Table.{Table}
-use Rattle.day_tables.specs.declared.book.Rows.{Rows}
+use Rattle.day_tables.specs.declared.book.RowsSoFar.{RowsSoFar}
 use Rattle.day_tables.specs.declared.front_text.TheConstants.{SHORT}
 use Rattle.day_tables.specs.TableRecords.{csv_record}
 use Rattle.day_tables.specs.BookTable.{ShownBook, rule_word, best_word}
-use Rattle.day_tables.specs.TableCurves.{HasRoom, AreCurves, IsDecidingRule}
+use Rattle.day_tables.specs.TableCurves.{HasRoomForTicks, AreCurves, IsDecidingRule}
 
 -- as many places in each list, which are ticks
 pub record HasPlaces (table : Table) : Type 0 where
   pub present : length table.present.now ≡ length table.bids.now
   pub asks : length table.asks.now ≡ length table.bids.now
-  pub curves : HasRoom (length table.bids.now) table.curves.now
+  pub curves : HasRoomForTicks (length table.bids.now) table.curves.now
   pub few : length table.bids.now ≤ MAX_TICKS
   pub last : table.low + length table.bids.now ≤ MAX_TICK + 1
 
@@ -61,7 +61,7 @@ abbrev pub row_end : Option Side → Bool → List ℕ → List ℕ
 row_end side best rule = side_word side ++ (codes "," ++ (best_word best ++ (codes "," ++ (rule ++ codes "\n"))))
 
 -- the rows begin with the fields of this table
-pub record HasHead (table : Table) (rows : Rows) : Type 0 where
+pub record HasHead (table : Table) (rows : RowsSoFar) : Type 0 where
   pub head : rows.head ≡ row_head table
   pub short : length rows.head ≤ SHORT
 

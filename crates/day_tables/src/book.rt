@@ -10,7 +10,7 @@ ghost use Rattle.printed_lines.specs.declared.page.TheConstants.{LONGEST_LINE, R
 ghost use Rattle.day_tables.specs.BookTable.{book_header, book_text, best_word};
 ghost use Rattle.day_tables.specs.BookTable.{table_before, tables_after, text_before};
 ghost use Rattle.day_tables.specs.ShownTable.{IsHeadingIn, IsShownIn};
-ghost use Rattle.day_tables.specs.TableCurves.{HasRoom};
+ghost use Rattle.day_tables.specs.TableCurves.{HasRoomForTicks};
 ghost use Rattle.day_tables.specs.TableRecords.{PrintsTable, IsOnlyNoMemory};
 ghost use Rattle.day_tables.specs.TableRows.{HasPlaces, HasHead, side_between, is_row, row, row_end, row_if};
 ghost use Rattle.day_tables.specs.TableRows.{rows_below, market_row, is_at_price, rule_at, tick_shown};
@@ -112,7 +112,7 @@ fn rule_word_at(table: &Table<'_>, tick: u32) -> &'static str
 
 /// What is kept from row to row of a table.
 #[derive(Drop)]
-pub(crate) struct Rows {
+pub(crate) struct RowsSoFar {
     /// The fields that each row begins with.
     pub head: FrontText,
     /// The demand and the supply of the last row.
@@ -123,14 +123,14 @@ pub(crate) struct Rows {
 }
 
 /// The rows of a table, none of which is there yet.
-fn rows_of(table: &Table<'_>) -> Rows
+fn rows_of(table: &Table<'_>) -> RowsSoFar
     ensures { HasHead table.now result }
 {
     let mut head = FrontText::new();
     head.put(",");
     head.put(kind_word(table.kind));
     head.put_number(table.command);
-    Rows {
+    RowsSoFar {
         head,
         demand: Figure::new(),
         supply: Figure::new(),
@@ -200,7 +200,7 @@ fn put_volume(text: &mut FrontText, volume: u64, demand: &Figure, supply: &Figur
 }
 
 /// Writes the row of a place.
-fn write_row(rows: &mut Rows, table: &Table<'_>, place: usize)
+fn write_row(rows: &mut RowsSoFar, table: &Table<'_>, place: usize)
     requires places { HasPlaces table.now }
     requires place { place < length table.now.bids.now }
     requires head { HasHead table.now rows.old }
@@ -253,7 +253,7 @@ fn print_market<S: Sink>(printer: &mut Printer<'_, S>, table: &Table<'_>) -> Res
 
 fn print_row<S: Sink>(
     printer: &mut Printer<'_, S>,
-    rows: &mut Rows,
+    rows: &mut RowsSoFar,
     table: &Table<'_>,
     place: usize,
 ) -> Result<(), WriteFailed>
@@ -272,7 +272,7 @@ fn print_row<S: Sink>(
 /// Prints the record of a place, if an order has its limit there or it is the price.
 fn print_place<S: Sink>(
     printer: &mut Printer<'_, S>,
-    rows: &mut Rows,
+    rows: &mut RowsSoFar,
     table: &Table<'_>,
     place: usize,
 ) -> Result<(), WriteFailed>
@@ -338,10 +338,10 @@ pub(crate) fn print_ladder<S: Sink>(
     heading: Heading,
     curves: &mut Curves,
 ) -> Result<(), WriteFailed>
-    requires { HasRoom (length ladder.now.bids) curves.old }
+    requires { HasRoomForTicks (length ladder.now.bids) curves.old }
     ensures printed { (config : Config) (state : State) → IsShownIn config state heading ladder.now
         → Prints S.Sink printer.old printer.new result (table_before config heading.command state) }
-    ensures room { HasRoom (length ladder.now.bids) curves.new }
+    ensures room { HasRoomForTicks (length ladder.now.bids) curves.new }
 {
     curves.follow(ladder);
     let rule = curves.rule();
@@ -383,11 +383,11 @@ fn print_table<S: Sink>(
     curves: &mut Curves,
     command: u64,
 ) -> Result<(), WriteFailed>
-    requires { HasRoom (auction.old.config.high + 1 - auction.old.config.low) curves.old }
+    requires { HasRoomForTicks (auction.old.config.high + 1 - auction.old.config.low) curves.old }
     ensures printed { Prints S.Sink printer.old printer.new result
         (table_before auction.old.config command auction.old.state) }
     ensures auction { auction.new ≡ auction.old }
-    ensures room { HasRoom (auction.old.config.high + 1 - auction.old.config.low) curves.new }
+    ensures room { HasRoomForTicks (auction.old.config.high + 1 - auction.old.config.low) curves.new }
 {
     let Some(heading) = heading_of(auction, command) else {
         return Ok(());
@@ -403,11 +403,11 @@ fn print_before<S: Sink>(
     command: u64,
     reply: Reply,
 ) -> Result<(), WriteFailed>
-    requires { HasRoom (auction.old.config.high + 1 - auction.old.config.low) curves.old }
+    requires { HasRoomForTicks (auction.old.config.high + 1 - auction.old.config.low) curves.old }
     ensures printed { Prints S.Sink printer.old printer.new result
         (text_before auction.old.config command auction.old.state reply) }
     ensures auction { auction.new ≡ auction.old }
-    ensures room { HasRoom (auction.old.config.high + 1 - auction.old.config.low) curves.new }
+    ensures room { HasRoomForTicks (auction.old.config.high + 1 - auction.old.config.low) curves.new }
 {
     if !reply.is_uncross() {
         return Ok(());
@@ -432,7 +432,7 @@ fn print_tables<S: Sink>(
     entries: &[Entry],
 ) -> Result<(), WriteFailed>
     requires calls { auction.old.calls + length entries.now ≤ auction.old.config.max_calls }
-    requires room { HasRoom (auction.old.config.high + 1 - auction.old.config.low) curves.old }
+    requires room { HasRoomForTicks (auction.old.config.high + 1 - auction.old.config.low) curves.old }
     ensures { Prints S.Sink printer.old printer.new result
         (tables_after auction.old.config 0 auction.old.state entries.now) }
 {
@@ -451,7 +451,7 @@ fn print_book_tables<S: Sink>(
     entries: &[Entry],
 ) -> Result<(), WriteFailed>
     requires calls { auction.old.calls + length entries.now ≤ auction.old.config.max_calls }
-    requires room { HasRoom (auction.old.config.high + 1 - auction.old.config.low) curves.old }
+    requires room { HasRoomForTicks (auction.old.config.high + 1 - auction.old.config.low) curves.old }
     ensures { Prints S.Sink printer.old printer.new result
         (book_header ++ tables_after auction.old.config 0 auction.old.state entries.now) }
 {

@@ -10,7 +10,7 @@ ghost use Rattle.auction_terms.specs.Ladder.{tick_values};
 ghost use Rattle.lane_prefix.specs.RunningSums.{rising_sums, falling_sums};
 ghost use Rattle.price_rules.specs.Candidates.{AreMarked};
 ghost use Rattle.tick_ladder.specs.TickLadder.{IsLadder, OfEachBook};
-ghost use Rattle.day_tables.specs.TableCurves.{AreCurves, HasRoom, LeavesBest, IsDecidingRule, ticks_from};
+ghost use Rattle.day_tables.specs.TableCurves.{AreCurves, HasRoomForTicks, LeavesBest, IsDecidingRule, ticks_from};
 
 use crate::rule::Rule;
 use auction_terms::Side;
@@ -127,7 +127,7 @@ fn no_shares(alloc: Global, ticks: usize) -> Result<Vec<u64>, AllocError>
 impl Curves {
     /// Room for so many ticks.
     pub(crate) fn open(alloc: Global, ticks: usize) -> Result<Curves, AllocError>
-        ensures { IfOk result (HasRoom ticks) }
+        ensures { IfOk result (HasRoomForTicks ticks) }
     {
         Ok(Curves {
             demands: no_shares(alloc, ticks)?,
@@ -140,8 +140,8 @@ impl Curves {
 
     /// Becomes the curves of a ladder.
     pub(crate) fn follow(&mut self, ladder: &Ladder)
-        requires { HasRoom (length ladder.now.bids) self.old }
-        ensures room { HasRoom (length ladder.now.bids) self.new }
+        requires { HasRoomForTicks (length ladder.now.bids) self.old }
+        ensures room { HasRoomForTicks (length ladder.now.bids) self.new }
         ensures curves { OfEachBook ladder.now (AreCurves ladder.now.low (length ladder.now.bids) self.new) }
     {
         draw(
@@ -156,7 +156,7 @@ impl Curves {
 
     /// The rule that decides the price, if there is one.
     pub(crate) fn rule(&self) -> Rule
-        requires { HasRoom (length self.now.best.items) self.now }
+        requires { HasRoomForTicks (length self.now.best.items) self.now }
         ensures { (low : ℕ) (book : List Order)
             → AreCurves low (length self.now.best.items) self.now book → IsDecidingRule book result }
     {

@@ -9,7 +9,7 @@ ghost use Rattle.printed_lines.specs.Printing.{Prints};
 ghost use Rattle.day_tables.specs.BookTable.{book_text, table_before, text_before};
 ghost use Rattle.day_tables.specs.KeptBook.{AreTables, HasTablesSoFar, HasAllTables};
 ghost use Rattle.day_tables.specs.AnsweredCalls.{entry_of, is_uncross_command};
-ghost use Rattle.day_tables.specs.TableCurves.{HasRoom};
+ghost use Rattle.day_tables.specs.TableCurves.{HasRoomForTicks};
 
 use crate::book::{Heading, heading_of, print_header, print_ladder};
 use crate::curves::Curves;
@@ -61,7 +61,7 @@ fn print_tables<S: Sink>(
     tables: &[KeptTable],
     curves: &mut Curves,
 ) -> Result<(), WriteFailed>
-    requires { (config : Config) × (text : List ℕ) × HasRoom (config.high + 1 - config.low) curves.old
+    requires { (config : Config) × (text : List ℕ) × HasRoomForTicks (config.high + 1 - config.low) curves.old
         × AreTables config tables.now text }
     ensures { (config : Config) (text : List ℕ) → AreTables config tables.now text
         → Prints S.Sink printer.old printer.new result text }

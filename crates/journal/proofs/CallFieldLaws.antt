@@ -37,14 +37,14 @@ digit-glyph k h = (search rules, omega arith)
 digits-push : (m v k : ℕ) (ds : List ℕ) → k < 10 → digits_after m ds ≡ Some v → digits_after m (ds ++ ((48 + k) ∷ []))
     ≡ Some (10 * v + k)
 digits-push m v k [] h e = let same : m ≡ v = cc in rw ((digit-glyph k h).0, (digit-glyph k h).1, same) refl
-digits-push m v k (d ∷ ds) h e = by (is_ascii_digit d) refl e (digits-push (10 * m + (d - 48)) v k ds h)
+digits-push m v k (d ∷ ds) h e = by_digit (is_ascii_digit d) refl e (digits-push (10 * m + (d - 48)) v k ds h)
   where
-    by : (b : Bool) → is_ascii_digit d ≡ b → digits_after m (d ∷ ds) ≡ Some v
+    by_digit : (b : Bool) → is_ascii_digit d ≡ b → digits_after m (d ∷ ds) ≡ Some v
         → (digits_after (10 * m + (d - 48)) ds ≡ Some v → digits_after (10 * m + (d - 48)) (ds ++ ((48 + k) ∷ []))
         ≡ Some (10 * v + k))
         → digits_after m ((d ∷ ds) ++ ((48 + k) ∷ [])) ≡ Some (10 * v + k)
-    by true t q more = rw t (more (rw t at q))
-    by false t q more = let bad : None ≡ Some v = rw t at q in cc bad
+    by_digit true t q more = rw t (more (rw t at q))
+    by_digit false t q more = let bad : None ≡ Some v = rw t at q in cc bad
 
 digits-decimal : (n : ℕ) → n < 2 ^ 64 → digits_after 0 (decimal n) ≡ Some n
 digits-decimal n h = decimal_by_steps (λ m ds. digits_after 0 ds ≡ Some m) one more n h
@@ -93,11 +93,11 @@ digit-range d h = (search rules, search rules)
 digits-first : (ds : List ℕ) → list_all is_ascii_digit ds ≡ true → 0 < length ds → (48 ≤ get_or ds 0 0)
     × (get_or ds 0 0 ≤ 57)
 digits-first [] e h = absurd (omega arith)
-digits-first (d ∷ ds) e h = by (is_ascii_digit d) refl e
+digits-first (d ∷ ds) e h = by_digit (is_ascii_digit d) refl e
   where
-    by : (b : Bool) → is_ascii_digit d ≡ b → list_all is_ascii_digit (d ∷ ds) ≡ true → (48 ≤ d) × (d ≤ 57)
-    by true t q = digit-range d t
-    by false t q = let bad : false ≡ true = rw t at q in cc bad
+    by_digit : (b : Bool) → is_ascii_digit d ≡ b → list_all is_ascii_digit (d ∷ ds) ≡ true → (48 ≤ d) × (d ≤ 57)
+    by_digit true t q = digit-range d t
+    by_digit false t q = let bad : false ≡ true = rw t at q in cc bad
 
 pub first-digit : (n : ℕ) → n < 2 ^ 64 → (48 ≤ get_or (decimal n) 0 0) × (get_or (decimal n) 0 0 ≤ 57)
 first-digit n h = digits-first (decimal n) (decimal-all_digits n h) (decimal_nonempty n h)

@@ -12,7 +12,7 @@ use Rattle.order_file.specs.declared.fault.FileFault.TheVariants as file
 use Rattle.order_file.specs.declared.fault.RecordFault.{RecordFault}
 use Rattle.order_file.specs.declared.fault.RecordFault.TheVariants as fault
 use Rattle.journal.specs.declared.day.DayHeader.{DayHeader}
-use Rattle.journal.specs.declared.entry.Head.{Head}
+use Rattle.journal.specs.declared.entry.RecordStart.{RecordStart}
 use Rattle.journal.specs.EntryRecord.{RecordedCall, call_with, fields_of_call, head_of, is_reply_text, reply_of_fields}
 use Rattle.journal.specs.EntryRecord.{call_part, recorded_call_of, reply_part}
 use Rattle.order_file.specs.File.{GivesWanted, IsOfRecord, calls_of, file as file_says, within_limit}
@@ -135,7 +135,7 @@ pub head-bad : (members number : ℕ) (fields : List (List ℕ)) (fault : Record
 unfolding recorded_call_of
 head-bad members number fields fault e = rw (sym e) refl
 
-pub call-bad : (members number : ℕ) (fields front : List (List ℕ)) (head : Head) (fine : Bool) (place : ℕ)
+pub call-bad : (members number : ℕ) (fields front : List (List ℕ)) (head : RecordStart) (fine : Bool) (place : ℕ)
     (fault : RecordFault) → Ok head ≡ head_of members fields
     → front ≡ fields_of_call fields → fine ≡ is_reply_text (reply_of_fields fields) → place ≡ length fields
     → Err fault ≡ call_with head front fine place
@@ -146,7 +146,7 @@ call-bad members number fields front head fine place fault e f g h k =
     ≡ Err fault = sym (rw (f, g, h) at k) in
     rw (sym e, bad) refl
 
-pub call-good : (members number : ℕ) (fields front : List (List ℕ)) (head : Head) (fine : Bool) (place : ℕ)
+pub call-good : (members number : ℕ) (fields front : List (List ℕ)) (head : RecordStart) (fine : Bool) (place : ℕ)
     (call : Call) → Ok head ≡ head_of members fields
     → front ≡ fields_of_call fields → fine ≡ is_reply_text (reply_of_fields fields) → place ≡ length fields
     → Ok call ≡ call_with head front fine place

@@ -10,7 +10,7 @@ use Rattle.order_file.specs.Record.{enter_of, change_of, lone_number, command_of
 use Rattle.auction_terms.specs.Results.{◌>>=◌}
 use Rattle.auction_terms.specs.declared.Call.{Call}
 use Rattle.order_file.specs.declared.fault.RecordFault.TheVariants.{BadField}
-use Rattle.journal.specs.declared.entry.Head.{Head}
+use Rattle.journal.specs.declared.entry.RecordStart.{RecordStart}
 use Rattle.journal.specs.EntryRecord.{RecordedCall, call_with, fields_of_call, head_of, is_reply_text, reply_of_fields}
 use Rattle.journal.specs.EntryRecord.{recorded_call_of}
 use Rattle.order_file.specs.declared.fault.RecordFault.{RecordFault}
@@ -23,77 +23,79 @@ use Rattle.auction_terms.specs.declared.Limit.TheVariants.{Market, At}
 use Rattle.auction_terms.specs.declared.Command.{Command}
 use Rattle.auction_terms.specs.declared.Command.TheVariants.{Enter, Change, Delete, OrderStatus, Indicate, ReadTrade}
 use Rattle.auction_terms.specs.declared.Command.TheVariants.{Uncross}
-use Rattle.journal.specs.CallFields.{FitsRecord, HasShortTick, IsShort}
+use Rattle.journal.specs.CallFields.{FitsRecord, HasShortTick, FitsU32}
 
-small : (n m : ℕ) → if_small n ≡ Some m → IsShort m
-small n m h = by (nat_lt n (2 ^ 32)) refl h
+small : (n m : ℕ) → if_small n ≡ Some m → FitsU32 m
+small n m h = by_less (nat_lt n (2 ^ 32)) refl h
   where
-    by : (b : Bool) → nat_lt n (2 ^ 32) ≡ b → if_small n ≡ Some m → IsShort m
-    by true t q = let same : Some n ≡ Some m = rw t at q in let is : n ≡ m = cc in let lt : n < 2 ^ 32 =
+    by_less : (b : Bool) → nat_lt n (2 ^ 32) ≡ b → if_small n ≡ Some m → FitsU32 m
+    by_less true t q = let same : Some n ≡ Some m = rw t at q in let is : n ≡ m = cc in let lt : n < 2 ^ 32 =
         search rules in rw (← is) lt
-    by false t q = let bad : None ≡ Some m = rw t at q in absurd (cc bad)
+    by_less false t q = let bad : None ≡ Some m = rw t at q in absurd (cc bad)
 
-then-small : (o : Option ℕ) (m : ℕ) → option_and_then if_small o ≡ Some m → IsShort m
+then-small : (o : Option ℕ) (m : ℕ) → option_and_then if_small o ≡ Some m → FitsU32 m
 then-small None m h = absurd (cc h)
 then-small (Some n) m h = small n m h
 
-number-short : (field : List ℕ) (m : ℕ) → number_of field ≡ Some m → IsShort m
+number-short : (field : List ℕ) (m : ℕ) → number_of field ≡ Some m → FitsU32 m
 unfolding number_of
-number-short field m h = by (nat_le 1 (length field) && nat_le (length field) 10) refl h
+number-short field m h = by_at_most (nat_le 1 (length field) && nat_le (length field) 10) refl h
   where
-    by : (b : Bool) → (nat_le 1 (length field) && nat_le (length field) 10) ≡ b → number_of field ≡ Some m → IsShort m
-    by true t q = then-small (digits_after 0 field) m (rw t at q)
-    by false t q = let bad : None ≡ Some m = rw t at q in absurd (cc bad)
+    by_at_most : (b : Bool) → (nat_le 1 (length field) && nat_le (length field) 10) ≡ b
+        → number_of field ≡ Some m → FitsU32 m
+    by_at_most true t q = then-small (digits_after 0 field) m (rw t at q)
+    by_at_most false t q = let bad : None ≡ Some m = rw t at q in absurd (cc bad)
 
 -- what holds of each that a field can be read as
 field-holds : {X : Type 0} (P : X → Type 0) (read : List ℕ → Option X) (place : ℕ) (fields : List (List ℕ)) (x : X)
     → ((field : List ℕ) (y : X) → read field ≡ Some y → P y) → field_as read place fields ≡ Ok x → P x
 unfolding field_as
-field-holds {X} P read place fields x h e = by (field_at fields place) refl e
+field-holds {X} P read place fields x h e = by_field (field_at fields place) refl e
   where
     some : (o : Option X) (fault : RecordFault) → ((y : X) → o ≡ Some y → P y) → ok_or o fault ≡ Ok x → P x
     some None fault k q = absurd (cc q)
     some (Some y) fault k q = let is : y ≡ x = cc in subst P is (k y refl)
 
-    by : (o : Option (List ℕ)) → field_at fields place ≡ o → field_as read place fields ≡ Ok x → P x
-    by None t q = absurd (cc (rw t at q))
-    by (Some field) t q = some (read field) _ (h field) (rw t at q)
+    by_field : (o : Option (List ℕ)) → field_at fields place ≡ o → field_as read place fields ≡ Ok x → P x
+    by_field None t q = absurd (cc (rw t at q))
+    by_field (Some field) t q = some (read field) _ (h field) (rw t at q)
 
 limit-short : (field : List ℕ) (limit : Limit) → limit_of field ≡ Some limit → HasShortTick limit
 unfolding limit_of
-limit-short field limit h = by (bytes_eq field (codes "market")) refl h
+limit-short field limit h = by_word (bytes_eq field (codes "market")) refl h
   where
-    at : (o : Option ℕ) → ((n : ℕ) → o ≡ Some n → IsShort n) → option_map At o ≡ Some limit → HasShortTick limit
+    at : (o : Option ℕ) → ((n : ℕ) → o ≡ Some n → FitsU32 n) → option_map At o ≡ Some limit → HasShortTick limit
     at None k q = absurd (cc q)
     at (Some n) k q = let is : At n ≡ limit = cc in subst HasShortTick is (k n refl)
 
-    by : (b : Bool) → bytes_eq field (codes "market") ≡ b → limit_of field ≡ Some limit → HasShortTick limit
-    by true t q = let same : Some Market ≡ Some limit = rw t at q in let is : Market ≡ limit =
+    by_word : (b : Bool) → bytes_eq field (codes "market") ≡ b → limit_of field ≡ Some limit → HasShortTick limit
+    by_word true t q = let same : Some Market ≡ Some limit = rw t at q in let is : Market ≡ limit =
         cc in subst HasShortTick is tt
-    by false t q = at (number_of field) (number-short field) (rw t at q)
+    by_word false t q = at (number_of field) (number-short field) (rw t at q)
 
-peak-short : (field : List ℕ) (peak : Option ℕ) → peak_of field ≡ Some peak → IfSome peak IsShort
+peak-short : (field : List ℕ) (peak : Option ℕ) → peak_of field ≡ Some peak → IfSome peak FitsU32
 unfolding peak_of
-peak-short [] peak h = let is : None ≡ peak = cc in subst (λ (p : Option ℕ). IfSome p IsShort) is tt
-peak-short (d ∷ ds) peak h = by (number_of (d ∷ ds)) (number-short (d ∷ ds)) h
+peak-short [] peak h = let is : None ≡ peak = cc in subst (λ (p : Option ℕ). IfSome p FitsU32) is tt
+peak-short (d ∷ ds) peak h = by_option (number_of (d ∷ ds)) (number-short (d ∷ ds)) h
   where
-    by : (o : Option ℕ) → ((n : ℕ) → o ≡ Some n → IsShort n) → option_map Some o ≡ Some peak → IfSome peak IsShort
-    by None k q = absurd (cc q)
-    by (Some n) k q = let is : Some n ≡ peak = cc in subst (λ (p : Option ℕ). IfSome p IsShort) is (k n refl)
+    by_option : (o : Option ℕ) → ((n : ℕ) → o ≡ Some n → FitsU32 n) → option_map Some o ≡ Some peak
+        → IfSome peak FitsU32
+    by_option None k q = absurd (cc q)
+    by_option (Some n) k q = let is : Some n ≡ peak = cc in subst (λ (p : Option ℕ). IfSome p FitsU32) is (k n refl)
 
 peak-at-short : (place : ℕ) (fields : List (List ℕ)) (peak : Option ℕ) → peak_at place fields ≡ Ok peak
-    → IfSome peak IsShort
+    → IfSome peak FitsU32
 unfolding peak_at
-peak-at-short place fields peak h = by (field_at fields place) h
+peak-at-short place fields peak h = by_option (field_at fields place) h
   where
-    some : (o : Option (Option ℕ)) (fault : RecordFault) → ((p : Option ℕ) → o ≡ Some p → IfSome p IsShort)
-        → ok_or o fault ≡ Ok peak → IfSome peak IsShort
+    some : (o : Option (Option ℕ)) (fault : RecordFault) → ((p : Option ℕ) → o ≡ Some p → IfSome p FitsU32)
+        → ok_or o fault ≡ Ok peak → IfSome peak FitsU32
     some None fault k q = absurd (cc q)
-    some (Some p) fault k q = let is : p ≡ peak = cc in subst (λ (p : Option ℕ). IfSome p IsShort) is (k p refl)
+    some (Some p) fault k q = let is : p ≡ peak = cc in subst (λ (p : Option ℕ). IfSome p FitsU32) is (k p refl)
 
-    by : (o : Option (List ℕ)) → peak_in place o ≡ Ok peak → IfSome peak IsShort
-    by None q = let is : None ≡ peak = cc in subst (λ (p : Option ℕ). IfSome p IsShort) is tt
-    by (Some field) q = some (peak_of field) _ (peak-short field) q
+    by_option : (o : Option (List ℕ)) → peak_in place o ≡ Ok peak → IfSome peak FitsU32
+    by_option None q = let is : None ≡ peak = cc in subst (λ (p : Option ℕ). IfSome p FitsU32) is tt
+    by_option (Some field) q = some (peak_of field) _ (peak-short field) q
 
 -- a command that is made of parts: each part was read
 enter-parts : (r1 : Result (Unit {0}) RecordFault) (r2 : Result Side RecordFault) (r3 : Result ℕ RecordFault)
@@ -101,8 +103,8 @@ enter-parts : (r1 : Result (Unit {0}) RecordFault) (r2 : Result Side RecordFault
     (command : Command)
     → (r1 >>= λ u. r2 >>= λ side. r3 >>= λ quantity. r4 >>= λ limit. r5 >>= λ peak. r6 >>= λ restriction. Ok
     (Enter side restriction limit quantity peak)) ≡ Ok command
-    → ((n : ℕ) → r3 ≡ Ok n → IsShort n) → ((l : Limit) → r4 ≡ Ok l → HasShortTick l)
-    → ((p : Option ℕ) → r5 ≡ Ok p → IfSome p IsShort) → FitsRecord command
+    → ((n : ℕ) → r3 ≡ Ok n → FitsU32 n) → ((l : Limit) → r4 ≡ Ok l → HasShortTick l)
+    → ((p : Option ℕ) → r5 ≡ Ok p → IfSome p FitsU32) → FitsRecord command
 enter-parts (Ok u) (Ok side) (Ok n) (Ok l) (Ok p) (Ok restriction) command h kn kl kp =
     let is : Enter side restriction l n p ≡ command = cc in subst FitsRecord is (kl l refl, kn n refl, kp p refl)
 enter-parts (Err e) r2 r3 r4 r5 r6 command h kn kl kp = absurd (cc h)
@@ -117,13 +119,13 @@ unfolding enter_of
 enter-fits fields command h =
     enter-parts (count_within 5 7 fields) (field_as side_of 2 fields) (field_as number_of 3 fields)
     (field_as limit_of 4 fields) (peak_at 5 fields) (restriction_at 6 fields) command h
-    (λ n e. field-holds IsShort number_of 3 fields n number-short e)
+    (λ n e. field-holds FitsU32 number_of 3 fields n number-short e)
     (λ l e. field-holds HasShortTick limit_of 4 fields l limit-short e) (λ p e. peak-at-short 5 fields p e)
 
 change-parts : (r1 : Result (Unit {0}) RecordFault) (r2 r3 : Result ℕ RecordFault) (r4 : Result Limit RecordFault)
     (command : Command)
     → (r1 >>= λ u. r2 >>= λ id. r3 >>= λ quantity. r4 >>= λ limit. Ok (Change id limit quantity)) ≡ Ok command
-    → ((n : ℕ) → r2 ≡ Ok n → IsShort n) → ((n : ℕ) → r3 ≡ Ok n → IsShort n) → ((l : Limit) → r4 ≡ Ok l → HasShortTick l)
+    → ((n : ℕ) → r2 ≡ Ok n → FitsU32 n) → ((n : ℕ) → r3 ≡ Ok n → FitsU32 n) → ((l : Limit) → r4 ≡ Ok l → HasShortTick l)
     → FitsRecord command
 change-parts (Ok u) (Ok id) (Ok n) (Ok l) command h ki kn kl = let is : Change id l n ≡ command =
     cc in subst FitsRecord is (ki id refl, kl l refl, kn n refl)
@@ -137,8 +139,8 @@ unfolding change_of
 change-fits fields command h =
     change-parts (count_within 5 5 fields) (field_as number_of 2 fields) (field_as number_of 3 fields)
     (field_as limit_of 4 fields) command h
-    (λ n e. field-holds IsShort number_of 2 fields n number-short e)
-    (λ n e. field-holds IsShort number_of 3 fields n number-short e)
+    (λ n e. field-holds FitsU32 number_of 2 fields n number-short e)
+    (λ n e. field-holds FitsU32 number_of 3 fields n number-short e)
     (λ l e. field-holds HasShortTick limit_of 4 fields l limit-short e)
 
 after-count : {X : Type 0} (r : Result (Unit {0}) RecordFault) (s : Result X RecordFault) (x : X)
@@ -146,10 +148,10 @@ after-count : {X : Type 0} (r : Result (Unit {0}) RecordFault) (s : Result X Rec
 after-count (Ok u) s x h = h
 after-count (Err e) s x h = absurd (cc h)
 
-lone-short : (fields : List (List ℕ)) (n : ℕ) → lone_number fields ≡ Ok n → IsShort n
+lone-short : (fields : List (List ℕ)) (n : ℕ) → lone_number fields ≡ Ok n → FitsU32 n
 unfolding lone_number
 lone-short fields n h =
-    field-holds IsShort number_of 2 fields n number-short
+    field-holds FitsU32 number_of 2 fields n number-short
     (after-count (count_within 3 3 fields) (field_as number_of 2 fields) n h)
 
 lone-fits : (make : ℕ → Command) (r : Result ℕ RecordFault) (command : Command)
@@ -207,15 +209,15 @@ with-parts member place (Ok c) true call k h = let is : record { member = member
 with-parts member place (Ok c) false call k h = absurd (cc h)
 with-parts member place (Err e) fine call k h = absurd (cc h)
 
-with-fits : (head : Head) (fields : List (List ℕ)) (fine : Bool) (place : ℕ) (call : Call)
+with-fits : (head : RecordStart) (fields : List (List ℕ)) (fine : Bool) (place : ℕ) (call : Call)
     → call_with head fields fine place ≡ Ok call → FitsRecord call.command
 unfolding call_with
 with-fits head fields fine place call h =
     with-parts head.member place (command_of head.word fields) fine call (λ c e. command-fits head.word fields c e) h
 
-recording-parts : (r : Result Head RecordFault) (g : Head → Result Call RecordFault) (text : List ℕ)
+recording-parts : (r : Result RecordStart RecordFault) (g : RecordStart → Result Call RecordFault) (text : List ℕ)
     (recording : RecordedCall)
-    → ((head : Head) (c : Call) → g head ≡ Ok c → FitsRecord c.command)
+    → ((head : RecordStart) (c : Call) → g head ≡ Ok c → FitsRecord c.command)
     → (r >>= λ head. g head >>= λ call. Ok (record { call = call; text = text })) ≡ Ok recording
     → FitsRecord recording.call.command
 recording-parts (Ok head) g text recording k h = last (g head) (k head) h

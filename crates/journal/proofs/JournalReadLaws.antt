@@ -20,7 +20,7 @@ use Rattle.auction_terms.specs.declared.Command.{Command}
 use Rattle.auction_terms.specs.declared.Command.TheVariants.{Enter, Change, Delete, OrderStatus, Indicate, ReadTrade}
 use Rattle.auction_terms.specs.declared.Command.TheVariants.{Uncross}
 use Rattle.journal.specs.PlainLines.{IsPlain, IsPlainRow, record_line, record_lines}
-use Rattle.journal.specs.CallFields.{FitsRecord, HasShortTick, IsShort, call_fields, command_fields, enter_ending}
+use Rattle.journal.specs.CallFields.{FitsRecord, HasShortTick, FitsU32, call_fields, command_fields, enter_ending}
 use Rattle.journal.specs.CallFields.{limit_field, number_field, side_field}
 use Rattle.journal.specs.declared.day.DayHeader.{DayHeader}
 use Rattle.journal.specs.declared.reading.TheConstants.{MAX_JOURNAL_BYTES}
@@ -45,14 +45,14 @@ limit-plain : (limit : Limit) → HasShortTick limit → IsPlain (limit_field li
 limit-plain Market h = refl
 limit-plain (At tick) h = decimal-plain tick (omega arith)
 
-number-plain : (n : Option ℕ) → IfSome n IsShort → IsPlain (number_field n)
+number-plain : (n : Option ℕ) → IfSome n FitsU32 → IsPlain (number_field n)
 number-plain None h = refl
 number-plain (Some n) h = decimal-plain n (omega arith)
 
-short-plain : (n : ℕ) → IsShort n → IsPlain (decimal n)
+short-plain : (n : ℕ) → FitsU32 n → IsPlain (decimal n)
 short-plain n h = decimal-plain n (omega arith)
 
-ending-plain : (restriction : Restriction) (peak : Option ℕ) → IfSome peak IsShort
+ending-plain : (restriction : Restriction) (peak : Option ℕ) → IfSome peak FitsU32
     → AllByRecursion IsPlain (enter_ending restriction peak)
 ending-plain Unrestricted None h = tt
 ending-plain Unrestricted (Some n) h = (short-plain n h, tt)

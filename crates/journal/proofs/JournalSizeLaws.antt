@@ -15,7 +15,7 @@ use Rattle.auction_terms.specs.declared.Command.{Command}
 use Rattle.auction_terms.specs.declared.Command.TheVariants.{Enter, Change, Delete, OrderStatus, Indicate, ReadTrade}
 use Rattle.auction_terms.specs.declared.Command.TheVariants.{Uncross}
 use Rattle.auction_terms.specs.declared.Entry.{Entry}
-use Rattle.journal.specs.CallFields.{FitsRecord, HasShortTick, IsShort, command_fields, enter_ending, limit_field}
+use Rattle.journal.specs.CallFields.{FitsRecord, HasShortTick, FitsU32, command_fields, enter_ending, limit_field}
 use Rattle.journal.specs.CallFields.{number_field, side_field}
 use Rattle.journal.specs.declared.day.DayHeader.{DayHeader}
 use Rattle.journal.specs.declared.reading.TheConstants.{MAX_JOURNAL_BYTES}
@@ -33,7 +33,7 @@ use Rattle.journal.proofs.JournalReadLaws.{reads-back}
 use Rattle.journal.proofs.JournalTextLaws.{text-by-lines}
 use Rattle.journal.proofs.ReplyLengthLaws.{reply-fits, reply-short}
 
-few-digits : (n : ℕ) → IsShort n → length (decimal n) ≤ 10
+few-digits : (n : ℕ) → FitsU32 n → length (decimal n) ≤ 10
 few-digits n h = length-decimal-le 10 n (omega arith) (omega arith) (omega arith)
 
 side-size : (side : Side) → length (side_field side) ≤ 3
@@ -44,11 +44,11 @@ limit-size : (limit : Limit) → HasShortTick limit → length (limit_field limi
 limit-size Market h = omega arith
 limit-size (At tick) h = few-digits tick h
 
-number-size : (n : Option ℕ) → IfSome n IsShort → length (number_field n) ≤ 10
+number-size : (n : Option ℕ) → IfSome n FitsU32 → length (number_field n) ≤ 10
 number-size None h = omega arith
 number-size (Some n) h = few-digits n h
 
-ending-size : (restriction : Restriction) (peak : Option ℕ) → IfSome peak IsShort
+ending-size : (restriction : Restriction) (peak : Option ℕ) → IfSome peak FitsU32
     → length (comma_fields (enter_ending restriction peak)) ≤ 19
 ending-size Unrestricted None h = omega arith
 ending-size Unrestricted (Some n) h = simp length-append (omega (arith, few-digits n h))
@@ -71,7 +71,7 @@ line-size : (members : ℕ) (entry : Entry) → members ≤ MAX_MEMBERS → Fits
     → length (call_line entry) ≤ 250
 line-size members entry few h =
     let below : entry.member < members = h.member in
-    let short : IsShort entry.member = omega arith in
+    let short : FitsU32 entry.member = omega arith in
     simp length-append
     (omega (
       arith,
@@ -152,12 +152,12 @@ reads-history day entries h k few =
 journal-within : (bytes : List ℕ) (j : RecordedDay) → journal bytes ≡ Ok j
     → (within_limit MAX_JOURNAL_BYTES bytes ≡ Ok bytes) × (journal_of bytes ≡ Ok j)
 unfolding journal within_limit
-journal-within bytes j e = by (nat_lt MAX_JOURNAL_BYTES (length bytes)) refl e
+journal-within bytes j e = by_less (nat_lt MAX_JOURNAL_BYTES (length bytes)) refl e
   where
-    by : (b : Bool) → nat_lt MAX_JOURNAL_BYTES (length bytes) ≡ b → journal bytes ≡ Ok j
+    by_less : (b : Bool) → nat_lt MAX_JOURNAL_BYTES (length bytes) ≡ b → journal bytes ≡ Ok j
         → (within_limit MAX_JOURNAL_BYTES bytes ≡ Ok bytes) × (journal_of bytes ≡ Ok j)
-    by true t q = cc (rw t at q)
-    by false t q = (rw t refl, rw t at q)
+    by_less true t q = cc (rw t at q)
+    by_less false t q = (rw t refl, rw t at q)
 
 pub gives-day : GivesDay
 unfolding run_input

@@ -130,12 +130,12 @@ printed-read_trade state number =
 printed-end_call_phase : (config : Config) (state : State) (kind : AuctionKind) (priced : Option Price)
     → IsFullyPrinted (end_call_phase config state kind priced).1
 printed-end_call_phase config state kind None = refl
-printed-end_call_phase config state kind (Some priced) = by (is_interrupted config state priced.tick) refl
+printed-end_call_phase config state kind (Some priced) = by_interrupted (is_interrupted config state priced.tick) refl
   where
-    by : (b : Bool) → is_interrupted config state priced.tick ≡ b
+    by_interrupted : (b : Bool) → is_interrupted config state priced.tick ≡ b
         → IsFullyPrinted (end_call_phase config state kind (Some priced)).1
-    by true e = rw e tt
-    by false e = rw e tt
+    by_interrupted true e = rw e tt
+    by_interrupted false e = rw e tt
 
 printed-uncross : (config : Config) (state : State) (member : ℕ) → IsFullyPrintedOutcome (uncross config state member)
 unfolding uncross

@@ -20,7 +20,7 @@ use Rattle.order_file.specs.declared.fault.RecordFault.TheVariants.{BadField, Ba
 use Rattle.order_file.specs.declared.reading.TheConstants.{MAX_BYTES}
 use Rattle.order_file.specs.declared.record.Word.{Word}
 use Rattle.journal.specs.declared.day.DayHeader.{DayHeader}
-use Rattle.journal.specs.declared.entry.Head.{Head}
+use Rattle.journal.specs.declared.entry.RecordStart.{RecordStart}
 use Rattle.journal.specs.declared.reading.TheConstants.{MAX_JOURNAL_BYTES}
 use Rattle.journal.specs.DayRecord.{FitsDay, IsUpTo, day_of, is_blank, is_day_row, number_if_any, number_within}
 use Rattle.journal.specs.EntryRecord.{RecordedCall, call_with, fields_of_call, head_of, is_reply_text, reply_of_fields}
@@ -36,15 +36,16 @@ use Rattle.journal.proofs.FileFitLaws.{call-fits, recording-fits}
 below-parts : (members : ℕ) (r : Result ℕ RecordFault) (m : ℕ)
     → (r >>= λ member. if nat_lt member members then Ok member else Err BadMember) ≡ Ok m → m < members
 below-parts members (Err e) m h = absurd (cc h)
-below-parts members (Ok n) m h = by (nat_lt n members) refl h
+below-parts members (Ok n) m h = by_less (nat_lt n members) refl h
   where
-    by : (b : Bool) → nat_lt n members ≡ b → (if nat_lt n members then Ok n else Err BadMember) ≡ Ok m → m < members
-    by true t q =
+    by_less : (b : Bool) → nat_lt n members ≡ b → (if nat_lt n members then Ok n else Err BadMember) ≡ Ok m
+        → m < members
+    by_less true t q =
         let same : Ok n ≡ Ok m = rw t at q in
         let is : n ≡ m = cc in
         let lt : n < members = search rules in
         rw (← is) lt
-    by false t q = let bad : Err BadMember ≡ Ok m = rw t at q in absurd (cc bad)
+    by_less false t q = let bad : Err BadMember ≡ Ok m = rw t at q in absurd (cc bad)
 
 member-below : (members : ℕ) (fields : List (List ℕ)) (m : ℕ) → member_of members fields ≡ Ok m → m < members
 unfolding member_of
@@ -73,15 +74,15 @@ call-below members fields call h =
     call-below-parts members (member_of members fields) (word_at fields) (λ w. command_of w fields) call
     (λ m e. member-below members fields m e) h
 
-head-below-parts : (members : ℕ) (r1 : Result ℕ RecordFault) (r2 : Result Word RecordFault) (head : Head)
+head-below-parts : (members : ℕ) (r1 : Result ℕ RecordFault) (r2 : Result Word RecordFault) (head : RecordStart)
     → ((m : ℕ) → r1 ≡ Ok m → m < members)
     → (r1 >>= λ member. r2 >>= λ w. Ok (record { member = member; word = w })) ≡ Ok head → head.member < members
 head-below-parts members (Err e) r2 head k h = absurd (cc h)
 head-below-parts members (Ok m) (Err e) head k h = absurd (cc h)
 head-below-parts members (Ok m) (Ok w) head k h = let is : record { member = m; word = w } ≡ head =
-    cc in subst (λ (p : Head). p.member < members) is (k m refl)
+    cc in subst (λ (p : RecordStart). p.member < members) is (k m refl)
 
-head-below : (members : ℕ) (fields : List (List ℕ)) (head : Head) → head_of members fields ≡ Ok head
+head-below : (members : ℕ) (fields : List (List ℕ)) (head : RecordStart) → head_of members fields ≡ Ok head
     → head.member < members
 unfolding head_of
 head-below members fields head h =
@@ -95,16 +96,17 @@ with-member-parts member place (Ok c) true call h = let is : record { member = m
 with-member-parts member place (Ok c) false call h = absurd (cc h)
 with-member-parts member place (Err e) fine call h = absurd (cc h)
 
-with-member : (head : Head) (fields : List (List ℕ)) (fine : Bool) (place : ℕ) (call : Call)
+with-member : (head : RecordStart) (fields : List (List ℕ)) (fine : Bool) (place : ℕ) (call : Call)
     → call_with head fields fine place ≡ Ok call → call.member ≡ head.member
 unfolding call_with
 with-member head fields fine place call h =
     with-member-parts head.member place (command_of head.word fields) fine call h
 
-recording-below-parts : (members : ℕ) (r : Result Head RecordFault) (g : Head → Result Call RecordFault) (text : List ℕ)
+recording-below-parts : (members : ℕ) (r : Result RecordStart RecordFault) (g : RecordStart → Result Call RecordFault)
+    (text : List ℕ)
     (recording : RecordedCall)
-    → ((head : Head) → r ≡ Ok head → head.member < members)
-    → ((head : Head) (call : Call) → g head ≡ Ok call → call.member ≡ head.member)
+    → ((head : RecordStart) → r ≡ Ok head → head.member < members)
+    → ((head : RecordStart) (call : Call) → g head ≡ Ok call → call.member ≡ head.member)
     → (r >>= λ head. g head >>= λ call. Ok (record { call = call; text = text })) ≡ Ok recording
     → recording.call.member < members
 recording-below-parts members (Err e) g text recording k j h = absurd (cc h)
@@ -164,15 +166,15 @@ recording-list members max_calls before [] recording room h =
     let is : [] ≡ recording =
     cc in subst (λ (p : List RecordedCall). Both members max_calls before (map call_part p)) is (tt, omega arith)
 recording-list members max_calls before (row ∷ rows) recording room h =
-    by (nat_le max_calls before) refl h (recording-list members max_calls (before + 1) rows)
+    by_at_most (nat_le max_calls before) refl h (recording-list members max_calls (before + 1) rows)
   where
-    by : (b : Bool) → nat_le max_calls before ≡ b → recorded_calls_after members max_calls before (row ∷ rows)
+    by_at_most : (b : Bool) → nat_le max_calls before ≡ b → recorded_calls_after members max_calls before (row ∷ rows)
         ≡ Ok recording
         → ((xs : List RecordedCall) → before + 1 ≤ max_calls → recorded_calls_after members max_calls (before + 1) rows
         ≡ Ok xs → Both members max_calls (before + 1) (map call_part xs))
         → Both members max_calls before (map call_part recording)
-    by true t q more = absurd (cc (rw t at q))
-    by false t q more =
+    by_at_most true t q more = absurd (cc (rw t at q))
+    by_at_most false t q more =
         let free : before < max_calls = search rules in
         recording-list-parts members max_calls before (with_record_number (before + 2) (recorded_call_of members row))
         (recorded_calls_after members max_calls (before + 1) rows) recording free
@@ -200,14 +202,14 @@ unfolding calls_after numbered_call
 calls-list members max_calls before [] calls room h =
     let is : [] ≡ calls = cc in subst (λ (p : List Call). Both members max_calls before p) is (tt, omega arith)
 calls-list members max_calls before (row ∷ rows) calls room h =
-    by (nat_le max_calls before) refl h (calls-list members max_calls (before + 1) rows)
+    by_at_most (nat_le max_calls before) refl h (calls-list members max_calls (before + 1) rows)
   where
-    by : (b : Bool) → nat_le max_calls before ≡ b → calls_after members max_calls before (row ∷ rows) ≡ Ok calls
+    by_at_most : (b : Bool) → nat_le max_calls before ≡ b → calls_after members max_calls before (row ∷ rows) ≡ Ok calls
         → ((xs : List Call) → before + 1 ≤ max_calls → calls_after members max_calls (before + 1) rows ≡ Ok xs
         → Both members max_calls (before + 1) xs)
         → Both members max_calls before calls
-    by true t q more = absurd (cc (rw t at q))
-    by false t q more =
+    by_at_most true t q more = absurd (cc (rw t at q))
+    by_at_most false t q more =
         let free : before < max_calls = search rules in
         calls-list-parts members max_calls before (with_record_number (before + 1) (call_of members row))
         (calls_after members max_calls (before + 1) rows) calls free
@@ -221,19 +223,19 @@ within-parts : (least most place : ℕ) (r : Result ℕ RecordFault) (n : ℕ)
     → (r >>= λ number. if nat_le least number && nat_le number most then Ok number else Err (BadField (place + 1)))
     ≡ Ok n → (least ≤ n) × (n ≤ most)
 within-parts least most place (Err e) n h = absurd (cc h)
-within-parts least most place (Ok m) n h = by (nat_le least m) (nat_le m most) refl refl h
+within-parts least most place (Ok m) n h = by_at_most (nat_le least m) (nat_le m most) refl refl h
   where
-    by : (a b : Bool) → nat_le least m ≡ a → nat_le m most ≡ b
+    by_at_most : (a b : Bool) → nat_le least m ≡ a → nat_le m most ≡ b
         → (if nat_le least m && nat_le m most then Ok m else Err (BadField (place + 1))) ≡ Ok n
         → (least ≤ n) × (n ≤ most)
-    by true true s t q =
+    by_at_most true true s t q =
         let same : Ok m ≡ Ok n = rw (s, t) at q in
         let is : m ≡ n = cc in
         let above : least ≤ m = search rules in
         let below : m ≤ most = search rules in
         rw (← is) (above, below)
-    by true false s t q = let bad : Err (BadField (place + 1)) ≡ Ok n = rw (s, t) at q in absurd (cc bad)
-    by false b s t q = let bad : Err (BadField (place + 1)) ≡ Ok n = rw s at q in absurd (cc bad)
+    by_at_most true false s t q = let bad : Err (BadField (place + 1)) ≡ Ok n = rw (s, t) at q in absurd (cc bad)
+    by_at_most false b s t q = let bad : Err (BadField (place + 1)) ≡ Ok n = rw s at q in absurd (cc bad)
 
 within-good : (least most place : ℕ) (fields : List (List ℕ)) (n : ℕ) → number_within least most place fields ≡ Ok n
     → (least ≤ n) × (n ≤ most)
@@ -348,13 +350,13 @@ rows-parts row rows (Err e) j k h = absurd (cc h)
 rows-good : (rows : List (List (List ℕ))) (j : RecordedDay) → journal_of_rows rows ≡ Ok j → FitsRunInput (made j)
 unfolding journal_of_rows
 rows-good [] j h = absurd (cc h)
-rows-good (row ∷ rows) j h = by (is_day_row row) refl h
+rows-good (row ∷ rows) j h = by_day_row (is_day_row row) refl h
   where
-    by : (b : Bool) → is_day_row row ≡ b → journal_of_rows (row ∷ rows) ≡ Ok j → FitsRunInput (made j)
-    by true t q =
+    by_day_row : (b : Bool) → is_day_row row ≡ b → journal_of_rows (row ∷ rows) ≡ Ok j → FitsRunInput (made j)
+    by_day_row true t q =
         rows-parts row rows (with_record_number 1 (day_of row)) j
         (λ day e. day-good row day (with_record_number-good 1 (day_of row) day e)) (rw t at q)
-    by false t q = absurd (cc (rw t at q))
+    by_day_row false t q = absurd (cc (rw t at q))
 
 orders-parts : (day : DayHeader) (r : Result (List Call) FileFault) (g : DayWithCalls) → FitsDay day
     → ((calls : List Call) → r ≡ Ok calls → Both day.members day.config.max_calls 0 calls)
@@ -369,11 +371,11 @@ orders-parts day (Ok calls) g fits k h =
 within-then : {X : Type 0} (most : ℕ) (bytes : List ℕ) (f : List ℕ → Result X FileFault) (x : X)
     → (within_limit most bytes >>= f) ≡ Ok x → f bytes ≡ Ok x
 unfolding within_limit
-within-then most bytes f x h = by (nat_lt most (length bytes)) refl h
+within-then most bytes f x h = by_less (nat_lt most (length bytes)) refl h
   where
-    by : (b : Bool) → nat_lt most (length bytes) ≡ b → (within_limit most bytes >>= f) ≡ Ok x → f bytes ≡ Ok x
-    by true t q = absurd (cc (rw t at q))
-    by false t q = rw t at q
+    by_less : (b : Bool) → nat_lt most (length bytes) ≡ b → (within_limit most bytes >>= f) ≡ Ok x → f bytes ≡ Ok x
+    by_less true t q = absurd (cc (rw t at q))
+    by_less false t q = rw t at q
 
 orders-fit : (day : DayHeader) (bytes : List ℕ) (g : DayWithCalls) → FitsDay day → orders_for day bytes ≡ Ok g
     → FitsRunInput g

@@ -48,18 +48,18 @@ call_fields call = decimal call.member ∷ command_fields call.command
 
 -- ---- the commands that a record can hold: each number is at most 4294967295
 
-abbrev pub IsShort : ℕ → Type 0
-IsShort n = n < 2 ^ 32
+abbrev pub FitsU32 : ℕ → Type 0
+FitsU32 n = n < 2 ^ 32
 
 abbrev pub HasShortTick : Limit → Type 0
 HasShortTick Market = Unit {0}
-HasShortTick (At tick) = IsShort tick
+HasShortTick (At tick) = FitsU32 tick
 
 abbrev pub FitsRecord : Command → Type 0
-FitsRecord (Enter side restriction limit quantity peak) = HasShortTick limit × IsShort quantity × IfSome peak IsShort
-FitsRecord (Change id limit quantity) = IsShort id × HasShortTick limit × IsShort quantity
-FitsRecord (Delete id) = IsShort id
-FitsRecord (OrderStatus id) = IsShort id
+FitsRecord (Enter side restriction limit quantity peak) = HasShortTick limit × FitsU32 quantity × IfSome peak FitsU32
+FitsRecord (Change id limit quantity) = FitsU32 id × HasShortTick limit × FitsU32 quantity
+FitsRecord (Delete id) = FitsU32 id
+FitsRecord (OrderStatus id) = FitsU32 id
 FitsRecord Indicate = Unit {0}
-FitsRecord (ReadTrade number) = IsShort number
+FitsRecord (ReadTrade number) = FitsU32 number
 FitsRecord Uncross = Unit {0}

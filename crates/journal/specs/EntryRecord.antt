@@ -8,7 +8,7 @@ use Rattle.auction_terms.specs.Results.{◌>>=◌}
 use Rattle.order_file.specs.Record.{command_of, member_of, word_at}
 use Rattle.order_file.specs.declared.fault.RecordFault.{RecordFault}
 use Rattle.order_file.specs.declared.fault.RecordFault.TheVariants.{BadField}
-use Rattle.journal.specs.declared.entry.Head.{Head}
+use Rattle.journal.specs.declared.entry.RecordStart.{RecordStart}
 use Rattle.journal.specs.declared.entry.TheConstants.{MAX_REPLY}
 use Rattle.journal.specs.CallFields.{call_fields}
 
@@ -48,7 +48,7 @@ reply_of_fields fields = unwrap_or (field_at fields (length fields - 1)) []
 abbrev pub fields_of_call : List (List ℕ) → List (List ℕ)
 fields_of_call fields = take (length fields - 1) fields
 
-unfoldable pub head_of : ℕ → List (List ℕ) → Result Head RecordFault
+unfoldable pub head_of : ℕ → List (List ℕ) → Result RecordStart RecordFault
 head_of members fields = do
   member ← member_of members fields
   word ← word_at fields
@@ -56,7 +56,7 @@ head_of members fields = do
 
 -- The call of a member with a command word and these fields before the reply, which has this place, from 1 on; the
 -- reply's form is looked at last.
-unfoldable pub call_with : Head → List (List ℕ) → Bool → ℕ → Result Call RecordFault
+unfoldable pub call_with : RecordStart → List (List ℕ) → Bool → ℕ → Result Call RecordFault
 call_with head fields fine place = do
   command ← command_of head.word fields
   if fine then Ok (record { member = head.member; command = command }) else Err (BadField place)

@@ -17,7 +17,7 @@ pub const MAX_REPLY: usize = 256;
 
 /// What a record of a call begins with.
 #[derive(Clone, Copy)]
-pub(crate) struct Head {
+pub(crate) struct RecordStart {
     member: u8,
     word: Word,
 }
@@ -44,18 +44,23 @@ fn is_reply_text(text: &[u8]) -> bool
 }
 
 #[tactic(auto, unfolding(crate::specs::EntryRecord::head_of))]
-fn head_of(fields: &ByteRecord, members: u8) -> Result<Head, RecordFault>
+fn head_of(fields: &ByteRecord, members: u8) -> Result<RecordStart, RecordFault>
     ensures head { result ≡ head_of members (fields_of fields.now) }
     ensures below { IfOk result (λ head. head.member < members) }
 {
     let member = member_of(fields, members)?;
     let word = word_at(fields)?;
-    Ok(Head { member, word })
+    Ok(RecordStart { member, word })
 }
 
 /// The call of the fields before a reply, which is well formed or not, and has this place, from 1 on.
 #[tactic(auto, unfolding(crate::specs::EntryRecord::call_with))]
-fn call_with(head: Head, fields: &ByteRecord, fine: bool, place: usize) -> Result<Call, RecordFault>
+fn call_with(
+    head: RecordStart,
+    fields: &ByteRecord,
+    fine: bool,
+    place: usize,
+) -> Result<Call, RecordFault>
     ensures call { result ≡ call_with head (fields_of fields.now) fine place }
     ensures member { IfOk result (λ call. call.member ≡ head.member) }
     ensures fine { OnOk result (fine ≡ true) }

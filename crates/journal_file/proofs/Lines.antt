@@ -85,12 +85,12 @@ has_line-room (b ∷ xs) n none = elim (kind b) [
 ]
 
 -- a file is its whole lines, and an end that stands for nothing
-pub record Parts (file : List ℕ) : Type 0 where
+pub record FileParts (file : List ℕ) : Type 0 where
   pub end : List ℕ
   pub split : file ≡ committed file ++ end
   pub nothing : has_line end ≡ false
 
-pub parts : (file : List ℕ) → Parts file
+pub parts : (file : List ℕ) → FileParts file
 parts [] = record { end = []; split = refl; nothing = refl }
 parts (b ∷ rest) = elim (bool_cases (has_line (b ∷ rest))) [
   | inl is ↦

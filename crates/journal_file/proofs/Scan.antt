@@ -9,19 +9,19 @@ use Rattle.journal_file.specs.Committed.{has_line, committed}
 use Rattle.journal_file.proofs.Lines.{line-nul, line-end, line-other, line-goes-on, ends}
 
 -- these many bytes have no NUL, and behind them is one or the end
-pub record IsText (n : ℕ) (xs : List ℕ) : Type 0 where
+pub record IsTextBeforeNul (n : ℕ) (xs : List ℕ) : Type 0 where
   pub fits : n ≤ length xs
   pub some : (k : ℕ) → k < n → slice_index xs k ≢ 0
   pub nul : n < length xs → slice_index xs n ≡ 0
 
-rest : (n b : ℕ) (xs : List ℕ) → IsText (suc n) (b ∷ xs) → IsText n xs
+rest : (n b : ℕ) (xs : List ℕ) → IsTextBeforeNul (suc n) (b ∷ xs) → IsTextBeforeNul n xs
 rest n b xs text = record {
   fits = omega (arith, text.fits);
   some = λ k lt. text.some (suc k) (omega (arith, lt));
   nul = λ lt. text.nul (omega (arith, lt));
 }
 
-no_line : (n : ℕ) (xs : List ℕ) → IsText n xs → ((k : ℕ) → k < n → slice_index xs k ≢ 10) → has_line xs ≡ false
+no_line : (n : ℕ) (xs : List ℕ) → IsTextBeforeNul n xs → ((k : ℕ) → k < n → slice_index xs k ≢ 10) → has_line xs ≡ false
 no_line zero [] text none = refl
 no_line zero (b ∷ xs) text none = line-nul b xs (text.nul (omega arith))
 no_line (suc n) [] text none = absurd (omega (arith, text.fits))
@@ -29,7 +29,7 @@ no_line (suc n) (b ∷ xs) text none =
     line-other b xs (text.some 0 (omega arith)) (none 0 (omega arith))
     ∙ no_line n xs (rest n b xs text) (λ k lt. none (suc k) (omega (arith, lt)))
 
-a_line : (n k : ℕ) (xs : List ℕ) → IsText n xs → k < n → slice_index xs k ≡ 10 → has_line xs ≡ true
+a_line : (n k : ℕ) (xs : List ℕ) → IsTextBeforeNul n xs → k < n → slice_index xs k ≡ 10 → has_line xs ≡ true
 a_line zero k xs text lt is = absurd (omega (arith, lt))
 a_line (suc n) k [] text lt is = absurd (omega (arith, text.fits))
 a_line (suc n) zero (b ∷ xs) text lt is = line-end b xs is
@@ -39,7 +39,7 @@ a_line (suc n) (suc k) (b ∷ xs) text lt is = elim (cases_eq b 10) [
       line-other b xs (text.some 0 (omega arith)) other ∙ a_line n k xs (rest n b xs text) (omega (arith, lt)) is
 ]
 
-last_line : (n last : ℕ) (xs : List ℕ) → IsText n xs → last < n → slice_index xs last ≡ 10
+last_line : (n last : ℕ) (xs : List ℕ) → IsTextBeforeNul n xs → last < n → slice_index xs last ≡ 10
     → ((k : ℕ) → last < k → k < n → slice_index xs k ≢ 10) → take (suc last) xs ≡ committed xs
 last_line zero last xs text lt is none = absurd (omega (arith, lt))
 last_line (suc n) last [] text lt is none = absurd (omega (arith, text.fits))
@@ -57,7 +57,8 @@ index-take (suc n) k [] lt = refl
 index-take (suc n) zero (b ∷ xs) lt = refl
 index-take (suc n) (suc k) (b ∷ xs) lt = index-take n k xs (omega (arith, lt))
 
-pub text-is : (xs : List ℕ) (nul : Option ℕ) → IsFirstByte (is_byte 0) xs nul → IsText (unwrap_or nul (length xs)) xs
+pub text-is : (xs : List ℕ) (nul : Option ℕ) → IsFirstByte (is_byte 0) xs nul
+    → IsTextBeforeNul (unwrap_or nul (length xs)) xs
 text-is xs None first = record {
   fits = omega arith;
   some = λ k lt is. first k (omega arith) lt (eq-eqb (slice_index xs k) 0 is);
@@ -69,7 +70,7 @@ text-is xs (Some n) first = record {
   nul = λ lt. eqb-true (slice_index xs n) 0 first.1;
 }
 
-module _ (n : ℕ) (xs : List ℕ) (text : IsText n xs) where
+module _ (n : ℕ) (xs : List ℕ) (text : IsTextBeforeNul n xs) where
   size : length (take n xs) ≡ n
   size = omega (arith, length-take n xs, text.fits)
 

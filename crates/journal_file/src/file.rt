@@ -43,15 +43,15 @@ pub struct Opened {
 
 /// Why a journal's file can't be opened.
 #[derive(Clone, Copy, Debug)]
-pub enum OpenFault {
+pub enum OpenFileFault {
     /// Another run has it open.
     Busy,
     Failed(io::Error),
 }
 
-impl From<io::Error> for OpenFault {
-    fn from(error: io::Error) -> OpenFault {
-        OpenFault::Failed(error)
+impl From<io::Error> for OpenFileFault {
+    fn from(error: io::Error) -> OpenFileFault {
+        OpenFileFault::Failed(error)
     }
 }
 
@@ -112,7 +112,7 @@ fn open_or_make(rt: &HostRuntime, path: &str) -> io::Result<File> {
 }
 
 /// Opens a regular file that has this name and no other, and locks it.
-fn open_locked(rt: &HostRuntime, path: &str) -> Result<File, OpenFault> {
+fn open_locked(rt: &HostRuntime, path: &str) -> Result<File, OpenFileFault> {
     let mut file = open_or_make(rt, path)?;
     // What is meant for a standard stream that was closed must not land in the journal.
     if file.as_raw_fd() <= 2 {
@@ -121,12 +121,12 @@ fn open_locked(rt: &HostRuntime, path: &str) -> Result<File, OpenFault> {
     let (found, named) = (file.metadata()?, fs::symlink_metadata(rt, path)?);
     let is_named = found.dev() == named.dev() && found.ino() == named.ino();
     if !is_named || !found.is_file() || found.nlink() != 1 {
-        return Err(OpenFault::Failed(io::ErrorKind::Unsupported.into()));
+        return Err(OpenFileFault::Failed(io::ErrorKind::Unsupported.into()));
     }
     match file.try_lock() {
         Ok(()) => Ok(file),
-        Err(TryLockError::WouldBlock) => Err(OpenFault::Busy),
-        Err(TryLockError::Error(error)) => Err(OpenFault::Failed(error)),
+        Err(TryLockError::WouldBlock) => Err(OpenFileFault::Busy),
+        Err(TryLockError::Error(error)) => Err(OpenFileFault::Failed(error)),
     }
 }
 
@@ -145,7 +145,7 @@ pub fn open(
     path: &str,
     syncing: Syncing,
     bytes: &mut Vec<u8>,
-) -> Result<Tracked<Opened>, OpenFault>
+) -> Result<Tracked<Opened>, OpenFileFault>
     requires { bytes.old.items ≡ [] }
     ensures read { IfOk result (λ device. tracked_seen device ≡ bytes.new.items) }
     ensures durable { IfOk result (λ device. IsOnlyOutcome bytes.new.items (tracked_leaves device)) }

@@ -14,16 +14,16 @@ const MAX_BYTES: usize = 1 << 60;
 /// A file whose committed lines end at `end`, and which has room for so many bytes behind them. Room is made for
 /// `spare` bytes more than are needed.
 #[derive(Drop)]
-pub struct Journal<D: Device> {
+pub struct CommittedLines<D: Device> {
     pub device: D,
     pub end: usize,
     pub room: usize,
     pub spare: usize,
 }
 
-impl<D: Device> Journal<D> {
+impl<D: Device> CommittedLines<D> {
     /// A journal over a file of whole lines, which is on the disk.
-    pub fn new(device: D, end: usize, spare: usize) -> Journal<D>
+    pub fn new(device: D, end: usize, spare: usize) -> CommittedLines<D>
         requires text { D.seen device ≡ committed (D.seen device) }
         requires end { end ≡ length (D.seen device) }
         requires fits { end ≤ 2 ^ 62 }
@@ -33,7 +33,7 @@ impl<D: Device> Journal<D> {
         ensures settled { IsSettled D.seen D.may_leave result }
         ensures device { result.device ≡ device }
     {
-        Journal {
+        CommittedLines {
             device,
             end,
             room: 0,

@@ -7,7 +7,7 @@ use Rattle.journal.specs.JournalText.{journal_text}
 use Rattle.journal.specs.declared.day.DayHeader.{DayHeader}
 use Rattle.journal_file.specs.Committed.{IsBegun, committed}
 use Rattle.journal_file.specs.Settled.{IsSettled}
-use Rattle.journal_file.specs.declared.journal.Journal.{Journal}
+use Rattle.journal_file.specs.declared.journal.CommittedLines.{CommittedLines}
 use Rattle.journal_file.proofs.Chain.{begun_first}
 use Rattle.journal_file.proofs.Moments.{then}
 use Rattle.kept_session.specs.Begun.{AddsLines, HasBegun}
@@ -48,7 +48,8 @@ module _ {D : Type 0} (seen : D → List ℕ) (may_leave : D → List ℕ → Ty
             (λ c begun. (begun.0, begun.1 ∙ ap (λ (t : List ℕ). t ++ committed (take begun.0 lines)) same));
       }
 
-  pub begun-new : (day : DayHeader) (old : D) (first journal : Journal D) (auction : RunningAuction) (lines : List ℕ)
+  pub begun-new : (day : DayHeader) (old : D) (first journal : CommittedLines D) (auction : RunningAuction)
+      (lines : List ℕ)
       (end : ℕ) → end ≡ 0 → end ≡ length (committed (seen old)) → lines ≡ committed (seen old)
       → (lines ≡ [] → as-result auction ≡ as-result (opened_auction day.config))
       → AddsLines seen moment left_since old first.device []
@@ -67,7 +68,7 @@ module _ {D : Type 0} (seen : D → List ℕ) (may_leave : D → List ℕ → Ty
         gone_on = λ nonempty. absurd (nonempty empty);
       }
 
-  pub begun-on : (day : DayHeader) (old : D) (journal : Journal D) (auction : RunningAuction) (lines : List ℕ)
+  pub begun-on : (day : DayHeader) (old : D) (journal : CommittedLines D) (auction : RunningAuction) (lines : List ℕ)
       (end : ℕ) → end ≢ 0 → end ≡ length (committed (seen old)) → lines ≡ committed (seen old)
       → (lines ≢ [] → IsResumedFrom day (journal_of lines) (Ok auction))
       → IsSettled seen may_leave journal

@@ -4,13 +4,13 @@ use Rattle.std.proofs.lemmas.List.{append-nil}
 use Rattle.journal_file.specs.Committed.{IsBegun, committed}
 use Rattle.journal_file.specs.Events.{Event, failures_of}
 use Rattle.journal_file.specs.Settled.{IsSettled}
-use Rattle.journal_file.specs.declared.journal.Journal.{Journal}
+use Rattle.journal_file.specs.declared.journal.CommittedLines.{CommittedLines}
 use Rattle.journal_file.proofs.Moments.{started}
 use Rattle.kept_session.specs.Kept.{IsLater, text_tried}
 
 pub refused : {D : Type 0} (seen : D → List ℕ) (may_leave : D → List ℕ → Type 0) (moment : D → ℕ)
     (left_since : D → ℕ → List ℕ → Type 0) → ((d : D) (c : List ℕ) → left_since d (moment d) c → may_leave d c)
-    → (journal : Journal D) (before after : List Event) (is_broken : Bool)
+    → (journal : CommittedLines D) (before after : List Event) (is_broken : Bool)
     → (is_broken ≡ false → IsSettled seen may_leave journal) → after ≡ (0, 0, false, []) ∷ before
     → IsLater seen moment left_since journal journal before after is_broken is_broken
 refused seen may_leave moment left_since only_now journal before after is_broken steady note = record {

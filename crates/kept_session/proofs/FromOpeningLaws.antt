@@ -4,7 +4,7 @@ use Rattle.auction_terms.specs.Auxiliary.RunningAuction.{RunningAuction}
 use Rattle.journal.specs.JournalText.{journal_text}
 use Rattle.journal.specs.declared.day.DayHeader.{DayHeader}
 use Rattle.journal_file.specs.Committed.{committed}
-use Rattle.journal_file.specs.declared.journal.Journal.{Journal}
+use Rattle.journal_file.specs.declared.journal.CommittedLines.{CommittedLines}
 use Rattle.journal_file.proofs.Chain.{chain}
 use Rattle.journal_file.proofs.Lines.{committed-twice}
 use Rattle.kept_session.specs.Begun.{AddsLines, HasBegun}
@@ -12,7 +12,7 @@ use Rattle.kept_session.specs.KeptPromises.{LeavesFromOpening, opening_lines}
 
 module _ {D : Type 0} (seen : D → List ℕ) (may_leave : D → List ℕ → Type 0) (moment : D → ℕ)
     (left_since : D → ℕ → List ℕ → Type 0) where
-  adds : (day : DayHeader) (opened : D) (begun : Journal D) (auction : RunningAuction)
+  adds : (day : DayHeader) (opened : D) (begun : CommittedLines D) (auction : RunningAuction)
       → HasBegun seen may_leave moment left_since day opened begun auction → (lines : List ℕ)
       → committed (seen opened) ≡ lines
       → AddsLines seen moment left_since opened begun.device (opening_lines day lines)

@@ -133,11 +133,11 @@ replays-from front auction (e ∷ es) h =
 
 journal-read : (bytes : List ℕ) (j : RecordedDay) → journal bytes ≡ Ok j → journal_of bytes ≡ Ok j
 unfolding journal within_limit
-journal-read bytes j e = by (nat_lt MAX_JOURNAL_BYTES (length bytes)) refl e
+journal-read bytes j e = by_less (nat_lt MAX_JOURNAL_BYTES (length bytes)) refl e
   where
-    by : (b : Bool) → nat_lt MAX_JOURNAL_BYTES (length bytes) ≡ b → journal bytes ≡ Ok j → journal_of bytes ≡ Ok j
-    by true t q = cc (rw t at q)
-    by false t q = rw t at q
+    by_less : (b : Bool) → nat_lt MAX_JOURNAL_BYTES (length bytes) ≡ b → journal bytes ≡ Ok j → journal_of bytes ≡ Ok j
+    by_less true t q = cc (rw t at q)
+    by_less false t q = rw t at q
 
 pub gone-on : LawfulIsGoneOnWith
 gone-on day entries fits h legal = record {

@@ -9,7 +9,7 @@ use Rattle.journal_file.specs.Committed.{IsBegun, committed}
 use Rattle.journal_file.specs.Device.{LeavesOnly}
 use Rattle.journal_file.specs.Events.{Event, failures_of}
 use Rattle.journal_file.specs.Settled.{IsSettled}
-use Rattle.journal_file.specs.declared.journal.Journal.{Journal}
+use Rattle.journal_file.specs.declared.journal.CommittedLines.{CommittedLines}
 use Rattle.journal_file.proofs.Lines.{bool_cases}
 use Rattle.journal_file.proofs.Moments.{started}
 use Rattle.live_session.specs.Answered.{Answered}
@@ -89,7 +89,8 @@ module _ {C : Type 0} (c : Ghosts C) where
 -- ---- the journal
 
 module _ {D : Type 0} (seen : D → List ℕ) (may_leave : D → List ℕ → Type 0) (moment : D → ℕ)
-    (left_since : D → ℕ → List ℕ → Type 0) (old new : Journal D) (before after : List Event) (is_broken : Bool) where
+    (left_since : D → ℕ → List ℕ → Type 0) (old new : CommittedLines D) (before after : List Event)
+    (is_broken : Bool) where
   -- no commit has failed
   pub still-well : IsSameOrLater seen moment left_since old new before after false is_broken
       → failures_of after ≡ failures_of before → is_broken ≡ false
@@ -121,7 +122,7 @@ module _ {D : Type 0} (seen : D → List ℕ) (may_leave : D → List ℕ → Ty
 runs-kept : {C D : Type 0} (c : Ghosts C) (seen : D → List ℕ) (may_leave : D → List ℕ → Type 0) (moment : D → ℕ)
     (left_since : D → ℕ → List ℕ → Type 0) → ((d : D) (f : List ℕ) → left_since d (moment d) f → may_leave d f)
     → (terms : SessionTerms) (start : RunningAuction) (talk last : C) (result : Result Ending LiveFault)
-    → (old new : Journal D) (before after : List Event) (is_broken : Bool) (begun ended : List ℕ → ℕ → KeptEnds)
+    → (old new : CommittedLines D) (before after : List Event) (is_broken : Bool) (begun ended : List ℕ → ℕ → KeptEnds)
     → IsSettled seen may_leave old → before ≡ []
     → EndsSession c terms start talk last result
     → IsSameOrLater seen moment left_since old new before after false is_broken
@@ -157,7 +158,7 @@ pub kept-by : {C D R O : Type 0} (c : Ghosts C) (seen : D → List ℕ) (may_lea
     (moment : D → ℕ) (left_since : D → ℕ → List ℕ → Type 0)
     → ((d : D) (f : List ℕ) → left_since d (moment d) f → may_leave d f)
     → (terms : SessionTerms) (start : RunningAuction) (talk last : C) (result : Result Ending LiveFault)
-    → (old new first_journal last_journal : Journal D) (before after : List Event) (was_broken is_broken : Bool)
+    → (old new first_journal last_journal : CommittedLines D) (before after : List Event) (was_broken is_broken : Bool)
     → (reads : source.Ghosts R) (writes : sink.Ghosts O) (input new_input last_input : R)
     (output new_output last_output : O)
     → IsSettled seen may_leave old → before ≡ [] → was_broken ≡ false → first_journal ≡ old → new ≡ last_journal
@@ -175,17 +176,19 @@ kept-by {D = D} {R = R} {O = O} c seen may_leave moment left_since only_now term
     runs-kept c seen may_leave moment left_since only_now terms start talk last result old new before after is_broken
     (ends_of_both reads writes input output) (ends_of_both reads writes new_input new_output) settled none ran
     (subst (λ (b : Bool). IsSameOrLater seen moment left_since old new before after b is_broken) well
-    (subst (λ (j : Journal D). IsSameOrLater seen moment left_since j new before after was_broken is_broken) first_is
-    (subst (λ (j : Journal D). IsSameOrLater seen moment left_since first_journal j before after was_broken is_broken)
+    (subst (λ (j : CommittedLines D).
+    IsSameOrLater seen moment left_since j new before after was_broken is_broken) first_is
+    (subst (λ (j : CommittedLines D).
+    IsSameOrLater seen moment left_since first_journal j before after was_broken is_broken)
     (sym new_is) later)))
-    (λ is_well. subst (λ (j : Journal D). IsSettled seen may_leave j) (sym new_is) (steady is_well))
+    (λ is_well. subst (λ (j : CommittedLines D). IsSettled seen may_leave j) (sym new_is) (steady is_well))
     first
     (at_last ∙ sym (ap₂ (λ (r : R) (w : O). ends_of_both reads writes r w (text_tried after) (failures_of after))
     input_is output_is))
 
 -- the journal is settled after a session that no commit has broken off
 module _ {D : Type 0} (seen : D → List ℕ) (may_leave : D → List ℕ → Type 0) (moment : D → ℕ)
-    (left_since : D → ℕ → List ℕ → Type 0) (terms : SessionTerms) (start : RunningAuction) (old new : Journal D)
+    (left_since : D → ℕ → List ℕ → Type 0) (terms : SessionTerms) (start : RunningAuction) (old new : CommittedLines D)
     (left left_at_last written written_at_last : Option (List ℕ)) (reads reads_at_last writes writes_at_last : ℕ) where
   pub settled-after : (result : Result Ending LiveFault)
       → RunsKept seen may_leave moment left_since terms start old new (ends_at left written reads writes)

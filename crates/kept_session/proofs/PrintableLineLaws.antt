@@ -17,7 +17,7 @@ use Rattle.auction_terms.specs.declared.Side.{Side}
 use Rattle.auction_terms.specs.declared.limits.TheConstants.{MAX_TICK}
 use Rattle.auction_terms.specs.declared.Side.TheVariants.{Bid, Ask}
 use Rattle.printed_lines.specs.ReplyWords.{reply_text}
-use Rattle.journal.specs.CallFields.{FitsRecord, HasShortTick, IsShort, command_fields, enter_ending, limit_field}
+use Rattle.journal.specs.CallFields.{FitsRecord, HasShortTick, FitsU32, command_fields, enter_ending, limit_field}
 use Rattle.journal.specs.CallFields.{number_field, side_field}
 use Rattle.journal.specs.DayRecord.{FitsDay}
 use Rattle.journal.specs.EntryRecord.{is_printable}
@@ -48,7 +48,7 @@ digit-printable d h =
 number : (n : ℕ) → n < 2 ^ 64 → IsPrintable (decimal n)
 number n h = all-pass is_ascii_digit is_printable digit-printable (decimal n) (decimal-all_digits n h)
 
-short : (n : ℕ) → IsShort n → IsPrintable (decimal n)
+short : (n : ℕ) → FitsU32 n → IsPrintable (decimal n)
 short n h = number n (omega (arith, h))
 
 after-comma : (xs : List ℕ) → IsPrintable xs → IsPrintable (44 ∷ xs)
@@ -66,11 +66,11 @@ limit : (l : Limit) → HasShortTick l → IsPrintable (limit_field l)
 limit Market h = refl
 limit (At tick) h = short tick h
 
-optional : (n : Option ℕ) → IfSome n IsShort → IsPrintable (number_field n)
+optional : (n : Option ℕ) → IfSome n FitsU32 → IsPrintable (number_field n)
 optional None h = refl
 optional (Some n) h = short n h
 
-ending : (r : Restriction) (peak : Option ℕ) → IfSome peak IsShort → AllByRecursion IsPrintable (enter_ending r peak)
+ending : (r : Restriction) (peak : Option ℕ) → IfSome peak FitsU32 → AllByRecursion IsPrintable (enter_ending r peak)
 ending Unrestricted None h = tt
 ending Unrestricted (Some peak) h = (short peak h, tt)
 ending OpeningOnly peak h = (optional peak h, (refl, tt))

@@ -7,7 +7,7 @@ use Rattle.journal.specs.declared.day.DayHeader.{DayHeader}
 use Rattle.journal_file.specs.Committed.{IsBegun, committed}
 use Rattle.journal_file.specs.Device.{LeavesOnly}
 use Rattle.journal_file.specs.Settled.{IsSettled}
-use Rattle.journal_file.specs.declared.journal.Journal.{Journal}
+use Rattle.journal_file.specs.declared.journal.CommittedLines.{CommittedLines}
 use Rattle.kept_session.specs.Resumed.{IsResumedFrom}
 
 -- These lines were committed, and a crash at any moment since leaves what was committed before, and the first of them.
@@ -19,7 +19,8 @@ pub record AddsLines {D : Type 0} (seen : D → List ℕ) (moment : D → ℕ) (
 -- A file without lines has got the record of the day, and the auction is the one that the day begins with; else the
 -- lines are those of before, and the auction has had their entries.
 pub record HasBegun {D : Type 0} (seen : D → List ℕ) (may_leave : D → List ℕ → Type 0) (moment : D → ℕ)
-    (left_since : D → ℕ → List ℕ → Type 0) (day : DayHeader) (old : D) (journal : Journal D) (auction : RunningAuction)
+    (left_since : D → ℕ → List ℕ → Type 0) (day : DayHeader) (old : D) (journal : CommittedLines D)
+    (auction : RunningAuction)
     : Type 0 where
   pub settled : IsSettled seen may_leave journal
   pub new_day : committed (seen old) ≡ []

@@ -5,7 +5,7 @@ use Rattle.std.proofs.lemmas.List.{append-nil}
 use Rattle.journal_file.specs.Committed.{IsBegun, committed}
 use Rattle.journal_file.specs.Device.{LeavesOnly}
 use Rattle.journal_file.specs.Events.{Event, failures_of}
-use Rattle.journal_file.specs.declared.journal.Journal.{Journal}
+use Rattle.journal_file.specs.declared.journal.CommittedLines.{CommittedLines}
 use Rattle.journal_file.proofs.Chain.{chain}
 use Rattle.journal_file.proofs.Lines.{committed-append}
 
@@ -15,7 +15,8 @@ text_tried [] = []
 text_tried ((call, at, done, bytes) ∷ older) = text_tried older ++ bytes
 
 -- nothing was to be committed
-pub record IsSame {D : Type 0} (old new : Journal D) (before after : List Event) (was_broken is_broken : Bool) : Type 0
+pub record HasNothingToCommit {D : Type 0} (old new : CommittedLines D) (before after : List Event)
+    (was_broken is_broken : Bool) : Type 0
   where
     pub journal : new ≡ old
     pub calls : after ≡ before
@@ -24,7 +25,7 @@ pub record IsSame {D : Type 0} (old new : Journal D) (before after : List Event)
 -- More lines were to be committed since. Where none had failed before, a crash at any moment since leaves what had been
 -- committed, and the first of these lines; and where none has failed now, all of them are committed.
 pub record IsLater {D : Type 0} (seen : D → List ℕ) (moment : D → ℕ) (left_since : D → ℕ → List ℕ → Type 0)
-    (old new : Journal D) (before after : List Event) (was_broken is_broken : Bool) : Type 0 where
+    (old new : CommittedLines D) (before after : List Event) (was_broken is_broken : Bool) : Type 0 where
   pub more : List ℕ
   pub whole : committed more ≡ more
   pub text : text_tried after ≡ text_tried before ++ more
@@ -36,18 +37,19 @@ pub record IsLater {D : Type 0} (seen : D → List ℕ) (moment : D → ℕ) (le
   pub later : failures_of before ≤ failures_of after
   pub failed : was_broken ≡ false → is_broken ≡ true → failures_of before < failures_of after
 
-abbrev pub IsSameOrLater : {D : Type 0} → (D → List ℕ) → (D → ℕ) → (D → ℕ → List ℕ → Type 0) → Journal D → Journal D
+abbrev pub IsSameOrLater : {D : Type 0} → (D → List ℕ) → (D → ℕ) → (D → ℕ → List ℕ → Type 0) → CommittedLines D
+    → CommittedLines D
     → List Event → List Event → Bool → Bool → Type 0
 IsSameOrLater seen moment left_since old new before after was_broken is_broken =
-    IsSame old new before after was_broken is_broken
+    HasNothingToCommit old new before after was_broken is_broken
     ⊎ IsLater seen moment left_since old new before after was_broken is_broken
 
 module _ {D : Type 0} (seen : D → List ℕ) (moment : D → ℕ) (left_since : D → ℕ → List ℕ → Type 0) where
-  pub same : (journal : Journal D) (calls : List Event) (is_broken : Bool)
+  pub same : (journal : CommittedLines D) (calls : List Event) (is_broken : Bool)
       → IsSameOrLater seen moment left_since journal journal calls calls is_broken is_broken
   same journal calls is_broken = inl (record { journal = refl; calls = refl; broken = refl })
 
-  on-failed : (a b c : Journal D) (ea eb ec : List Event) (p q r : Bool) → q ≡ true
+  on-failed : (a b c : CommittedLines D) (ea eb ec : List Event) (p q r : Bool) → q ≡ true
       → IsLater seen moment left_since a b ea eb p q → IsLater seen moment left_since b c eb ec q r
       → IsLater seen moment left_since a c ea ec p r
   on-failed a b c ea eb ec p q r broken first second =
@@ -61,7 +63,7 @@ module _ {D : Type 0} (seen : D → List ℕ) (moment : D → ℕ) (left_since :
             second.text ∙ ap (λ (l : List ℕ). l ++ second.more) first.text
             ∙ append_assoc (text_tried ea) first.more second.more ∙ ap (λ (l : List ℕ). text_tried ea ++ l) none;
         leaves =
-            λ well. subst (λ (j : Journal D). LeavesOnly moment left_since a.device j.device
+            λ well. subst (λ (j : CommittedLines D). LeavesOnly moment left_since a.device j.device
             (IsBegun (committed (seen a.device)) first.more)) (sym stuck.1) (first.leaves well);
         all = λ well. absurd (cc (stuck.0, well));
         stays = λ was. let before = first.stays was in (stuck.0, stuck.1 ∙ before.1, before.2);
@@ -69,7 +71,7 @@ module _ {D : Type 0} (seen : D → List ℕ) (moment : D → ℕ) (left_since :
         failed = λ was is. omega (arith, first.failed was broken, second.later);
       }
 
-  on-well : (a b c : Journal D) (ea eb ec : List Event) (p q r : Bool) → q ≡ false
+  on-well : (a b c : CommittedLines D) (ea eb ec : List Event) (p q r : Bool) → q ≡ false
       → IsLater seen moment left_since a b ea eb p q → IsLater seen moment left_since b c eb ec q r
       → IsLater seen moment left_since a c ea ec p r
   on-well a b c ea eb ec p q r well first second = record {
@@ -90,13 +92,13 @@ module _ {D : Type 0} (seen : D → List ℕ) (moment : D → ℕ) (left_since :
     failed = λ was is. omega (arith, first.later, second.failed well is);
   }
 
-  on-later : (a b c : Journal D) (ea eb ec : List Event) (p q r : Bool)
+  on-later : (a b c : CommittedLines D) (ea eb ec : List Event) (p q r : Bool)
       → IsLater seen moment left_since a b ea eb p q → IsLater seen moment left_since b c eb ec q r
       → IsLater seen moment left_since a c ea ec p r
   on-later a b c ea eb ec p true r = on-failed a b c ea eb ec p true r refl
   on-later a b c ea eb ec p false r = on-well a b c ea eb ec p false r refl
 
-  pub on : (a b c : Journal D) (ea eb ec : List Event) (p q r : Bool)
+  pub on : (a b c : CommittedLines D) (ea eb ec : List Event) (p q r : Bool)
       → IsSameOrLater seen moment left_since a b ea eb p q → IsSameOrLater seen moment left_since b c eb ec q r
       → IsSameOrLater seen moment left_since a c ea ec p r
   on a b c ea eb ec p q r (inl first) (inl second) = inl (record {

@@ -12,7 +12,7 @@ use Rattle.journal.specs.PrintedJournal.{call_lines}
 use Rattle.journal.specs.declared.day.DayHeader.{DayHeader}
 use Rattle.journal_file.specs.Committed.{IsBegun, committed}
 use Rattle.journal_file.specs.Device.{LeavesOnly}
-use Rattle.journal_file.specs.declared.journal.Journal.{Journal}
+use Rattle.journal_file.specs.declared.journal.CommittedLines.{CommittedLines}
 use Rattle.live_session.specs.declared.fault.Ending.{Ending}
 use Rattle.live_session.specs.declared.fault.LiveFault.{LiveFault}
 use Rattle.live_session.specs.declared.terms.SessionTerms.{SessionTerms}
@@ -57,7 +57,7 @@ opening_lines day (byte ∷ lines) = []
 abbrev pub LeavesFromOpening : {D : Type 0} → (D → List ℕ) → (D → List ℕ → Type 0) → (D → ℕ)
     → (D → ℕ → List ℕ → Type 0) → Type 0
 LeavesFromOpening {D = D} seen may_leave moment left_since =
-    (day : DayHeader) (opened : D) (begun ended : Journal D) (auction : RunningAuction) (terms : SessionTerms)
+    (day : DayHeader) (opened : D) (begun ended : CommittedLines D) (auction : RunningAuction) (terms : SessionTerms)
     (first last : List ℕ → ℕ → KeptEnds) (result : Result Ending LiveFault)
     → HasBegun seen may_leave moment left_since day opened begun auction
     → (ran : RunsKept seen may_leave moment left_since terms auction begun ended first last result)

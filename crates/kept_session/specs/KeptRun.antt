@@ -4,7 +4,7 @@ use Rattle.auction_terms.specs.Auxiliary.RunningAuction.{RunningAuction}
 use Rattle.journal_file.specs.Committed.{IsBegun, committed}
 use Rattle.journal_file.specs.Device.{LeavesOnly}
 use Rattle.journal_file.specs.Settled.{IsSettled}
-use Rattle.journal_file.specs.declared.journal.Journal.{Journal}
+use Rattle.journal_file.specs.declared.journal.CommittedLines.{CommittedLines}
 use Rattle.live_session.specs.Talk.{EndsSession}
 use Rattle.live_session.specs.declared.conversation.Conversation.{Ghosts}
 use Rattle.live_session.specs.declared.fault.Ending.{Ending}
@@ -47,7 +47,7 @@ ends_at left written reads writes entries commits = record {
 -- It ran as any session does, and these lines of entries were to be committed. A crash at any moment of it leaves what
 -- was committed before, and the first of them; and where no commit has failed, all of them are committed.
 pub record RunsKept {D : Type 0} (seen : D → List ℕ) (may_leave : D → List ℕ → Type 0) (moment : D → ℕ)
-    (left_since : D → ℕ → List ℕ → Type 0) (terms : SessionTerms) (start : RunningAuction) (old new : Journal D)
+    (left_since : D → ℕ → List ℕ → Type 0) (terms : SessionTerms) (start : RunningAuction) (old new : CommittedLines D)
     (begun ended : List ℕ → ℕ → KeptEnds) (result : Result Ending LiveFault) : Type 0 where
   pub entries : List ℕ
   pub failures : ℕ

@@ -13,7 +13,7 @@ use crate::fault::BeginFault;
 use crate::resuming::resume;
 use auction::Auction;
 use journal::DayHeader;
-use journal_file::{Device, DeviceError, Journal, committed_len, recover};
+use journal_file::{CommittedLines, Device, DeviceError, committed_len, recover};
 use std::alloc::Global;
 
 /// How many bytes a journal's file may have.
@@ -25,12 +25,12 @@ const SPARE: usize = 1 << 20;
 /// A session that may begin: its journal, and its auction, which has had the journal's entries.
 #[derive(Drop)]
 pub struct Begun<D: Device> {
-    pub journal: Journal<D>,
+    pub journal: CommittedLines<D>,
     pub auction: Auction,
 }
 
 /// Cuts a file behind its last whole line, where its lines end, and makes a journal of it.
-fn repair<D: Device + Drop>(device: D, end: usize) -> Result<Journal<D>, DeviceError>
+fn repair<D: Device + Drop>(device: D, end: usize) -> Result<CommittedLines<D>, DeviceError>
     requires end { end ≡ length (committed (D.seen device)) }
     requires durable { IsOnlyOutcome (D.seen device) (D.may_leave device) }
     ensures settled { IfOk result (λ journal. IsSettled D.seen D.may_leave journal) }
@@ -41,13 +41,13 @@ fn repair<D: Device + Drop>(device: D, end: usize) -> Result<Journal<D>, DeviceE
     }
     let mut device = device;
     recover(&mut device, end)?;
-    Ok(Journal::new(device, end, SPARE))
+    Ok(CommittedLines::new(device, end, SPARE))
 }
 
 /// Commits the record of a day.
 fn keep_day<D: Device>(
     alloc: Global,
-    journal: &mut Journal<D>,
+    journal: &mut CommittedLines<D>,
     day: DayHeader,
 ) -> Result<(), BeginFault>
     requires { IsSettled D.seen D.may_leave journal.old }

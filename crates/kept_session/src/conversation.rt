@@ -4,7 +4,7 @@ ghost use Rattle.std.specs.Prelude.{◌≡◌, [], Bool, false};
 ghost use Rattle.journal_file.specs.Settled.{IsSettled};
 
 use byte_streams::{Sink, Source, SourceFailed, WriteFailed, write_all};
-use journal_file::{Device, Journal, Record, is_whole};
+use journal_file::{CommittedLines, Device, Record, is_whole};
 use live_session::{CommitFailed, Conversation};
 
 /// Which call is noted.
@@ -15,7 +15,7 @@ const COMMIT: u64 = 0;
 pub struct KeptConversation<'a, R: Source, O: Sink, D: Device> {
     pub input: &'a mut R,
     pub output: &'a mut O,
-    pub journal: &'a mut Journal<D>,
+    pub journal: &'a mut CommittedLines<D>,
     /// What was to be committed, and whether it was.
     pub calls: Record,
     /// Whether a commit has failed. From then on nothing is committed.
@@ -28,7 +28,7 @@ impl<'a, R: Source, O: Sink, D: Device> KeptConversation<'a, R, O, D> {
     pub fn new(
         input: &'a mut R,
         output: &'a mut O,
-        journal: &'a mut Journal<D>,
+        journal: &'a mut CommittedLines<D>,
     ) -> KeptConversation<'a, R, O, D>
         requires { IsSettled D.seen D.may_leave journal.old }
         ensures input { result.input ≡ input.entry }

@@ -6,7 +6,7 @@ ghost use Rattle.kept_session.specs.KeptRun.{RunsKept, ends_at};
 use crate::conversation::KeptConversation;
 use auction::Auction;
 use byte_streams::{Sink, Source};
-use journal_file::{Device, Journal};
+use journal_file::{CommittedLines, Device};
 use live_session::{Ending, LiveFault, SessionTerms, run_live};
 use std::alloc::Global;
 
@@ -19,7 +19,7 @@ pub fn run_kept<R: Source, O: Sink, D: Device>(
     alloc: Global,
     input: &mut R,
     output: &mut O,
-    journal: &mut Journal<D>,
+    journal: &mut CommittedLines<D>,
     auction: Auction,
     terms: SessionTerms,
 ) -> Result<Ending, LiveFault>

@@ -15,13 +15,13 @@ flagged-append (x ∷ xs) ys (u ∷ us) vs e =
     ≡ cond b (x ∷ flagged xs us) (flagged xs us) ++ flagged ys vs) [ true ↦ ap (λ l. x ∷ l) r | false ↦ r ]
 
 -- a flagged place with this value
-pub record Place (vs fs : List ℕ) (m : ℕ) : Type 0 where
+pub record FlaggedPlace (vs fs : List ℕ) (m : ℕ) : Type 0 where
   pub place : ℕ
   pub within : place < length fs
   pub here : get_or fs place 0 ≡ 1
   pub value : get_or vs place 0 ≡ m
 
-pub next : (v f m : ℕ) (vs fs : List ℕ) → Place vs fs m → Place (v ∷ vs) (f ∷ fs) m
+pub next : (v f m : ℕ) (vs fs : List ℕ) → FlaggedPlace vs fs m → FlaggedPlace (v ∷ vs) (f ∷ fs) m
 next v f m vs fs p = record { place = suc p.place; within = omega arith; here = p.here; value = p.value }
 
 pub le_or_gt : (a b : ℕ) → (a ≤ b) ⊎ (b < a)

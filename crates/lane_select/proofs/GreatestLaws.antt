@@ -6,7 +6,7 @@ use Rattle.std.proofs.Math.Seq.{take-add}
 use Rattle.std.proofs.lemmas.List.{length-take-le}
 use Rattle.std.proofs.lemmas.Bool.Decides.{nat_tests}
 use Rattle.lane_select.proofs.ChunkLaws.{chunk_one}
-use Rattle.lane_select.proofs.FlaggedLaws.{flagged-append, Place, next, le_or_gt}
+use Rattle.lane_select.proofs.FlaggedLaws.{flagged-append, FlaggedPlace, next, le_or_gt}
 use Rattle.lane_select.specs.Selection.{flagged, greatest, value_or_zero, IsGreatestFlagged}
 use Rattle.std.proofs.lemmas.Grind.{common_steps}
 
@@ -56,8 +56,8 @@ greatest_bound (v ∷ vs) (f ∷ fs) e (suc k) lt is =
     ]
 
 place_of_greater : (v f : ℕ) (vs fs : List ℕ) → eqb f 1 ≡ true
-    → (0 < greatest (flagged vs fs) → Place vs fs (greatest (flagged vs fs)))
-    → Place (v ∷ vs) (f ∷ fs) (max v (greatest (flagged vs fs)))
+    → (0 < greatest (flagged vs fs) → FlaggedPlace vs fs (greatest (flagged vs fs)))
+    → FlaggedPlace (v ∷ vs) (f ∷ fs) (max v (greatest (flagged vs fs)))
 place_of_greater v f vs fs t ih =
     let m = greatest (flagged vs fs) in
     let one : f ≡ 1 = grind (arith, nat_tests) in
@@ -66,13 +66,14 @@ place_of_greater v f vs fs t ih =
       | inr h ↦ let e : m ≡ max v m = omega (arith, h) in rw (← e) (next v f m vs fs (ih (omega (arith, h))))
     ]
 
-place_either : (v f : ℕ) (vs fs : List ℕ) → (0 < greatest (flagged vs fs) → Place vs fs (greatest (flagged vs fs)))
+place_either : (v f : ℕ) (vs fs : List ℕ)
+    → (0 < greatest (flagged vs fs) → FlaggedPlace vs fs (greatest (flagged vs fs)))
     → (b : Bool) → eqb f 1 ≡ b → 0 < greatest (cond b (v ∷ flagged vs fs) (flagged vs fs))
-    → Place (v ∷ vs) (f ∷ fs) (greatest (cond b (v ∷ flagged vs fs) (flagged vs fs)))
+    → FlaggedPlace (v ∷ vs) (f ∷ fs) (greatest (cond b (v ∷ flagged vs fs) (flagged vs fs)))
 place_either v f vs fs ih true t p = place_of_greater v f vs fs t ih
 place_either v f vs fs ih false t p = next v f (greatest (flagged vs fs)) vs fs (ih p)
 
-pub place_positive : (vs fs : List ℕ) → 0 < greatest (flagged vs fs) → Place vs fs (greatest (flagged vs fs))
+pub place_positive : (vs fs : List ℕ) → 0 < greatest (flagged vs fs) → FlaggedPlace vs fs (greatest (flagged vs fs))
 place_positive [] fs p = absurd (omega (arith, p))
 place_positive (v ∷ vs) [] p = absurd (omega (arith, p))
 place_positive (v ∷ vs) (f ∷ fs) p = place_either v f vs fs (place_positive vs fs) (eqb f 1) refl p
@@ -81,7 +82,7 @@ pub greatest_is : (vs fs : List ℕ) → length vs ≡ length fs → (k : ℕ) �
     → IsGreatestFlagged vs fs (greatest (flagged vs fs))
 greatest_is vs fs e k lt is =
     let m = greatest (flagged vs fs) in
-    let p : Place vs fs m = elim (le_or_gt m 0) [
+    let p : FlaggedPlace vs fs m = elim (le_or_gt m 0) [
       | inl h ↦ record { place = k; within = lt; here = is; value = omega (arith, h, greatest_bound vs fs e k lt is) }
       | inr h ↦ place_positive vs fs h
     ] in

@@ -6,7 +6,7 @@ use Rattle.std.proofs.Math.Seq.{take-add}
 use Rattle.std.proofs.lemmas.List.{length-take-le}
 use Rattle.std.proofs.lemmas.Bool.Decides.{nat_tests}
 use Rattle.lane_select.proofs.ChunkLaws.{chunk_one}
-use Rattle.lane_select.proofs.FlaggedLaws.{flagged-append, Place, next, le_or_gt}
+use Rattle.lane_select.proofs.FlaggedLaws.{flagged-append, FlaggedPlace, next, le_or_gt}
 use Rattle.lane_select.specs.Selection.{flagged, least, value_or_most, IsLeastFlagged}
 use Rattle.std.proofs.lemmas.Grind.{common_steps}
 
@@ -59,8 +59,9 @@ least_bound (v ∷ vs) (f ∷ fs) e (suc k) lt is =
     ]
 
 place_of_less : (v f : ℕ) (vs fs : List ℕ) → eqb f 1 ≡ true
-    → (least (flagged vs fs) < 18446744073709551615 → Place vs fs (least (flagged vs fs)))
-    → min v (least (flagged vs fs)) < 18446744073709551615 → Place (v ∷ vs) (f ∷ fs) (min v (least (flagged vs fs)))
+    → (least (flagged vs fs) < 18446744073709551615 → FlaggedPlace vs fs (least (flagged vs fs)))
+    → min v (least (flagged vs fs)) < 18446744073709551615
+    → FlaggedPlace (v ∷ vs) (f ∷ fs) (min v (least (flagged vs fs)))
 place_of_less v f vs fs t ih p =
     let m = least (flagged vs fs) in
     let one : f ≡ 1 = grind (arith, nat_tests) in
@@ -70,14 +71,15 @@ place_of_less v f vs fs t ih p =
     ]
 
 place_either : (v f : ℕ) (vs fs : List ℕ)
-    → (least (flagged vs fs) < 18446744073709551615 → Place vs fs (least (flagged vs fs))) → (b : Bool) → eqb f 1 ≡ b
+    → (least (flagged vs fs) < 18446744073709551615 → FlaggedPlace vs fs (least (flagged vs fs))) → (b : Bool)
+    → eqb f 1 ≡ b
     → least (cond b (v ∷ flagged vs fs) (flagged vs fs)) < 18446744073709551615
-    → Place (v ∷ vs) (f ∷ fs) (least (cond b (v ∷ flagged vs fs) (flagged vs fs)))
+    → FlaggedPlace (v ∷ vs) (f ∷ fs) (least (cond b (v ∷ flagged vs fs) (flagged vs fs)))
 place_either v f vs fs ih true t p = place_of_less v f vs fs t ih p
 place_either v f vs fs ih false t p = next v f (least (flagged vs fs)) vs fs (ih p)
 
 pub place_positive : (vs fs : List ℕ) → least (flagged vs fs) < 18446744073709551615
-    → Place vs fs (least (flagged vs fs))
+    → FlaggedPlace vs fs (least (flagged vs fs))
 place_positive [] fs p = absurd (omega (arith, p))
 place_positive (v ∷ vs) [] p = absurd (omega (arith, p))
 place_positive (v ∷ vs) (f ∷ fs) p = place_either v f vs fs (place_positive vs fs) (eqb f 1) refl p
@@ -86,7 +88,7 @@ pub least_is : (vs fs : List ℕ) → ((i : ℕ) → get_or vs i 0 ≤ 184467440
     → k < length fs → get_or fs k 0 ≡ 1 → IsLeastFlagged vs fs (least (flagged vs fs))
 least_is vs fs small e k lt is =
     let m = least (flagged vs fs) in
-    let p : Place vs fs m = elim (le_or_gt 18446744073709551615 m) [
+    let p : FlaggedPlace vs fs m = elim (le_or_gt 18446744073709551615 m) [
       | inl h ↦ record {
         place = k;
         within = lt;

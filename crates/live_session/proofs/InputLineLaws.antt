@@ -55,11 +55,11 @@ lines-none lines = refl
 -- ---- the first line end
 
 is-false : (x : Bool) → (x ≡ true → ⊥) → x ≡ false
-is-false x never = by x refl
+is-false x never = by_truth x refl
   where
-    by : (y : Bool) → x ≡ y → x ≡ false
-    by true e = absurd (never e)
-    by false e = e
+    by_truth : (y : Bool) → x ≡ y → x ≡ false
+    by_truth true e = absurd (never e)
+    by_truth false e = e
 
 no-end : (bytes : List ℕ) → ((k : ℕ) → k < length bytes → is_line_end (slice_index bytes k) ≡ true → ⊥)
     → HasNoLineEnd bytes
@@ -150,15 +150,15 @@ held-long : (held line : List ℕ) → is_too_long held ≡ true → is_too_long
 held-long held line h l = record { fault = rw (h, l) refl; whole = λ short. absurd (true≢false (sym h ∙ short)) }
 
 pub held-line : (line : List ℕ) → IsHeldOf (take (MAX_RECORD_BYTES + 1) line) line
-held-line line = by (is_too_long line) refl
+held-line line = by_length (is_too_long line) refl
   where
-    by : (b : Bool) → is_too_long line ≡ b → IsHeldOf (take (MAX_RECORD_BYTES + 1) line) line
-    by true e =
+    by_length : (b : Bool) → is_too_long line ≡ b → IsHeldOf (take (MAX_RECORD_BYTES + 1) line) line
+    by_length true e =
         let long : MAX_RECORD_BYTES < length line = search rules in
         held-long _ line
         (is-long MAX_RECORD_BYTES (take (MAX_RECORD_BYTES + 1) line)
         (omega (arith, take-long MAX_RECORD_BYTES line long))) e
-    by false e =
+    by_length false e =
         let short : length line ≤ MAX_RECORD_BYTES = search rules in
         held-short _ line (take_all (MAX_RECORD_BYTES + 1) line (omega (arith, short)))
 

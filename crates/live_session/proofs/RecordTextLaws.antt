@@ -8,6 +8,7 @@ use Rattle.csv.specs.declared.parser.Action.{Action}
 use Rattle.csv.specs.declared.parser.Action.TheVariants as act
 use Rattle.csv.specs.declared.parser.State.{State}
 use Rattle.csv.specs.declared.parser.State.TheVariants as st
+use Rattle.order_file.specs.Blocks.{Rows}
 use Rattle.order_file.specs.Rows.{records_left}
 use Rattle.order_file.proofs.RowLaws.{first-record, no-record}
 use Rattle.live_session.specs.InputLines.{is_record_open, state_after}
@@ -27,71 +28,71 @@ IsClean s fields field = IsReached s × (ends_at_end s ≡ false → (fields ≡
 -- ---- what a byte does
 
 -- it goes on with a record, ends it, or is passed over between two
-abbrev GoesOn : State → ℕ → Type 0
-GoesOn s c = (t : State) × (a : Action) × IsReached t × (ends_at_end t ≡ true) × (is_end a ≡ false)
+abbrev GoesOnWithText : State → ℕ → Type 0
+GoesOnWithText s c = (t : State) × (a : Action) × IsReached t × (ends_at_end t ≡ true) × (is_end a ≡ false)
     × (step default_config s c ≡ (t, a))
 
-abbrev Ends : State → ℕ → Type 0
-Ends s c = (t : State) × IsReached t × (ends_at_end t ≡ false) × (step default_config s c ≡ (t, act.EndRecord))
+abbrev EndsText : State → ℕ → Type 0
+EndsText s c = (t : State) × IsReached t × (ends_at_end t ≡ false) × (step default_config s c ≡ (t, act.EndRecord))
 
-abbrev Passes : State → ℕ → Type 0
-Passes s c = (ends_at_end s ≡ false) × (step default_config s c ≡ (st.StartRecord, act.Skip))
+abbrev IsSkipped : State → ℕ → Type 0
+IsSkipped s c = (ends_at_end s ≡ false) × (step default_config s c ≡ (st.StartRecord, act.Skip))
 
-abbrev Does : State → ℕ → Type 0
-Does s c = GoesOn s c ⊎ Ends s c ⊎ Passes s c
+abbrev IsOneOfThree : State → ℕ → Type 0
+IsOneOfThree s c = GoesOnWithText s c ⊎ EndsText s c ⊎ IsSkipped s c
 
-in-field-does : (s : State) (c : ℕ) → step default_config s c ≡ in_field default_config c → Does s c
-in-field-does s c e = by (c == 44) (c == 13) (c == 10) refl refl refl
+in-field-does : (s : State) (c : ℕ) → step default_config s c ≡ in_field default_config c → IsOneOfThree s c
+in-field-does s c e = by_comma (c == 44) (c == 13) (c == 10) refl refl refl
   where
-    by : (x y z : Bool) → (c == 44) ≡ x → (c == 13) ≡ y → (c == 10) ≡ z → Does s c
-    by true y z p q r = inl (st.StartField, act.EndField, tt, refl, refl, e ∙ rw p refl)
-    by false true z p q r = inr (inl (st.AfterCr, tt, refl, e ∙ rw (p, q) refl))
-    by false false true p q r = inr (inl (st.StartRecord, tt, refl, e ∙ rw (p, q, r) refl))
-    by false false false p q r = inl (st.InField, act.Copy, tt, refl, refl, e ∙ rw (p, q, r) refl)
+    by_comma : (x y z : Bool) → (c == 44) ≡ x → (c == 13) ≡ y → (c == 10) ≡ z → IsOneOfThree s c
+    by_comma true y z p q r = inl (st.StartField, act.EndField, tt, refl, refl, e ∙ rw p refl)
+    by_comma false true z p q r = inr (inl (st.AfterCr, tt, refl, e ∙ rw (p, q) refl))
+    by_comma false false true p q r = inr (inl (st.StartRecord, tt, refl, e ∙ rw (p, q, r) refl))
+    by_comma false false false p q r = inl (st.InField, act.Copy, tt, refl, refl, e ∙ rw (p, q, r) refl)
 
 start-does : (s : State) (c : ℕ) → ends_at_end s ≡ false
-    → step default_config s c ≡ step default_config st.StartRecord c → Does s c
-start-does s c between e = by (c == 13) (c == 10) (c == 34) refl refl refl
+    → step default_config s c ≡ step default_config st.StartRecord c → IsOneOfThree s c
+start-does s c between e = by_return (c == 13) (c == 10) (c == 34) refl refl refl
   where
-    by : (y z x : Bool) → (c == 13) ≡ y → (c == 10) ≡ z → (c == 34) ≡ x → Does s c
-    by true z x q r p = inr (inr (between, e ∙ rw q refl))
-    by false true x q r p = inr (inr (between, e ∙ rw (q, r) refl))
-    by false false true q r p = inl (st.InQuoted, act.Skip, tt, refl, refl, e ∙ rw (q, r, p) refl)
-    by false false false q r p = in-field-does s c (e ∙ rw (q, r, p) refl)
+    by_return : (y z x : Bool) → (c == 13) ≡ y → (c == 10) ≡ z → (c == 34) ≡ x → IsOneOfThree s c
+    by_return true z x q r p = inr (inr (between, e ∙ rw q refl))
+    by_return false true x q r p = inr (inr (between, e ∙ rw (q, r) refl))
+    by_return false false true q r p = inl (st.InQuoted, act.Skip, tt, refl, refl, e ∙ rw (q, r, p) refl)
+    by_return false false false q r p = in-field-does s c (e ∙ rw (q, r, p) refl)
 
 -- behind a carriage return a byte does what it does before a record
 step-between : (c : ℕ) → step default_config st.AfterCr c ≡ step default_config st.StartRecord c
-step-between c = by (c == 13) (c == 10) refl refl
+step-between c = by_return (c == 13) (c == 10) refl refl
   where
-    by : (y z : Bool) → (c == 13) ≡ y → (c == 10) ≡ z
+    by_return : (y z : Bool) → (c == 13) ≡ y → (c == 10) ≡ z
         → step default_config st.AfterCr c ≡ step default_config st.StartRecord c
-    by y true q r = by_return (c == 13) refl r
+    by_return y true q r = by_return (c == 13) refl r
       where
         by_return : (y : Bool) → (c == 13) ≡ y → (c == 10) ≡ true
             → step default_config st.AfterCr c ≡ step default_config st.StartRecord c
         by_return true q r = rw (r, q) refl
         by_return false q r = rw (r, q) refl
-    by y false q r = rw r refl
+    by_return y false q r = rw r refl
 
-does : (s : State) (c : ℕ) → IsReached s → Does s c
+does : (s : State) (c : ℕ) → IsReached s → IsOneOfThree s c
 does st.StartRecord c h = start-does st.StartRecord c refl refl
 does st.AfterCr c h = start-does st.AfterCr c refl (step-between c)
 does st.InField c h = in-field-does st.InField c refl
-does st.StartField c h = by (c == 34) refl
+does st.StartField c h = by_quote (c == 34) refl
   where
-    by : (x : Bool) → (c == 34) ≡ x → Does st.StartField c
-    by true p = inl (st.InQuoted, act.Skip, tt, refl, refl, rw p refl)
-    by false p = in-field-does st.StartField c (rw p refl)
-does st.InQuoted c h = by (c == 34) refl
+    by_quote : (x : Bool) → (c == 34) ≡ x → IsOneOfThree st.StartField c
+    by_quote true p = inl (st.InQuoted, act.Skip, tt, refl, refl, rw p refl)
+    by_quote false p = in-field-does st.StartField c (rw p refl)
+does st.InQuoted c h = by_quote (c == 34) refl
   where
-    by : (x : Bool) → (c == 34) ≡ x → Does st.InQuoted c
-    by true p = inl (st.AfterQuote, act.Skip, tt, refl, refl, rw p refl)
-    by false p = inl (st.InQuoted, act.Copy, tt, refl, refl, rw p refl)
-does st.AfterQuote c h = by (c == 34) refl
+    by_quote : (x : Bool) → (c == 34) ≡ x → IsOneOfThree st.InQuoted c
+    by_quote true p = inl (st.AfterQuote, act.Skip, tt, refl, refl, rw p refl)
+    by_quote false p = inl (st.InQuoted, act.Copy, tt, refl, refl, rw p refl)
+does st.AfterQuote c h = by_quote (c == 34) refl
   where
-    by : (x : Bool) → (c == 34) ≡ x → Does st.AfterQuote c
-    by true p = inl (st.InQuoted, act.Copy, tt, refl, refl, rw p refl)
-    by false p = in-field-does st.AfterQuote c (rw p refl)
+    by_quote : (x : Bool) → (c == 34) ≡ x → IsOneOfThree st.AfterQuote c
+    by_quote true p = inl (st.InQuoted, act.Copy, tt, refl, refl, rw p refl)
+    by_quote false p = in-field-does st.AfterQuote c (rw p refl)
 does st.InEscape c h = absurd h
 does st.InComment c h = absurd h
 
@@ -110,9 +111,6 @@ ends-here s t fields field c rest e = rw e refl
 
 -- ---- the records of a text
 
-abbrev Rows : Type 0
-Rows = List (List (List ℕ))
-
 -- a record, and those after it
 abbrev rows_then : Option Read → Rows
 rows_then None = []
@@ -123,11 +121,11 @@ abbrev rows : State → List (List ℕ) → List ℕ → List ℕ → Rows
 rows s fields field xs = rows_then (next_record default_config s fields field xs)
 
 left-are-rows : (s : State) (xs : List ℕ) → records_left s xs ≡ rows s [] [] xs
-left-are-rows s xs = by (next_record default_config s [] [] xs) refl
+left-are-rows s xs = by_next_record (next_record default_config s [] [] xs) refl
   where
-    by : (o : Option Read) → next_record default_config s [] [] xs ≡ o → records_left s xs ≡ rows_then o
-    by None e = no-record s xs e
-    by (Some p) e = first-record s xs p e
+    by_next_record : (o : Option Read) → next_record default_config s [] [] xs ≡ o → records_left s xs ≡ rows_then o
+    by_next_record None e = no-record s xs e
+    by_next_record (Some p) e = first-record s xs p e
 
 next-between : (xs : List ℕ) → next_record default_config st.AfterCr [] [] xs
     ≡ next_record default_config st.StartRecord [] [] xs
@@ -159,21 +157,21 @@ unfolding state_after
 whole-then s fields field [] y clean e =
     let (none, empty) = clean.1 e in
     rw (none, empty, no-row s e) (sym (left-are-rows s y) ∙ left-between s y clean.0 e)
-whole-then s fields field (c ∷ x) y clean e = by (does s c clean.0) (λ t f p h k. whole-then t f p x y h k)
+whole-then s fields field (c ∷ x) y clean e = by_action (does s c clean.0) (λ t f p h k. whole-then t f p x y h k)
   where
-    by : Does s c
+    by_action : IsOneOfThree s c
         → ((t : State) (f : List (List ℕ)) (p : List ℕ) → IsClean t f p → ends_at_end (state_after t x) ≡ false
         → rows t f p (x ++ y) ≡ rows t f p x ++ records_left st.StartRecord y)
         → rows s fields field (c ∷ (x ++ y)) ≡ rows s fields field (c ∷ x) ++ records_left st.StartRecord y
-    by (inl (t, a, reached, within, no_end, is)) more =
+    by_action (inl (t, a, reached, within, no_end, is)) more =
         rw (next-goes-on s t a fields field c (x ++ y) is no_end, next-goes-on s t a fields field c x is no_end)
         (more t _ _ (reached, λ f. absurd (true≢false (sym within ∙ f))) (rw is at e))
-    by (inr (inl (t, reached, between, is))) more =
+    by_action (inr (inl (t, reached, between, is))) more =
         rw (ends-here s t fields field c (x ++ y) is, ends-here s t fields field c x is)
         (ap (λ (rs : Rows). (fields ++ (field ∷ [])) ∷ rs) (left-are-rows t (x ++ y)
         ∙ more t [] [] (reached, λ f. (refl, refl)) (rw is at e)
         ∙ ap (λ (rs : Rows). rs ++ records_left st.StartRecord y) (sym (left-are-rows t x))))
-    by (inr (inr (between, is))) more =
+    by_action (inr (inr (between, is))) more =
         rw (
           next-goes-on s st.StartRecord act.Skip fields field c (x ++ y) is refl,
           next-goes-on s st.StartRecord act.Skip fields field c x is refl,
@@ -193,7 +191,7 @@ records-then x y e =
 -- a line end before a record is passed over
 pub line-end-first : (x : List ℕ) → records default_config (strip_bom (10 ∷ x)) ≡ records default_config x
 unfolding strip_bom
-line-end-first x = by x
+line-end-first x = by_first_bytes x
   where
     passed : (x : List ℕ) → records default_config (10 ∷ x) ≡ records default_config x
     passed x =
@@ -201,10 +199,10 @@ line-end-first x = by x
         ∙ ap rows_then (next-goes-on st.StartRecord st.StartRecord act.Skip [] [] 10 x refl refl)
         ∙ sym (left-are-rows st.StartRecord x)
 
-    by : (x : List ℕ) → records default_config (strip_bom (10 ∷ x)) ≡ records default_config x
-    by [] = passed []
-    by (b ∷ []) = passed (b ∷ [])
-    by (b ∷ c ∷ rest) = passed (b ∷ c ∷ rest)
+    by_first_bytes : (x : List ℕ) → records default_config (strip_bom (10 ∷ x)) ≡ records default_config x
+    by_first_bytes [] = passed []
+    by_first_bytes (b ∷ []) = passed (b ∷ [])
+    by_first_bytes (b ∷ c ∷ rest) = passed (b ∷ c ∷ rest)
 
 -- ---- texts one behind the other
 
@@ -216,13 +214,13 @@ state-append s (c ∷ x) y = state-append (step default_config s c).0 x y
 reached-after : (s : State) (x : List ℕ) → IsReached s → IsReached (state_after s x)
 unfolding state_after
 reached-after s [] h = h
-reached-after s (c ∷ x) h = by (does s c h) (λ t k. reached-after t x k)
+reached-after s (c ∷ x) h = by_action (does s c h) (λ t k. reached-after t x k)
   where
-    by : Does s c → ((t : State) → IsReached t → IsReached (state_after t x))
+    by_action : IsOneOfThree s c → ((t : State) → IsReached t → IsReached (state_after t x))
         → IsReached (state_after (step default_config s c).0 x)
-    by (inl (t, a, reached, within, no_end, is)) more = rw is (more t reached)
-    by (inr (inl (t, reached, between, is))) more = rw is (more t reached)
-    by (inr (inr (between, is))) more = rw is (more st.StartRecord tt)
+    by_action (inl (t, a, reached, within, no_end, is)) more = rw is (more t reached)
+    by_action (inr (inl (t, reached, between, is))) more = rw is (more t reached)
+    by_action (inr (inr (between, is))) more = rw is (more st.StartRecord tt)
 
 -- from between two records a text leads where it leads from the start
 closed-from : (s : State) (y : List ℕ) → IsReached s → ends_at_end s ≡ false → IsClosed y

@@ -170,18 +170,18 @@ ended-first : (lines : Lines) (bytes : List ℕ) → (more : List (List ℕ))
     × (lines.ended ++ more ≡ (lines_after lines bytes).ended)
 unfolding lines_after
 ended-first lines [] = ([], append-nil lines.ended)
-ended-first lines (b ∷ bs) = by (is_line_end b) refl (ended-first (next_byte lines b) bs)
+ended-first lines (b ∷ bs) = by_line_end (is_line_end b) refl (ended-first (next_byte lines b) bs)
   where
-    by : (x : Bool) → is_line_end b ≡ x
+    by_line_end : (x : Bool) → is_line_end b ≡ x
         → (more : List (List ℕ)) × ((next_byte lines b).ended ++ more ≡ (lines_after (next_byte lines b) bs).ended)
         → (more : List (List ℕ)) × (lines.ended ++ more ≡ (lines_after (next_byte lines b) bs).ended)
-    by true e (more, is) =
+    by_line_end true e (more, is) =
         let here : (next_byte lines b).ended ≡ lines.ended ++ lines.at_hand ∷ [] = rw e refl in (
           lines.at_hand ∷ more,
           sym (append_assoc lines.ended (lines.at_hand ∷ []) more)
               ∙ ap (λ (x : List (List ℕ)). x ++ more) (sym here) ∙ is,
         )
-    by false e (more, is) =
+    by_line_end false e (more, is) =
         let here : (next_byte lines b).ended ≡ lines.ended = rw e refl in
         (more, ap (λ (x : List (List ℕ)). x ++ more) (sym here) ∙ is)
 

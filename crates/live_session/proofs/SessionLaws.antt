@@ -23,13 +23,13 @@ use Rattle.live_session.proofs.RecordTextLaws.{closed-both, closed-none}
 
 -- a line without a fault
 pub not-faulty : (line : List ℕ) → line_fault line ≡ None → (is_too_long line ≡ false) × (is_quote_open line ≡ false)
-not-faulty line e = by (is_too_long line) (is_quote_open line) refl refl
+not-faulty line e = by_length (is_too_long line) (is_quote_open line) refl refl
   where
-    by : (x y : Bool) → is_too_long line ≡ x → is_quote_open line ≡ y → (is_too_long line ≡ false)
+    by_length : (x y : Bool) → is_too_long line ≡ x → is_quote_open line ≡ y → (is_too_long line ≡ false)
         × (is_quote_open line ≡ false)
-    by true y p q = absurd (cc (rw p at e))
-    by false true p q = absurd (cc (rw (p, q) at e))
-    by false false p q = (p, q)
+    by_length true y p q = absurd (cc (rw p at e))
+    by_length false true p q = absurd (cc (rw (p, q) at e))
+    by_length false false p q = (p, q)
 
 -- a line that isn't read as a record was answered
 pub refused-line : (session : Session) (terms : SessionTerms) (start : RunningAuction) (lines : Lines) (given : List ℕ)

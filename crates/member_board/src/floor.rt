@@ -10,7 +10,7 @@ ghost use Rattle.board_terms.specs.CallsAndLooks.{behind_fault, entry, CallsOnce
 use crate::identity::BoardIdentity;
 use crate::member::Member;
 use crate::story::{Front, Head};
-use crate::versions::{Copies, Update, Version, View};
+use crate::versions::{Copies, Snapshot, Update, Version};
 use auction::Auction;
 use auction_terms::{Call, Command, Entry};
 use board_terms::{CallFault, Receipt, Shown};
@@ -137,7 +137,7 @@ where
         ensures look { (s : Shown) × IsLook K.config by.old by.new s }
         ensures all_calls { length self.now ≤ length by.new.seen }
     {
-        by.catch_up(View::of(self.front.again(), self.shown()));
+        by.catch_up(Snapshot::of(self.front.again(), self.shown()));
     }
 
     // Gives back the copies, and hands out the history.
@@ -174,7 +174,7 @@ where
         let reply = self.auction.apply(member, command);
         let display = self.auction.show();
         let number = self.auction.calls();
-        let view = View::of(
+        let view = Snapshot::of(
             front.again(),
             Shown {
                 calls: number,

@@ -9,7 +9,7 @@ use crate::floor::Floor;
 use crate::identity::BoardIdentity;
 use crate::member::Member;
 use crate::story::Blank;
-use crate::versions::{Copies, Update, Version, View};
+use crate::versions::{Copies, Snapshot, Update, Version};
 use auction::{Auction, OpenFault};
 use auction_terms::{Command, Config, Entry, Reply};
 use board_terms::{Shown, open_auction};
@@ -60,7 +60,7 @@ fn new_members<K: BoardIdentity>(
     room: Vec<Member<K>>,
     count: u8,
     joined: &mut Share<K>,
-    opening: &View<K>,
+    opening: &Snapshot<K>,
     copies: &Copies<K>,
 ) -> Result<Vec<Member<K>>, AllocError>
 where
@@ -149,7 +149,7 @@ where
     let member_room = Vec::with_capacity(alloc, usize::from(count))?;
     let (head, front) = story.named::<K>();
     let display = auction.display();
-    let opening = View::of(front.again(), Shown { calls: 0, display });
+    let opening = Snapshot::of(front.again(), Shown { calls: 0, display });
     let copies = Copies::open(alloc, &opening, usize::from(count))?;
     let (book, mut joined) = ledger.open::<K>();
     let members = new_members(member_room, count, &mut joined, &opening, &copies)?;

@@ -8,7 +8,7 @@ ghost use Rattle.board_terms.specs.CallsAndLooks.{CallsOnce, EndsWithCall, SeesF
 use crate::board::Board;
 use crate::identity::BoardIdentity;
 use crate::story::Front;
-use crate::versions::{Update, Version, View, Viewer};
+use crate::versions::{Snapshot, Update, Version, Viewer};
 use auction_terms::Command;
 use board_terms::{CallFault, Receipt, Shown};
 use left_right::Absorb;
@@ -25,7 +25,7 @@ pub struct Member<K: BoardIdentity> {
     calls: u32,
     share: Share<K>,
     viewer: Viewer<K>,
-    seen: View<K>,
+    seen: Snapshot<K>,
     /// The place of its last recorded call, or 0.
     last: u32,
 }
@@ -46,7 +46,12 @@ impl<K: BoardIdentity> Member<K> {
     ghost use Rattle.board_terms.specs.Closings.{HasSeenBeginning};
 
     // A member with this number, which has made no call and was shown none.
-    pub(crate) fn new(number: u8, share: Share<K>, viewer: Viewer<K>, seen: View<K>) -> Member<K>
+    pub(crate) fn new(
+        number: u8,
+        share: Share<K>,
+        viewer: Viewer<K>,
+        seen: Snapshot<K>,
+    ) -> Member<K>
         requires number { number < K.parts }
         requires share { (share.parts ≡ 1) × (share.amount ≡ 0) }
         requires seen { seen ≡ [] }
@@ -147,7 +152,7 @@ impl<K: BoardIdentity> Member<K> {
     }
 
     // Takes in what is shown, where that is no less than it has seen.
-    pub(crate) fn catch_up(&mut self, view: View<K>) -> Shown
+    pub(crate) fn catch_up(&mut self, view: Snapshot<K>) -> Shown
         ensures look { IsLook K.config self.old self.new result }
         ensures at_least { length view ≤ length self.new.seen }
     {
@@ -158,7 +163,7 @@ impl<K: BoardIdentity> Member<K> {
     }
 
     // Takes in its own call, which was recorded as the last of those that are shown, and counts it once.
-    pub(crate) fn count_call(&mut self, book: &mut Book<K>, view: View<K>)
+    pub(crate) fn count_call(&mut self, book: &mut Book<K>, view: Snapshot<K>)
         requires small { book.old.total < MAX_CALLS }
         requires placed_calls { length (placed_calls view self.old.number) ≡ self.old.calls + 1 }
         ensures most { self.new.calls ≤ book.new.total }

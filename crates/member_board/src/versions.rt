@@ -22,12 +22,12 @@ use std::sync::{Arc, Wait};
 /// What the board shows: a beginning of the story, and what is shown after it. Contracts see the calls of that
 /// beginning.
 #[derive(Drop)]
-pub(crate) struct View<K: BoardIdentity> {
+pub(crate) struct Snapshot<K: BoardIdentity> {
     front: Front<K>,
     shown: Shown,
 }
 
-impl<K: BoardIdentity> Model for View<K> {
+impl<K: BoardIdentity> Model for Snapshot<K> {
     ghost use Rattle.std.specs.Prelude.{List};
     ghost use Rattle.auction_terms.specs.declared.Call.{Call};
     ghost use Rattle.board_terms.specs.CallsAndLooks.{ShowsAfter};
@@ -39,20 +39,20 @@ impl<K: BoardIdentity> Model for View<K> {
     ghost invariant = { λ v. ShowsAfter K.config v.front v.shown };
 }
 
-impl<K: BoardIdentity> View<K> {
+impl<K: BoardIdentity> Snapshot<K> {
     // What is shown after a beginning of the story.
-    pub(crate) fn of(front: Front<K>, shown: Shown) -> View<K>
+    pub(crate) fn of(front: Front<K>, shown: Shown) -> Snapshot<K>
         requires { ShowsAfter K.config front shown }
         ensures { result ≡ front }
     {
-        View { front, shown }
+        Snapshot { front, shown }
     }
 
     // A copy.
-    pub(crate) fn again(&self) -> View<K>
+    pub(crate) fn again(&self) -> Snapshot<K>
         ensures { result ≡ self.now }
     {
-        View {
+        Snapshot {
             front: self.front.again(),
             shown: self.shown,
         }
@@ -138,12 +138,12 @@ impl Watch {
 #[repr(C)]
 pub struct Version<K: BoardIdentity> {
     before: [u64; 8],
-    view: View<K>,
+    view: Snapshot<K>,
     after: [u64; 8],
 }
 
 impl<K: BoardIdentity> Version<K> {
-    fn of(view: View<K>) -> Version<K>
+    fn of(view: Snapshot<K>) -> Version<K>
         ensures { result.view ≡ view }
     {
         Version {
@@ -180,7 +180,10 @@ type CopyWriter<K> = Writer<Version<K>, Update<K>, (), Unruled>;
 type CopyReader<K> = Reader<Version<K>, (), Unruled>;
 
 // What a reader finds, if there is a copy. It takes no lock and no memory.
-fn read<K: BoardIdentity>(reader: CopyReader<K>, _nothing: ()) -> (CopyReader<K>, Option<View<K>>) {
+fn read<K: BoardIdentity>(
+    reader: CopyReader<K>,
+    _nothing: (),
+) -> (CopyReader<K>, Option<Snapshot<K>>) {
     match reader.enter_as::<Unruled>() {
         Ok(reading) => {
             let view = reading.get().view.again();
@@ -199,7 +202,7 @@ pub(crate) struct Viewer<K: BoardIdentity> {
 
 impl<K: BoardIdentity> Viewer<K> {
     // What a copy shows, where there is one and it may have more than so many calls. It takes no lock and no memory.
-    pub(crate) fn find_after(&mut self, calls: u32) -> Option<View<K>> {
+    pub(crate) fn find_after(&mut self, calls: u32) -> Option<Snapshot<K>> {
         if self.watch.may_find_more(calls) {
             replace_with(&mut self.reader, (), read::<K>)
         } else {
@@ -252,7 +255,7 @@ where
     // Two copies of what is shown at first, and room for so many readers.
     pub(crate) fn open(
         alloc: Global,
-        opening: &View<K>,
+        opening: &Snapshot<K>,
         readers: usize,
     ) -> Result<Copies<K>, AllocError>
         requires { (0 < readers) × (readers < 2 ^ 32) }
@@ -287,7 +290,7 @@ where
     }
 
     // Shows readers this. It waits for those that still read the copy that is next, and takes no memory.
-    pub(crate) fn publish<R: Wait>(&mut self, rt: &R, view: View<K>)
+    pub(crate) fn publish<R: Wait>(&mut self, rt: &R, view: Snapshot<K>)
         ensures { self.new ≡ view }
     {
         let calls = view.calls();

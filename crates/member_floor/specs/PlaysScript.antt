@@ -40,20 +40,20 @@ pub record PlaysScript (c : Config) (old : MemberView) (commands : List Command)
   pub full : run.fault ≡ Some HistoryFull → c.max_calls ≤ length run.member.seen
 
 -- a member with its script's commands
-pub record Task : Type 0 where
+pub record MemberScript : Type 0 where
   pub member : MemberView
   pub commands : List Command
 
 -- what came of each of these
-abbrev pub EachPlaysScript : Config → List Task → List PlayedScript → Type 0
+abbrev pub EachPlaysScript : Config → List MemberScript → List PlayedScript → Type 0
 EachPlaysScript c [] [] = Unit {0}
 EachPlaysScript c [] (r ∷ rs) = ⊥
 EachPlaysScript c (t ∷ ts) [] = ⊥
 EachPlaysScript c (t ∷ ts) (r ∷ rs) = PlaysScript c t.member t.commands r × EachPlaysScript c ts rs
 
 -- a script is no longer than a history may be
-abbrev pub IsShort : Script → Type 0
-IsShort script = length script.commands.items ≤ MAX_CALLS
+abbrev pub FitsHistory : Script → Type 0
+FitsHistory script = length script.commands.items ≤ MAX_CALLS
 
 -- the script at each place has the number of the member there
 abbrev pub HaveSameNumbers : List MemberView → List Script → Type 0
@@ -65,7 +65,7 @@ HaveSameNumbers (m ∷ ms) (s ∷ ss) = (m.number ≡ s.member) × HaveSameNumbe
 -- the scripts are those of the members, and none is too long
 pub record FitsMembers (members : List MemberView) (scripts : List Script) : Type 0 where
   pub numbers : HaveSameNumbers members scripts
-  pub few : All IsShort scripts
+  pub few : All FitsHistory scripts
 
 -- what came of each script, in the same order
 abbrev pub AllPlayScripts : Config → List MemberView → List Script → List PlayedScript → Type 0
@@ -86,9 +86,10 @@ HasPlayedSome c members scripts played unplayed =
     (n : ℕ) × AllPlayScripts c (take n members) (take n scripts) played × (unplayed ≡ drop (n + 1) members)
 
 -- the same of tasks
-abbrev pub HasPlayedAllTasks : Config → List Task → List PlayedScript → List MemberView → Type 0
+abbrev pub HasPlayedAllTasks : Config → List MemberScript → List PlayedScript → List MemberView → Type 0
 HasPlayedAllTasks c tasks played unplayed = (unplayed ≡ []) × EachPlaysScript c tasks played
 
-abbrev pub HasPlayedSomeTasks : Config → List Task → List PlayedScript → List MemberView → Type 0
+abbrev pub HasPlayedSomeTasks : Config → List MemberScript → List PlayedScript → List MemberView → Type 0
 HasPlayedSomeTasks c tasks played unplayed =
-    (n : ℕ) × EachPlaysScript c (take n tasks) played × (unplayed ≡ map (λ (t : Task). t.member) (drop (n + 1) tasks))
+    (n : ℕ) × EachPlaysScript c (take n tasks) played
+    × (unplayed ≡ map (λ (t : MemberScript). t.member) (drop (n + 1) tasks))

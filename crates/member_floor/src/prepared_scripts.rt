@@ -2,7 +2,7 @@
 ghost use Rattle.std.specs.Prelude.{◌≡◌, ◌≤◌, [], List, All, map, length, vec_capacity, IfOk};
 ghost use Rattle.std.specs.Vec.Iter.{into_iter_items};
 ghost use Rattle.auction_terms.specs.declared.Command.{Command};
-ghost use Rattle.member_floor.specs.PlaysScript.{IsShort, PlaysScript, Task};
+ghost use Rattle.member_floor.specs.PlaysScript.{FitsHistory, PlaysScript, MemberScript};
 
 use crate::gate::Gate;
 use crate::played::{ScriptRun, play};
@@ -44,9 +44,9 @@ pub(crate) struct MemberTask<K: BoardIdentity> {
 }
 
 impl<K: BoardIdentity> Model for MemberTask<K> {
-    ghost use Rattle.member_floor.specs.PlaysScript.{Task};
+    ghost use Rattle.member_floor.specs.PlaysScript.{MemberScript};
 
-    ghost Value = { Task };
+    ghost Value = { MemberScript };
 
     ghost view = { λ p. record { member = p.member; commands = p.prepared } };
 }
@@ -56,7 +56,7 @@ pub(crate) fn prepare_scripts(
     alloc: Global,
     scripts: Vec<Script>,
 ) -> Result<Vec<PreparedScript>, AllocError>
-    requires few { All IsShort scripts.items }
+    requires few { All FitsHistory scripts.items }
     ensures { IfOk result (λ v. v.items ≡ map (λ s. s.commands.items) scripts.items) }
 {
     let n = scripts.len();

@@ -28,7 +28,7 @@ pub enum RunFault {
 
 /// What came of each script, in the order of the scripts, the members that didn't play, and why they didn't.
 #[derive(Drop)]
-pub struct Outcome<K: BoardIdentity> {
+pub struct FloorOutcome<K: BoardIdentity> {
     pub played: Vec<ScriptRun<K>>,
     pub unplayed: Vec<Member<K>>,
     pub fault: Option<RunFault>,
@@ -118,12 +118,12 @@ fn join_all<K: BoardIdentity, R: Threads>(
     played
 }
 
-fn refused<K: BoardIdentity>(alloc: Global, members: Vec<Member<K>>) -> Outcome<K>
+fn refused<K: BoardIdentity>(alloc: Global, members: Vec<Member<K>>) -> FloorOutcome<K>
     ensures played { result.played.items ≡ [] }
     ensures unplayed { result.unplayed.items ≡ members.items }
     ensures fault { result.fault ≡ Some RunFault.NoMemory }
 {
-    Outcome {
+    FloorOutcome {
         played: Vec::new(alloc),
         unplayed: members,
         fault: Some(RunFault::NoMemory),
@@ -145,7 +145,7 @@ pub fn run<K: BoardIdentity + Send + Sync, G: Gate + Sync, R: Wait + Threads + S
     scripts: Vec<Script>,
     gate: &G,
     rt: &R,
-) -> Outcome<K>
+) -> FloorOutcome<K>
 where
     Version<K>: Absorb<Update<K>, State = ()> + Send + Sync,
     requires fits { FitsMembers members.items scripts.items }
@@ -166,7 +166,7 @@ where
     thread::scope(
         thread::scope_env(),
         rt,
-        move |scope| -> Outcome<K>
+        move |scope| -> FloorOutcome<K>
             ensures all { result.fault ≡ None →
                 HasPlayedAllTasks K.config run_room.tasks.items result.played.items result.unplayed.items }
             ensures room { result.fault ≢ Some RunFault.NoMemory }
@@ -196,7 +196,7 @@ where
                 };
                 handles.push_reserved(handle);
             }
-            Outcome {
+            FloorOutcome {
                 played: join_all(rt, handles, played),
                 unplayed: members_left(tasks, rest),
                 fault,

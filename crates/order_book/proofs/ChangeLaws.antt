@@ -9,15 +9,16 @@ use Rattle.auction_terms.specs.declared.Stamped.{Stamped}
 use Rattle.auction_terms.specs.Edits.{without_by, changed_by, less_quantity}
 use Rattle.auction_terms.specs.Auxiliary.OrderLists.{moved_by, left_by}
 use Rattle.auction_terms.specs.Auxiliary.StampedOrders.{order_of, on_order}
-use Rattle.order_book.specs.Orders.{IsSound, IsStoredAt, IsOrderAt, slot_at, line_of}
+use Rattle.order_book.specs.Orders.{HasSoundSlots, IsStoredAt, IsOrderAt, slot_at, line_of}
 use Rattle.order_book.proofs.LineLaws.{Among-line_from}
 use Rattle.order_book.proofs.KeyLaws.{bears, sound_put, sound_without, held_more, held_later, line-enter, line-without}
 use Rattle.order_book.proofs.KeyLaws.{line-changed, line-moved, filter_all, filter-map_agree, bears-only, one_key}
 
 pub append-sound : {old new : Slab Stamped} {keys keys' : List ℕ} {stamps key : ℕ} (x : Stamped)
-    → Updates old new key (Some x) → IsSound old.slots keys stamps → slot_at old.slots key ≡ None → x.stamp ≡ stamps
+    → Updates old new key (Some x) → HasSoundSlots old.slots keys stamps → slot_at old.slots key ≡ None
+    → x.stamp ≡ stamps
     → x.order.id ≡ length keys + 1 → keys' ≡ keys ++ key ∷ [] → 0 < x.order.quantity → x.order.quantity ≤ MAX_QUANTITY
-    → IsSound new.slots keys' (stamps + 1) × (line_of new.slots ≡ line_of old.slots ++ x ∷ [])
+    → HasSoundSlots new.slots keys' (stamps + 1) × (line_of new.slots ≡ line_of old.slots ++ x ∷ [])
 append-sound {old} {new} {keys} {keys'} {stamps} {key} x writes is vacant last numbered grown positive bounded =
     let longer : length keys' ≡ length keys + 1 = ap length grown ∙ length_push keys key in
     let at : x.order.id - 1 ≡ length keys = omega arith in
@@ -41,8 +42,9 @@ append-sound {old} {new} {keys} {keys'} {stamps} {key} x writes is vacant last n
 
 -- a key that has the order with an id is written
 module _ {old new : Slab Stamped} {keys : List ℕ} {stamps id key : ℕ} {s : Stamped} {slot : Option Stamped}
-    (writes : Updates old new key slot) (is : IsSound old.slots keys stamps) (at : IsOrderAt old.slots id key s) where
-  pub delete-sound : slot ≡ None → IsSound new.slots keys stamps
+    (writes : Updates old new key slot) (is : HasSoundSlots old.slots keys stamps)
+    (at : IsOrderAt old.slots id key s) where
+  pub delete-sound : slot ≡ None → HasSoundSlots new.slots keys stamps
       × (line_of new.slots ≡ without_by order_of id (line_of old.slots))
   delete-sound none =
       let gone = writes.changed ∙ none in
@@ -80,7 +82,7 @@ module _ {old new : Slab Stamped} {keys : List ℕ} {stamps id key : ℕ} {s : S
 
   pub change-sound : (change : Stamped → Stamped) → ((y : Stamped) → (change y).stamp ≡ y.stamp)
       → ((y : Stamped) → (change y).order.id ≡ y.order.id) → 0 < (change s).order.quantity
-      → (change s).order.quantity ≤ MAX_QUANTITY → slot ≡ Some (change s) → IsSound new.slots keys stamps
+      → (change s).order.quantity ≤ MAX_QUANTITY → slot ≡ Some (change s) → HasSoundSlots new.slots keys stamps
       × (line_of new.slots ≡ changed_by order_of id change (line_of old.slots))
   change-sound change keeps names positive bounded here =
       let put = writes.changed ∙ here in
@@ -97,7 +99,8 @@ module _ {old new : Slab Stamped} {keys : List ℕ} {stamps id key : ℕ} {s : S
 
   pub move-sound : (change : Stamped → Stamped) → (change s).stamp ≡ stamps → (change s).order.id ≡ s.order.id
       → 0 < (change s).order.quantity → (change s).order.quantity ≤ MAX_QUANTITY → slot ≡ Some (change s)
-      → IsSound new.slots keys (stamps + 1) × (line_of new.slots ≡ moved_by order_of id change (line_of old.slots))
+      → HasSoundSlots new.slots keys (stamps + 1)
+      × (line_of new.slots ≡ moved_by order_of id change (line_of old.slots))
   move-sound change last same_id positive bounded here =
       let put = writes.changed ∙ here in
       let held = held_here (stamps + 1) (change s) same_id (omega arith) positive bounded in
@@ -116,7 +119,7 @@ module _ {old new : Slab Stamped} {keys : List ℕ} {stamps id key : ℕ} {s : S
   is_none n h = grind (arith, nat_tests)
 
   -- nothing is left of it, so it goes
-  pub used_up : (quantity : ℕ) → s.order.quantity ≡ quantity → slot ≡ None → IsSound new.slots keys stamps
+  pub used_up : (quantity : ℕ) → s.order.quantity ≡ quantity → slot ≡ None → HasSoundSlots new.slots keys stamps
       × (line_of new.slots
       ≡ left_by order_of (changed_by order_of id (on_order (less_quantity quantity)) (line_of old.slots)))
   used_up quantity all none =
@@ -146,7 +149,7 @@ module _ {old new : Slab Stamped} {keys : List ℕ} {stamps id key : ℕ} {s : S
 
   -- something is left of it, as of all others
   pub reduce-sound : (quantity : ℕ) → quantity < s.order.quantity → slot ≡ Some (on_order (less_quantity quantity) s)
-      → IsSound new.slots keys stamps
+      → HasSoundSlots new.slots keys stamps
       × (line_of new.slots
       ≡ left_by order_of (changed_by order_of id (on_order (less_quantity quantity)) (line_of old.slots)))
   reduce-sound quantity some here =

@@ -17,9 +17,11 @@ use Rattle.auction_terms.proofs.SortLaws.{Before, Rising, sum_by-in_order}
 use Rattle.auction_terms.specs.declared.limits.TheConstants.{MAX_QUANTITY, MAX_TOTAL, MAX_OPEN_ORDERS}
 use Rattle.auction_terms.specs.Edits.{has_id, find_by, changed_by, without_by}
 use Rattle.auction_terms.specs.Auxiliary.OrderLists.{moved_by}
-use Rattle.order_book.specs.Orders.{by_stamp, present, line_of, slot_at, IsStoredAt, IsSound, IsNotAtKey, IsOpenId}
+use Rattle.order_book.specs.Orders.{by_stamp, present, line_of, slot_at}
+use Rattle.order_book.specs.Orders.{IsStoredAt, HasSoundSlots, IsNotAtKey, IsOpenId}
 use Rattle.order_book.specs.Orders.{IsOrderAt}
-use Rattle.order_book.proofs.LineLaws.{Among, AreApart, Among-line, Among-line_from, line_is, rising_line, rising_push}
+use Rattle.auction_terms.proofs.RestIdLaws.{Among}
+use Rattle.order_book.proofs.LineLaws.{AreApart, Among-line, Among-line_from, line_is, rising_line, rising_push}
 use Rattle.order_book.proofs.LineLaws.{rising_filter, rising_map, same_rising, by_stamp_total, Among-append_left}
 use Rattle.order_book.proofs.LineLaws.{Among-append_right, Among-append_from, Among-map, Among-map_from, Among-filter}
 use Rattle.order_book.proofs.LineLaws.{Among-filter_from}
@@ -115,7 +117,7 @@ same_some o x y e f = cc
 abbrev pub bears : ℕ → Stamped → Bool
 bears id s = has_id id s.order
 
-module _ (slots : List (Option Stamped)) (keys : List ℕ) (stamps : ℕ) (is : IsSound slots keys stamps) where
+module _ (slots : List (Option Stamped)) (keys : List ℕ) (stamps : ℕ) (is : HasSoundSlots slots keys stamps) where
   -- orders with one id stand at one key
   pub one_key : (i j : ℕ) (s t : Stamped) → slot_at slots i ≡ Some s → slot_at slots j ≡ Some t
       → s.order.id ≡ t.order.id → i ≡ j
@@ -176,7 +178,8 @@ module _ (slots : List (Option Stamped)) (keys : List ℕ) (stamps : ℕ) (is : 
     pub sound_put : (keys' : List ℕ) (stamps' : ℕ) (x : Stamped) → slot_at new key ≡ Some x
         → IsStoredAt keys' stamps' key x
         → ((k : ℕ) (s : Stamped) → IsStoredAt keys stamps k s → IsStoredAt keys' stamps' k s)
-        → ((k : ℕ) (t : Stamped) → k ≢ key → slot_at slots k ≡ Some t → t.stamp ≢ x.stamp) → IsSound new keys' stamps'
+        → ((k : ℕ) (t : Stamped) → k ≢ key → slot_at slots k ≡ Some t → t.stamp ≢ x.stamp)
+        → HasSoundSlots new keys' stamps'
     sound_put keys' stamps' x put held more fresh =
         record {
           held = λ k s e. elim (cases_eq k key) [
@@ -187,7 +190,7 @@ module _ (slots : List (Option Stamped)) (keys : List ℕ) (stamps : ℕ) (is : 
         }
 
     -- the key is given up
-    pub sound_without : slot_at new key ≡ None → IsSound new keys stamps
+    pub sound_without : slot_at new key ≡ None → HasSoundSlots new keys stamps
     sound_without gone =
         let at : (k : ℕ) (s : Stamped) → slot_at new k ≡ Some s → slot_at slots k ≡ Some s =
         grind (arith, common_steps, cases_eq) in
@@ -323,7 +326,7 @@ sum-bounded m (x ∷ xs) h =
     let more = sum-bounded m xs (λ y l. h y (inr l)) in grind (arith, common_steps, sum_by-cons)
 
 -- what is open fits a number of 64 bits
-pub sum-line : (slots : List (Option Stamped)) (keys : List ℕ) (stamps n : ℕ) → IsSound slots keys stamps
+pub sum-line : (slots : List (Option Stamped)) (keys : List ℕ) (stamps n : ℕ) → HasSoundSlots slots keys stamps
     → count_by is_some slots ≤ n → n ≤ MAX_OPEN_ORDERS → open_quantity_of (line_of slots) ≤ MAX_TOTAL
 sum-line slots keys stamps n is few small =
     let each = sum-bounded MAX_QUANTITY (line_of slots) (λ y m. let h = Among-line_from slots y m in
@@ -332,7 +335,7 @@ sum-line slots keys stamps n is few small =
 
 -- what holds of the order that stands at the key of an id holds of the open order with that id, and the other way round
 module _ {slots : List (Option Stamped)} {keys : List ℕ} {stamps : ℕ} {line : List Stamped} {id key : ℕ} {s : Stamped}
-    (P : Stamped → Type 0) (is : IsSound slots keys stamps) (is_line : line_of slots ≡ line)
+    (P : Stamped → Type 0) (is : HasSoundSlots slots keys stamps) (is_line : line_of slots ≡ line)
     (at : IsOrderAt slots id key s) where
   standing_found : find_by order_of id line ≡ Some s
   standing_found = found_in slots keys stamps is line is_line key id s at.stands at.same_id

@@ -10,13 +10,9 @@ use Rattle.std.specs.declared.cmp.Ordering.TheVariants.{Less, Equal}
 use Rattle.std.proofs.lemmas.Grind.{common_steps}
 use Rattle.auction_terms.specs.declared.Stamped.{Stamped}
 use Rattle.auction_terms.specs.Auxiliary.Sort.{place_in, in_order}
+use Rattle.auction_terms.proofs.RestIdLaws.{Among}
 use Rattle.auction_terms.proofs.SortLaws.{Before, Rising, Apart, AllApart, rising_in_order}
 use Rattle.order_book.specs.Orders.{by_stamp, present, line_of, slot_at}
-
--- it stands in the list
-abbrev pub Among : {X : Type 0} → List X → X → Type 0
-Among [] z = ⊥
-Among (x ∷ xs) z = (x ≡ z) ⊎ Among xs z
 
 module _ {X : Type 0} (R : X → X → Ordering) (o : IsTotalOrder R) where
   before_among : (x z : X) (ys : List X) → Before R x ys → Among ys z → R x z ≡ Less
@@ -145,8 +141,8 @@ pub by_stamp_total : IsTotalOrder by_stamp
 by_stamp_total = on_total (λ (s : Stamped). s.stamp) nat_cmp_total
 
 -- it stands at some key
-abbrev pub Holds : List (Option Stamped) → Stamped → Type 0
-Holds slots z = (key : ℕ) × (slot_at slots key ≡ Some z)
+abbrev pub IsAtSomeKey : List (Option Stamped) → Stamped → Type 0
+IsAtSomeKey slots z = (key : ℕ) × (slot_at slots key ≡ Some z)
 
 pub Among-present : (slots : List (Option Stamped)) (key : ℕ) (z : Stamped) → slot_at slots key ≡ Some z
     → Among (present slots) z
@@ -156,7 +152,7 @@ Among-present (Some s ∷ slots) zero z e = inl (cc)
 Among-present (None ∷ slots) (suc key) z e = Among-present slots key z e
 Among-present (Some s ∷ slots) (suc key) z e = inr (Among-present slots key z e)
 
-pub Among-present_from : (slots : List (Option Stamped)) (z : Stamped) → Among (present slots) z → Holds slots z
+pub Among-present_from : (slots : List (Option Stamped)) (z : Stamped) → Among (present slots) z → IsAtSomeKey slots z
 Among-present_from [] z m = absurd m
 Among-present_from (None ∷ slots) z m = let r = Among-present_from slots z m in (suc r.0, r.1)
 Among-present_from (Some s ∷ slots) z m =
@@ -188,17 +184,17 @@ pub rising_line : (slots : List (Option Stamped)) → AreApart slots → Rising 
 unfolding line_of
 rising_line slots a = rising_in_order by_stamp by_stamp_total (present slots) (all_apart_present slots a)
 
-pub Among-line : (slots : List (Option Stamped)) (z : Stamped) → Holds slots z → Among (line_of slots) z
+pub Among-line : (slots : List (Option Stamped)) (z : Stamped) → IsAtSomeKey slots z → Among (line_of slots) z
 unfolding line_of
 Among-line slots z h = Among-in_order by_stamp (present slots) z (Among-present slots h.0 z h.1)
 
-pub Among-line_from : (slots : List (Option Stamped)) (z : Stamped) → Among (line_of slots) z → Holds slots z
+pub Among-line_from : (slots : List (Option Stamped)) (z : Stamped) → Among (line_of slots) z → IsAtSomeKey slots z
 unfolding line_of
 Among-line_from slots z m = Among-present_from slots z (Among-in_order_from by_stamp (present slots) z m)
 
 -- a rising list in which stands what the keys have is the line
 pub line_is : (slots : List (Option Stamped)) → AreApart slots → (line : List Stamped) → Rising by_stamp line
-    → ((z : Stamped) → Holds slots z → Among line z) → ((z : Stamped) → Among line z → Holds slots z)
+    → ((z : Stamped) → IsAtSomeKey slots z → Among line z) → ((z : Stamped) → Among line z → IsAtSomeKey slots z)
     → line_of slots ≡ line
 line_is slots a line r f g =
     same_rising by_stamp by_stamp_total (line_of slots) line (rising_line slots a) r

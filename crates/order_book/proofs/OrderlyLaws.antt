@@ -10,8 +10,9 @@ use Rattle.auction_terms.specs.declared.Stamped.{Stamped}
 use Rattle.auction_terms.specs.Auxiliary.StampedOrders.{orders_of}
 use Rattle.auction_terms.specs.Auxiliary.OrderLists.{NoneHas, IdsDiffer, IsOrderly}
 use Rattle.auction_terms.proofs.SortLaws.{Before, Rising}
-use Rattle.order_book.specs.Orders.{by_stamp, IsSound, line_of}
-use Rattle.order_book.proofs.LineLaws.{Among, Among-line_from, rising_line, by_stamp_total}
+use Rattle.order_book.specs.Orders.{by_stamp, HasSoundSlots, line_of}
+use Rattle.auction_terms.proofs.RestIdLaws.{Among}
+use Rattle.order_book.proofs.LineLaws.{Among-line_from, rising_line, by_stamp_total}
 use Rattle.order_book.proofs.KeyLaws.{same_key}
 
 not_before_itself : (x : Stamped) → by_stamp x x ≡ Less → ⊥
@@ -37,7 +38,7 @@ all_orders : (P : Order → Type 0) (xs : List Stamped) → ((y : Stamped) → A
 all_orders P [] h = All-nil P
 all_orders P (x ∷ xs) h = All-cons P x.order (orders_of xs) (h x (inl refl)) (all_orders P xs (λ y m. h y (inr m)))
 
-pub IsOrderly-line : (slots : List (Option Stamped)) (keys : List ℕ) (stamps : ℕ) → IsSound slots keys stamps
+pub IsOrderly-line : (slots : List (Option Stamped)) (keys : List ℕ) (stamps : ℕ) → HasSoundSlots slots keys stamps
     → IsOrderly (orders_of (line_of slots))
 IsOrderly-line slots keys stamps is = record {
   ids =
@@ -49,6 +50,6 @@ IsOrderly-line slots keys stamps is = record {
 }
 
 pub orderly_line : (slots : List (Option Stamped)) (keys : List ℕ) (stamps : ℕ) (line : List Stamped)
-    → IsSound slots keys stamps → line_of slots ≡ line → IsOrderly (orders_of line)
+    → HasSoundSlots slots keys stamps → line_of slots ≡ line → IsOrderly (orders_of line)
 orderly_line slots keys stamps line is same =
     subst (λ l. IsOrderly (orders_of l)) same (IsOrderly-line slots keys stamps is)

@@ -8,7 +8,7 @@ use Rattle.std.proofs.lemmas.Grind.{common_steps}
 use Rattle.std.proofs.lemmas.List.{get_or_past, get_or-set_other, get_or-set_same, length-set}
 use Rattle.slab.specs.Slab.{HasRoomFor, Slab, Updates, slab_len}
 use Rattle.auction_terms.specs.declared.Stamped.{Stamped}
-use Rattle.order_book.specs.Orders.{IsSound, IsStoredAt, line_of, present, slot_at}
+use Rattle.order_book.specs.Orders.{HasSoundSlots, IsStoredAt, line_of, present, slot_at}
 use Rattle.order_book.specs.Restoring.{AreRestored, Restores, RestoresAt}
 use Rattle.order_book.proofs.KeyLaws.{length-present, one_key, same_some}
 use Rattle.order_book.proofs.LineLaws.{Among-line, Among-line_from, line_is, rising_line}
@@ -51,7 +51,8 @@ own_key keys from_keys stamps key place x same held =
 add-zero : (n : ℕ) → n + 0 ≡ n
 add-zero n = omega arith
 
-module _ (from : List (Option Stamped)) (from_keys : List ℕ) (stamps : ℕ) (source : IsSound from from_keys stamps) where
+module _ (from : List (Option Stamped)) (from_keys : List ℕ) (stamps : ℕ)
+    (source : HasSoundSlots from from_keys stamps) where
   -- an order at an earlier place is another one
   other_place : (p place : ℕ) (s x : Stamped) → p < place → slot_at from p ≡ Some s → slot_at from place ≡ Some x
       → (s.order.id ≢ x.order.id) × (s.stamp ≢ x.stamp)

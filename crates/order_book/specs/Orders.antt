@@ -94,7 +94,7 @@ HasOnlyOthers id old new =
     (place : ℕ) → IfSome (slot_at new.slots place) (λ s. (slot_at old.slots place ≡ Some s) × (s.order.id ≢ id))
 
 -- a walk through so many places passes the orders of the line, each with an id of its own and something open
-pub record HasAllOrders (places : ℕ) (orders : OrdersView) : Type 0 where
+pub record PassesAllOrders (places : ℕ) (orders : OrdersView) : Type 0 where
   pub all : length orders.slots ≤ places
   pub line : IsLineOf (present orders.slots) orders.line
   pub bounded : open_quantity_of orders.line ≤ MAX_TOTAL
@@ -112,7 +112,7 @@ pub record IsStoredAt (keys : List ℕ) (stamps key : ℕ) (s : Stamped) : Type 
   pub bounded : s.order.quantity ≤ MAX_QUANTITY
 
 -- each order is held, and no two have one stamp
-pub record IsSound (slots : List (Option Stamped)) (keys : List ℕ) (stamps : ℕ) : Type 0 where
+pub record HasSoundSlots (slots : List (Option Stamped)) (keys : List ℕ) (stamps : ℕ) : Type 0 where
   pub held : (key : ℕ) (s : Stamped) → slot_at slots key ≡ Some s → IsStoredAt keys stamps key s
   pub apart :
       (i j : ℕ) (s t : Stamped) →
@@ -126,7 +126,7 @@ abbrev pub HasKeys : Slab Stamped → Type 0
 HasKeys orders = orders.capacity ≤ MAX_KEY
 
 -- the room that was made, and how much of it is used
-pub record HasRoom (orders : Slab Stamped) (keys : Vec ℕ) (stamps max_open max_calls : ℕ) : Type 0 where
+pub record HasRoomForOrders (orders : Slab Stamped) (keys : Vec ℕ) (stamps max_open max_calls : ℕ) : Type 0 where
   pub few : slab_len orders ≤ max_open
   pub small : max_open ≤ MAX_OPEN_ORDERS
   pub capacity : max_open ≤ orders.capacity

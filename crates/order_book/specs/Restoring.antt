@@ -2,7 +2,7 @@
 use Rattle.std.specs.Prelude.{◌≡◌, ℕ, ◌+◌, ◌-◌, ◌<◌, List, length, Option, Some, None, slice_set, take}
 use Rattle.slab.specs.Slab.{Slab, Updates, slab_len}
 use Rattle.auction_terms.specs.declared.Stamped.{Stamped}
-use Rattle.order_book.specs.Orders.{IsSound, present, slot_at}
+use Rattle.order_book.specs.Orders.{HasSoundSlots, present, slot_at}
 
 -- the order stands at a new key, which is written down as that of its id
 pub record RestoresAt (s : Stamped) (old new : Slab Stamped) (keys keys' : List ℕ) : Type 0 where
@@ -19,7 +19,7 @@ Restores (Some s) old new keys keys' = RestoresAt s old new keys keys'
 -- the orders at the first places are in the slots, and no others are
 pub record AreRestored (from : List (Option Stamped)) (place stamps : ℕ) (slots : List (Option Stamped))
     (keys : List ℕ) : Type 0 where
-  pub sound : IsSound slots keys stamps
+  pub sound : HasSoundSlots slots keys stamps
   pub all : (p : ℕ) (s : Stamped) → p < place → slot_at from p ≡ Some s → (key : ℕ) × (slot_at slots key ≡ Some s)
   pub only : (key : ℕ) (s : Stamped) → slot_at slots key ≡ Some s
       → (p : ℕ) × ((p < place) × (slot_at from p ≡ Some s))

@@ -23,14 +23,14 @@ and_calls members max_calls front rest =
 pub file-rows : (text : List ℕ) (members max_calls : ℕ)
     → file text members max_calls ≡ and_calls members max_calls [] (rows_within MAX_BYTES text)
 unfolding file rows_within
-file-rows text members max_calls = by (within_limit MAX_BYTES text)
+file-rows text members max_calls = by_result (within_limit MAX_BYTES text)
   where
-    by : (r : Result (List ℕ) FileFault)
+    by_result : (r : Result (List ℕ) FileFault)
         → (r >>= calls_of members max_calls)
         ≡ ((r >>= λ bytes. Ok (records default_config (strip_bom bytes))) >>= λ rows. after []
         (calls_after members max_calls 0 rows))
-    by (Ok bytes) = sym (nothing-before (calls_of members max_calls bytes))
-    by (Err e) = refl
+    by_result (Ok bytes) = sym (nothing-before (calls_of members max_calls bytes))
+    by_result (Err e) = refl
 
 after-twice : (front more : List Call) (r : Result (List Call) FileFault)
     → after front (after more r) ≡ after (front ++ more) r
@@ -59,12 +59,12 @@ pub at-next_block : (members max_calls : ℕ) (front calls : List Call) (rows : 
     → calls_after members max_calls (length front) rows ≡ Ok calls
     → all ≡ and_calls members max_calls (front ++ calls) now
 at-next_block members max_calls front calls rows before now all same is good =
-    same ∙ ap (and_calls members max_calls front) is ∙ by now
+    same ∙ ap (and_calls members max_calls front) is ∙ by_result now
   where
-    by : (r : Result Rows FileFault) → and_calls members max_calls front (and_then_rows rows r)
+    by_result : (r : Result Rows FileFault) → and_calls members max_calls front (and_then_rows rows r)
         ≡ and_calls members max_calls (front ++ calls) r
-    by (Ok rest) = calls-before members max_calls front calls rows rest good
-    by (Err e) = refl
+    by_result (Ok rest) = calls-before members max_calls front calls rows rest good
+    by_result (Err e) = refl
 
 -- the last block's records have calls
 pub at-last_block : (members max_calls : ℕ) (front calls : List Call) (rows : Rows) (before : Result Rows FileFault)

@@ -43,17 +43,17 @@ records-without_mark (a ∷ []) rest (inl h) = rw h (line-end-first (a ∷ []))
 records-without_mark (a ∷ []) rest (inr h) = absurd (omega arith)
 records-without_mark (a ∷ b ∷ []) rest (inl h) = rw h (line-end-first (a ∷ b ∷ []))
 records-without_mark (a ∷ b ∷ []) rest (inr h) = absurd (omega arith)
-records-without_mark (a ∷ b ∷ c ∷ x) rest h = by (is_bom a b c) refl
+records-without_mark (a ∷ b ∷ c ∷ x) rest h = by_bom (is_bom a b c) refl
   where
     long : nat_le 4 (length (10 ∷ a ∷ b ∷ c ∷ x)) ≡ true
     long = search rules
 
-    by : (q : Bool) → is_bom a b c ≡ q → records default_config (without_mark (10 ∷ a ∷ b ∷ c ∷ x) ++ rest)
+    by_bom : (q : Bool) → is_bom a b c ≡ q → records default_config (without_mark (10 ∷ a ∷ b ∷ c ∷ x) ++ rest)
         ≡ records default_config (strip_bom (a ∷ b ∷ c ∷ (x ++ rest)))
-    by true e =
+    by_bom true e =
         rw (long, e) (line-end-first (10 ∷ 10 ∷ 10 ∷ (x ++ rest)) ∙ line-end-first (10 ∷ 10 ∷ (x ++ rest))
         ∙ line-end-first (10 ∷ (x ++ rest)) ∙ line-end-first (x ++ rest))
-    by false e = rw (long, e) (line-end-first (a ∷ b ∷ c ∷ (x ++ rest)))
+    by_bom false e = rw (long, e) (line-end-first (a ∷ b ∷ c ∷ (x ++ rest)))
 
 -- the line end at a place of the bytes
 at-line-end : (bytes : List ℕ) (k : ℕ) → k < length bytes → slice_index bytes k ≡ 10
@@ -159,11 +159,11 @@ fails-next e held (Some left) stays h =
 
 -- where the end was found, nothing is left
 bytes_ahead-left : (held : BlockState) (left : List ℕ) → (held.ended ≡ true → left ≡ []) → bytes_ahead held left ≡ left
-bytes_ahead-left held left none = by held.ended refl
+bytes_ahead-left held left none = by_ended held.ended refl
   where
-    by : (ended : Bool) → held.ended ≡ ended → bytes_ahead held left ≡ left
-    by true e = rw e (sym (none e))
-    by false e = rw e refl
+    by_ended : (ended : Bool) → held.ended ≡ ended → bytes_ahead held left ≡ left
+    by_ended true e = rw e (sym (none e))
+    by_ended false e = rw e refl
 
 to_come-fits : (held : BlockState) (left : List ℕ) → (held.ended ≡ true → left ≡ []) → length left ≤ held.room
     → rows_to_come held left ≡ Ok (records default_config (held.bytes ++ left))
@@ -187,7 +187,7 @@ opens-block-rows : (held : BlockState) (most room : ℕ) (text mid left bytes x 
     → ReadsBytes (Some mid) (Some left) (without_mark bytes) held.bytes room held.room → (mid ≡ []) ⊎ (4 ≤ length bytes)
     → (held.ended ≡ true → left ≡ [])
     → rows_within most text ≡ rows_to_come held left
-opens-block-rows held most room text mid left bytes x r s enough none = by (cases_lt most (length text))
+opens-block-rows held most room text mid left bytes x r s enough none = by_length (cases_lt most (length text))
   where
     sizes : (length text ≡ length r.bytes + length mid) × (length mid ≡ length s.bytes + length left)
     sizes = (ap length r.read ∙ length-append r.bytes mid, ap length s.read ∙ length-append s.bytes left)
@@ -206,11 +206,11 @@ opens-block-rows held most room text mid left bytes x r s enough none = by (case
         ∙ ap (λ (xs : List ℕ). (without_mark xs ++ s.bytes) ++ left) (sym r.held)
         ∙ ap (λ (xs : List ℕ). xs ++ left) (sym s.held))
 
-    by : (most < length text) ⊎ (length text ≤ most) → rows_within most text ≡ rows_to_come held left
-    by (inl h) =
+    by_length : (most < length text) ⊎ (length text ≤ most) → rows_within most text ≡ rows_to_come held left
+    by_length (inl h) =
         too-long-short-within_limit most text h
         ∙ sym (to_come-long-within_limit held left none (omega (arith, h, sizes.0, sizes.1, r.took, s.took)))
-    by (inr h) =
+    by_length (inr h) =
         short-within_limit-fits most text h ∙ ap Ok same
         ∙ sym (to_come-fits held left none (omega (arith, h, sizes.0, sizes.1, r.took, s.took)))
 
@@ -255,7 +255,7 @@ gives-next_block-rows : (old held : BlockState) (before left : List ℕ) → Cut
     → ReadsBytes (Some before) (Some left) (drop (old.whole - 1) old.bytes) held.bytes old.room held.room
     → (held.ended ≡ true → left ≡ [])
     → rows_to_come old before ≡ and_then_rows (block_rows old) (rows_to_come held left)
-gives-next_block-rows old held before left cut stays r none = by (cases_lt old.room (length before))
+gives-next_block-rows old held before left cut stays r none = by_length (cases_lt old.room (length before))
   where
     size : length before ≡ length r.bytes + length left
     size = ap length r.read ∙ length-append r.bytes left
@@ -269,13 +269,13 @@ gives-next_block-rows old held before left cut stays r none = by (cases_lt old.r
         ∙ sym (append_assoc (drop (old.whole - 1) old.bytes) r.bytes left)
         ∙ ap (λ (xs : List ℕ). xs ++ left) (sym r.held)
 
-    by : (old.room < length before) ⊎ (length before ≤ old.room)
+    by_length : (old.room < length before) ⊎ (length before ≤ old.room)
         → rows_to_come old before ≡ and_then_rows (block_rows old) (rows_to_come held left)
-    by (inl h) =
+    by_length (inl h) =
         too-long-to_come old before stays h
         ∙ ap (and_then_rows (block_rows old))
         (sym (to_come-long-within_limit held left none (omega (arith, h, size, r.took))))
-    by (inr h) =
+    by_length (inr h) =
         to_come-fits old before open_yet h
         ∙ ap Ok (block-first old before cut ∙ ap (λ (xs : List ℕ). block_rows old ++ records default_config xs) text)
         ∙ ap (and_then_rows (block_rows old)) (sym (to_come-fits held left none (omega (arith, h, size, r.took))))
@@ -424,15 +424,15 @@ pub mark-first : (bytes x : List ℕ) → bytes ≡ (10 ∷ []) ++ x → (slice_
 unfolding without_mark
 mark-first bytes x is =
     rw is
-    (by (nat_le 4 (length (10 ∷ x)) && is_bom (slice_index (10 ∷ x) 1) (slice_index (10 ∷ x) 2)
+    (by_at_most (nat_le 4 (length (10 ∷ x)) && is_bom (slice_index (10 ∷ x) 1) (slice_index (10 ∷ x) 2)
     (slice_index (10 ∷ x) 3)) refl)
   where
-    by : (q : Bool)
+    by_at_most : (q : Bool)
         → (nat_le 4 (length (10 ∷ x)) && is_bom (slice_index (10 ∷ x) 1) (slice_index (10 ∷ x) 2)
         (slice_index (10 ∷ x) 3)) ≡ q
         → (slice_index (without_mark (10 ∷ x)) 0 ≡ 10) × (0 < length (without_mark (10 ∷ x)))
-    by true e = rw e (refl, omega arith)
-    by false e = rw e (refl, omega arith)
+    by_at_most true e = rw e (refl, omega arith)
+    by_at_most false e = rw e (refl, omega arith)
 
 pub opens-block-with : (held : BlockState) (most room : ℕ) (ended : Bool) (a b c : Option (List ℕ))
     (start bytes marked : List ℕ) → ReadsBytes a b start bytes most room

@@ -157,7 +157,7 @@ calls-append members max_calls before [] ys =
     let none : before + length {A = List (List ℕ)} [] ≡ before = omega arith in
     rw none (sym (nothing-before (calls_after members max_calls before ys)))
 calls-append members max_calls before (r ∷ rs) ys =
-    by (nat_le max_calls before) (numbered_call members (before + 1) r) refl refl
+    by_at_most (nat_le max_calls before) (numbered_call members (before + 1) r) refl refl
     (calls-append members max_calls (before + 1) rs ys)
   where
     wanted : Result (List Call) FileFault
@@ -172,16 +172,16 @@ calls-append members max_calls before (r ∷ rs) ys =
     more call (Ok front) = after-first call front wanted
     more call (Err e) = refl
 
-    by : (full : Bool) (first : Result Call FileFault) → nat_le max_calls before ≡ full
+    by_at_most : (full : Bool) (first : Result Call FileFault) → nat_le max_calls before ≡ full
         → numbered_call members (before + 1) r ≡ first
         → (calls_after members max_calls (before + 1) (rs ++ ys)
         ≡ (calls_after members max_calls (before + 1) rs >>= λ front. after front
         (calls_after members max_calls (before + 1 + length rs) ys)))
         → calls_after members max_calls before (r ∷ (rs ++ ys))
         ≡ (calls_after members max_calls before (r ∷ rs) >>= λ front. after front wanted)
-    by true first e d later = rw e refl
-    by false (Err fault) e d later = rw (e, d) refl
-    by false (Ok call) e d later =
+    by_at_most true first e d later = rw e refl
+    by_at_most false (Err fault) e d later = rw (e, d) refl
+    by_at_most false (Ok call) e d later =
         rw (e, d) (ap (λ (some : Result (List Call) FileFault). some >>= λ rest. Ok (call ∷ rest)) (rw same at later)
         ∙ more call (calls_after members max_calls (before + 1) rs))
 
@@ -191,17 +191,19 @@ pub calls-length : (members max_calls before : ℕ) (rows : List (List (List ℕ
 unfolding calls_after
 calls-length members max_calls before [] calls is = let none : [] ≡ calls = cc in ap length (sym none)
 calls-length members max_calls before (r ∷ rs) calls is =
-    by (nat_le max_calls before) (numbered_call members (before + 1) r) (calls_after members max_calls (before + 1) rs)
+    by_at_most (nat_le max_calls before) (numbered_call members (before + 1) r)
+    (calls_after members max_calls (before + 1) rs)
     refl refl refl (calls-length members max_calls (before + 1) rs)
   where
-    by : (full : Bool) (first : Result Call FileFault) (rest : Result (List Call) FileFault)
+    by_at_most : (full : Bool) (first : Result Call FileFault) (rest : Result (List Call) FileFault)
         → nat_le max_calls before ≡ full
         → numbered_call members (before + 1) r ≡ first → calls_after members max_calls (before + 1) rs ≡ rest
         → ((some : List Call) → calls_after members max_calls (before + 1) rs ≡ Ok some → length some ≡ length rs)
         → length calls ≡ length (r ∷ rs)
-    by true first rest e d f later = let no_calls : Err (file.TooManyCommands (before + 1)) ≡ Ok calls =
+    by_at_most true first rest e d f later = let no_calls : Err (file.TooManyCommands (before + 1)) ≡ Ok calls =
         rw e at is in absurd (cc)
-    by false (Err fault) rest e d f later = let no_calls : Err fault ≡ Ok calls = rw (e, d) at is in absurd (cc)
-    by false (Ok call) (Err fault) e d f later = let no_calls : Err fault ≡ Ok calls = rw (e, d, f) at is in absurd (cc)
-    by false (Ok call) (Ok some) e d f later = let same : Ok (call ∷ some) ≡ Ok calls = rw (e, d, f) at is in
+    by_at_most false (Err fault) rest e d f later = let no_calls : Err fault ≡ Ok calls = rw (e, d) at is in absurd (cc)
+    by_at_most false (Ok call) (Err fault) e d f later =
+        let no_calls : Err fault ≡ Ok calls = rw (e, d, f) at is in absurd (cc)
+    by_at_most false (Ok call) (Ok some) e d f later = let same : Ok (call ∷ some) ≡ Ok calls = rw (e, d, f) at is in
         let found = later some f in let one : call ∷ some ≡ calls = cc in omega (arith, found, ap length one)

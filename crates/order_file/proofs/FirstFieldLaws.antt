@@ -55,31 +55,31 @@ abbrev StaysInside : State → ℕ → Type 0
 StaysInside s c = is_end (step default_config s c).1 ≡ false → IsInside (step default_config s c).0
 
 in-field-inside : (s : State) (c : ℕ) → step default_config s c ≡ in_field default_config c → StaysInside s c
-in-field-inside s c e = by (c == 44) (c == 13) (c == 10) refl refl refl
+in-field-inside s c e = by_comma (c == 44) (c == 13) (c == 10) refl refl refl
   where
-    by : (x y z : Bool) → (c == 44) ≡ x → (c == 13) ≡ y → (c == 10) ≡ z → StaysInside s c
-    by true y z p q r = rw (e, p) (λ h. tt)
-    by false true z p q r = rw (e, p, q) (λ h. absurd (cc h))
-    by false false true p q r = rw (e, p, q, r) (λ h. absurd (cc h))
-    by false false false p q r = rw (e, p, q, r) (λ h. tt)
+    by_comma : (x y z : Bool) → (c == 44) ≡ x → (c == 13) ≡ y → (c == 10) ≡ z → StaysInside s c
+    by_comma true y z p q r = rw (e, p) (λ h. tt)
+    by_comma false true z p q r = rw (e, p, q) (λ h. absurd (cc h))
+    by_comma false false true p q r = rw (e, p, q, r) (λ h. absurd (cc h))
+    by_comma false false false p q r = rw (e, p, q, r) (λ h. tt)
 
 inside-step : (s : State) (c : ℕ) → IsInside s → StaysInside s c
 inside-step st.InField c i = in-field-inside st.InField c refl
-inside-step st.StartField c i = by (c == 34) refl
+inside-step st.StartField c i = by_quote (c == 34) refl
   where
-    by : (q : Bool) → (c == 34) ≡ q → StaysInside st.StartField c
-    by true e = rw e (λ h. tt)
-    by false e = in-field-inside st.StartField c (rw e refl)
-inside-step st.InQuoted c i = by (c == 34) refl
+    by_quote : (q : Bool) → (c == 34) ≡ q → StaysInside st.StartField c
+    by_quote true e = rw e (λ h. tt)
+    by_quote false e = in-field-inside st.StartField c (rw e refl)
+inside-step st.InQuoted c i = by_quote (c == 34) refl
   where
-    by : (q : Bool) → (c == 34) ≡ q → StaysInside st.InQuoted c
-    by true e = rw e (λ h. tt)
-    by false e = rw e (λ h. tt)
-inside-step st.AfterQuote c i = by (c == 34) refl
+    by_quote : (q : Bool) → (c == 34) ≡ q → StaysInside st.InQuoted c
+    by_quote true e = rw e (λ h. tt)
+    by_quote false e = rw e (λ h. tt)
+inside-step st.AfterQuote c i = by_quote (c == 34) refl
   where
-    by : (q : Bool) → (c == 34) ≡ q → StaysInside st.AfterQuote c
-    by true e = rw e (λ h. tt)
-    by false e = in-field-inside st.AfterQuote c (rw e refl)
+    by_quote : (q : Bool) → (c == 34) ≡ q → StaysInside st.AfterQuote c
+    by_quote true e = rw e (λ h. tt)
+    by_quote false e = in-field-inside st.AfterQuote c (rw e refl)
 inside-step st.StartRecord c i = absurd i
 inside-step st.InEscape c i = absurd i
 inside-step st.InComment c i = absurd i
@@ -101,23 +101,23 @@ inside-record : (d : ℕ) (s : State) (fields : List (List ℕ)) (field rest : L
 unfolding next_record
 inside-record d s fields field [] i h =
     ((fields ++ (field ∷ []), st.StartRecord, []), rw (inside-end s i) refl, ended d fields field h)
-inside-record d s fields field (c ∷ rest) i h = by (is_end (step default_config s c).1) refl
+inside-record d s fields field (c ∷ rest) i h = by_end (is_end (step default_config s c).1) refl
     (λ inside. inside-record d (step default_config s c).0 _ _ rest inside
     (stays (step default_config s c).1 d c fields field h))
   where
-    by : (b : Bool) → is_end (step default_config s c).1 ≡ b
+    by_end : (b : Bool) → is_end (step default_config s c).1 ≡ b
         → (IsInside (step default_config s c).0
         → (p : Read)
         × (next_record default_config (step default_config s c).0
         (fields_after (step default_config s c).1 fields field) (field_after (step default_config s c).1 c field)
         rest ≡ Some p) × BeginsWith d p.0)
         → (p : Read) × (next_record default_config s fields field (c ∷ rest) ≡ Some p) × BeginsWith d p.0
-    by true e more = (
+    by_end true e more = (
       (fields_after (step default_config s c).1 fields field, (step default_config s c).0, rest),
       rw e refl,
       ends_as (step default_config s c).1 d fields field e h,
     )
-    by false e more = rw e (more (inside-step s c i e))
+    by_end false e more = rw e (more (inside-step s c i e))
 
 digit-step : (d : ℕ) → 48 ≤ d → d ≤ 57 → step default_config st.StartRecord d ≡ (st.InField, act.Copy)
 digit-step d low high =

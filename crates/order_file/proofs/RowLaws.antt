@@ -28,20 +28,21 @@ weaker b bytes p (inr h) = inr h
 pub shrinks : (cfg : Config) (s : State) (fields : List (List ℕ)) (field bytes : List ℕ) (p : Read)
     → next_record cfg s fields field bytes ≡ Some p → Shrinks bytes p
 unfolding next_record
-shrinks cfg s fields field [] p e = by (ends_at_end s) refl e
+shrinks cfg s fields field [] p e = by_open_end (ends_at_end s) refl e
   where
-    by : (b : Bool) → ends_at_end s ≡ b → next_record cfg s fields field [] ≡ Some p → Shrinks [] p
-    by true eb h = let q : Some (fields ++ (field ∷ []), st.StartRecord, []) ≡ Some p = rw eb at h in inr (cc, cc)
-    by false eb h = cc (rw eb at h)
+    by_open_end : (b : Bool) → ends_at_end s ≡ b → next_record cfg s fields field [] ≡ Some p → Shrinks [] p
+    by_open_end true eb h =
+        let q : Some (fields ++ (field ∷ []), st.StartRecord, []) ≡ Some p = rw eb at h in inr (cc, cc)
+    by_open_end false eb h = cc (rw eb at h)
 shrinks cfg s fields field (c ∷ rest) p e =
-    by (is_end (step cfg s c).1) refl e (shrinks cfg (step cfg s c).0 _ _ rest p)
+    by_end (is_end (step cfg s c).1) refl e (shrinks cfg (step cfg s c).0 _ _ rest p)
   where
-    by : (b : Bool) → is_end (step cfg s c).1 ≡ b → next_record cfg s fields field (c ∷ rest) ≡ Some p
+    by_end : (b : Bool) → is_end (step cfg s c).1 ≡ b → next_record cfg s fields field (c ∷ rest) ≡ Some p
         → (next_record cfg (step cfg s c).0 (fields_after (step cfg s c).1 fields field)
         (field_after (step cfg s c).1 c field) rest ≡ Some p → Shrinks rest p)
         → Shrinks (c ∷ rest) p
-    by true eb h more = grind (arith, common_steps)
-    by false eb h more = weaker c rest p (more (rw eb at h))
+    by_end true eb h more = grind (arith, common_steps)
+    by_end false eb h more = weaker c rest p (more (rw eb at h))
 
 -- the end of a text has no record
 pub records_from-done : (cfg : Config) (n : ℕ) → records_from cfg n st.StartRecord [] ≡ []
@@ -56,18 +57,19 @@ unfolding records_from
 enough cfg zero m s bytes h k = absurd (omega arith)
 enough cfg (suc n) zero s bytes h k = absurd (omega arith)
 enough cfg (suc n) (suc m) s bytes h k =
-    by (next_record cfg s [] [] bytes) refl (λ p less. enough cfg n m p.1 p.2 (omega arith) (omega arith))
+    by_next_record (next_record cfg s [] [] bytes) refl (λ p less. enough cfg n m p.1 p.2 (omega arith) (omega arith))
   where
     rest : (p : Read) → (length p.2 < length bytes → records_from cfg n p.1 p.2 ≡ records_from cfg m p.1 p.2)
         → Shrinks bytes p → records_from cfg n p.1 p.2 ≡ records_from cfg m p.1 p.2
     rest p more (inl less) = more less
     rest p more (inr done) = rw (done.0, done.1, records_from-done cfg n, records_from-done cfg m) refl
 
-    by : (o : Option Read) → next_record cfg s [] [] bytes ≡ o
+    by_next_record : (o : Option Read) → next_record cfg s [] [] bytes ≡ o
         → ((p : Read) → length p.2 < length bytes → records_from cfg n p.1 p.2 ≡ records_from cfg m p.1 p.2)
         → records_next (records_from cfg n) o ≡ records_next (records_from cfg m) o
-    by None e more = refl
-    by (Some p) e more = ap (λ (rs : List (List (List ℕ))). p.0 ∷ rs) (rest p (more p) (shrinks cfg s [] [] bytes p e))
+    by_next_record None e more = refl
+    by_next_record (Some p) e more =
+        ap (λ (rs : List (List (List ℕ))). p.0 ∷ rs) (rest p (more p) (shrinks cfg s [] [] bytes p e))
 
 -- the first record, and then those that it leaves
 pub first-record : (s : State) (bytes : List ℕ) (p : Read) → next_record default_config s [] [] bytes ≡ Some p

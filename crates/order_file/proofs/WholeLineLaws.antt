@@ -31,44 +31,47 @@ abbrev pub NoQuote : List ℕ → Type 0
 NoQuote = All (λ c. c ≢ 34)
 
 -- a byte that goes on with a record, one that ends it, one that is passed over between records
-abbrev GoesOn : State → ℕ → Type 0
-GoesOn s c = (t : State) × (a : Action) × IsInRecord t × (is_end a ≡ false) × (step default_config s c ≡ (t, a))
+abbrev StaysInRecord : State → ℕ → Type 0
+StaysInRecord s c = (t : State) × (a : Action) × IsInRecord t × (is_end a ≡ false) × (step default_config s c ≡ (t, a))
 
-abbrev Ends : State → ℕ → Type 0
-Ends s c = (t : State) × IsOutside t × (step default_config s c ≡ (t, act.EndRecord))
+abbrev EndsRecord : State → ℕ → Type 0
+EndsRecord s c = (t : State) × IsOutside t × (step default_config s c ≡ (t, act.EndRecord))
 
-abbrev Passes : State → ℕ → Type 0
-Passes s c = IsBetween s × (step default_config s c ≡ (st.StartRecord, act.Skip))
+abbrev IsPassedOver : State → ℕ → Type 0
+IsPassedOver s c = IsBetween s × (step default_config s c ≡ (st.StartRecord, act.Skip))
 
-in-field-step : (s : State) (c : ℕ) → step default_config s c ≡ in_field default_config c → GoesOn s c ⊎ Ends s c
-    ⊎ Passes s c
-in-field-step s c e = by (c == 44) (c == 13) (c == 10) refl refl refl
+in-field-step : (s : State) (c : ℕ) → step default_config s c ≡ in_field default_config c → StaysInRecord s c
+    ⊎ EndsRecord s c
+    ⊎ IsPassedOver s c
+in-field-step s c e = by_comma (c == 44) (c == 13) (c == 10) refl refl refl
   where
-    by : (x y z : Bool) → (c == 44) ≡ x → (c == 13) ≡ y → (c == 10) ≡ z → GoesOn s c ⊎ Ends s c ⊎ Passes s c
-    by true y z p q r = inl (st.StartField, act.EndField, tt, refl, e ∙ rw p refl)
-    by false true z p q r = inr (inl (st.AfterCr, inl tt, e ∙ rw (p, q) refl))
-    by false false true p q r = inr (inl (st.StartRecord, inl tt, e ∙ rw (p, q, r) refl))
-    by false false false p q r = inl (st.InField, act.Copy, tt, refl, e ∙ rw (p, q, r) refl)
+    by_comma : (x y z : Bool) → (c == 44) ≡ x → (c == 13) ≡ y → (c == 10) ≡ z
+        → StaysInRecord s c ⊎ EndsRecord s c ⊎ IsPassedOver s c
+    by_comma true y z p q r = inl (st.StartField, act.EndField, tt, refl, e ∙ rw p refl)
+    by_comma false true z p q r = inr (inl (st.AfterCr, inl tt, e ∙ rw (p, q) refl))
+    by_comma false false true p q r = inr (inl (st.StartRecord, inl tt, e ∙ rw (p, q, r) refl))
+    by_comma false false false p q r = inl (st.InField, act.Copy, tt, refl, e ∙ rw (p, q, r) refl)
 
 not_quote : (c : ℕ) → c ≢ 34 → (c == 34) ≡ false
 not_quote c h = search rules
 
 start-step : (s : State) (c : ℕ) → c ≢ 34 → IsBetween s → step default_config s c ≡ step default_config st.StartRecord c
-    → GoesOn s c ⊎ Ends s c ⊎ Passes s c
-start-step s c h between e = by (c == 13) (c == 10) refl refl
+    → StaysInRecord s c ⊎ EndsRecord s c ⊎ IsPassedOver s c
+start-step s c h between e = by_return (c == 13) (c == 10) refl refl
   where
-    by : (y z : Bool) → (c == 13) ≡ y → (c == 10) ≡ z → GoesOn s c ⊎ Ends s c ⊎ Passes s c
-    by true z q r = inr (inr (between, e ∙ rw q refl))
-    by false true q r = inr (inr (between, e ∙ rw (q, r) refl))
-    by false false q r = in-field-step s c (e ∙ rw (q, r, not_quote c h) refl)
+    by_return : (y z : Bool) → (c == 13) ≡ y → (c == 10) ≡ z → StaysInRecord s c ⊎ EndsRecord s c ⊎ IsPassedOver s c
+    by_return true z q r = inr (inr (between, e ∙ rw q refl))
+    by_return false true q r = inr (inr (between, e ∙ rw (q, r) refl))
+    by_return false false q r = in-field-step s c (e ∙ rw (q, r, not_quote c h) refl)
 
-outside-step : (s : State) (c : ℕ) → c ≢ 34 → IsOutside s → GoesOn s c ⊎ Ends s c ⊎ Passes s c
+outside-step : (s : State) (c : ℕ) → c ≢ 34 → IsOutside s → StaysInRecord s c ⊎ EndsRecord s c ⊎ IsPassedOver s c
 outside-step st.StartRecord c h o = start-step st.StartRecord c h tt refl
-outside-step st.AfterCr c h o = by (c == 10) refl
+outside-step st.AfterCr c h o = by_line_end (c == 10) refl
   where
-    by : (z : Bool) → (c == 10) ≡ z → GoesOn st.AfterCr c ⊎ Ends st.AfterCr c ⊎ Passes st.AfterCr c
-    by true r = inr (inr (tt, rw r refl))
-    by false r = start-step st.AfterCr c h tt (rw r refl)
+    by_line_end : (z : Bool) → (c == 10) ≡ z
+        → StaysInRecord st.AfterCr c ⊎ EndsRecord st.AfterCr c ⊎ IsPassedOver st.AfterCr c
+    by_line_end true r = inr (inr (tt, rw r refl))
+    by_line_end false r = start-step st.AfterCr c h tt (rw r refl)
 outside-step st.StartField c h o = in-field-step st.StartField c (rw (not_quote c h) refl)
 outside-step st.InField c h o = in-field-step st.InField c refl
 outside-step st.InQuoted c h (inl o) = absurd o
@@ -195,19 +198,19 @@ cut-at : (zs : List ℕ) (s : State) (fields : List (List ℕ)) (field ys : List
     (next_record default_config s fields field (ys ++ 10 ∷ zs))
 cut-at zs s fields field [] o free = cut-end zs s fields field o
 cut-at zs s fields field (c ∷ rest) o free =
-    by (outside-step s c (All-head (λ b. b ≢ 34) c rest free) o)
+    by_action (outside-step s c (All-head (λ b. b ≢ 34) c rest free) o)
     (λ t f p out. cut-at zs t f p rest out (All-tail (λ b. b ≢ 34) c rest free))
   where
-    by : GoesOn s c ⊎ Ends s c ⊎ Passes s c
+    by_action : StaysInRecord s c ⊎ EndsRecord s c ⊎ IsPassedOver s c
         → ((t : State) (f : List (List ℕ)) (p : List ℕ) → IsOutside t
         → Cut zs (length rest) t f p (next_record default_config t f p (rest ++ 10 ∷ []))
         (next_record default_config t f p (rest ++ 10 ∷ zs)))
         → Cut zs (length (c ∷ rest)) s fields field (next_record default_config s fields field (c ∷ (rest ++ 10 ∷ [])))
         (next_record default_config s fields field (c ∷ (rest ++ 10 ∷ zs)))
-    by (inl (t, a, within, no_end, e)) more =
+    by_action (inl (t, a, within, no_end, e)) more =
         steps-on-cut zs (length rest) _ s t _ _ _ _ _ _ _ _ (steps-on s t a fields field c _ e no_end)
         (steps-on s t a fields field c _ e no_end) within (omega arith) (more t _ _ (inr within))
-    by (inr (inl (t, out, e))) more =
+    by_action (inr (inl (t, out, e))) more =
         inl (record {
           fields = fields ++ (field ∷ []);
           state = t;
@@ -218,7 +221,7 @@ cut-at zs s fields field (c ∷ rest) o free =
           short = ends-here s t fields field c _ e;
           long = ends-here s t fields field c _ e;
         })
-    by (inr (inr (between, e))) more =
+    by_action (inr (inr (between, e))) more =
         passes-cut zs (length rest) _ s _ _ _ _ _ _ (steps-on s st.StartRecord act.Skip fields field c _ e refl)
         (steps-on s st.StartRecord act.Skip fields field c _ e refl) between (omega arith)
         (more st.StartRecord fields field (inl tt))
@@ -226,12 +229,13 @@ cut-at zs s fields field (c ∷ rest) o free =
 -- the records after the same next record
 records-alike : (s t : State) (x y : List ℕ)
     → next_record default_config s [] [] x ≡ next_record default_config t [] [] y → records_left s x ≡ records_left t y
-records-alike s t x y same = by (next_record default_config t [] [] y) same refl
+records-alike s t x y same = by_next_record (next_record default_config t [] [] y) same refl
   where
-    by : (o : Option Read) → next_record default_config s [] [] x ≡ o → next_record default_config t [] [] y ≡ o
+    by_next_record : (o : Option Read) → next_record default_config s [] [] x ≡ o
+        → next_record default_config t [] [] y ≡ o
         → records_left s x ≡ records_left t y
-    by None e d = no-record s x e ∙ sym (no-record t y d)
-    by (Some p) e d = first-record s x p e ∙ sym (first-record t y p d)
+    by_next_record None e d = no-record s x e ∙ sym (no-record t y d)
+    by_next_record (Some p) e d = first-record s x p e ∙ sym (first-record t y p d)
 
 -- a line end at the start of a record is passed over
 pub line-end-first : (zs : List ℕ) → records default_config (10 ∷ zs) ≡ records default_config zs
@@ -243,24 +247,24 @@ lines-first : (n : ℕ) (zs : List ℕ) (s : State) (ys : List ℕ) → length y
     → records_left s (ys ++ 10 ∷ zs) ≡ records_left s (ys ++ 10 ∷ []) ++ records_left st.StartRecord zs
 lines-first zero zs s ys h o free = absurd (omega arith)
 lines-first (suc n) zs s ys h o free =
-    by (cut-at zs s [] [] ys o free) (λ t x less out none. lines-first n zs t x (omega arith) out none)
+    by_cut (cut-at zs s [] [] ys o free) (λ t x less out none. lines-first n zs t x (omega arith) out none)
   where
-    by : Cut zs (length ys) s [] [] (next_record default_config s [] [] (ys ++ 10 ∷ []))
+    by_cut : Cut zs (length ys) s [] [] (next_record default_config s [] [] (ys ++ 10 ∷ []))
         (next_record default_config s [] [] (ys ++ 10 ∷ zs))
         → ((t : State) (x : List ℕ) → length x < length ys → IsOutside t → NoQuote x
         → records_left t (x ++ 10 ∷ zs) ≡ records_left t (x ++ 10 ∷ []) ++ records_left st.StartRecord zs)
         → records_left s (ys ++ 10 ∷ zs) ≡ records_left s (ys ++ 10 ∷ []) ++ records_left st.StartRecord zs
-    by (inl c) more =
+    by_cut (inl c) more =
         first-record s _ (c.fields, c.state, c.text ++ 10 ∷ zs) c.long
         ∙ ap (λ (rs : List (List (List ℕ))). c.fields ∷ rs) (more c.state c.text c.less c.outside c.no_quote)
         ∙ ap (λ (rs : List (List (List ℕ))). rs ++ records_left st.StartRecord zs)
         (sym (first-record s _ (c.fields, c.state, c.text ++ 10 ∷ []) c.short))
-    by (inr (inl c)) more =
+    by_cut (inr (inl c)) more =
         first-record s _ (c.fields, st.StartRecord, zs) c.long
         ∙ ap (λ (rs : List (List (List ℕ))). rs ++ records_left st.StartRecord zs)
         (sym (first-record s _ (c.fields, st.StartRecord, []) c.short
         ∙ ap (λ (rs : List (List (List ℕ))). c.fields ∷ rs) (records_from-done default_config 1)))
-    by (inr (inr c)) more =
+    by_cut (inr (inr c)) more =
         records-alike s st.StartRecord _ zs c.long
         ∙ ap (λ (rs : List (List (List ℕ))). rs ++ records_left st.StartRecord zs) (sym (no-record s _ c.short))
 

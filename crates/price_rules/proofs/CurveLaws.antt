@@ -11,6 +11,7 @@ use Rattle.auction_terms.specs.declared.Side.TheVariants.{Bid, Ask}
 use Rattle.auction_terms.specs.declared.Limit.{Limit}
 use Rattle.auction_terms.specs.declared.Limit.TheVariants.{Market, At}
 use Rattle.auction_terms.specs.Book.{demand, supply, quantity_of, is_bid_side, is_market, reaches, limits}
+use Rattle.auction_terms.proofs.DemandShape.{AtTick, limits_parts}
 use Rattle.auction_terms.proofs.DemandSums.{counted, quantity_of-cons}
 use Rattle.auction_terms.specs.Ladder.{LadderView, tick_values, is_at, quantity_at, market_quantity, limit_flag}
 use Rattle.auction_terms.specs.Ladder.{ladder_of, flag_of}
@@ -41,24 +42,12 @@ quantity_of-cond : (b : Bool) (order : Order) (orders : List Order) → quantity
     ≡ counted b order + quantity_of orders
 quantity_of-cond b order orders = grind (arith, common_steps, quantity_of-cons, zero-add)
 
--- P of the limit's tick, if it has one
-abbrev AtTick : (ℕ → Type 0) → Limit → Type 0
-AtTick P Market = Unit {0}
-AtTick P (At l) = P l
-
-limits-cons : (P : ℕ → Type 0) (limit : Limit) (order : Order) (book : List Order) → order.limit ≡ limit
-    → All P (limits (order ∷ book)) → AtTick P order.limit × All P (limits book)
-unfolding limits
-limits-cons P Market order book e all = rw e (tt, rw e at all)
-limits-cons P (At l) order book e all =
-    rw e (All-head P l (limits book) (rw e at all), All-tail P l (limits book) (rw e at all))
-
 quantity_of-split : (P : ℕ → Type 0) (t a b : Order → Bool)
     → ((o : Order) → AtTick P o.limit → counted (t o) o ≡ counted (a o) o + counted (b o) o) → (book : List Order)
     → All P (limits book) → quantity_if t book ≡ quantity_if a book + quantity_if b book
 quantity_of-split P t a b each [] all = refl
 quantity_of-split P t a b each (o ∷ book) all =
-    let parts = limits-cons P o.limit o book refl all in
+    let parts = limits_parts P o.limit o book refl all in
     omega (arith, quantity_of-cond, each o parts.0, quantity_of-split P t a b each book parts.1)
 
 quantity_of-agree : (P : ℕ → Type 0) (t a : Order → Bool)
@@ -66,17 +55,17 @@ quantity_of-agree : (P : ℕ → Type 0) (t a : Order → Bool)
     → (book : List Order) → All P (limits book) → quantity_if t book ≡ quantity_if a book
 quantity_of-agree P t a each [] all = refl
 quantity_of-agree P t a each (o ∷ book) all =
-    let parts = limits-cons P o.limit o book refl all in
+    let parts = limits_parts P o.limit o book refl all in
     omega (arith, quantity_of-cond, each o parts.0, quantity_of-agree P t a each book parts.1)
 
-abbrev Within : ℕ → ℕ → ℕ → Type 0
-Within low n l = (low ≤ l) × (l < low + n)
+abbrev IsLadderTick : ℕ → ℕ → ℕ → Type 0
+IsLadderTick low n l = (low ≤ l) × (l < low + n)
 
 bid_step : (limit : Limit) (side : Side) (n t : ℕ) → cond (is_bid_side side && reaches limit side t) n 0
     ≡ cond (is_bid_side side && is_at t limit) n 0 + cond (is_bid_side side && reaches limit side (t + 1)) n 0
 bid_step limit side n t = grind (arith, common_steps, nat_tests)
 
-bid_end : (limit : Limit) (side : Side) (n low m : ℕ) → AtTick (Within low m) limit
+bid_end : (limit : Limit) (side : Side) (n low m : ℕ) → AtTick (IsLadderTick low m) limit
     → cond (is_bid_side side && reaches limit side (low + m)) n 0 ≡ cond (is_bid_side side && is_market limit) n 0
 bid_end limit side n low m h = grind (arith, common_steps, nat_tests)
 
@@ -85,34 +74,34 @@ ask_step : (limit : Limit) (side : Side) (n t : ℕ) → cond (not (is_bid_side 
     0
 ask_step limit side n t = grind (arith, common_steps, nat_tests)
 
-ask_first : (limit : Limit) (side : Side) (n low m : ℕ) → AtTick (Within low m) limit
+ask_first : (limit : Limit) (side : Side) (n low m : ℕ) → AtTick (IsLadderTick low m) limit
     → cond (not (is_bid_side side) && reaches limit side low) n 0 ≡ cond (not (is_bid_side side) && is_market limit) n 0
     + cond (not (is_bid_side side) && is_at low limit) n 0
 ask_first limit side n low m h = grind (arith, common_steps, nat_tests)
 
-demand_next : (book : List Order) (low m t : ℕ) → All (Within low m) (limits book)
+demand_next : (book : List Order) (low m t : ℕ) → All (IsLadderTick low m) (limits book)
     → demand book t ≡ quantity_at Bid book t + demand book (t + 1)
 unfolding demand
 demand_next book low m t all = search (arith, quantity_of-split, bid_step)
 
-demand_end : (book : List Order) (low m : ℕ) → All (Within low m) (limits book)
+demand_end : (book : List Order) (low m : ℕ) → All (IsLadderTick low m) (limits book)
     → demand book (low + m) ≡ market_quantity Bid book
 unfolding demand
 demand_end book low m all = search (arith, quantity_of-agree, bid_end)
 
-supply_next : (book : List Order) (low m t : ℕ) → All (Within low m) (limits book)
+supply_next : (book : List Order) (low m t : ℕ) → All (IsLadderTick low m) (limits book)
     → supply book (t + 1) ≡ supply book t + quantity_at Ask book (t + 1)
 unfolding supply
 supply_next book low m t all = search (arith, quantity_of-split, ask_step)
 
-supply_first : (book : List Order) (low m : ℕ) → All (Within low m) (limits book)
+supply_first : (book : List Order) (low m : ℕ) → All (IsLadderTick low m) (limits book)
     → supply book low ≡ market_quantity Ask book + quantity_at Ask book low
 unfolding supply
 supply_first book low m all = search (arith, quantity_of-split, ask_first)
 
 -- ---- demand and supply from sums
 
-demand_up : (book : List Order) (low n : ℕ) (b : List ℕ) (i : ℕ) → All (Within low n) (limits book)
+demand_up : (book : List Order) (low n : ℕ) (b : List ℕ) (i : ℕ) → All (IsLadderTick low n) (limits book)
     → b ≡ tick_values (quantity_at Bid book) low n → i ≤ n → demand book (low + i) + before b i ≡ demand book low
 demand_up book low n b zero all e h = grind (arith, common_steps)
 demand_up book low n b (suc i) all e h =
@@ -130,7 +119,7 @@ demand_up book low n b (suc i) all e h =
       demand_up book low n b i all e (omega arith),
     )
 
-supply_up : (book : List Order) (low n : ℕ) (a : List ℕ) (i : ℕ) → All (Within low n) (limits book)
+supply_up : (book : List Order) (low n : ℕ) (a : List ℕ) (i : ℕ) → All (IsLadderTick low n) (limits book)
     → a ≡ tick_values (quantity_at Ask book) low n → i < n
     → supply book (low + i) ≡ market_quantity Ask book + before a (i + 1)
 supply_up book low n a zero all e h =
@@ -211,7 +200,7 @@ curves-of_ladder v book h flags =
           );
       supply_is = λ i lt. omega (arith, ma, supply_up book v.low n v.asks i h.within ea lt);
       place_of = λ q e.
-          let w = All_at (Within v.low n) (limits book) h.within q e in
+          let w = All_at (IsLadderTick v.low n) (limits book) h.within q e in
           let back : v.low + (q - v.low) ≡ q = omega arith in
           let lt : q - v.low < n = omega arith in
           let there : has (v.low + (q - v.low)) (limits book) ≡ true = ap (λ t. has t (limits book)) back ∙ e in (

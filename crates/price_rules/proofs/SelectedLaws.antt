@@ -14,7 +14,7 @@ use Rattle.auction_terms.proofs.KeptLimitLaws.{amounts, bid_amounts, ask_amounts
 use Rattle.auction_terms.proofs.TickListLaws.{All_from, not_empty}
 use Rattle.lane_select.specs.Selection.{kept_if_equal, kept_if_above, NoFlagIn, IsGreatestFlagged, IsLeastFlagged}
 use Rattle.price_rules.specs.declared.candidates.Lanes.{Lanes}
-use Rattle.price_rules.specs.Candidates.{AreCandidates, AreMarked, IsWithin}
+use Rattle.price_rules.specs.Candidates.{AreCandidates, AreMarked, FlagsNoOther}
 use Rattle.price_rules.proofs.MarkLaws.{zip_at, kept_parts, kept_there, above_parts, above_there, flag-inside}
 use Rattle.price_rules.proofs.MarkLaws.{marked_part}
 
@@ -33,34 +33,34 @@ pub record AreEven (lanes : Lanes) : Type 0 where
 
 module _ (book : List Order) (lanes : Lanes) (even : AreEven lanes) (cand : AreCandidates book lanes) where
   -- the flags of the best with a surplus on one side
-  pub bids_marked : (fs best : List ℕ) → length fs ≡ length lanes.flags → IsWithin fs lanes.flags
+  pub bids_marked : (fs best : List ℕ) → length fs ≡ length lanes.flags → FlagsNoOther fs lanes.flags
       → AreMarked lanes.ticks fs best
       → AreMarked lanes.ticks (kept_if_above lanes.demands lanes.supplies fs) (filter (has_bid_surplus book) best)
   bids_marked fs best same within marked =
       search (arith, marked_part, above_parts, bid_true, above_there, bid_amounts)
 
-  pub asks_marked : (fs best : List ℕ) → length fs ≡ length lanes.flags → IsWithin fs lanes.flags
+  pub asks_marked : (fs best : List ℕ) → length fs ≡ length lanes.flags → FlagsNoOther fs lanes.flags
       → AreMarked lanes.ticks fs best
       → AreMarked lanes.ticks (kept_if_above lanes.supplies lanes.demands fs) (filter (has_ask_surplus book) best)
   asks_marked fs best same within marked =
       search (arith, marked_part, above_parts, ask_true, above_there, ask_amounts)
 
-  pub rising_within : (fs : List ℕ) → IsWithin fs lanes.flags → (j k : ℕ) → j < k → get_or fs j 0 ≡ 1
+  pub rising_within : (fs : List ℕ) → FlagsNoOther fs lanes.flags → (j k : ℕ) → j < k → get_or fs j 0 ≡ 1
       → get_or fs k 0 ≡ 1 → get_or lanes.ticks j 0 ≤ get_or lanes.ticks k 0
   rising_within fs within j k less f g = cand.rising j k less (within j f) (within k g)
 
-  above_within : (xs ys fs : List ℕ) → length xs ≡ length fs → length ys ≡ length fs → IsWithin fs lanes.flags
-      → IsWithin (kept_if_above xs ys fs) lanes.flags
+  above_within : (xs ys fs : List ℕ) → length xs ≡ length fs → length ys ≡ length fs → FlagsNoOther fs lanes.flags
+      → FlagsNoOther (kept_if_above xs ys fs) lanes.flags
   above_within xs ys fs d e within k h = within k (above_parts xs ys fs k d e h).1
 
-  pub rising_bids : (fs : List ℕ) → length fs ≡ length lanes.flags → IsWithin fs lanes.flags → (j k : ℕ) → j < k
+  pub rising_bids : (fs : List ℕ) → length fs ≡ length lanes.flags → FlagsNoOther fs lanes.flags → (j k : ℕ) → j < k
       → get_or (kept_if_above lanes.demands lanes.supplies fs) j 0 ≡ 1
       → get_or (kept_if_above lanes.demands lanes.supplies fs) k 0 ≡ 1 → get_or lanes.ticks j 0 ≤ get_or lanes.ticks k 0
   rising_bids fs same within =
       rising_within (kept_if_above lanes.demands lanes.supplies fs)
       (above_within lanes.demands lanes.supplies fs (omega (arith, even.demands)) (omega (arith, even.supplies)) within)
 
-  pub rising_asks : (fs : List ℕ) → length fs ≡ length lanes.flags → IsWithin fs lanes.flags → (j k : ℕ) → j < k
+  pub rising_asks : (fs : List ℕ) → length fs ≡ length lanes.flags → FlagsNoOther fs lanes.flags → (j k : ℕ) → j < k
       → get_or (kept_if_above lanes.supplies lanes.demands fs) j 0 ≡ 1
       → get_or (kept_if_above lanes.supplies lanes.demands fs) k 0 ≡ 1 → get_or lanes.ticks j 0 ≤ get_or lanes.ticks k 0
   rising_asks fs same within =
@@ -124,7 +124,7 @@ module _ (book : List Order) (lanes : Lanes) (even : AreEven lanes) (cand : AreC
         second_there : (k : ℕ) → get_or surpluses k 0 ≡ s → get_or fs k 0 ≡ 1 → get_or gs k 0 ≡ 1
         second_there k v h = ap (λ l. get_or l k 0) left_too ∙ kept_there s surpluses fs k long_too v h
 
-        pub best_within : IsWithin gs lanes.flags
+        pub best_within : FlagsNoOther gs lanes.flags
         best_within k h = (first_parts k (second_parts k h).1).1
 
         pub best_marked : AreMarked lanes.ticks gs (keyed book m s few)

@@ -45,15 +45,15 @@ pub record AreMarked (ticks flags few : List ℕ) : Type 0 where
   pub place : (t : ℕ) → has t few ≡ true → (k : ℕ) × (k < length flags) × IsFlagged flags k × (slice_index ticks k ≡ t)
 
 -- no flag but where the others have one
-abbrev pub IsWithin : List ℕ → List ℕ → Type 0
-IsWithin flags others = (k : ℕ) → IsFlagged flags k → IsFlagged others k
+abbrev pub FlagsNoOther : List ℕ → List ℕ → Type 0
+FlagsNoOther flags others = (k : ℕ) → IsFlagged flags k → IsFlagged others k
 
 -- P of each book whose candidates these are, and of each list of ticks that some of the flags mark
 abbrev pub OfMarked : Lanes → List ℕ → (List Order → List ℕ → Type 0) → Type 0
 OfMarked lanes flags P =
     (book : List Order) (few : List ℕ)
     → AreCandidates book lanes
-    → IsWithin flags lanes.flags
+    → FlagsNoOther flags lanes.flags
     → AreMarked lanes.ticks flags few
     → P book few
 

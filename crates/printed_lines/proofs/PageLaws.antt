@@ -3,13 +3,13 @@ use Rattle.std.proofs.Common.{◌≡◌, ◌∙◌, ℕ, List, [], ◌∷◌, �
 use Rattle.std.proofs.lemmas.List.{append-nil}
 use Rattle.printed_lines.specs.ReplyWords.{words_text}
 use Rattle.printed_lines.specs.Tally.{entry_line, member_line, member_lines, history_lines_after}
-use Rattle.printed_lines.proofs.Lists.{IsText}
+use Rattle.printed_lines.proofs.Lists.{IsListText}
 
-pub members-by-one : IsText member_line member_lines
+pub members-by-one : IsListText member_line member_lines
 unfolding member_lines
 members-by-one = record { none = λ before. refl; more = λ before calls rest. refl }
 
-pub entries-by-one : IsText (λ before entry. entry_line (before + 1) entry) history_lines_after
+pub entries-by-one : IsListText (λ before entry. entry_line (before + 1) entry) history_lines_after
 unfolding history_lines_after
 entries-by-one = record { none = λ before. refl; more = λ before entry entries. refl }
 

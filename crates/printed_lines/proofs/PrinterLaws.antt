@@ -42,15 +42,15 @@ prints_none s a = record {
 -- a text was printed after another
 pub prints_more : {S : Type 0} {s : Ghosts S} {a b c : Printer S} {r : Result (Unit {0}) WriteFailed} {x y : List ℕ}
     → Prints s a b (Ok tt) x → Prints s b c r y → Prints s a c r (x ++ y)
-prints_more {S = S} {s = s} {a = a} {b = b} {c = c} {r = r} {x = x} {y = y} h k = by r k
+prints_more {S = S} {s = s} {a = a} {b = b} {c = c} {r = r} {x = x} {y = y} h k = by_written r k
   where
-    by : (r : Result (Unit {0}) WriteFailed) → Prints s b c r y → Prints s a c r (x ++ y)
-    by (Ok u) k = record {
+    by_written : (r : Result (Unit {0}) WriteFailed) → Prints s b c r y → Prints s a c r (x ++ y)
+    by_written (Ok u) k = record {
       same_sink = k.same_sink ∙ h.same_sink;
       text = keeps-more _ _ _ a.page b.page c.page x y h.text k.text;
       failed = k.failed ∙ h.failed;
     }
-    by (Err e) k = record {
+    by_written (Err e) k = record {
       same_sink = k.same_sink ∙ h.same_sink;
       text = begun-after _ _ _ a.page b.page x y h.text k.text;
       failed = rw h.failed at k.failed;
@@ -60,11 +60,11 @@ prints_more {S = S} {s = s} {a = a} {b = b} {c = c} {r = r} {x = x} {y = y} h k 
 pub prints_begun : {S : Type 0} {s : Ghosts S} {a b : Printer S} {e : WriteFailed} {r : Result (Unit {0}) WriteFailed}
     {x : List ℕ} (y : List ℕ)
     → IsErr r → Prints s a b (Err e) x → Prints s a b r (x ++ y)
-prints_begun {S = S} {s = s} {a = a} {b = b} {r = r} {x = x} y err h = by r err
+prints_begun {S = S} {s = s} {a = a} {b = b} {r = r} {x = x} y err h = by_written r err
   where
-    by : (r : Result (Unit {0}) WriteFailed) → IsErr r → Prints s a b r (x ++ y)
-    by (Ok u) err = absurd (false≢true err)
-    by (Err f) err = record {
+    by_written : (r : Result (Unit {0}) WriteFailed) → IsErr r → Prints s a b r (x ++ y)
+    by_written (Ok u) err = absurd (false≢true err)
+    by_written (Err f) err = record {
       same_sink = h.same_sink;
       text = rw (← append_assoc a.page x y) (begun-before _ _ (a.page ++ x) y h.text);
       failed = h.failed;
@@ -90,14 +90,14 @@ pub writes_all : {S : Type 0} {s : Ghosts S} {sink : MutBor S} {a b c : Printer 
     → IsFresh sink a → Prints s a b (Ok tt) x → Prints s b c r [] → c.page ≡ [] → last ≡ c.sink.now
     → WritesAll s sink.now last r x
 writes_all {S = S} {s = s} {sink = sink} {a = a} {b = b} {c = c} {last = last} {r = r} {x = x} fresh h k empty is =
-    by r (subst (Prints s a c r) (append-nil x) (prints_more h k))
+    by_written r (subst (Prints s a c r) (append-nil x) (prints_more h k))
   where
-    by : (r : Result (Unit {0}) WriteFailed) → Prints s a c r x → WritesAll s sink.now last r x
-    by (Ok u) p = record {
+    by_written : (r : Result (Unit {0}) WriteFailed) → Prints s a c r x → WritesAll s sink.now last r x
+    by_written (Ok u) p = record {
       text = rw (is, ← fresh.sink_is, ← (sym (append-nil p.text.0) ∙ (rw (empty, fresh.page_is) at p.text.1))) p.text.2;
       failed = rw (is, ← fresh.sink_is) p.failed;
     }
-    by (Err e) p = record {
+    by_written (Err e) p = record {
       text = rw (is, ← fresh.sink_is) (rw fresh.page_is at p.text);
       failed = rw (is, ← fresh.sink_is) p.failed;
     }
@@ -106,11 +106,11 @@ writes_all {S = S} {s = s} {sink = sink} {a = a} {b = b} {c = c} {last = last} {
 pub writes_begun : {S : Type 0} {s : Ghosts S} {sink : MutBor S} {a b : Printer S} {last : S} {e : WriteFailed}
     {r : Result (Unit {0}) WriteFailed} {x : List ℕ}
     → IsErr r → IsFresh sink a → Prints s a b (Err e) x → last ≡ b.sink.now → WritesAll s sink.now last r x
-writes_begun {S = S} {s = s} {sink = sink} {a = a} {last = last} {r = r} {x = x} err fresh h is = by r err
+writes_begun {S = S} {s = s} {sink = sink} {a = a} {last = last} {r = r} {x = x} err fresh h is = by_written r err
   where
-    by : (r : Result (Unit {0}) WriteFailed) → IsErr r → WritesAll s sink.now last r x
-    by (Ok u) err = absurd (false≢true err)
-    by (Err f) err = record {
+    by_written : (r : Result (Unit {0}) WriteFailed) → IsErr r → WritesAll s sink.now last r x
+    by_written (Ok u) err = absurd (false≢true err)
+    by_written (Err f) err = record {
       text = rw (is, ← fresh.sink_is) (rw fresh.page_is at h.text);
       failed = rw (is, ← fresh.sink_is) h.failed;
     }

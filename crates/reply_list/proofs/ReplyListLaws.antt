@@ -57,11 +57,11 @@ shown-push shown (first ∷ codes) code = shown-push (shown_after shown first) c
 -- ---- others more
 
 more-after : (shown code : ℕ) → shown ≤ shown_after shown code
-more-after shown code = by (nat_eq code OTHER) refl
+more-after shown code = by_equal (nat_eq code OTHER) refl
   where
-    by : (b : Bool) → nat_eq code OTHER ≡ b → shown ≤ shown_after shown code
-    by true e = rw e (omega arith)
-    by false e = rw e (omega arith)
+    by_equal : (b : Bool) → nat_eq code OTHER ≡ b → shown ≤ shown_after shown code
+    by_equal true e = rw e (omega arith)
+    by_equal false e = rw e (omega arith)
 
 shown-more : (shown : ℕ) (codes : List ℕ) → shown ≤ shown_by shown codes
 shown-more shown [] = omega arith
@@ -72,18 +72,18 @@ reply-grown : (others more : List Reply) (entered shown code : ℕ) → shown_af
     → reply_of (others ++ more) entered shown code ≡ reply_of others entered shown code
 unfolding reply_of
 reply-grown others more entered shown code h =
-    by (nat_eq code ENTERED) (nat_eq code OTHER) (nat_eq code AGAIN) refl refl refl
+    by_equal (nat_eq code ENTERED) (nat_eq code OTHER) (nat_eq code AGAIN) refl refl refl
   where
-    by : (a b c : Bool) → nat_eq code ENTERED ≡ a → nat_eq code OTHER ≡ b → nat_eq code AGAIN ≡ c
+    by_equal : (a b c : Bool) → nat_eq code ENTERED ≡ a → nat_eq code OTHER ≡ b → nat_eq code AGAIN ≡ c
         → reply_of (others ++ more) entered shown code ≡ reply_of others entered shown code
-    by true b c e f g = rw e refl
-    by false true c e f g =
+    by_equal true b c e f g = rw e refl
+    by_equal false true c e f g =
         let within : shown < length others = omega (arith, rw f at h) in
         rw (e, f) (get_or_append_left others more reply.Deleted shown within)
-    by false false true e f g =
+    by_equal false false true e f g =
         let within : shown < length (reply.Deleted ∷ others) = omega (arith, rw f at h) in
         rw (e, f, g) (get_or_append_left (reply.Deleted ∷ others) more reply.Deleted shown within)
-    by false false false e f g = rw (e, f, g) refl
+    by_equal false false false e f g = rw (e, f, g) refl
 
 -- and so do all codes, which read no more of the others than there are
 pub replies-grown : (others more : List Reply) (entered shown : ℕ) (codes : List ℕ)

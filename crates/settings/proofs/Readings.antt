@@ -16,7 +16,7 @@ use Rattle.clap.specs.declared.parser.matches.ArgMatches.{ArgMatches}
 use Rattle.clap.specs.declared.parser.matches.Found.{Found}
 use Rattle.clap.proofs.WalkLemmas.{one_text-rows}
 use Rattle.settings.specs.Options.{callboard, flag, number}
-use Rattle.settings.specs.OptionTexts.{HasFlag, HasNumber, IsNumberIn, IsParsed, MayHaveNumber}
+use Rattle.settings.specs.OptionTexts.{HasSwitch, HasNumber, IsNumberIn, IsParsed, MayHaveNumber}
 use Rattle.settings.specs.NumberTexts.{number_at, number_in}
 use Rattle.settings.specs.Tasks.{is_given, is_yes}
 use Rattle.settings.proofs.Numbers.{number_read, passed_text}
@@ -58,7 +58,7 @@ number_or_none E G f id r has none read parses = go (one_of id (rows_of f)) refl
         ∙ sym (number_read E G 0 4294967295 t r (read t (one_text-rows f id ∙ e)) (parses t) (omega arith) is)
 
 -- `get_flag`
-pub flag_got : (f : Found) (id : Text) (r : Bool) → HasFlag id (rows_of f) → (one_text f id ≡ None → r ≡ false)
+pub flag_got : (f : Found) (id : Text) (r : Bool) → HasSwitch id (rows_of f) → (one_text f id ≡ None → r ≡ false)
     → (one_text f id ≡ Some (codes "true") → r ≡ true)
     → (one_text f id ≡ Some (codes "false") → r ≡ false) → is_given id (rows_of f) ≡ r
 flag_got f id r has none yes_flag no_flag = go (one_of id (rows_of f)) refl has
@@ -113,7 +113,7 @@ true_or_false t h = go (bytes_eq t (codes "true")) refl
         inr ((bytes_eq-Decides t (codes "false")).0 other)
 
 a_flag : (m : ArgMatches) (k : ℕ) (name : Text) → IsParsed m → slice_get callboard.top.rules k ≡ Some (flag name)
-    → has_own_place k (flag name) callboard.top.rules ≡ true → HasFlag name (rows_of (found_of m))
+    → has_own_place k (flag name) callboard.top.rules ≡ true → HasSwitch name (rows_of (found_of m))
 a_flag m k name parsed at alone = go (one_of name (rows_of (found_of m))) refl
   where
     go : (o : Option Text) → one_of name (rows_of (found_of m)) ≡ o
@@ -139,11 +139,11 @@ pub record HasOptions (rows : List Row) : Type 0 where
   pub range : MayHaveNumber 0 MAX_TICK (codes "range") rows
   pub members : HasNumber 1 MAX_MEMBERS (codes "members") rows
   pub reserve : MayHaveNumber 0 MAX_CALLS (codes "reserve") rows
-  pub floor : HasFlag (codes "floor") rows
-  pub history : HasFlag (codes "history") rows
-  pub audit : HasFlag (codes "audit") rows
-  pub results : HasFlag (codes "results") rows
-  pub live : HasFlag (codes "live") rows
+  pub floor : HasSwitch (codes "floor") rows
+  pub history : HasSwitch (codes "history") rows
+  pub audit : HasSwitch (codes "audit") rows
+  pub results : HasSwitch (codes "results") rows
+  pub live : HasSwitch (codes "live") rows
 
 pub has_options : (m : ArgMatches) → IsParsed m → HasOptions (rows_of (found_of m))
 unfolding callboard

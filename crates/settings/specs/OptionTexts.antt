@@ -39,6 +39,6 @@ abbrev pub MayHaveU32 : Text → List Row → Type 0
 MayHaveU32 name rows = MayHaveNumber 0 4294967295 name rows
 
 -- the text of the flag of this name, if it has one, is `true` or `false`
-abbrev pub HasFlag : Text → List Row → Type 0
-HasFlag name rows =
+abbrev pub HasSwitch : Text → List Row → Type 0
+HasSwitch name rows =
     IfSome (one_of name rows) (λ text. (text ≡ codes "true") ⊎ (text ≡ codes "false"))

@@ -6,7 +6,7 @@ ghost use Rattle.clap.specs.Walk.{first_of};
 ghost use Rattle.clap.specs.Values.{kind_of};
 ghost use Rattle.clap.specs.declared.error.kind.ErrorKind.TheVariants.{InvalidValue, OutOfMemory};
 ghost use Rattle.settings.specs.NumberTexts.{number_at};
-ghost use Rattle.settings.specs.OptionTexts.{HasFlag, IsParsed, rows_in};
+ghost use Rattle.settings.specs.OptionTexts.{HasSwitch, IsParsed, rows_in};
 ghost use Rattle.settings.specs.Tasks.{IsWellMixed, RefusesTask, floor_form, wanted_form, form_kinds, form_of};
 ghost use Rattle.settings.specs.Tasks.{is_audit_mixed, is_given, is_journal_missing, is_live_missing, is_live_mixed};
 ghost use Rattle.settings.specs.Tasks.{is_results_alone, reserve_at, sync_in, sync_kinds, task_at, task_kinds, word_in};
@@ -20,7 +20,7 @@ use clap::{ArgMatches, Error};
 use std::alloc::Global;
 
 fn flag_of(matches: &ArgMatches<'_>, name: &str) -> bool
-    requires { HasFlag name.now (rows_in matches.now) }
+    requires { HasSwitch name.now (rows_in matches.now) }
     ensures { is_given name.now (rows_in matches.now) ≡ result }
 {
     matches.get_flag(name)

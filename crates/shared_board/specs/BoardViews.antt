@@ -49,7 +49,7 @@ abbrev pub board_member : OpenedBoard → MemberView → BoardMember
 board_member p s = record { board = p; view = s }
 
 -- what is shown after a beginning of the opening's story
-pub record IsViewOf (p : OpenedBoard) (front : Beginning) (shown : Shown) : Type 0 where
+pub record IsSnapshotOf (p : OpenedBoard) (front : Beginning) (shown : Shown) : Type 0 where
   pub book : front.book ≡ p.book
   pub shows : ShowsAfter p.config front.log shown
 

@@ -7,12 +7,12 @@ ghost use Rattle.board_terms.specs.Closings.{HasSeenBeginning};
 ghost use Rattle.board_terms.specs.MemberView.{call_by, placed_calls};
 ghost use Rattle.board_terms.specs.CallsAndLooks.{behind_fault, entry, CallsOnce, EndsWithCall, IsBehind, IsLook};
 ghost use Rattle.board_terms.specs.CallsAndLooks.{SeesFullHistory};
-ghost use Rattle.shared_board.specs.BoardViews.{IsBehindHistory, IsViewOf};
+ghost use Rattle.shared_board.specs.BoardViews.{IsBehindHistory, IsSnapshotOf};
 
 use crate::day::Day;
 use crate::member::Account;
 use crate::story::{Front, Head};
-use crate::view::View;
+use crate::view::Snapshot;
 use auction::Auction;
 use auction_terms::{Call, Command, Entry};
 use board_terms::{CallFault, Receipt, Shown};
@@ -151,13 +151,13 @@ impl SharedFloor {
     }
 
     /// How many calls were recorded, and the display of the book after them.
-    pub(crate) fn shown(&self) -> View
-        ensures view { IsViewOf self.now.board result.front result.shown }
+    pub(crate) fn shown(&self) -> Snapshot
+        ensures view { IsSnapshotOf self.now.board result.front result.shown }
         ensures all { result.front.log ≡ calls_of self.now.history }
         ensures legal { IsLegal self.now.board.config self.now.history }
     {
         let calls = self.auction.calls();
-        View {
+        Snapshot {
             front: self.front.again(),
             shown: Shown {
                 calls,

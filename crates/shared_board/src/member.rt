@@ -5,11 +5,11 @@ ghost use Rattle.auction_terms.specs.declared.limits.TheConstants.{MAX_CALLS};
 ghost use Rattle.board_terms.specs.Closings.{HasSeenBeginning};
 ghost use Rattle.board_terms.specs.MemberView.{placed_calls, after_call};
 ghost use Rattle.board_terms.specs.CallsAndLooks.{CallsOnce, EndsWithCall, IsLook, SeesFullHistory, ShowsAfter};
-ghost use Rattle.shared_board.specs.BoardViews.{IsBehindHistory, IsViewOf, SeesStory, board_member};
+ghost use Rattle.shared_board.specs.BoardViews.{IsBehindHistory, IsSnapshotOf, SeesStory, board_member};
 
 use crate::shared::{Shared, Unwatched};
 use crate::story::Front;
-use crate::view::View;
+use crate::view::Snapshot;
 use auction_terms::{Command, Config};
 use board_terms::{CallFault, Receipt, Shown};
 use std::alloc::Global;
@@ -36,7 +36,7 @@ pub(crate) struct Account {
     pub(crate) calls: u32,
     /// The place of its last recorded call, or 0.
     pub(crate) last: u32,
-    pub(crate) seen: View,
+    pub(crate) seen: Snapshot,
 }
 
 impl Model for Account {
@@ -89,12 +89,12 @@ impl Account {
     {
         self.calls += 1;
         self.last = shown.calls;
-        self.seen = View { front, shown };
+        self.seen = Snapshot { front, shown };
     }
 
     // Takes in what is shown, where that is no less than it has seen.
-    pub(crate) fn catch_up(&mut self, view: View) -> Shown
-        requires { IsViewOf self.old.board view.front view.shown }
+    pub(crate) fn catch_up(&mut self, view: Snapshot) -> Shown
+        requires { IsSnapshotOf self.old.board view.front view.shown }
         ensures board { self.new.board ≡ self.old.board }
         ensures look { IsLook self.old.board.config self.old.view self.new.view result }
         ensures at_least { length view.front.log ≤ length self.new.view.seen }
@@ -107,8 +107,8 @@ impl Account {
 
     // Takes in a beginning of the story with what is shown after it, where that is no less than it has seen, and says
     // whether it is.
-    pub(crate) fn see(&mut self, view: View) -> bool
-        requires { IsViewOf self.old.board view.front view.shown }
+    pub(crate) fn see(&mut self, view: Snapshot) -> bool
+        requires { IsSnapshotOf self.old.board view.front view.shown }
         ensures board { self.new.board ≡ self.old.board }
         ensures seen { MatchBool result (SeesStory view.front.log self.old.view self.new.view)
             ((self.new ≡ self.old) × (length view.front.log < length self.old.view.seen)) }
@@ -121,8 +121,8 @@ impl Account {
     }
 
     // A copy of what it was shown last.
-    fn shown(&self) -> View
-        ensures { IsViewOf self.now.board result.front result.shown }
+    fn shown(&self) -> Snapshot
+        ensures { IsSnapshotOf self.now.board result.front result.shown }
     {
         self.seen.again()
     }

@@ -5,7 +5,7 @@ ghost use Rattle.board_terms.specs.BoardOpening.{board_fault};
 ghost use Rattle.logbook.specs.Pages.{Book};
 ghost use Rattle.auction_terms.specs.Auxiliary.RunningAuction.{opened_auction};
 ghost use Rattle.auction_terms.specs.declared.limits.TheConstants.{MAX_CALLS, MAX_MEMBERS};
-ghost use Rattle.shared_board.specs.BoardViews.{IsViewOf, opened_board, new_board_members, board_member};
+ghost use Rattle.shared_board.specs.BoardViews.{IsSnapshotOf, opened_board, new_board_members, board_member};
 ghost use Rattle.board_terms.specs.MemberView.{newcomer};
 
 use crate::day::Day;
@@ -13,7 +13,7 @@ use crate::floor::{BoxedFloor, SharedFloor};
 use crate::member::{Account, SharedMember};
 use crate::shared::{Shared, UNWATCHED};
 use crate::story::{Front, Head, new_story};
-use crate::view::View;
+use crate::view::Snapshot;
 use auction::{Auction, OpenFault};
 use auction_terms::{Command, Config, Entry, Reply};
 use board_terms::{Shown, open_auction};
@@ -43,7 +43,7 @@ fn no_copies(
     alloc: Global,
     day: &Day,
     count: usize,
-) -> Result<Vec<Counted<Option<View>>>, AllocError>
+) -> Result<Vec<Counted<Option<Snapshot>>>, AllocError>
     ensures { IfOk result (λ v. All (λ p. p ≡ day.now) v.items) }
 {
     let mut copies = Vec::with_capacity(alloc, count)?;
@@ -98,9 +98,14 @@ fn shared_around(
     Ok(Arc::new(alloc, shared)?)
 }
 
-fn member_with(shared: Arc<Shared, Global>, day: &Day, number: u8, opening: View) -> SharedMember
+fn member_with(
+    shared: Arc<Shared, Global>,
+    day: &Day,
+    number: u8,
+    opening: Snapshot,
+) -> SharedMember
     requires shared { shared.value.floor ≡ day.now }
-    requires opening { IsViewOf day.now opening.front opening.shown }
+    requires opening { IsSnapshotOf day.now opening.front opening.shown }
     requires nothing { opening.front.log ≡ [] }
     requires number { number < day.now.members }
     ensures { result ≡ board_member day.now (newcomer number) }
@@ -122,10 +127,10 @@ fn new_members(
     alloc: Global,
     shared: &Arc<Shared, Global>,
     day: &Day,
-    opening: &View,
+    opening: &Snapshot,
 ) -> Result<Vec<SharedMember>, AllocError>
     requires shared { shared.now.value.floor ≡ day.now }
-    requires opening { IsViewOf day.now opening.now.front opening.now.shown }
+    requires opening { IsSnapshotOf day.now opening.now.front opening.now.shown }
     requires nothing { opening.now.front.log ≡ [] }
     ensures { IfOk result (λ ms. ms.items ≡ new_board_members day.now day.now.members) }
 {
@@ -149,7 +154,7 @@ fn begun(
 {
     let (head, front) = new_story();
     let display = auction.display();
-    let opening = View {
+    let opening = Snapshot {
         front: front.again(),
         shown: Shown { calls: 0, display },
     };

@@ -1,10 +1,10 @@
 //! What the members of a board share: the lock round the floor, and the copies that looks read.
 ghost use Rattle.std.specs.Prelude.{◌≡◌, ◌<◌, ◌⊎◌, All, IfSome, IfErr, IfOk};
-ghost use Rattle.shared_board.specs.BoardViews.{IsViewOf};
+ghost use Rattle.shared_board.specs.BoardViews.{IsSnapshotOf};
 
 use crate::floor::BoxedFloor;
 use crate::member::BoardFault;
-use crate::view::View;
+use crate::view::Snapshot;
 use counted_slot::{Counted, FREE, MARKED, MOST_READERS, ONE_READER, PRESENT, TAKEN};
 use std::hint::spin_loop;
 use std::sync::atomic::AtomicU64;
@@ -32,7 +32,7 @@ pub(crate) struct Unwatched;
 #[derive(Drop)]
 pub(crate) struct Shared {
     pub(crate) floor: Counted<Option<BoxedFloor>>,
-    pub(crate) copies: Vec<Counted<Option<View>>>,
+    pub(crate) copies: Vec<Counted<Option<Snapshot>>>,
     pub(crate) newest: AtomicU64,
     ghost same: { All (λ p. p ≡ floor) copies.items },
 }
@@ -96,8 +96,8 @@ impl Shared {
 
     /// Writes what is shown now into a copy that nobody reads, and names it the newest. There are more copies than
     /// members, so there is one.
-    pub(crate) fn publish(&self, view: View)
-        requires { IsViewOf self.now.floor view.front view.shown }
+    pub(crate) fn publish(&self, view: Snapshot)
+        requires { IsSnapshotOf self.now.floor view.front view.shown }
     {
         let newest = self.newest.load(SeqCst) % 256;
         let calls = u64::from(view.shown.calls);
@@ -115,8 +115,8 @@ impl Shared {
     }
 
     /// The newest copy, unless it shows just so many calls.
-    pub(crate) fn newest(&self, seen: u32) -> Result<Option<View>, Unwatched>
-        ensures { IfOk result (λ found. IfSome found (λ v. IsViewOf self.now.floor v.front v.shown)) }
+    pub(crate) fn newest(&self, seen: u32) -> Result<Option<Snapshot>, Unwatched>
+        ensures { IfOk result (λ found. IfSome found (λ v. IsSnapshotOf self.now.floor v.front v.shown)) }
     {
         for _ in 0..LOOKS {
             let word = self.newest.load(SeqCst);
@@ -140,8 +140,8 @@ impl Shared {
 }
 
 // Writes the view into the copy, or gives it back where somebody reads or writes the copy.
-fn write_copy(slot: &Counted<Option<View>>, view: View) -> Option<View>
-    requires { IsViewOf slot.now view.front view.shown }
+fn write_copy(slot: &Counted<Option<Snapshot>>, view: Snapshot) -> Option<Snapshot>
+    requires { IsSnapshotOf slot.now view.front view.shown }
     ensures { IfSome result (λ v. v ≡ view) }
 {
     let seen = slot.load();
@@ -158,8 +158,8 @@ fn write_copy(slot: &Counted<Option<View>>, view: View) -> Option<View>
 }
 
 // Reads the copy, where nobody writes it.
-fn read_copy(slot: &Counted<Option<View>>) -> Option<View>
-    ensures { IfSome result (λ v. IsViewOf slot.now v.front v.shown) }
+fn read_copy(slot: &Counted<Option<Snapshot>>) -> Option<Snapshot>
+    ensures { IfSome result (λ v. IsSnapshotOf slot.now v.front v.shown) }
 {
     let seen = slot.load();
     if seen % 4 != PRESENT || seen % 0x1_0000_0000 / 4 == MOST_READERS {
@@ -175,7 +175,7 @@ fn read_copy(slot: &Counted<Option<View>>) -> Option<View>
     view
 }
 
-fn copied(view: &Option<View>) -> Option<View>
+fn copied(view: &Option<Snapshot>) -> Option<Snapshot>
     ensures { result ≡ view.now }
 {
     match view {

@@ -7,27 +7,27 @@ use board_terms::Shown;
 use counted_slot::Fits;
 
 #[derive(Drop)]
-pub(crate) struct View {
+pub(crate) struct Snapshot {
     pub(crate) front: Front,
     pub(crate) shown: Shown,
 }
 
-impl View {
+impl Snapshot {
     /// A copy.
-    pub(crate) fn again(&self) -> View
+    pub(crate) fn again(&self) -> Snapshot
         ensures { result ≡ self.now }
     {
-        View {
+        Snapshot {
             front: self.front.again(),
             shown: self.shown,
         }
     }
 }
 
-impl Fits for View {
-    ghost use Rattle.shared_board.specs.BoardViews.{IsViewOf};
+impl Fits for Snapshot {
+    ghost use Rattle.shared_board.specs.BoardViews.{IsSnapshotOf};
 
     type Tag = Day;
 
-    ghost fits = { λ day v. IsViewOf day v.front v.shown };
+    ghost fits = { λ day v. IsSnapshotOf day v.front v.shown };
 }

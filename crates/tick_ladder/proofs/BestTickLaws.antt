@@ -27,13 +27,13 @@ tick_there low (x ∷ xs) zero lt some = grind (arith, common_steps, lt-ltb, has
 tick_there low (x ∷ xs) (suc i) lt some =
     grind (arith, common_steps, cases_lt, lt-ltb, has-tail, le-ltb, (tick_there (low + 1) xs i (omega arith) some))
 
-record Place (low : ℕ) (xs : List ℕ) (t : ℕ) : Type 0 where
+record TickPlace (low : ℕ) (xs : List ℕ) (t : ℕ) : Type 0 where
   place : ℕ
   within : place < length xs
   tick : low + place ≡ t
   some : 0 < get_or xs place 0
 
-next_place : (low x : ℕ) (xs : List ℕ) (t : ℕ) → Place (low + 1) xs t → Place low (x ∷ xs) t
+next_place : (low x : ℕ) (xs : List ℕ) (t : ℕ) → TickPlace (low + 1) xs t → TickPlace low (x ∷ xs) t
 next_place low x xs t p = record {
   place = suc p.place;
   within = let w = p.within in omega arith;
@@ -42,7 +42,7 @@ next_place low x xs t p = record {
   some = p.some;
 }
 
-place_of : (low : ℕ) (xs : List ℕ) (t : ℕ) → has t (positive_ticks low xs) ≡ true → Place low xs t
+place_of : (low : ℕ) (xs : List ℕ) (t : ℕ) → has t (positive_ticks low xs) ≡ true → TickPlace low xs t
 place_of low [] t e = no_tick t e
 place_of low (x ∷ xs) t e = elim (cases_lt 0 x) [
   | inl more ↦ elim (has-cases t low (positive_ticks (low + 1) xs) (rw (lt-ltb 0 x more) at e)) [

@@ -9,11 +9,11 @@ use Rattle.tick_ladder.specs.TickLadder.{total_quantity, IsInBounds}
 use Rattle.tick_ladder.proofs.PresenceLaws.{sum-set}
 
 -- so much more stands, on the same ticks
-pub record IsMore (old new : LadderView) (quantity : ℕ) : Type 0 where
+pub record HasQuantityMore (old new : LadderView) (quantity : ℕ) : Type 0 where
   pub all : total_quantity new ≡ total_quantity old + quantity
   pub low : new.low ≡ old.low
   pub len : length new.bids ≡ length old.bids
 
 pub added_more : (v : LadderView) (side : Side) (limit : Limit) (q : ℕ) → IsInBounds v limit
-    → length v.asks ≡ length v.bids → IsMore v (with_added v side limit q) q
+    → length v.asks ≡ length v.bids → HasQuantityMore v (with_added v side limit q) q
 added_more v side limit q bounds same = grind (arith, common_steps, sum-set, length-set)

@@ -7,7 +7,7 @@ use auction::{Verdict, audit};
 use auction_terms::{Command, Config, MAX_CALLS};
 use left_right::Absorb;
 use member_board::{Board, BoardIdentity, CallFault, Closing, Fresh, Member, Update, Version};
-use member_floor::{Gate, OpenGate, Outcome, RunFault, Script, ScriptRun, run};
+use member_floor::{FloorOutcome, Gate, OpenGate, RunFault, Script, ScriptRun, run};
 use std::alloc::{AllocError, Global};
 use std::marker::Brand;
 use std::sync::Wait;
@@ -144,7 +144,7 @@ where
         board.abandon(rt);
         return Err(AllocError);
     };
-    let Outcome {
+    let FloorOutcome {
         played,
         unplayed,
         fault,

@@ -2,7 +2,7 @@
 use Rattle.std.proofs.Common.{◌∙◌, Ok, refl, sym, ap, subst, append_assoc, drop, []}
 use Rattle.std.proofs.lemmas.List.{append-nil, drop_all}
 use Rattle.day_tables.specs.KeptBook.{AreTables}
-use Rattle.day_tables.specs.TableCurves.{HasRoom}
+use Rattle.day_tables.specs.TableCurves.{HasRoomForTicks}
 use Rattle.printed_lines.proofs.PrinterLaws.{prints_among, prints_more, prints_none}
 use Rattle.day_tables.proofs.KeptBookLaws.{AreLong, next-table, tables-long}
 use Rattle.day_tables.proofs.keeping.print_tables.Goals as goal
@@ -21,7 +21,7 @@ print_ladder-requires g c =
     let (n, room, long, prints) = c.loop-table.invariant in
     let first =
     (subst (AreLong n) (next-table _ _ c.table-item.result c.table-item.is c.loop-table-test.true) long).0 in
-    subst (λ k. HasRoom k c.loop-table.curves) (sym first) room
+    subst (λ k. HasRoomForTicks k c.loop-table.curves) (sym first) room
 
 pub returns-in_err-print_ladder : goal.returns-in_err-print_ladder
 returns-in_err-print_ladder g c = λ config text are.
@@ -39,7 +39,7 @@ loop-table-preserved g c =
     let next = next-table _ _ c.table-item.result c.table-item.is c.loop-table-test.true in
     let (first, longs) = subst (AreLong n) next long in (
       n,
-      subst (λ k. HasRoom k c.print_ladder.new.curves) first c.in_ok-print_ladder.ensures.room,
+      subst (λ k. HasRoomForTicks k c.print_ladder.new.curves) first c.in_ok-print_ladder.ensures.room,
       longs,
       λ config text are.
           let (front, rest, is, left, printed) = prints config text are in

@@ -5,15 +5,15 @@ use Rattle.std.proofs.lemmas.List.Elements.{All-head, All-tail}
 use Rattle.std.specs.Vec.Iter.{into_iter_items}
 use Rattle.auction_terms.specs.declared.Command.{Command}
 use Rattle.member_floor.specs.declared.script.Script.{Script}
-use Rattle.member_floor.specs.PlaysScript.{IsShort}
+use Rattle.member_floor.specs.PlaysScript.{FitsHistory}
 use Rattle.member_floor.proofs.prepared_scripts.prepare_scripts.Goals as goal
 
 pub invariant_of-push_reserved : goal.invariant_of-push_reserved
 invariant_of-push_reserved c =
     let s : Script = c.unwrap-commands.result in
     let step : into_iter_items c.loop.scripts ≡ s ∷ into_iter_items c.next.new.self = search rules in
-    let few : IsShort s =
-    All-head IsShort s (into_iter_items c.next.new.self) (subst (All IsShort) step c.loop.invariant.few) in
+    let few : FitsHistory s =
+    All-head FitsHistory s (into_iter_items c.next.new.self) (subst (All FitsHistory) step c.loop.invariant.few) in
     (search rules, search rules, few)
 
 pub loop-preserved : goal.loop-preserved
@@ -27,7 +27,7 @@ loop-preserved c =
       count = search rules;
       left = omega (arith, was.left, ap length step);
       room = search rules;
-      few = All-tail IsShort s rest (subst (All IsShort) step was.few);
+      few = All-tail FitsHistory s rest (subst (All FitsHistory) step was.few);
       prepared_scripts =
           ap (λ t. t ++ map commands rest) c.push_reserved.ensures.items
           ∙ append_assoc c.loop.prepared_scripts.items (s.commands.items ∷ []) (map commands rest)

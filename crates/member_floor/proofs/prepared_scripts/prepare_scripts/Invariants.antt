@@ -2,7 +2,7 @@
 use Rattle.std.proofs.Common.{◌≡◌, ◌≤◌, ◌+◌, ◌++◌, All, map, length, vec_capacity}
 use Rattle.std.specs.Vec.Iter.{into_iter_items}
 use Rattle.member_floor.specs.declared.script.Script.{Script}
-use Rattle.member_floor.specs.PlaysScript.{IsShort}
+use Rattle.member_floor.specs.PlaysScript.{FitsHistory}
 use Rattle.member_floor.proofs.prepared_scripts.prepare_scripts.Given as goal
 
 abbrev pub invariant-loop : goal.invariant-loop
@@ -10,7 +10,7 @@ invariant-loop l = record {
   count : length l.prepared_scripts.items ≡ l.counter;
   left : l.counter + length (into_iter_items l.scripts) ≡ l.n;
   room : l.n ≤ vec_capacity l.prepared_scripts;
-  few : All IsShort (into_iter_items l.scripts);
+  few : All FitsHistory (into_iter_items l.scripts);
   prepared_scripts : l.prepared_scripts.items ++ map (λ (s : Script). s.commands.items) (into_iter_items l.scripts)
       ≡ map (λ (s : Script). s.commands.items) l.fn.scripts.items;
 }

@@ -4,7 +4,7 @@ use Rattle.std.proofs.lemmas.List.{length-map, take-map, drop-map}
 use Rattle.auction_terms.specs.declared.Command.{Command}
 use Rattle.board_terms.specs.MemberView.{MemberView}
 use Rattle.member_floor.specs.declared.script.Script.{Script}
-use Rattle.member_floor.specs.PlaysScript.{Task}
+use Rattle.member_floor.specs.PlaysScript.{MemberScript}
 use Rattle.member_floor.proofs.PlayingLaws.{all_play, same_length}
 use Rattle.member_floor.proofs.threads.run.Goals as goal
 use Rattle.std.proofs.lemmas.Grind.{common_steps}
@@ -21,8 +21,8 @@ returns-clause-thread g c =
     let p = c.scoped.ensures.1.1.1 is in
     let n = p.0 in
     let ts = c.pair_all-run_room.result.tasks.items in
-    let member : Task → MemberView = λ t. t.member in
-    let commands : Task → List Command = λ t. t.commands in
+    let member : MemberScript → MemberView = λ t. t.member in
+    let commands : MemberScript → List Command = λ t. t.commands in
     let script : Script → List Command = λ s. s.commands.items in
     let members : map member (take n ts) ≡ take n c.args.members.items =
     sym (take-map member n ts) ∙ ap (take n) c.pair_all-run_room.ensures.members in

@@ -2,7 +2,7 @@
 use Rattle.std.proofs.Common.{◌≡◌, ◌+◌, ◌++◌, [], ◌∷◌, ap, ◌∙◌, refl, arith}
 use Rattle.std.proofs.lemmas.Grind.{common_steps}
 use Rattle.auction_terms.specs.declared.Order.{Order}
-use Rattle.order_book.specs.Orders.{OrdersView, IsSound, line_of, with_last}
+use Rattle.order_book.specs.Orders.{OrdersView, HasSoundSlots, line_of, with_last}
 use Rattle.order_book.proofs.KeyLaws.{length-line}
 use Rattle.order_book.proofs.ChangeLaws.{append-sound}
 use Rattle.order_book.proofs.OrderlyLaws.{IsOrderly-line}
@@ -12,7 +12,7 @@ pub insert_reserved-key-requires : goal.insert_reserved-key-requires
 insert_reserved-key-requires c = grind (arith, common_steps, length-line)
 
 both : (c : goal.After-self-1)
-    → IsSound c.insert_reserved-key.new.self.slots c.push_reserved.new.self.items (c.self.inside.stamps + 1)
+    → HasSoundSlots c.insert_reserved-key.new.self.slots c.push_reserved.new.self.items (c.self.inside.stamps + 1)
     × (line_of c.insert_reserved-key.new.self.slots ≡ line_of c.self.inside.orders.slots ++ record {
       order =
           c.with_id-order.result;

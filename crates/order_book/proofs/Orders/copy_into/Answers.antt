@@ -1,7 +1,7 @@
 -- Answers of `Orders::copy_into` (src/refilling.rt): what the prover left open; rt looks here.
 use Rattle.std.proofs.Common.{◌≡◌, ◌≤◌, ℕ, List, length, count_by, is_some, sym, ap, subst, ◌∙◌, arith}
 use Rattle.auction_terms.specs.declared.Stamped.{Stamped}
-use Rattle.order_book.specs.Orders.{IsSound, OrdersView, line_of, slot_at}
+use Rattle.order_book.specs.Orders.{HasSoundSlots, OrdersView, line_of, slot_at}
 use Rattle.order_book.proofs.RestoringLaws.{has_room, keys_long, len_more, may_restore, restored_few, restored_line}
 use Rattle.order_book.proofs.RestoringLaws.{restored_more}
 use Rattle.order_book.proofs.Orders.copy_into.Goals as goal
@@ -30,7 +30,8 @@ restore-requires-clause-room c =
 pub restore-requires-clause-within : goal.restore-requires-clause-within
 restore-requires-clause-within c =
     let sound =
-    subst (λ (o : OrdersView). IsSound o.slots c.self.inside.keys.items o.stamps) c.self.view_is c.self.invariant.0 in
+    subst (λ (o : OrdersView). HasSoundSlots o.slots c.self.inside.keys.items o.stamps) c.self.view_is
+    c.self.invariant.0 in
     let entered = sym (ap (λ (o : OrdersView). o.entered) c.self.view_is) in
     let found =
     c.copied.ensures ∙ c.get.ensures ∙ ap (λ (o : OrdersView). slot_at o.slots c.loop-place.place) c.self.view_is in
@@ -40,7 +41,8 @@ restore-requires-clause-within c =
 pub loop-place-preserved : goal.loop-place-preserved
 loop-place-preserved c =
     let sound =
-    subst (λ (o : OrdersView). IsSound o.slots c.self.inside.keys.items o.stamps) c.self.view_is c.self.invariant.0 in
+    subst (λ (o : OrdersView). HasSoundSlots o.slots c.self.inside.keys.items o.stamps) c.self.view_is
+    c.self.invariant.0 in
     let entered = sym (ap (λ (o : OrdersView). o.entered) c.self.view_is) in
     let found =
     c.copied.ensures ∙ c.get.ensures ∙ ap (λ (o : OrdersView). slot_at o.slots c.loop-place.place) c.self.view_is in
@@ -74,7 +76,7 @@ invariant_of-other c =
     c.self.invariant.1.few in
     let is = c.loop-place.invariant in
     let stamps = sym (ap (λ (o : OrdersView). o.stamps) c.self.view_is) in (
-      subst (λ n. IsSound c.loop-place.orders.slots c.loop-place.keys.items n) stamps is.restored.sound,
+      subst (λ n. HasSoundSlots c.loop-place.orders.slots c.loop-place.keys.items n) stamps is.restored.sound,
       record {
         few = omega (arith, is.len, restored_few c.args.self.now.slots c.loop-place.place, few, same_open);
         small = c.other.invariant.1.small;
@@ -89,7 +91,8 @@ invariant_of-other c =
 pub returns : goal.returns
 returns c =
     let sound =
-    subst (λ (o : OrdersView). IsSound o.slots c.self.inside.keys.items o.stamps) c.self.view_is c.self.invariant.0 in
+    subst (λ (o : OrdersView). HasSoundSlots o.slots c.self.inside.keys.items o.stamps) c.self.view_is
+    c.self.invariant.0 in
     let same_open =
     ap (λ (o : OrdersView). o.max_open) c.other.view_is ∙ c.requires.0
     ∙ sym (ap (λ (o : OrdersView). o.max_open) c.self.view_is) in

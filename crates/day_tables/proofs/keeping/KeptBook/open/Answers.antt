@@ -1,7 +1,7 @@
 -- Answers of `KeptBook::open` (src/keeping.rt): what the prover left open; rt looks here.
 use Rattle.std.proofs.Common.{refl, sym, subst, length, []}
 use Rattle.day_tables.specs.KeptBook.{AreTables}
-use Rattle.day_tables.specs.TableCurves.{HasRoom}
+use Rattle.day_tables.specs.TableCurves.{HasRoomForTicks}
 use Rattle.day_tables.proofs.BookTableLaws.{room_back}
 use Rattle.day_tables.proofs.KeptBookLaws.{follows-none}
 use Rattle.day_tables.proofs.keeping.KeptBook.open.Goals as goal
@@ -11,5 +11,5 @@ returns c = λ fresh.
     let auction = c.args.auction.now in
     follows-none _ auction fresh
     (room_back auction auction c.ladder.result.now c.in_ok-curves.curves refl c.ladder.ensures.value
-    (subst (λ ticks. HasRoom (length ticks) c.in_ok-curves.curves) c.bids.ensures.value c.in_ok-curves.ensures))
+    (subst (λ ticks. HasRoomForTicks (length ticks) c.in_ok-curves.curves) c.bids.ensures.value c.in_ok-curves.ensures))
     (subst (λ tables. AreTables auction.config tables []) (sym c.new.ensures.items) refl)

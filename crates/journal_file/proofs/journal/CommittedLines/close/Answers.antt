@@ -1,7 +1,7 @@
--- Answers of `Journal::close` (src/journal.rt): what the prover left open; rt looks here.
+-- Answers of `CommittedLines::close` (src/journal.rt): what the prover left open; rt looks here.
 use Rattle.journal_file.specs.Committed.{committed}
 use Rattle.journal_file.proofs.Chain.{chain-same}
-use Rattle.journal_file.proofs.journal.Journal.close.Goals as goal
+use Rattle.journal_file.proofs.journal.CommittedLines.close.Goals as goal
 
 pub returns-clause-session : goal.returns-clause-session
 returns-clause-session g c since text before is whole earlier =

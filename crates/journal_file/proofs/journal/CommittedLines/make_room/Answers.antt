@@ -1,19 +1,18 @@
--- Answers of `Journal::cut` (src/journal.rt): what the prover left open; rt looks here.
-use Rattle.std.proofs.Common.{◌≡◌, List, ℕ, length, sym, ◌∙◌, ap, subst, arith}
-use Rattle.std.proofs.lemmas.List.{append-nil}
+-- Answers of `CommittedLines::make_room` (src/journal.rt): what the prover left open; rt looks here.
+use Rattle.std.proofs.Common.{◌≡◌, ◌+◌, ◌++◌, List, ℕ, length, replicate, sym, ◌∙◌, ap, subst, arith}
 use Rattle.journal_file.specs.Device.{IsResized, IsOnlyOutcome}
 use Rattle.journal_file.specs.Committed.{committed}
 use Rattle.journal_file.proofs.Lines.{committed-twice}
 use Rattle.journal_file.proofs.Moments.{one, two}
-use Rattle.journal_file.proofs.Crash.{resized_keeps, cut_done}
-use Rattle.journal_file.proofs.journal.Journal.cut.Goals as goal
+use Rattle.journal_file.proofs.Crash.{resized_keeps, grown, committed-text}
+use Rattle.journal_file.proofs.journal.CommittedLines.make_room.Goals as goal
 
 pub returns-in_err-resize-clause-any_moment : goal.returns-in_err-resize-clause-any_moment
 returns-in_err-resize-clause-any_moment g c =
     let s = c.requires in
     let device = c.args.self.now.device in
     let file = g.D.Device.seen device in
-    let len = c.args.self.now.end in
+    let len = c.args.self.now.end + (c.args.count + c.args.self.now.spare) in
     let P : List ℕ → Type 0 = λ f. committed f ≡ committed file in
     let here : (f : List ℕ) → g.D.Device.may_leave device f → P f = λ f now. ap committed (s.durable f now) in
     let after : (f : List ℕ) → g.D.Device.may_leave c.resize.new.self f → P f = λ f now.
@@ -27,7 +26,7 @@ returns-in_err-sync-clause-any_moment g c =
     let s = c.requires in
     let device = c.args.self.now.device in
     let file = g.D.Device.seen device in
-    let len = c.args.self.now.end in
+    let len = c.args.self.now.end + (c.args.count + c.args.self.now.spare) in
     let P : List ℕ → Type 0 = λ f. committed f ≡ committed file in
     let here : (f : List ℕ) → g.D.Device.may_leave device f → P f = λ f now. ap committed (s.durable f now) in
     let after : (f : List ℕ) → g.D.Device.may_leave c.resize.new.self f → P f = λ f now.
@@ -41,7 +40,7 @@ returns-clause-any_moment g c =
     let s = c.requires in
     let device = c.args.self.now.device in
     let file = g.D.Device.seen device in
-    let len = c.args.self.now.end in
+    let len = c.args.self.now.end + (c.args.count + c.args.self.now.spare) in
     let P : List ℕ → Type 0 = λ f. committed f ≡ committed file in
     let here : (f : List ℕ) → g.D.Device.may_leave device f → P f = λ f now. ap committed (s.durable f now) in
     let after : (f : List ℕ) → g.D.Device.may_leave c.resize.new.self f → P f = λ f now.
@@ -50,24 +49,37 @@ returns-clause-any_moment g c =
     two g.D.Device.moment g.D.Device.left_since g.D.Device.may_leave g.met.D.Device.only_now device c.resize.new.self
     c.sync.new.self P here c.resize.ensures.time after c.sync.ensures.time c.sync.ensures.crash
 
-pub returns-clause-text : goal.returns-clause-text
-returns-clause-text g c =
+pub returns-clause-same : goal.returns-clause-same
+returns-clause-same g c =
+    let s = c.requires in
+    let file = g.D.Device.seen c.args.self.now.device in
+    let more = c.args.count + c.args.self.now.spare in
+    let is =
     c.sync.ensures.seen ∙ c.in_ok-resize.ensures.resized
-    ∙ cut_done (g.D.Device.seen c.args.self.now.device) c.args.self.now.end c.requires.end
+    ∙ grown file c.args.self.now.end c.args.self.now.room s.file s.end more
+    (omega (arith, c.if-count-self.false)) in
+    ap committed is ∙ committed-text (committed file) more (committed-twice file)
 
 pub returns-clause-settled : goal.returns-clause-settled
 returns-clause-settled g c =
     let s = c.requires in
     let file = g.D.Device.seen c.args.self.now.device in
-    let is = returns-clause-text g c in
-    let text : committed (g.D.Device.seen c.sync.new.self) ≡ committed file = ap committed is ∙ committed-twice file in
+    let more = c.args.count + c.args.self.now.spare in
+    let is =
+    c.sync.ensures.seen ∙ c.in_ok-resize.ensures.resized
+    ∙ grown file c.args.self.now.end c.args.self.now.room s.file s.end more
+    (omega (arith, c.if-count-self.false)) in
+    let text = returns-clause-same g c in
     record {
-      file = is ∙ sym text ∙ sym (append-nil (committed (g.D.Device.seen c.sync.new.self)));
+      file = is ∙ ap (λ (l : List ℕ). l ++ replicate more 0) (sym text);
       end = s.end ∙ ap length (sym text);
       durable =
           subst (λ f. IsOnlyOutcome f (g.D.Device.may_leave c.sync.new.self)) (sym c.sync.ensures.seen)
           c.in_ok-sync.ensures.durable;
-      fits = omega (arith, s.fits);
+      fits = omega (arith, s.spare, c.if-count-gt-MAX_BYTES.false, c.if-self-count.false);
       some = s.some;
       spare = s.spare;
     }
+
+pub returns-clause-room : goal.returns-clause-room
+returns-clause-room g c = omega (arith, c.requires.some)

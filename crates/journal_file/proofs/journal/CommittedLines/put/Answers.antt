@@ -1,11 +1,11 @@
--- Answers of `Journal::put` (src/journal.rt): what the prover left open; rt looks here.
+-- Answers of `CommittedLines::put` (src/journal.rt): what the prover left open; rt looks here.
 use Rattle.std.proofs.Common.{◌-◌, ◌++◌, List, ℕ, length, replicate, sym, ◌∙◌, ap, subst, arith, length-append}
 use Rattle.std.proofs.lemmas.List.{append-nil}
 use Rattle.journal_file.specs.Device.{IsTorn, IsOnlyOutcome}
 use Rattle.journal_file.specs.Committed.{committed, IsBegun}
 use Rattle.journal_file.proofs.Moments.{one, two}
 use Rattle.journal_file.proofs.Crash.{torn_lines, written_lines, committed-text, committed-both}
-use Rattle.journal_file.proofs.journal.Journal.put.Goals as goal
+use Rattle.journal_file.proofs.journal.CommittedLines.put.Goals as goal
 
 pub returns-in_err-write_at-clause-any_moment : goal.returns-in_err-write_at-clause-any_moment
 returns-in_err-write_at-clause-any_moment g c =

@@ -1,7 +1,7 @@
--- Answers of `Journal::commit` (src/journal.rt): what the prover left open; rt looks here.
+-- Answers of `CommittedLines::commit` (src/journal.rt): what the prover left open; rt looks here.
 use Rattle.journal_file.specs.Committed.{committed}
 use Rattle.journal_file.proofs.Chain.{chain}
-use Rattle.journal_file.proofs.journal.Journal.commit.Goals as goal
+use Rattle.journal_file.proofs.journal.CommittedLines.commit.Goals as goal
 
 pub returns-clause-session : goal.returns-clause-session
 returns-clause-session g c since text before is whole earlier =
