@@ -1,12 +1,12 @@
 """A market: the audit of all instruments with their prices, beside shells' ways to the same.
 
 Each file is audited with its results, by a plain loop of the shell over bench/market_file.sh, by
-GNU parallel and by xargs over the same, and by `python3 -m callauction.market audit`, from its
-start to its end, and without its start (`run`; the processor's time is the whole's). Prints a table
-of these, what was wanted, and a table of the splits with their peak memory. All is right where each
-found what bench/write_market.py changed, and all is as wanted. --entries and --instruments name the
-market, which is written to --keep where it isn't there. Needs Debian's python3-pandas, python3-tqdm
-and parallel.
+one that audits it without them before (`two-runs`), by GNU parallel and by xargs over the first,
+and by `python3 -m callauction.market audit`, from its start to its end, and without its start
+(`run`; the processor's time is the whole's). Prints a table of these, what was wanted, and a table
+of the splits with their peak memory. All is right where each found what bench/write_market.py
+changed, and all is as wanted. --entries and --instruments name the market, which is written to
+--keep where it isn't there. Needs Debian's python3-pandas, python3-tqdm and parallel.
 """
 import argparse
 import csv
@@ -38,9 +38,12 @@ memory with four times the rows.
 SPLIT_INSTRUMENTS = 2_000
 CLOSING = re.compile(r"instruments \d+, entries \d+, .* seconds ([\d.]+),")
 LOOP = 'for file in "$1"/*.csv; do sh "$2" "$file"; done'
+TWO_RUNS = (
+    'for file in "$1"/*.csv; do "$CALLBOARD" --audit < "$file" > /dev/null; sh "$2" "$file"; done'
+)
 PARALLEL = 'printf "%s\\n" "$1"/*.csv | parallel --will-cite -j "$3" sh "$2" {}'
 XARGS = 'printf "%s\\n" "$1"/*.csv | xargs -n 1 -P "$3" sh "$2"'
-SHELLS = {"loop": LOOP, "parallel": PARALLEL, "xargs": XARGS}
+SHELLS = {"loop": LOOP, "two-runs": TWO_RUNS, "parallel": PARALLEL, "xargs": XARGS}
 
 
 @dataclasses.dataclass(frozen=True)
@@ -99,7 +102,8 @@ def measured(task: Task, counts: list[int], runs: int) -> Best:
     """The best times of each way, with so many workers."""
     best: Best = {}
     for _ in range(runs):
-        keep_best(best, "loop", 1, run_shell("loop", 1, task))
+        for kind in ("loop", "two-runs"):
+            keep_best(best, kind, 1, run_shell(kind, 1, task))
         for workers in counts:
             for kind in ("parallel", "xargs"):
                 keep_best(best, kind, workers, run_shell(kind, workers, task))
@@ -155,6 +159,8 @@ def is_wanted(best: Best, counts: list[int]) -> bool:
     """Prints what was wanted: whether it was reached."""
     most = counts[-1]
     times = best["market", most][0] / best["parallel", most][0]
+    once = best["loop", 1][0] / best["two-runs", 1][0]
+    print(f"{once:.2f} of the time with two runs a file")
     print(f"{times:.2f} of GNU parallel's time, {MOST_OF_PARALLEL} wanted ({most} workers)")
     is_right = times <= MOST_OF_PARALLEL
     for few, many in zip(counts, counts[1:]):
