@@ -1,7 +1,5 @@
 """An auction that keeps its record, and tells its tables and its reasons: see RecordedAuction."""
 import operator
-import os
-import pathlib
 import threading
 from types import TracebackType
 from typing import Any, Self
@@ -11,13 +9,11 @@ import pandas
 
 from callauction.arrays import COMMAND, Shares, Structs, whole
 from callauction.auction import Auction
-from callauction.course import Course, course_of, references_of
+from callauction.day_frames import DayTables, written_day
 from callauction.errors import NotAppliedError, RefusedError
-from callauction.outcomes import outcomes_of
-from callauction.reasons import Explanation, explain
 from callauction.program import Day
 from callauction.reading import number, reply_of
-from callauction.tables import audit_of, book_at, books_of, journal_of, orders_frame, trades_of
+from callauction.tables import orders_frame
 from callauction.words import (
     Indicate,
     Change,
@@ -44,14 +40,14 @@ from callauction.words import (
     Uncross,
     Uncrossed,
 )
-from callauction.written import command_of, fields_of, text_of
+from callauction.written import command_of
 
 MEMBERS = 64
 MOST_NUMBER = (1 << 32) - 1
 """The members of a journal, and its greatest number."""
 
 
-class RecordedAuction:
+class RecordedAuction(DayTables):
     """An Auction with the record of its day, and what the program says of that record.
 
     Commands are applied by an Auction in this process, which is opened with the same numbers and
@@ -262,60 +258,8 @@ class RecordedAuction:
         """The record as a journal, with the replies that were given."""
         with self._lock:
             config, record = self._auction.config, [*self._record]
-        most = "" if config.range is None else config.range
-        numbers = (config.low, config.high, config.reference, MEMBERS)
-        head = ("day", *numbers, config.max_open, config.max_calls, most)
-        entries = (
-            f"{operator.index(member)},{fields_of(command)},{text_of(reply)}\n"
-            for member, command, reply in record
-        )
-        return Day(f"{','.join(map(str, head))}\n{''.join(entries)}".encode("ascii"))
-
-    def save(self, path: str | os.PathLike[str]) -> None:
-        """Writes the record as a journal. Raises OSError."""
-        pathlib.Path(path).write_bytes(self.day().content)
-
-    def journal(self) -> pandas.DataFrame:
-        """The commands and their replies, given and lawful (tables.JOURNAL)."""
-        return journal_of(self.day())
-
-    def audit(self) -> pandas.DataFrame:
-        """Which of the given replies aren't lawful (tables.AUDIT)."""
-        return audit_of(self.day())
-
-    def trades(self) -> pandas.DataFrame:
-        """The trades of the day so far, with the members of the orders (tables.TRADES)."""
-        return trades_of(self.day())
-
-    def outcomes(self) -> pandas.DataFrame:
-        """The accepted orders of the day, and what became of each (outcomes.OUTCOMES)."""
-        return outcomes_of(self.day())
-
-    def books(self) -> pandas.DataFrame:
-        """The book before each uncross, and the book now unless the day is over (tables.BOOK)."""
-        return books_of(self.day())
-
-    def book(self, command: int | None = None) -> pandas.DataFrame:
-        """The book now (after the day the last one), or the one before the uncross that was this
-        command (tables.BOOK). Raises ValueError where there is none.
-        """
-        return book_at(self.books(), command)
-
-    def reference(self, command: int | None = None) -> int | None:
-        """The reference price of this book, in ticks; None where it can't be asked for (see
-        course.references_of). Raises ValueError.
-        """
-        day = self.day()
-        number = int(book_at(books_of(day), command)["command"].iloc[0])
-        return references_of(journal_of(day), [number])[number]
-
-    def explain(self, command: int | None = None) -> Explanation:
-        """Why this book has its price, or none, in sentences. Raises ValueError."""
-        return explain(self.books(), command, self.reference(command))
-
-    def course(self) -> Course:
-        """The indicative price over the calls of the day, and its uncrosses."""
-        return course_of(self.day())
+        entries = ((operator.index(member), command, reply) for member, command, reply in record)
+        return written_day(config, MEMBERS, entries)
 
 
 def _look_at(member: object, command: Command) -> None:

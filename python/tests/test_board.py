@@ -149,6 +149,10 @@ def test_the_tables_of_its_day() -> None:
     assert day.audit().empty
     assert day.trades()[["bid_member", "ask_member", "quantity"]].values.tolist() == [[1, 0, 5]]
     assert len(day.journal()) == 3
+    assert [*day.outcomes()["traded"]] == [5, 5]
+    assert day.reference(3) == 500
+    assert [*day.course().uncrosses["price"]] == [500]
+    assert "500" in str(day.explain(3))
     assert set(day.books()["auction"]) == {"opening", "intraday"}
 
 
