@@ -184,16 +184,19 @@ Figures = dict[str, list[float]]
 """What was printed in all runs, by its name."""
 
 
-def printed(command: list[str], found: Figures, environment: dict[str, str] | None = None) -> None:
-    """Runs a command that prints lines `NAME.. NUMBER`, and keeps its numbers. Raises
-    CalledProcessError.
+def printed(
+    command: list[str], found: Figures, environment: dict[str, str] | None = None, behind: int = 0
+) -> None:
+    """Runs a command that prints lines `NAME.. NUMBER`, with so many words behind the number, and
+    keeps its numbers. Raises CalledProcessError.
     """
     run = subprocess.run(
         command, stdout=subprocess.PIPE, text=True, check=True, env=environment
     )
     for line in run.stdout.splitlines():
-        name, _, number = line.rpartition(" ")
-        found.setdefault(name, []).append(float(number))
+        words = line.split()
+        *name, number = words[: len(words) - behind]
+        found.setdefault(" ".join(name), []).append(float(number))
 
 
 def middle(numbers: list[float]) -> float:
