@@ -1,7 +1,6 @@
 -- The run of a file that is read block by block.
-use Rattle.std.proofs.Common.{◌≡◌, ◌+◌, ◌++◌, ◌∷◌, ◌∙◌, [], ℕ, List, length, Option, None, Some, Result, Ok}
+use Rattle.std.proofs.Common.{◌≡◌, ◌++◌, ◌∷◌, ◌∙◌, [], ℕ, List, length, Result, Ok}
 use Rattle.std.proofs.Common.{Err, refl, ap, sym, subst, arith, append_assoc, length-append}
-use Rattle.std.specs.Prelude.{IfSome}
 use Rattle.std.proofs.lemmas.Grind.{common_steps}
 use Rattle.auction_terms.specs.declared.Call.{Call}
 use Rattle.auction_terms.specs.declared.Config.{Config}
@@ -13,9 +12,9 @@ use Rattle.order_file.specs.Blocks.{Rows, calls_with_more}
 use Rattle.order_file.specs.File.{FailsAsWanted, calls_after}
 use Rattle.order_file.specs.declared.fault.FileFault.{FileFault}
 use Rattle.order_file.proofs.BlockCallLaws.{fails-alike}
-use Rattle.order_file.proofs.CallLaws.{after, fails-at}
+use Rattle.order_file.proofs.CallLaws.{after}
 use Rattle.callboard.specs.declared.kept.Kept.{Kept}
-use Rattle.callboard.specs.KeptEntries.{KeepsEntries, KeepsFile, after_calls}
+use Rattle.callboard.specs.KeptEntries.{KeepsEntries, after_calls}
 use Rattle.callboard.specs.Printed.{entries_from, entry_of_call}
 
 -- ---- calls, and then more
@@ -85,12 +84,3 @@ block-fault members auction now front f rows fresh is fails =
     let config : now.config ≡ auction.config = ap (λ (a : RunningAuction). a.config) is in
     fails-then f (calls_after members auction.config.max_calls (length front) rows) (λ calls. Ok (front ++ calls))
     (rw (count, config) at fails)
-
--- ---- the file
-
-pub input-file-fault : (AreKept : List Entry → Type 0) (before : List Entry) (old new : RunningAuction)
-    (r : Result (Unit {0}) FileFault) (f : FileFault)
-    (says : List ℕ → Result (List Call) FileFault) (text : Option (List ℕ)) → r ≡ Err f
-    → IfSome text (λ bytes. FailsAsWanted f (says bytes)) → KeepsFile AreKept before old new r says text
-input-file-fault AreKept before old new r f says None is h = rw is (Err f, fails-at f (Err f) refl, tt)
-input-file-fault AreKept before old new r f says (Some bytes) is h = rw is (says bytes, h, refl)

@@ -1,7 +1,7 @@
 -- What an input says of which the start was read apart.
-use Rattle.std.proofs.Common.{◌≡◌, ◌≤◌, ◌<◌, ◌⊎◌, inl, inr, ◌++◌, ◌∷◌, ◌∙◌, [], ℕ, List, length, Option, None, Some}
-use Rattle.std.proofs.Common.{Result, Ok, Err, Bool, true, false, nat_lt, refl, ap, sym, arith, rules}
-use Rattle.std.specs.Prelude.{IfSome}
+use Rattle.std.proofs.Common.{◌≡◌, ◌≤◌, ◌<◌, ◌⊎◌, inl, inr, ◌++◌, ◌∷◌, ◌∙◌, ℕ, List, length, Option, None, Some}
+use Rattle.std.proofs.Common.{Result, Ok, Err, Bool, true, false, nat_lt, refl, ap, sym, subst, arith, rules}
+use Rattle.std.specs.Prelude.{IfSome, IsErrAnd}
 use Rattle.csv.specs.Records.{field_at}
 use Rattle.std.specs.Io.KnownBytes.{Consumes, prepend_known}
 use Rattle.auction.specs.ConfigFault.{open_fault}
@@ -25,7 +25,7 @@ use Rattle.callboard.specs.declared.fault.Fault.{Fault}
 use Rattle.callboard.specs.declared.fault.Fault.TheVariants as fault
 use Rattle.callboard.specs.declared.kept.Kept.{Kept}
 use Rattle.callboard.specs.declared.kept_day.KeptDay.{KeptDay}
-use Rattle.callboard.specs.KeptEntries.{KeepsEntries, IsClosedDay, KeepsFile, KeepsDay, KeepsDayOfText}
+use Rattle.callboard.specs.KeptEntries.{KeepsEntries, IsClosedDay, KeepsDay, KeepsDayOfText, after_calls}
 use Rattle.callboard.specs.KeptEntries.{calls_for, form_of}
 use Rattle.callboard.specs.Printed.{history_of}
 use Rattle.callboard.proofs.BlockRunLaws.{fails-then}
@@ -40,29 +40,40 @@ unfolding orders_for
 orders-known day wanted None h = tt
 orders-known day wanted (Some bytes) h = ap (calls_for day) (sym h)
 
-pub file-said : (form : Form) (day : DayHeader) (kept : Kept) (old new : RunningAuction) (text : Option (List ℕ))
-    (r : Result KeptDay Fault) → old ≡ opened_auction day.config
-    → form_of kept ≡ form → open_fault day.config ≡ None → new.calls ≤ old.config.max_calls
-    → KeepsFile (KeepsEntries kept new) [] old new (Ok tt) (λ bytes. file bytes day.members old.config.max_calls) text
-    → ((entries : List Entry) → KeepsEntries kept new entries → IsClosedDay day kept new.config entries r)
+-- all of its calls came to an auction, and are kept
+pub file-kept : (form : Form) (day : DayHeader) (kept : Kept) (auction : RunningAuction) (calls : List Call)
+    (text : Option (List ℕ)) (r : Result KeptDay Fault) → auction ≡ after_calls (opened_auction day.config) calls
+    → form_of kept ≡ form → open_fault day.config ≡ None → auction.calls ≤ day.config.max_calls
+    → IfSome text (λ bytes. file bytes day.members day.config.max_calls ≡ Ok calls)
+    → KeepsEntries kept auction (history_of day.config calls)
+    → ((entries : List Entry) → KeepsEntries kept auction entries → IsClosedDay day kept auction.config entries r)
     → KeepsDayOfText form r text (orders_for day)
-file-said form day kept old new text r fresh for opens room keeps closes =
-    let (wanted, (calls, says, is, follows), known) = rw fresh at keeps in
-    let few : length calls ≤ day.config.max_calls = omega (arith, rw (is, fresh) at room) in
+file-kept form day kept auction calls text r is for opens room known follows closes =
+    let few : length calls ≤ day.config.max_calls = omega (arith, rw is at room) in
     let closed : IsClosedDay day kept day.config (history_of day.config calls) r =
     rw is at (closes (history_of day.config calls) follows) in (
-      calls_for day wanted,
-      rw says (said_closed form day calls kept r for opens few closed),
-      orders-known day wanted text known,
+      calls_for day (Ok calls),
+      said_closed form day calls kept r for opens few closed,
+      orders-known day (Ok calls) text known,
     )
 
-pub file-said-fault : (form : Form) (day : DayHeader) (kept : Kept) (old new : RunningAuction) (text : Option (List ℕ))
-    (f : FileFault) → old ≡ opened_auction day.config
-    → KeepsFile (KeepsEntries kept new) [] old new (Err f) (λ bytes. file bytes day.members old.config.max_calls) text
+-- it has a fault
+pub file-fails : (form : Form) (day : DayHeader) (text : Option (List ℕ)) (f : FileFault)
+    → IfSome text (λ bytes. FailsAsWanted f (file bytes day.members day.config.max_calls))
     → KeepsDayOfText form (Err (fault.File f)) text (orders_for day)
-file-said-fault form day kept old new text f fresh keeps =
-    let (wanted, fails, known) = rw fresh at keeps in
-    (calls_for day wanted, refused-records form day f wanted fails, orders-known day wanted text known)
+unfolding orders_for
+file-fails form day None f h = (Err f, fails-at f (Err f) refl, tt)
+file-fails form day (Some bytes) f h =
+    (orders_for day bytes, refused-records form day f (file bytes day.members day.config.max_calls) h, refl)
+
+-- one that a `?` handed on
+pub file-stops : (form : Form) (day : DayHeader) (text : Option (List ℕ)) (r : Result KeptDay Fault) (f : FileFault)
+    → IsErrAnd r (λ x. x ≡ fault.File f)
+    → IfSome text (λ bytes. FailsAsWanted f (file bytes day.members day.config.max_calls))
+    → KeepsDayOfText form r text (orders_for day)
+file-stops form day text (Ok kept) f is h = absurd is
+file-stops form day text (Err x) f is h =
+    subst (λ (e : Fault). KeepsDayOfText form (Err e) text (orders_for day)) (sym is) (file-fails form day text f h)
 
 -- the file was read whole
 pub file-read : (form : Form) (day : DayHeader) (text : Option (List ℕ)) (bytes : List ℕ) (r : Result KeptDay Fault)

@@ -29,8 +29,8 @@ use Rattle.order_file.specs.declared.fault.FileFault.TheVariants as faults
 use Rattle.settings.specs.declared.types.Form.{Form}
 use Rattle.callboard.specs.declared.fault.Fault.TheVariants as fault
 use Rattle.callboard.specs.declared.kept.Kept.{Kept}
-use Rattle.callboard.specs.KeptEntries.{KeepsEntries, IsClosedDay, KeepsCalls, KeepsDay, after_calls, calls_for}
-use Rattle.callboard.specs.KeptEntries.{form_of}
+use Rattle.callboard.specs.KeptEntries.{KeepsEntries, IsClosedDay, KeepsCalls, KeepsDay, KeepsDayOfText, after_calls}
+use Rattle.callboard.specs.KeptEntries.{calls_for, form_of}
 use Rattle.callboard.specs.AuctionRun.{IsOfAuction, auction_job, run_text}
 use Rattle.callboard.specs.FileRun.{Ends, IsRunOf, WritesText}
 use Rattle.callboard.specs.Printed.{IsOfListing, IsOfPrinting, IsWideForm, IsWideIfBegun, entries_from, entry_of_call}
@@ -309,6 +309,21 @@ kept_refused form day ends said r (fault.Open f) is told wrote_well kept keeps k
 kept_refused form day ends said r fault.NoMemory is told wrote_well kept keeps known = absurd keeps
 kept_refused form day ends said r fault.NotClosed is told wrote_well kept keeps known = absurd keeps
 kept_refused form day ends said r fault.WriteFailed is told wrote_well kept keeps known = absurd keeps
+
+-- an input that couldn't be read
+pub input-refused : (form : Form) (day : DayHeader) (ends : Ends) (f : FileFault) {X : Type 0}
+    → (IsErrOf {T = X} (Err f) faults.ReadFailed ↔ ends.ReadFailed) → (ends.WriteFailed → ⊥) → ends.new ≡ ends.old
+    → KeepsDayOfText form (Err (fault.File f)) ends.left (run_input day)
+    → IsRunOf (auction_job day form) ends (Err (fault.File f))
+input-refused form day ends f {X} told wrote_well kept (said, fails, known) =
+    refused_input {X = X} (auction_job day form) ends (Err f) f refl told wrote_well kept tt
+    (said_fails day ends.left said f fails known)
+
+-- what was kept is of a form, and of what was said
+pub kept-day : (form : Form) (r : Result KeptDay Fault) (text : Option (List ℕ))
+    (says : List ℕ → Result DayWithCalls FileFault) → KeepsDayOfText form r text says
+    → (for : Form) × (said : Result DayWithCalls FileFault) × KeepsDay for said r
+kept-day form r text says (said, keeps, known) = (form, said, keeps)
 
 -- what was written of it
 pub kept_wrote : (form for : Form) (day_with_calls : DayWithCalls) (old new : Option (List ℕ))

@@ -66,13 +66,6 @@ KeepsCalls AreKept before old new (Ok u) wanted =
     × AreKept (before ++ entries_from old.config old.state calls)
 KeepsCalls AreKept before old new (Err f) wanted = FailsAsWanted f wanted
 
--- The same of a file, where its text is known.
-abbrev pub KeepsFile : (List Entry → Type 0) → List Entry → RunningAuction → RunningAuction
-    → Result (Unit {0}) FileFault → (List ℕ → Result (List Call) FileFault) → Option (List ℕ) → Type 0
-KeepsFile AreKept before old new result says text =
-    (wanted : Result (List Call) FileFault) × KeepsCalls AreKept before old new result wanted
-    × IfSome text (λ bytes. says bytes ≡ wanted)
-
 -- a day's calls, as what was given to it
 abbrev pub calls_for : DayHeader → Result (List Call) FileFault → Result DayWithCalls FileFault
 calls_for day r = r >>= λ calls. Ok (record { day = day; calls = calls })

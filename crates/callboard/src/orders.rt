@@ -1,16 +1,14 @@
 //! The commands of an order file, applied to an auction as they are read.
 
-ghost use Rattle.std.specs.Prelude.{◌≡◌, ◌≢◌, ◌<◌, ◌≤◌, ◌++◌, ◌↔◌};
+ghost use Rattle.std.specs.Prelude.{◌≡◌, ◌≢◌, ◌<◌, ◌≤◌, ◌↔◌};
 ghost use Rattle.std.specs.Prelude.{List, length, unwrap_or, Err, IfErr, IsErrOf};
 ghost use Rattle.std.specs.Io.KnownBytes.{prepend_known};
 ghost use Rattle.auction_terms.specs.declared.Entry.{Entry};
-ghost use Rattle.auction_terms.specs.Auxiliary.RunningAuction.{opened_auction};
 ghost use Rattle.auction.specs.ConfigFault.{open_fault};
 ghost use Rattle.journal.specs.DayWithCalls.{orders_for};
 ghost use Rattle.order_file.specs.Blocks.{block_rows};
-ghost use Rattle.order_file.specs.Calls.{IsReady, calls_left};
-ghost use Rattle.order_file.specs.File.{IsOfRecord, calls_after, calls_of, file};
-ghost use Rattle.callboard.specs.KeptEntries.{KeepsEntries, KeepsCalls, KeepsFile, KeepsDay, KeepsDayOfText, calls_for};
+ghost use Rattle.order_file.specs.File.{IsOfRecord, calls_after, calls_of};
+ghost use Rattle.callboard.specs.KeptEntries.{KeepsEntries, KeepsCalls, KeepsDay, KeepsDayOfText, calls_for};
 ghost use Rattle.callboard.specs.KeptEntries.{form_of};
 
 use crate::fault::Fault;
@@ -19,34 +17,12 @@ use crate::kept_day::{KeptDay, close_day};
 use auction::{Auction, OpenFault};
 use byte_streams::Source;
 use journal::DayHeader;
-use order_file::{Blocks, Calls, FileFault, MAX_BYTES, bytes_after, calls_of};
+use order_file::{Blocks, FileFault, MAX_BYTES, bytes_after, calls_of};
 use settings::Form;
 use std::alloc::Global;
 
-/// Applies the calls that are left, which come after the auction's so far, and keeps their entries; or answers the
-/// first fault, which may be want of memory.
-fn keep_calls(
-    alloc: Global,
-    calls: &mut Calls<'_>,
-    auction: &mut Auction,
-    kept: &mut Kept,
-) -> Result<(), FileFault>
-    requires { IsReady calls.old.members auction.old.config.max_calls auction.old.calls calls.old }
-    ensures form { form_of kept.new ≡ form_of kept.old }
-    ensures kept { (entries : List Entry) → KeepsEntries kept.old auction.old entries
-        → KeepsCalls (KeepsEntries kept.new auction.new) entries auction.old auction.new result (calls_left calls.old) }
-    ensures room { auction.new.calls ≤ auction.old.config.max_calls }
-    ensures parsed { IfErr result IsOfRecord }
-{
-    'turns: while let Some(call) = calls.next_call()? {
-        if kept.keep_call(alloc, auction, &call).is_err() {
-            return Err(FileFault::NoMemory);
-        }
-    }
-    Ok(())
-}
-
-/// The same of the records of a block.
+/// Applies the calls of a block's records, which come after the auction's so far, and keeps their entries; or answers
+/// the first fault, which may be want of memory.
 fn keep_block(
     alloc: Global,
     blocks: &Blocks,
@@ -64,41 +40,12 @@ fn keep_block(
 {
     let max_calls = auction.config().max_calls;
     let mut calls = blocks.calls(alloc, members, max_calls, auction.calls())?;
-    keep_calls(alloc, &mut calls, auction, kept)
-}
-
-/// Reads an order file of which these bytes at the start were read, block by block, applies its calls to an auction
-/// that was just opened, and keeps their entries.
-fn keep_blocks<R: Source>(
-    alloc: Global,
-    start: Vec<u8>,
-    reader: &mut R,
-    auction: &mut Auction,
-    kept: &mut Kept,
-    members: u8,
-) -> Result<(), FileFault>
-    requires opened { auction.old ≡ opened_auction auction.old.config }
-    requires follows { (entries : List Entry) × KeepsEntries kept.old auction.old entries }
-    requires short { length start.items ≤ MAX_BYTES }
-    ensures form { form_of kept.new ≡ form_of kept.old }
-    ensures failed { IsErrOf result FileFault.ReadFailed ↔ (R.failures reader.old < R.failures reader.new) }
-    ensures kept { (entries : List Entry) → KeepsEntries kept.old auction.old entries
-        → KeepsFile (KeepsEntries kept.new auction.new) entries auction.old auction.new result
-        (λ text. file text members auction.old.config.max_calls) (prepend_known start.items (R.left reader.old)) }
-    ensures room { auction.new.calls ≤ auction.old.config.max_calls }
-{
-    let mut blocks = Blocks::open(alloc, start.as_slice(), reader, MAX_BYTES)?;
-    // The blocks have a copy, and the start may be the whole input.
-    drop(start);
-    'turns: loop {
-        if let Err(fault) = keep_block(alloc, &blocks, auction, kept, members) {
-            blocks.drain(reader)?;
-            return Err(fault);
-        }
-        if !blocks.next(reader)? {
-            return Ok(());
+    'turns: while let Some(call) = calls.next_call()? {
+        if kept.keep_call(alloc, auction, &call).is_err() {
+            return Err(FileFault::NoMemory);
         }
     }
+    Ok(())
 }
 
 /// What an order file owes whose day can't be opened: a fault of its own comes first.
@@ -135,7 +82,8 @@ fn refused_file<R: Source>(
     }
 }
 
-/// Runs the commands of an order file of this day, of which these bytes at the start were read.
+/// Runs the commands of an order file of this day, of which these bytes at the start were read: opens an auction, and
+/// applies the calls of one block after the other.
 pub fn keep_file<R: Source>(
     alloc: Global,
     start: Vec<u8>,
@@ -155,8 +103,16 @@ pub fn keep_file<R: Source>(
     let Ok(mut kept) = Kept::open(alloc, form, &auction) else {
         return Err(Fault::File(FileFault::NoMemory));
     };
-    match keep_blocks(alloc, start, reader, &mut auction, &mut kept, day.members) {
-        Ok(()) => close_day(alloc, day, &mut auction, kept),
-        Err(fault) => Err(Fault::File(fault)),
+    let mut blocks = Blocks::open(alloc, start.as_slice(), reader, MAX_BYTES)?;
+    // The blocks have a copy, and the start may be the whole input.
+    drop(start);
+    'turns: loop {
+        if let Err(fault) = keep_block(alloc, &blocks, &mut auction, &mut kept, day.members) {
+            blocks.drain(reader)?;
+            return Err(Fault::File(fault));
+        }
+        if !blocks.next(reader)? {
+            return close_day(alloc, day, &mut auction, kept);
+        }
     }
 }

@@ -1,59 +1,48 @@
 -- Answers of `run_file` (src/run.rt): what the prover left open; rt looks here.
-use Rattle.std.proofs.Common.{Err, Ok, refl, arith}
-use Rattle.callboard.specs.AuctionRun.{auction_job, run_text}
-use Rattle.callboard.specs.Printed.{history_of}
-use Rattle.callboard.specs.declared.fault.Finish.TheVariants.{Lawful}
-use Rattle.journal.specs.DayWithCalls.{DayWithCalls}
-use Rattle.callboard.proofs.EntriesLaws.{history_legal}
-use Rattle.callboard.proofs.KeptLaws.{kept_faults, kept_refused, kept_short_wide, kept_well, kept_wide, kept_wrote}
-use Rattle.callboard.proofs.KeptLaws.{said_given}
-use Rattle.callboard.proofs.OwedLaws.{handed_over, ran_short, ran_whole, wrote_well}
+use Rattle.std.proofs.Common.{Err, arith, refl}
+use Rattle.journal.specs.DayWithCalls.{run_input}
+use Rattle.callboard.specs.declared.fault.Fault.TheVariants as fault
+use Rattle.callboard.proofs.FileSaidLaws.{digit-said, start-said, start-unread}
+use Rattle.callboard.proofs.KeptLaws.{input-refused, kept-day, known_said, unread_said}
+use Rattle.callboard.proofs.OwedLaws.{handed_over}
 use Rattle.callboard.proofs.run.run_file.Goals as goal
 
-pub returns-in_err-kept_day : goal.returns-in_err-kept_day
-returns-in_err-kept_day g c =
-    let f = c.in_err-kept_day.field-0.0 in
-    let (said, keeps, known) = c.in_err-kept_day.ensures.kept in
-    handed_over _ _ _ f c.from_residual.ensures.1
-    (kept_refused c.args.form c.args.day _ said (Err f) f refl c.in_err-kept_day.ensures.failed (λ h. omega (arith, h))
-    refl keeps known)
+pub returns-in_err-start : goal.returns-in_err-start
+returns-in_err-start g c =
+    let f = c.in_err-start.field-0.0 in
+    handed_over _ _ _ (fault.File f) c.from_residual.ensures.1
+    (input-refused c.args.form c.args.day _ f c.in_err-start.ensures.failed (λ h. omega (arith, h)) refl
+    (start-unread c.args.form _ f (run_input c.args.day) c.in_err-start.ensures.faults))
 
-pub write_kept-requires : goal.write_kept-requires
-write_kept-requires g c =
-    let (said, keeps, known) = c.in_ok-kept_day.ensures.kept in
-    let (calls, is, (for, opens, few, holds)) = keeps in
-    (_, holds, history_legal c.in_ok-kept_day.kept_day.day.config calls few)
+pub write_run-requires : goal.write_run-requires
+write_run-requires g c = kept-day c.args.form _ _ _ c.keep_file-run.ensures.kept
 
-pub returns-in_err-write_kept : goal.returns-in_err-write_kept
-returns-in_err-write_kept g c =
-    let f = c.in_err-write_kept.field-0.0 in
-    let day = c.in_ok-kept_day.kept_day.day in
-    let (said, keeps, known) = c.in_ok-kept_day.ensures.kept in
-    let (calls, is, (for, opens, few, holds)) = keeps in
-    let run_input : DayWithCalls = record { day = day; calls = calls } in
-    let entries = history_of day.config calls in
-    let after = kept_faults c.args.form _ f for c.in_err-write_kept.ensures.fault in
-    handed_over _ _ _ f c.from_residual-in_err-write_kept.ensures.1
-    (ran_short (auction_job c.args.day c.args.form) _ run_input Lawful (run_text c.args.form run_input) _ f refl
-    (said_given c.args.day _ said run_input is known)
-    (kept_well _ _ refl c.in_ok-kept_day.ensures.failed) c.in_err-write_kept.ensures.failed opens after.1 after.0
-    (λ failed. (
-      refl,
-      (refl, kept_short_wide c.args.form _ entries f for (c.in_err-write_kept.ensures.wide entries holds) failed),
-    ))
-    (kept_wrote c.args.form _ run_input (g.S.Sink.written c.args.writer.now) (g.S.Sink.written c.write_kept.new.writer)
-    (Err f) for (c.in_err-write_kept.ensures.text entries holds)))
+pub returns-then-begins_with_digit : goal.returns-then-begins_with_digit
+returns-then-begins_with_digit g c =
+    c.write_run.ensures c.args.day c.args.form _ _ _ _
+    (start-said c.args.form c.in_ok-start.start.items _ _ c.keep_file-run.result (run_input c.args.day)
+    c.in_ok-start.ensures.start.0
+    (digit-said c.args.form c.args.day c.in_ok-start.start.items _ c.keep_file-run.result
+    (rw c.as_slice.ensures.value at (c.begins_with_digit.ensures c.if-begins_with_digit.true))
+    c.keep_file-run.ensures.kept))
+    (rw c.in_ok-start.ensures.steady at c.keep_file-run.ensures.failed)
+
+pub returns-in_err-bytes : goal.returns-in_err-bytes
+returns-in_err-bytes g c =
+    let f = c.in_err-bytes.field-0.0 in
+    handed_over _ _ _ (fault.File f) c.from_residual-in_err-bytes.ensures.1
+    (input-refused c.args.form c.args.day _ f (rw c.in_ok-start.ensures.steady at c.in_err-bytes.ensures.failed)
+    (λ h. omega (arith, h)) refl
+    (start-said c.args.form c.in_ok-start.start.items _ _ (Err (fault.File f)) (run_input c.args.day)
+    c.in_ok-start.ensures.start.0
+    (unread_said c.args.day _ f c.in_err-bytes.ensures.bytes)))
 
 pub returns : goal.returns
 returns g c =
-    let day = c.in_ok-kept_day.kept_day.day in
-    let (said, keeps, known) = c.in_ok-kept_day.ensures.kept in
-    let (calls, is, (for, opens, few, holds)) = keeps in
-    let run_input : DayWithCalls = record { day = day; calls = calls } in
-    let entries = history_of day.config calls in
-    ran_whole (auction_job c.args.day c.args.form) _ run_input Lawful (run_text c.args.form run_input)
-    (said_given c.args.day _ said run_input is known)
-    (kept_well _ _ refl c.in_ok-kept_day.ensures.failed) (wrote_well _ _ refl c.in_ok-write_kept.ensures.failed) opens
-    (refl, (refl, kept_wide c.args.form _ entries (Ok tt) for (c.in_ok-write_kept.ensures.wide entries holds)))
-    (kept_wrote c.args.form _ run_input (g.S.Sink.written c.args.writer.now) (g.S.Sink.written c.write_kept.new.writer)
-    (Ok tt) for (c.in_ok-write_kept.ensures.text entries holds))
+    let failed = rw c.in_ok-start.ensures.steady at c.in_ok-bytes.ensures.failed in
+    c.write_run-2.ensures c.args.day c.args.form _ _ _ _
+    (start-said c.args.form c.in_ok-start.start.items _ _ c.keep_input-run.result (run_input c.args.day)
+    c.in_ok-start.ensures.start.0
+    (known_said c.args.form c.args.day _ c.in_ok-bytes.bytes.items c.keep_input-run.result
+    c.in_ok-bytes.ensures.bytes c.keep_input-run.ensures.kept))
+    (λ e. absurd (c.keep_input-run.ensures.read e), λ h. absurd (cc (failed.1 h)))
