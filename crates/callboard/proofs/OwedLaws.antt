@@ -1,5 +1,5 @@
 -- What a run owes, by how far it came.
-use Rattle.std.proofs.Common.{◌≡◌, ◌∙◌, ℕ, ◌++◌, append-nil, List, Option, None, Some, Result, Ok, Err, IfSome, ap}
+use Rattle.std.proofs.Common.{◌≡◌, ℕ, ◌++◌, List, Option, None, Some, Result, Ok, Err, IfSome, ap}
 use Rattle.std.proofs.Common.{refl, sym, subst}
 use Rattle.std.specs.Prelude.{◌↔◌, IsErrAnd, IsErrOf, unwrap_or}
 use Rattle.std.specs.Io.KnownBytes.{Appends}
@@ -167,7 +167,7 @@ pub is_text : (form : FloorForm) (run_input : DayWithCalls) (closing : Closing)
     → IsDayOf run_input.day.config run_input.day.members run_input.calls closing
     → IsWideFloor form closing.history.items → IsFloorText form run_input (closed_text form run_input.day closing)
 is_text floor.Tally run_input closing day wide =
-    (closing.history.items, day.history, append-nil _ ∙ (λ i. tally (day.entries i) (day.counts i) None), wide)
+    (closing.history.items, day.history, (λ i. tally (day.entries i) (day.counts i) None), wide)
 is_text floor.History run_input closing day wide = (
   closing.history.items,
   day.history,

@@ -1,5 +1,5 @@
 -- What a run of commands on a board writes.
-use Rattle.std.specs.Prelude.{◌≡◌, ℕ, ◌++◌, ◌==◌, List, [], All, filter, length, map, Bool, true, false, if◌then◌else◌}
+use Rattle.std.specs.Prelude.{◌≡◌, ℕ, ◌++◌, ◌==◌, List, All, filter, length, map}
 use Rattle.std.specs.Prelude.{Option, None, MatchOption}
 use Rattle.std.specs.List.{range_with_len}
 use Rattle.auction_terms.specs.declared.Call.{Call}
@@ -17,6 +17,8 @@ use Rattle.printed_lines.specs.Tally.{history_lines, tally}
 use Rattle.settings.specs.declared.types.FloorForm.{FloorForm}
 use Rattle.settings.specs.declared.types.FloorForm.TheVariants as floor
 use Rattle.callboard.specs.declared.fault.Finish.TheVariants.{Lawful}
+use Rattle.callboard.specs.declared.printing.ClosingForm.{ClosingForm}
+use Rattle.callboard.specs.declared.printing.ClosingForm.TheVariants as closings
 use Rattle.callboard.specs.FileRun.{Ends, Job, IsRunOf}
 use Rattle.callboard.specs.Printed.{IsWideListing, listing_text}
 use Rattle.callboard.specs.Status.{RunResult}
@@ -45,24 +47,24 @@ pub record IsDayOf (config : Config) (members : ℕ) (calls : List Call) (closin
   pub entries : length closing.history.items ≡ length calls
   pub counts : closing.calls.items ≡ counts_of members calls
 
--- the history, where it is wanted
-abbrev pub history_lines_if : Bool → List Entry → List ℕ
-history_lines_if wanted entries = if wanted then history_lines entries else []
-
 -- what the audit found in a history: the place of the first entry that breaks the rules, if there is one
 abbrev pub IsAuditFinding : Config → List Entry → Option ℕ → Type 0
 IsAuditFinding config entries place = MatchOption place (IsLegal config entries) (IsFirstBad config entries)
 
--- how many entries there are, how many calls of each member, and what the audit found; and the history, where it is
--- wanted
-abbrev pub closing_text : Closing → Option ℕ → Bool → List ℕ
-closing_text closing first_bad history =
-    tally (length closing.history.items) closing.calls.items first_bad ++ history_lines_if history closing.history.items
+-- how many entries there are, how many calls of each member, and what the audit found
+abbrev pub closing_tally : Closing → Option ℕ → List ℕ
+closing_tally closing first_bad = tally (length closing.history.items) closing.calls.items first_bad
+
+-- the tally of a closed day, which the history may follow
+abbrev pub closing_text : ClosingForm → Closing → Option ℕ → List ℕ
+closing_text closings.Tally closing first_bad = closing_tally closing first_bad
+closing_text closings.History closing first_bad =
+    closing_tally closing first_bad ++ history_lines closing.history.items
 
 -- of a closed day of a legal history, or a listing of it in place of that
 abbrev pub closed_text : FloorForm → DayHeader → Closing → List ℕ
-closed_text floor.Tally day closing = closing_text closing None false
-closed_text floor.History day closing = closing_text closing None true
+closed_text floor.Tally day closing = closing_text closings.Tally closing None
+closed_text floor.History day closing = closing_text closings.History closing None
 closed_text (floor.Listing listing) day closing = listing_text listing day closing.history.items
 
 -- how many calls there are, how many of each member, and that the history is legal

@@ -12,7 +12,7 @@ ghost use Rattle.callboard.specs.Printed.{IsOfListing};
 
 use crate::day::closing_of_day;
 use crate::fault::{Fault, Finish};
-use crate::printing::{write_closing, write_listing};
+use crate::printing::{ClosingForm, write_closing, write_listing};
 use crate::scripts::split;
 use auction::{Verdict, audit};
 use auction_terms::{Call, Config, Entry};
@@ -64,17 +64,17 @@ fn first_bad(alloc: Global, config: Config, history: &[Entry]) -> Result<Option<
 }
 
 /// Audits the history of a closed day, and writes what it comes to and what the audit says; then, where
-/// `history` asks for it, a line for each entry, in the order of the board.
+/// the form has the history, a line for each entry, in the order of the board.
 fn write_tally<S: Sink>(
     alloc: Global,
     writer: &mut S,
     config: Config,
     closing: &Closing,
-    history: bool,
+    form: ClosingForm,
 ) -> Result<(), Fault>
     requires { IsLegal config closing.now.history.items }
     ensures text { WritesText (S.written writer.old) (S.written writer.new)
-        (closing_text closing.now None history) result }
+        (closing_text form closing.now None) result }
     ensures failed { IsErrOf result Fault.WriteFailed ↔ (S.failures writer.old < S.failures writer.new) }
     ensures fault { IfErr result IsOfListing }
 {
@@ -82,7 +82,7 @@ fn write_tally<S: Sink>(
         Ok(place) => place,
         Err(_) => return Err(Fault::NoMemory),
     };
-    let Ok(()) = write_closing(writer, closing, place, history) else {
+    let Ok(()) = write_closing(writer, closing, place, form) else {
         return Err(Fault::WriteFailed);
     };
     Ok(())
@@ -105,8 +105,8 @@ fn write_floor<S: Sink>(
 {
     let entries = closing.history.as_slice();
     match form {
-        FloorForm::Tally => write_tally(alloc, writer, day.config, closing, false),
-        FloorForm::History => write_tally(alloc, writer, day.config, closing, true),
+        FloorForm::Tally => write_tally(alloc, writer, day.config, closing, ClosingForm::Tally),
+        FloorForm::History => write_tally(alloc, writer, day.config, closing, ClosingForm::History),
         FloorForm::Listing(listing) => write_listing(alloc, writer, listing, day, entries),
     }
 }

@@ -26,22 +26,31 @@ use printed_lines::{KeptText, Printer, print_history, print_tally};
 use settings::Listing;
 use std::alloc::Global;
 
-/// Prints what a closed day comes to, and its history where that is wanted.
+/// What is written of a closed day.
+#[derive(Clone, Copy)]
+pub enum ClosingForm {
+    /// Its tally.
+    Tally,
+    /// The tally, and then its history.
+    History,
+}
+
+/// Prints what a closed day comes to.
 fn print_closing<S: Sink>(
     printer: &mut Printer<'_, S>,
     closing: &Closing,
     first_bad: Option<u64>,
-    history: bool,
+    form: ClosingForm,
 ) -> Result<(), WriteFailed>
-    ensures { Prints S.Sink printer.old printer.new result (closing_text closing.now first_bad history) }
+    ensures { Prints S.Sink printer.old printer.new result (closing_text form closing.now first_bad) }
 {
     let entries = closing.history.as_slice();
     let calls = closing.calls.as_slice();
     print_tally(printer, entries.len() as u64, calls, first_bad)?;
-    if !history {
-        return Ok(());
+    match form {
+        ClosingForm::Tally => Ok(()),
+        ClosingForm::History => print_history(printer, entries),
     }
-    print_history(printer, entries)
 }
 
 /// Writes what a closed day comes to. It takes no memory.
@@ -49,12 +58,12 @@ pub fn write_closing<S: Sink>(
     writer: &mut S,
     closing: &Closing,
     first_bad: Option<u64>,
-    history: bool,
+    form: ClosingForm,
 ) -> Result<(), WriteFailed>
-    ensures { WritesAll S.Sink writer.old writer.new result (closing_text closing.now first_bad history) }
+    ensures { WritesAll S.Sink writer.old writer.new result (closing_text form closing.now first_bad) }
 {
     let mut printer = Printer::new(writer);
-    print_closing(&mut printer, closing, first_bad, history)?;
+    print_closing(&mut printer, closing, first_bad, form)?;
     printer.flush()
 }
 

@@ -11,11 +11,11 @@ returns-in_default-clause-text g c =
     let found = rw c.as_slice.ensures.value at c.in-Ok.ensures.finding in
     let none = none_bad _ _ c.in-Ok.place c.requires found in
     subst (λ place. AppendsBeginning (g.S.Sink.written c.args.writer.now) (g.S.Sink.written c.write_closing.new.writer)
-    (closing_text c.args.closing.now place c.args.history)) none c.in_default.ensures.text
+    (closing_text c.args.form c.args.closing.now place)) none c.in_default.ensures.text
 
 pub returns-clause-text : goal.returns-clause-text
 returns-clause-text g c =
     let found = rw c.as_slice.ensures.value at c.in-Ok.ensures.finding in
     let none = none_bad _ _ c.in-Ok.place c.requires found in
     subst (λ place. Appends (g.S.Sink.written c.args.writer.now) (g.S.Sink.written c.write_closing.new.writer)
-    (closing_text c.args.closing.now place c.args.history)) none c.in-Ok-write_closing.ensures.text
+    (closing_text c.args.form c.args.closing.now place)) none c.in-Ok-write_closing.ensures.text
