@@ -46,8 +46,19 @@ faults and what is printed.
 Status: 0 done, 1 a bad input, 2 a bad command line or bounds, 3 no memory, a read or a write that failed or a board
 that couldn't be closed, 4 an audit that found a reply that isn't lawful";
 
+const FLOOR_HELP: &str = "The members call at once on a board; prints how many calls each made";
+
+const HISTORY_HELP: &str = "With --floor, prints the board's history too";
+
 const PRINT_HELP: &str =
     "What is printed: lines, journal (the day), trades (who with whom), book (at each price) [default: lines]";
+
+const AUDIT_HELP: &str = "Reads a journal, and tells which recorded replies aren't the lawful ones";
+
+const RESULTS_HELP: &str =
+    "With --audit, prints the lawful results too: each uncross, and where the day stands";
+
+const LIVE_HELP: &str = "Answers each record as it comes; a bad one is told, and the rest goes on";
 
 const JOURNAL_HELP: &str =
     "With --live, keeps each command on the disk before it is answered, and goes on with what the file has";
@@ -202,32 +213,12 @@ pub fn callboard<'a>(alloc: Global) -> Result<Command<'a>, Error>
         .about(ABOUT)
         .after_help(AFTER_HELP);
     let command = with_numbers(alloc, command, NUMBERS.as_slice())?;
-    let floor = flag_option(
-        alloc,
-        "floor",
-        "The members call at once on a board; prints how many calls each made",
-    );
-    let history = flag_option(
-        alloc,
-        "history",
-        "With --floor, prints the board's history too",
-    );
+    let floor = flag_option(alloc, "floor", FLOOR_HELP);
+    let history = flag_option(alloc, "history", HISTORY_HELP);
     let print = word_option(alloc, "print", "WHAT", PRINT_HELP);
-    let audit = flag_option(
-        alloc,
-        "audit",
-        "Reads a journal, and tells which recorded replies aren't the lawful ones",
-    );
-    let results = flag_option(
-        alloc,
-        "results",
-        "With --audit, prints the lawful results too: each uncross, and where the day stands",
-    );
-    let live = flag_option(
-        alloc,
-        "live",
-        "Answers each record as it comes; a bad one is told, and the rest goes on",
-    );
+    let audit = flag_option(alloc, "audit", AUDIT_HELP);
+    let results = flag_option(alloc, "results", RESULTS_HELP);
+    let live = flag_option(alloc, "live", LIVE_HELP);
     let journal = word_option(alloc, "journal", "FILE", JOURNAL_HELP);
     let sync = word_option(alloc, "sync", "HOW", SYNC_HELP);
     Ok(
