@@ -15,7 +15,7 @@ use std::alloc::{AllocError, Global};
 use std::snapshot::Snapshot;
 use std::sync::Wait;
 use std::thread;
-use std::thread::{Promise, PromisedHandle, Threads};
+use std::thread::{Promise, PromisedHandle, Scope, Threads};
 
 /// Why not all scripts were played.
 #[derive(Clone, Copy, PartialEq, Eq, Debug)]
@@ -130,6 +130,50 @@ fn refused<K: BoardIdentity>(alloc: Global, members: Vec<Member<K>>) -> FloorOut
     }
 }
 
+// Plays the tasks at once, each on a thread of this scope, and joins the threads. Where one can't be started, its
+// member is lost, and those after it are left.
+fn play_tasks<'s, 'e: 's, K: BoardIdentity + Send + Sync, G: Gate + Sync, R: Wait + Threads + Sync>(
+    scope: &'s Scope<'s, &'e ()>,
+    run_room: RunRoom<K>,
+    board: &'e Board<K>,
+    gate: &'e G,
+    rt: &'e R,
+) -> FloorOutcome<K>
+where
+    Version<K>: Absorb<Update<K>, State = ()> + Send + Sync,
+    ensures all { result.fault ≡ None →
+        HasPlayedAllTasks K.config run_room.tasks.items result.played.items result.unplayed.items }
+    ensures room { result.fault ≢ Some RunFault.NoMemory }
+    ensures thread { result.fault ≡ Some RunFault.NoThread →
+        HasPlayedSomeTasks K.config run_room.tasks.items result.played.items result.unplayed.items }
+{
+    let RunRoom {
+        tasks,
+        mut handles,
+        played,
+        rest,
+    } = run_room;
+    let n = tasks.len();
+    let mut tasks = tasks.into_iter();
+    let mut fault = None;
+    for _ in 0..n {
+        let task = tasks.next().unwrap();
+        let promise = ThreadPromise {
+            task: Snapshot::of(&task),
+        };
+        let Ok(handle) = scope.spawn_with(promise, move || task.play(board, gate, rt)) else {
+            fault = Some(RunFault::NoThread);
+            break;
+        };
+        handles.push_reserved(handle);
+    }
+    FloorOutcome {
+        played: join_all(rt, handles, played),
+        unplayed: members_left(tasks, rest),
+        fault,
+    }
+}
+
 /// Plays all scripts at once, each on a thread of its own, on which the member at the same place calls its commands
 /// under the gate. Room for all receipts and for what is handed back is taken before the first thread starts.
 ///
@@ -172,35 +216,6 @@ where
             ensures room { result.fault ≢ Some RunFault.NoMemory }
             ensures thread { result.fault ≡ Some RunFault.NoThread →
                 HasPlayedSomeTasks K.config run_room.tasks.items result.played.items result.unplayed.items }
-        {
-            // The stage moves in whole, with what its type says of the room.
-            let whole = run_room;
-            let RunRoom {
-                tasks,
-                mut handles,
-                played,
-                rest,
-            } = whole;
-            let n = tasks.len();
-            let mut tasks = tasks.into_iter();
-            let mut fault = None;
-            for _ in 0..n {
-                let task = tasks.next().unwrap();
-                let promise = ThreadPromise {
-                    task: Snapshot::of(&task),
-                };
-                let Ok(handle) = scope.spawn_with(promise, move || task.play(board, gate, rt))
-                else {
-                    fault = Some(RunFault::NoThread);
-                    break;
-                };
-                handles.push_reserved(handle);
-            }
-            FloorOutcome {
-                played: join_all(rt, handles, played),
-                unplayed: members_left(tasks, rest),
-                fault,
-            }
-        },
+        { play_tasks(scope, run_room, board, gate, rt) },
     )
 }
