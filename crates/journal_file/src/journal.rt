@@ -63,6 +63,7 @@ impl<D: Device> CommittedLines<D> {
             → LeavesOnly D.moment D.left_since since self.new.device (IsBegun text (before ++ lines.now)) }
 
         // It doesn't give up by itself.
+        ensures causes { D.faults self.old.device ≤ D.faults self.new.device }
         ensures failed { IsErrOf result DeviceError.Failed → D.faults self.old.device < D.faults self.new.device }
         ensures full { IsErrOf result DeviceError.Full → 2 ^ 60 < self.old.end + length lines.now }
     {
@@ -83,6 +84,7 @@ impl<D: Device> CommittedLines<D> {
             (IsBegun (committed (D.seen self.old.device)) lines.now) }
 
         // It doesn't give up by itself.
+        ensures causes { D.faults self.old.device ≤ D.faults self.new.device }
         ensures failed { IsErrOf result DeviceError.Failed → D.faults self.old.device < D.faults self.new.device }
         ensures full { IsErrOf result DeviceError.Full → 2 ^ 60 < self.old.end + length lines.now }
     {
@@ -125,6 +127,7 @@ impl<D: Device> CommittedLines<D> {
             (committed (D.seen self.new.device) ≡ committed (D.seen self.old.device) ++ lines.now) }
         ensures any_moment { LeavesOnly D.moment D.left_since self.old.device self.new.device
             (IsBegun (committed (D.seen self.old.device)) lines.now) }
+        ensures causes { D.faults self.old.device ≤ D.faults self.new.device }
         ensures failed { IsErrOf result DeviceError.Failed → D.faults self.old.device < D.faults self.new.device }
         ensures full { IsErrOf result DeviceError.Full → ⊥ }
     {
@@ -151,6 +154,7 @@ impl<D: Device> CommittedLines<D> {
             → LeavesOnly D.moment D.left_since since self.old.device (IsBegun text before)
             → LeavesOnly D.moment D.left_since since self.new.device (IsBegun text before) }
 
+        ensures causes { D.faults self.old.device ≤ D.faults self.new.device }
         ensures failed { IsErrOf result DeviceError.Failed → D.faults self.old.device < D.faults self.new.device }
         ensures full { IsErrOf result DeviceError.Full → ⊥ }
     {
@@ -164,6 +168,7 @@ impl<D: Device> CommittedLines<D> {
         ensures text { OnOk result (D.seen self.new.device ≡ committed (D.seen self.old.device)) }
         ensures any_moment { LeavesOnly D.moment D.left_since self.old.device self.new.device
             (λ c. committed c ≡ committed (D.seen self.old.device)) }
+        ensures causes { D.faults self.old.device ≤ D.faults self.new.device }
         ensures failed { IsErrOf result DeviceError.Failed → D.faults self.old.device < D.faults self.new.device }
         ensures full { IsErrOf result DeviceError.Full → ⊥ }
     {
@@ -195,6 +200,7 @@ pub fn recover<D: Device>(device: &mut D, end: usize) -> Result<(), DeviceError>
         → LeavesOnly D.moment D.left_since since device.old (IsBegun text before)
         → LeavesOnly D.moment D.left_since since device.new (IsBegun text before) }
 
+    ensures causes { D.faults device.old ≤ D.faults device.new }
     ensures failed { IsErrOf result DeviceError.Failed → D.faults device.old < D.faults device.new }
     ensures full { IsErrOf result DeviceError.Full → ⊥ }
 {
@@ -215,6 +221,7 @@ fn repair<D: Device>(device: &mut D, end: usize) -> Result<(), DeviceError>
     ensures any_moment { LeavesOnly D.moment D.left_since device.old device.new
         (λ c. committed c ≡ committed (D.seen device.old)) }
 
+    ensures causes { D.faults device.old ≤ D.faults device.new }
     ensures failed { IsErrOf result DeviceError.Failed → D.faults device.old < D.faults device.new }
     ensures full { IsErrOf result DeviceError.Full → ⊥ }
 {
