@@ -2,7 +2,9 @@
 
 ghost use Rattle.std.specs.Prelude.{◌≡◌, ◌+◌, ℕ, List, Option, is_ok};
 ghost use Rattle.std.specs.Io.KnownBytes.{ReadConsumes};
+ghost use Rattle.auction_terms.specs.declared.Entry.{Entry};
 ghost use Rattle.byte_streams.specs.Streams.{FitsBuffer, ReportsFailure, Writes, failures_after};
+ghost use Rattle.journal.specs.KeptLines.{HasEntryLines};
 
 use byte_streams::{SourceFailed, WriteFailed};
 
@@ -52,6 +54,7 @@ pub trait Conversation {
 
     /// Commits lines of entries, all of them, or at a failure a beginning: from then on they last.
     fn commit(&mut self, entries: &[u8]) -> Result<(), CommitFailed>
+        requires { (kept : List Entry) × HasEntryLines entries.now kept }
         ensures entries { Writes (committed self.old) (committed self.new) result entries.now }
         ensures failures { ReportsFailure (commit_failures self.old) (commit_failures self.new) result }
         ensures left { left self.new ≡ left self.old }

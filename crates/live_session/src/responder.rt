@@ -1,9 +1,11 @@
 //! The answers to records.
 
-ghost use Rattle.std.specs.Prelude.{◌≡◌, ◌<◌, ◌+◌, IfOk};
+ghost use Rattle.std.specs.Prelude.{◌≡◌, ◌<◌, ◌+◌, List, IfOk};
+ghost use Rattle.auction_terms.specs.declared.Entry.{Entry};
 ghost use Rattle.csv.specs.Reading.{default_config, records, strip_bom};
 ghost use Rattle.csv.specs.Records.{fields_of};
 ghost use Rattle.order_file.specs.Rows.{IsRecordReader, rows_left};
+ghost use Rattle.journal.specs.KeptLines.{HasEntryLines};
 ghost use Rattle.printed_lines.specs.KeptText.{text_of};
 ghost use Rattle.auction_views.specs.View.{view_of};
 ghost use Rattle.live_session.specs.Answered.{after_record, after_records, answer_call, answer_view, cause_of};
@@ -257,7 +259,8 @@ impl Responder {
 
     /// Commits the gathered entries, and then writes the gathered answers.
     pub(crate) fn give<C: Conversation>(&mut self, talk: &mut C) -> Result<(), LiveFault>
-        requires { (now : C) → IsCommitted C.Conversation talk.old now (text_of self.old.entries)
+        requires lines { (kept : List Entry) × HasEntryLines (text_of self.old.entries) kept }
+        requires writes { (now : C) → IsCommitted C.Conversation talk.old now (text_of self.old.entries)
             → C.MayWrite now (text_of self.old.answers) }
         ensures { Gives C.Conversation talk.old talk.new self.old self.new result }
     {

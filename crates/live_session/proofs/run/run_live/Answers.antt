@@ -45,8 +45,13 @@ returns-in_default-end g c =
     r.commits
     (omega (arith, take-short c.in-Ok-read.count c.read.new.buffer, r.count)))
 
-pub give-requires : goal.give-requires
-give-requires g c =
+pub give-requires-clause-lines : goal.give-requires-clause-lines
+give-requires-clause-lines g c =
+    let (heard, ready) = c.turns.invariant in
+    let gathers = c.in-Ok-end.ensures _ _ _ _ _ ready.all in (gathers.kept, gathers.lines)
+
+pub give-requires-clause-writes : goal.give-requires-clause-writes
+give-requires-clause-writes g c =
     let (heard, ready) = c.turns.invariant in
     let r = c.in-Ok-read.ensures in
     let bytes = take c.in-Ok-read.count c.read.new.buffer in
@@ -134,8 +139,15 @@ returns-in_default-hear g c =
     r.commits
     (omega (arith, take-short c.in-Ok-read.count c.read.new.buffer, r.count)))
 
-pub give-requires-in-turns : goal.give-requires-in-turns
-give-requires-in-turns g c =
+pub give-requires-in-turns-clause-lines : goal.give-requires-in-turns-clause-lines
+give-requires-in-turns-clause-lines g c =
+    let (heard, ready) = c.turns.invariant in
+    let bytes = take c.in-Ok-read.count c.read.new.buffer in
+    let all = heard-more _ _ _ heard bytes _ _ (c.in-Ok-hear.ensures _ _ _ _ _ (all-heard _ _ _ _ _ _ ready.all)) in
+    (all.gathers.kept, all.gathers.lines)
+
+pub give-requires-in-turns-clause-writes : goal.give-requires-in-turns-clause-writes
+give-requires-in-turns-clause-writes g c =
     let (heard, ready) = c.turns.invariant in
     let r = c.in-Ok-read.ensures in
     let bytes = take c.in-Ok-read.count c.read.new.buffer in

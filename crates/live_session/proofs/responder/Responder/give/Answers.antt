@@ -4,6 +4,13 @@ use Rattle.std.proofs.Common.{◌≡◌, ◌∙◌}
 use Rattle.printed_lines.specs.KeptText.{text_of}
 use Rattle.live_session.proofs.responder.Responder.give.Goals as goal
 
+pub commit-requires : goal.commit-requires
+commit-requires g c =
+    let (kept, lines) = c.requires.lines in
+    let entries : c.as_slice.result.now ≡ text_of c.args.self.now.entries =
+    c.as_slice.ensures.value ∙ c.in-Ok.ensures.entries in
+    (kept, (entries ∙ lines.0, lines.1))
+
 pub returns-in_default-write : goal.returns-in_default-write
 returns-in_default-write g c =
     let k = c.in-Ok-commit.ensures in
