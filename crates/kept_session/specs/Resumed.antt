@@ -1,8 +1,7 @@
 -- A session that goes on with a journal's file.
-use Rattle.std.specs.Prelude.{◌≡◌, ◌≢◌, ◌-◌, [], unwrap_or, Result, Ok, Err}
+use Rattle.std.specs.Prelude.{◌≡◌, ◌≢◌, ◌⊎◌, ◌-◌, [], unwrap_or, Result, Ok, Err}
 use Rattle.csv.specs.Records.{field_at}
 use Rattle.auction_terms.specs.Auxiliary.RunningAuction.{RunningAuction, opened_auction}
-use Rattle.order_file.specs.File.{FailsAsWanted}
 use Rattle.order_file.specs.declared.fault.FileFault.{FileFault}
 use Rattle.order_file.specs.declared.fault.FileFault.TheVariants.{NoMemory}
 use Rattle.journal.specs.JournalFile.{RecordedDay}
@@ -22,13 +21,10 @@ IsResumedAfter day j (Err (Unlawful entry recorded)) = (j.day ≡ day)
     × (recorded.items ≡ unwrap_or (field_at j.texts (entry.number - 1)) [])
 IsResumedAfter day j (Err (File f)) = f ≡ NoMemory
 
-abbrev fails : FileFault → Result RecordedDay FileFault
-fails f = Err f
-
 -- with what lines say as a journal
 abbrev pub IsResumedFrom : DayHeader → Result RecordedDay FileFault → Result RunningAuction ResumeFault → Type 0
 IsResumedFrom day (Ok j) result = IsResumedAfter day j result
-IsResumedFrom day (Err f) (Err (File g)) = FailsAsWanted g (fails f)
+IsResumedFrom day (Err f) (Err (File g)) = (g ≡ f) ⊎ (g ≡ NoMemory)
 IsResumedFrom day (Err f) (Err (AnotherDay other)) = ⊥
 IsResumedFrom day (Err f) (Err (Unlawful entry recorded)) = ⊥
 IsResumedFrom day (Err f) (Ok auction) = ⊥
