@@ -1,31 +1,90 @@
--- A commit that wasn't tried.
-use Rattle.std.proofs.Common.{◌≡◌, ℕ, Bool, false, List, [], ◌∷◌, refl, sym, ap, arith, ◌∙◌}
-use Rattle.std.proofs.lemmas.List.{append-nil}
+-- A commit.
+use Rattle.std.proofs.Common.{◌≡◌, ◌≤◌, ◌<◌, ◌+◌, ◌^◌, ◌++◌, ℕ, Bool}
+use Rattle.std.proofs.Common.{true, false, List, [], ◌∷◌, length, inl, inr, refl}
+use Rattle.std.proofs.Common.{Result, Err, ap, arith}
+use Rattle.auction_terms.specs.declared.Entry.{Entry}
+use Rattle.journal.specs.KeptLines.{HasEntryLines}
 use Rattle.journal_file.specs.Committed.{IsBegun, committed}
+use Rattle.journal_file.specs.Device.{LeavesOnly}
 use Rattle.journal_file.specs.Events.{Event, failures_of}
-use Rattle.journal_file.specs.Settled.{IsSettled}
+use Rattle.journal_file.specs.declared.device.DeviceError.{DeviceError}
+use Rattle.journal_file.specs.declared.device.DeviceError.TheVariants as device_error
 use Rattle.journal_file.specs.declared.journal.CommittedLines.{CommittedLines}
-use Rattle.journal_file.proofs.Moments.{started}
-use Rattle.kept_session.specs.Kept.{IsLater, text_tried}
+use Rattle.journal_file.proofs.LineTexts.{committed-lines}
+use Rattle.kept_session.specs.Kept.{IsCauseOfFailure, IsLater, text_tried}
+use Rattle.kept_session.proofs.PrintableLineLaws.{calls-text, each-in-line, insides}
 
-pub refused : {D : Type 0} (seen : D → List ℕ) (may_leave : D → List ℕ → Type 0) (moment : D → ℕ)
-    (left_since : D → ℕ → List ℕ → Type 0) → ((d : D) (c : List ℕ) → left_since d (moment d) c → may_leave d c)
-    → (journal : CommittedLines D) (before after : List Event) (is_broken : Bool)
-    → (is_broken ≡ false → IsSettled seen may_leave journal) → after ≡ (0, 0, false, []) ∷ before
-    → IsLater seen moment left_since journal journal before after is_broken is_broken
-refused seen may_leave moment left_since only_now journal before after is_broken steady note = record {
-  more = [];
-  whole = refl;
-  text = ap text_tried note;
-  leaves =
-      λ well. started moment left_since journal.device (IsBegun (committed (seen journal.device)) [])
-      (λ c left. (
-        0,
-        ap committed ((steady well).durable c (only_now journal.device c left))
-            ∙ sym (append-nil (committed (seen journal.device))),
-      ));
-  all = λ well. sym (append-nil (committed (seen journal.device)));
-  stays = λ broken. (broken, refl, refl);
-  later = omega (arith, ap failures_of note);
-  failed = λ well broken. absurd (cc (well, broken));
-}
+-- the lines of entries are whole
+pub entry-lines-whole : (text : List ℕ) → ((kept : List Entry) × HasEntryLines text kept) → committed text ≡ text
+entry-lines-whole text (kept, lines) =
+    rw (lines.0, calls-text 0 kept) (committed-lines (insides kept) (each-in-line kept lines.1))
+
+abbrev pub as-failure : DeviceError → Result (Unit {0}) DeviceError
+as-failure error = Err error
+
+module _ {D : Type 0} (seen : D → List ℕ) (moment : D → ℕ) (left_since : D → ℕ → List ℕ → Type 0) (faults : D → ℕ)
+  where
+    -- it isn't tried after one that failed
+    pub refused : (journal : CommittedLines D) (before after : List Event) (is_broken : Bool) → is_broken ≡ true
+        → after ≡ (0, 0, false, []) ∷ before
+        → IsLater seen moment left_since faults journal journal before after is_broken is_broken
+    refused journal before after is_broken broken note = record {
+      more = [];
+      whole = refl;
+      text = ap text_tried note;
+      leaves = λ well. absurd (cc (broken, well));
+      all = λ well. absurd (cc (broken, well));
+      stays = λ is. (is, refl, refl);
+      later = omega (arith, ap failures_of note);
+      failed = λ well is. absurd (cc (broken, well));
+      well = λ well. absurd (cc (broken, well));
+      risen = omega arith;
+      cause = λ well is. absurd (cc (broken, well));
+    }
+
+    module _ (old new : CommittedLines D) (before after : List Event) (was_broken : Bool) (lines : List ℕ)
+        (was_well : was_broken ≡ false) (whole : committed lines ≡ lines)
+        (leaves : LeavesOnly moment left_since old.device new.device (IsBegun (committed (seen old.device)) lines))
+        (risen : faults old.device ≤ faults new.device) where
+      pub made : after ≡ (0, 0, true, lines) ∷ before
+          → committed (seen new.device) ≡ committed (seen old.device) ++ lines
+          → IsLater seen moment left_since faults old new before after was_broken false
+      made note all = record {
+        more = lines;
+        whole = whole;
+        text = ap text_tried note;
+        leaves = λ well. leaves;
+        all = λ well. all;
+        stays = λ broken. absurd (cc (was_well, broken));
+        later = omega (arith, ap failures_of note);
+        failed = λ well broken. absurd (cc broken);
+        well = λ well. ap failures_of note;
+        risen = risen;
+        cause = λ well broken. absurd (cc broken);
+      }
+
+      pub failed : after ≡ (0, 0, false, lines) ∷ before
+          → IsCauseOfFailure seen faults old.device new.device lines
+          → IsLater seen moment left_since faults old new before after was_broken true
+      failed note cause = record {
+        more = lines;
+        whole = whole;
+        text = ap text_tried note;
+        leaves = λ well. leaves;
+        all = λ well. absurd (cc well);
+        stays = λ broken. absurd (cc (was_well, broken));
+        later = omega (arith, ap failures_of note);
+        failed = λ well broken. omega (arith, ap failures_of note);
+        well = λ well. absurd (cc well);
+        risen = risen;
+        cause = λ well broken. cause;
+      }
+
+    -- by the device's error
+    pub cause-of : (old new : CommittedLines D) (lines : List ℕ) (error : DeviceError)
+        → old.end ≡ length (committed (seen old.device))
+        → (as-failure error ≡ as-failure device_error.Failed → faults old.device < faults new.device)
+        → (as-failure error ≡ as-failure device_error.Full → 2 ^ 60 < old.end + length lines)
+        → IsCauseOfFailure seen faults old.device new.device lines
+    cause-of old new lines device_error.Failed end failed full = inl (failed refl)
+    cause-of old new lines device_error.Full end failed full = inr (omega (arith, end, full refl))

@@ -7,11 +7,11 @@ use Rattle.journal_file.specs.Committed.{committed}
 use Rattle.journal_file.specs.declared.journal.CommittedLines.{CommittedLines}
 use Rattle.journal_file.proofs.Chain.{chain}
 use Rattle.journal_file.proofs.Lines.{committed-twice}
-use Rattle.kept_session.specs.Begun.{AddsLines, HasBegun}
-use Rattle.kept_session.specs.KeptPromises.{LeavesFromOpening, opening_lines}
+use Rattle.kept_session.specs.Begun.{AddsLines, HasBegun, opening_lines}
+use Rattle.kept_session.specs.KeptPromises.{LeavesFromOpening}
 
 module _ {D : Type 0} (seen : D → List ℕ) (may_leave : D → List ℕ → Type 0) (moment : D → ℕ)
-    (left_since : D → ℕ → List ℕ → Type 0) where
+    (left_since : D → ℕ → List ℕ → Type 0) (faults : D → ℕ) where
   adds : (day : DayHeader) (opened : D) (begun : CommittedLines D) (auction : RunningAuction)
       → HasBegun seen may_leave moment left_since day opened begun auction → (lines : List ℕ)
       → committed (seen opened) ≡ lines
@@ -28,7 +28,7 @@ module _ {D : Type 0} (seen : D → List ℕ) (may_leave : D → List ℕ → Ty
       ap committed (sym all) ∙ committed-twice (seen new) ∙ all
   whole day opened new (b ∷ bs) is h = refl
 
-  pub from-opening : LeavesFromOpening seen may_leave moment left_since
+  pub from-opening : LeavesFromOpening seen may_leave moment left_since faults
   from-opening day opened begun ended auction terms first last result h ran =
       let lines = committed (seen opened) in
       let added = adds day opened begun auction h lines refl in

@@ -1,7 +1,6 @@
 -- Journals that are kept: whole lines, of which the first are left, and with which a session goes on.
-use Rattle.std.proofs.Common.{◌≡◌, ◌<◌, ◌+◌, ◌++◌, ◌∷◌, ◌∙◌, [], ℕ, List, Bool, Some, true, false, Ok, refl, sym}
+use Rattle.std.proofs.Common.{◌≡◌, ◌+◌, ◌++◌, ◌∷◌, ◌∙◌, [], ℕ, List, Bool, Some, true, false, Ok, refl, sym}
 use Rattle.std.proofs.Common.{ap, append_assoc, arith, map, take, length, nat_lt, length-append}
-use Rattle.std.specs.Prelude.{◌^◌}
 use Rattle.std.proofs.lemmas.Slice.Eq.{bytes_eq-Decides}
 use Rattle.csv.specs.Records.{field_at}
 use Rattle.auction_terms.specs.declared.Call.{Call}
@@ -12,7 +11,6 @@ use Rattle.auction_terms.specs.Auxiliary.RunningAuction.{opened_auction}
 use Rattle.auction_terms.specs.Day.{call_of, calls_of, opening_state, replies_from, state_after, step}
 use Rattle.order_file.specs.File.{within_limit}
 use Rattle.printed_lines.specs.ReplyWords.{reply_text}
-use Rattle.journal.specs.DayRecord.{FitsDay}
 use Rattle.journal.specs.EntryRecord.{call_part, reply_part}
 use Rattle.journal.specs.JournalFile.{RecordedDay, journal, journal_of, recorded_day}
 use Rattle.journal.specs.JournalText.{journal_text, recorded_call_by}
@@ -25,13 +23,11 @@ use Rattle.journal_file.specs.Committed.{committed, text_of}
 use Rattle.journal_file.proofs.LineTexts.{committed-lines, first_lines}
 use Rattle.kept_session.specs.KeptPromises.{AreWholeLines, LawfulIsGoneOnWith, LeavesFirstEntries}
 use Rattle.kept_session.specs.Replayed.{replayed}
-use Rattle.kept_session.proofs.PrintableLineLaws.{day-in-line, day_inside, first-insides, in-lines, insides, calls-text}
+use Rattle.kept_session.proofs.PrintableLineLaws.{calls-text, day-in-line, day_inside, each-in-line, first-insides}
+use Rattle.kept_session.proofs.PrintableLineLaws.{in-lines, insides}
 use Rattle.kept_session.proofs.PrintableLineLaws.{first-and-more, insides-both, day-text}
 
 -- ---- whole lines
-
-few-members : (day : DayHeader) → FitsDay day → day.members < 2 ^ 32
-few-members day fits = omega (arith, fits.members)
 
 -- a journal as the text of its lines
 as-lines : (day : DayHeader) (entries : List Entry)
@@ -45,8 +41,13 @@ as-lines day entries =
 pub are-whole : AreWholeLines
 are-whole day entries fits h =
     rw (as-lines day entries) (committed-lines (day_inside day ∷ insides entries)
-    (first-and-more (day_inside day) (insides entries) (day-in-line day fits)
-    (in-lines day.members (few-members day fits) entries h)))
+    (first-and-more (day_inside day) (insides entries) (day-in-line day) (in-lines day.members entries h)))
+
+-- one that begins
+pub day-whole : (day : DayHeader) (text : List ℕ) → text ≡ journal_text day [] → committed text ≡ text
+day-whole day text is =
+    rw (is, as-lines day []) (committed-lines (day_inside day ∷ insides [])
+    (first-and-more (day_inside day) (insides []) (day-in-line day) (each-in-line [] tt)))
 
 -- ---- the first of them
 
@@ -62,7 +63,7 @@ journal-both day before more =
 
 pub leaves-first : LeavesFirstEntries
 leaves-first day before entries file fits h begun =
-    let lines = first_lines (insides entries) (in-lines day.members (few-members day fits) entries h) begun.0 in (
+    let lines = first_lines (insides entries) (in-lines day.members entries h) begun.0 in (
       lines.0,
       begun.1 ∙ ap (λ (t : List ℕ). journal_text day before ++ committed (take begun.0 t)) (calls-text 0 entries)
           ∙ ap (λ (t : List ℕ). journal_text day before ++ t)

@@ -1,5 +1,5 @@
 -- A session whose entries are kept, from what any session does.
-use Rattle.std.proofs.Common.{◌≡◌, inl, inr, ℕ, Bool, false, List, [], ◌++◌, Option, Result, Ok, Err}
+use Rattle.std.proofs.Common.{◌≡◌, ◌<◌, inl, inr, ℕ, Bool, false, List, [], ◌++◌, Option, Result, Ok, Err}
 use Rattle.std.proofs.Common.{refl, sym, ap, ap₂, subst, arith, ◌∙◌}
 use Rattle.std.proofs.lemmas.List.{append-nil}
 use Rattle.auction_terms.specs.Auxiliary.RunningAuction.{RunningAuction}
@@ -19,7 +19,7 @@ use Rattle.live_session.specs.declared.fault.Ending.{Ending}
 use Rattle.live_session.specs.declared.fault.LiveFault.{LiveFault}
 use Rattle.live_session.specs.declared.fault.LiveFault.TheVariants as fault
 use Rattle.live_session.specs.declared.terms.SessionTerms.{SessionTerms}
-use Rattle.kept_session.specs.Kept.{IsSameOrLater, text_tried}
+use Rattle.kept_session.specs.Kept.{IsCauseOfFailure, IsSameOrLater, text_tried}
 use Rattle.kept_session.specs.KeptRun.{KeptEnds, RunsKept, ends_at, kept_ends}
 
 -- the device stays the one that it was
@@ -89,10 +89,10 @@ module _ {C : Type 0} (c : Ghosts C) where
 -- ---- the journal
 
 module _ {D : Type 0} (seen : D → List ℕ) (may_leave : D → List ℕ → Type 0) (moment : D → ℕ)
-    (left_since : D → ℕ → List ℕ → Type 0) (old new : CommittedLines D) (before after : List Event)
+    (left_since : D → ℕ → List ℕ → Type 0) (faults : D → ℕ) (old new : CommittedLines D) (before after : List Event)
     (is_broken : Bool) where
   -- no commit has failed
-  pub still-well : IsSameOrLater seen moment left_since old new before after false is_broken
+  pub still-well : IsSameOrLater seen moment left_since faults old new before after false is_broken
       → failures_of after ≡ failures_of before → is_broken ≡ false
   still-well (inl same) none = same.broken
   still-well (inr later) none = elim (bool_cases is_broken) [
@@ -101,7 +101,7 @@ module _ {D : Type 0} (seen : D → List ℕ) (may_leave : D → List ℕ → Ty
   ]
 
   pub leaves : ((d : D) (c : List ℕ) → left_since d (moment d) c → may_leave d c) → IsSettled seen may_leave old
-      → before ≡ [] → IsSameOrLater seen moment left_since old new before after false is_broken
+      → before ≡ [] → IsSameOrLater seen moment left_since faults old new before after false is_broken
       → LeavesOnly moment left_since old.device new.device (IsBegun (committed (seen old.device)) (text_tried after))
   leaves only_now settled none (inl same) =
       rw (same.journal, same.calls, none) (started moment left_since old.device
@@ -113,23 +113,34 @@ module _ {D : Type 0} (seen : D → List ℕ) (may_leave : D → List ℕ → Ty
   leaves only_now settled none (inr later) =
       rw (later.text, none) (later.leaves refl)
 
-  pub all-kept : before ≡ [] → IsSameOrLater seen moment left_since old new before after false is_broken
+  pub all-kept : before ≡ [] → IsSameOrLater seen moment left_since faults old new before after false is_broken
       → is_broken ≡ false → committed (seen new.device) ≡ committed (seen old.device) ++ text_tried after
   all-kept none (inl same) well =
       rw (same.journal, same.calls, none) (sym (append-nil (committed (seen old.device))))
   all-kept none (inr later) well = rw (later.text, none) (later.all well)
 
+  -- one has
+  pub caused : before ≡ [] → IsSameOrLater seen moment left_since faults old new before after false is_broken
+      → 0 < failures_of after → IsCauseOfFailure seen faults old.device new.device (text_tried after)
+  caused none (inl same) some = absurd (omega (arith, ap failures_of same.calls, ap failures_of none, some))
+  caused none (inr later) some = elim (bool_cases is_broken) [
+    | inl broken ↦ rw (later.text, none) (later.cause refl broken)
+    | inr well ↦ absurd (omega (arith, later.well well, ap failures_of none, some))
+  ]
+
 runs-kept : {C D : Type 0} (c : Ghosts C) (seen : D → List ℕ) (may_leave : D → List ℕ → Type 0) (moment : D → ℕ)
-    (left_since : D → ℕ → List ℕ → Type 0) → ((d : D) (f : List ℕ) → left_since d (moment d) f → may_leave d f)
+    (left_since : D → ℕ → List ℕ → Type 0) (faults : D → ℕ)
+    → ((d : D) (f : List ℕ) → left_since d (moment d) f → may_leave d f)
     → (terms : SessionTerms) (start : RunningAuction) (talk last : C) (result : Result Ending LiveFault)
     → (old new : CommittedLines D) (before after : List Event) (is_broken : Bool) (begun ended : List ℕ → ℕ → KeptEnds)
     → IsSettled seen may_leave old → before ≡ []
     → EndsSession c terms start talk last result
-    → IsSameOrLater seen moment left_since old new before after false is_broken
+    → IsSameOrLater seen moment left_since faults old new before after false is_broken
     → (is_broken ≡ false → IsSettled seen may_leave new)
     → seen_as c talk ≡ begun [] 0 → seen_as c last ≡ ended (text_tried after) (failures_of after)
-    → RunsKept seen may_leave moment left_since terms start old new begun ended result
-runs-kept c seen may_leave moment left_since only_now terms start talk last result old new before after is_broken begun
+    → RunsKept seen may_leave moment left_since faults terms start old new begun ended result
+runs-kept c seen may_leave moment left_since faults only_now terms start talk last result old new before after is_broken
+    begun
     ended settled none ran later steady first at_last = record {
       entries = text_tried after;
       failures = failures_of after;
@@ -138,13 +149,15 @@ runs-kept c seen may_leave moment left_since only_now terms start talk last resu
           result) first
           (subst (λ (e : KeptEnds). EndsSession kept_ends terms start (seen_as c talk) e result) at_last
           (as-ends c terms start talk last result ran));
-      leaves = leaves seen may_leave moment left_since old new before after is_broken only_now settled none later;
+      leaves =
+          leaves seen may_leave moment left_since faults old new before after is_broken only_now settled none later;
+      failed = caused seen may_leave moment left_since faults old new before after is_broken none later;
       all =
           λ zero_failures. let well : is_broken ≡ false =
-          still-well seen may_leave moment left_since old new before after is_broken later
+          still-well seen may_leave moment left_since faults old new before after is_broken later
           (zero_failures ∙ sym (ap failures_of none)) in (
             steady well,
-            all-kept seen may_leave moment left_since old new before after is_broken none later well,
+            all-kept seen may_leave moment left_since faults old new before after is_broken none later well,
           );
     }
 
@@ -155,7 +168,7 @@ module _ {R O : Type 0} (reads : source.Ghosts R) (writes : sink.Ghosts O) where
       ends_at (reads.left input) (writes.written output) (reads.failures input) (writes.failures output)
 
 pub kept-by : {C D R O : Type 0} (c : Ghosts C) (seen : D → List ℕ) (may_leave : D → List ℕ → Type 0)
-    (moment : D → ℕ) (left_since : D → ℕ → List ℕ → Type 0)
+    (moment : D → ℕ) (left_since : D → ℕ → List ℕ → Type 0) (faults : D → ℕ)
     → ((d : D) (f : List ℕ) → left_since d (moment d) f → may_leave d f)
     → (terms : SessionTerms) (start : RunningAuction) (talk last : C) (result : Result Ending LiveFault)
     → (old new first_journal last_journal : CommittedLines D) (before after : List Event) (was_broken is_broken : Bool)
@@ -163,23 +176,24 @@ pub kept-by : {C D R O : Type 0} (c : Ghosts C) (seen : D → List ℕ) (may_lea
     (output new_output last_output : O)
     → IsSettled seen may_leave old → before ≡ [] → was_broken ≡ false → first_journal ≡ old → new ≡ last_journal
     → EndsSession c terms start talk last result
-    → IsSameOrLater seen moment left_since first_journal last_journal before after was_broken is_broken
+    → IsSameOrLater seen moment left_since faults first_journal last_journal before after was_broken is_broken
     → (is_broken ≡ false → IsSettled seen may_leave last_journal)
     → seen_as c talk ≡ ends_of_both reads writes input output [] 0
     → seen_as c last ≡ ends_of_both reads writes last_input last_output (text_tried after) (failures_of after)
     → new_input ≡ last_input → new_output ≡ last_output
-    → RunsKept seen may_leave moment left_since terms start old new (ends_of_both reads writes input output)
+    → RunsKept seen may_leave moment left_since faults terms start old new (ends_of_both reads writes input output)
     (ends_of_both reads writes new_input new_output) result
-kept-by {D = D} {R = R} {O = O} c seen may_leave moment left_since only_now terms start talk last result old new
+kept-by {D = D} {R = R} {O = O} c seen may_leave moment left_since faults only_now terms start talk last result old new
     first_journal last_journal before after was_broken is_broken reads writes input new_input last_input output
     new_output last_output settled none well first_is new_is ran later steady first at_last input_is output_is =
-    runs-kept c seen may_leave moment left_since only_now terms start talk last result old new before after is_broken
+    runs-kept c seen may_leave moment left_since faults only_now terms start talk last result old new before after
+    is_broken
     (ends_of_both reads writes input output) (ends_of_both reads writes new_input new_output) settled none ran
-    (subst (λ (b : Bool). IsSameOrLater seen moment left_since old new before after b is_broken) well
+    (subst (λ (b : Bool). IsSameOrLater seen moment left_since faults old new before after b is_broken) well
     (subst (λ (j : CommittedLines D).
-    IsSameOrLater seen moment left_since j new before after was_broken is_broken) first_is
+    IsSameOrLater seen moment left_since faults j new before after was_broken is_broken) first_is
     (subst (λ (j : CommittedLines D).
-    IsSameOrLater seen moment left_since first_journal j before after was_broken is_broken)
+    IsSameOrLater seen moment left_since faults first_journal j before after was_broken is_broken)
     (sym new_is) later)))
     (λ is_well. subst (λ (j : CommittedLines D). IsSettled seen may_leave j) (sym new_is) (steady is_well))
     first
@@ -188,10 +202,11 @@ kept-by {D = D} {R = R} {O = O} c seen may_leave moment left_since only_now term
 
 -- the journal is settled after a session that no commit has broken off
 module _ {D : Type 0} (seen : D → List ℕ) (may_leave : D → List ℕ → Type 0) (moment : D → ℕ)
-    (left_since : D → ℕ → List ℕ → Type 0) (terms : SessionTerms) (start : RunningAuction) (old new : CommittedLines D)
-    (left left_at_last written written_at_last : Option (List ℕ)) (reads reads_at_last writes writes_at_last : ℕ) where
+    (left_since : D → ℕ → List ℕ → Type 0) (faults : D → ℕ) (terms : SessionTerms) (start : RunningAuction)
+    (old new : CommittedLines D) (left left_at_last written written_at_last : Option (List ℕ))
+    (reads reads_at_last writes writes_at_last : ℕ) where
   pub settled-after : (result : Result Ending LiveFault)
-      → RunsKept seen may_leave moment left_since terms start old new (ends_at left written reads writes)
+      → RunsKept seen may_leave moment left_since faults terms start old new (ends_at left written reads writes)
       (ends_at left_at_last written_at_last reads_at_last writes_at_last) result
       → (result ≡ Err fault.CommitFailed → ⊥) → IsSettled seen may_leave new
   settled-after (Ok ending) ran other = (ran.all ran.session.answered.commits).0

@@ -1,9 +1,10 @@
 -- The lines of a journal have no NUL in them, and no line end but their own.
-use Rattle.std.proofs.Common.{◌≡◌, ◌≤◌, ◌<◌, ◌+◌, ◌++◌, ◌∷◌, [], ℕ, zero, suc, List, Some, None, true}
-use Rattle.std.proofs.Common.{refl, sym, ap, append_assoc, arith, map, nat_le, rules, take, All, decimal}
-use Rattle.std.specs.Prelude.{◌^◌, Option, IfSome, codes}
+use Rattle.std.proofs.Common.{◌≡◌, ◌≤◌, ◌<◌, ◌+◌, ◌/◌, ◌%◌, ◌++◌, ◌∷◌, ◌∙◌}
+use Rattle.std.proofs.Common.{[], ℕ, zero, suc, List, Bool, Some, None, true}
+use Rattle.std.proofs.Common.{false, refl, sym, ap, append_assoc, arith, map, nat_le, nat_lt, rules, take, All, decimal}
+use Rattle.std.specs.Prelude.{◌==◌, Option, codes}
+use Rattle.std.specs.Fmt.{digit_glyph, digits, digits_onto}
 use Rattle.std.specs.List.{list_all, AllByRecursion}
-use Rattle.std.specs.Char.{is_ascii_digit}
 use Rattle.std.proofs.lemmas.List.Folds.{list_all-append}
 use Rattle.auction_terms.specs.declared.Command.{Command}
 use Rattle.auction_terms.specs.declared.Command.TheVariants.{Enter, Change, Delete, OrderStatus, Indicate, ReadTrade}
@@ -14,20 +15,16 @@ use Rattle.auction_terms.specs.declared.Limit.TheVariants.{Market, At}
 use Rattle.auction_terms.specs.declared.Restriction.{Restriction}
 use Rattle.auction_terms.specs.declared.Restriction.TheVariants.{Unrestricted, OpeningOnly, ClosingOnly}
 use Rattle.auction_terms.specs.declared.Side.{Side}
-use Rattle.auction_terms.specs.declared.limits.TheConstants.{MAX_TICK}
 use Rattle.auction_terms.specs.declared.Side.TheVariants.{Bid, Ask}
 use Rattle.printed_lines.specs.ReplyWords.{reply_text}
-use Rattle.journal.specs.CallFields.{FitsRecord, HasShortTick, FitsU32, command_fields, enter_ending, limit_field}
-use Rattle.journal.specs.CallFields.{number_field, side_field}
-use Rattle.journal.specs.DayRecord.{FitsDay}
+use Rattle.journal.specs.CallFields.{command_fields, enter_ending, limit_field, number_field, side_field}
 use Rattle.journal.specs.EntryRecord.{is_printable}
 use Rattle.journal.specs.JournalPromises.{FitsJournal}
+use Rattle.journal.specs.WideReplies.{AreWide, IsWideReply}
 use Rattle.journal.specs.PrintedJournal.{call_line, call_lines, comma_fields, day_line, sizes_text, ticks_text}
 use Rattle.journal.specs.declared.day.DayHeader.{DayHeader}
-use Rattle.journal.proofs.CallFieldLaws.{decimal-all_digits, digit-range}
 use Rattle.journal.proofs.RecordLineLaws.{and-left, and-right}
 use Rattle.journal.proofs.ReplyTextLaws.{reply-printable}
-use Rattle.journal.proofs.SpacedWordLaws.{all-pass}
 use Rattle.journal_file.specs.Committed.{IsInLine, text_of}
 
 abbrev IsPrintable : List ℕ → Type 0
@@ -36,20 +33,41 @@ IsPrintable text = list_all is_printable text ≡ true
 both : (xs ys : List ℕ) → IsPrintable xs → IsPrintable ys → IsPrintable (xs ++ ys)
 both xs ys h k = rw (list_all-append is_printable xs ys, h, k) refl
 
-digit-printable : (d : ℕ) → is_ascii_digit d ≡ true → is_printable d ≡ true
-digit-printable d h =
-    let r = digit-range d h in
-    let above : 32 ≤ d = omega (arith, r.0) in
-    let below : d ≤ 126 = omega (arith, r.1) in
+digit-printable : (d : ℕ) → 48 ≤ d → d ≤ 57 → is_printable d ≡ true
+digit-printable d least most =
+    let above : 32 ≤ d = omega (arith, least) in
+    let below : d ≤ 126 = omega (arith, most) in
     let low : nat_le 32 d ≡ true = search rules in
     let high : nat_le d 126 ≡ true = search rules in
     rw (low, high) refl
 
-number : (n : ℕ) → n < 2 ^ 64 → IsPrintable (decimal n)
-number n h = all-pass is_ascii_digit is_printable digit-printable (decimal n) (decimal-all_digits n h)
+glyph-is : (d : ℕ) → d < 10 → digit_glyph false d ≡ 48 + d
+glyph-is d h = let digit : nat_lt d 10 ≡ true = search rules in rw digit refl
 
-short : (n : ℕ) → FitsU32 n → IsPrintable (decimal n)
-short n h = number n (omega (arith, h))
+first-and-behind : (b : ℕ) (bs : List ℕ) → is_printable b ≡ true → IsPrintable bs → IsPrintable (b ∷ bs)
+first-and-behind b bs h k = rw (h, k) refl
+
+one-more : (count n : ℕ) (behind : List ℕ) (is_last : Bool) → (n / 10 == 0) ≡ is_last
+    → IsPrintable (digit_glyph false (n % 10) ∷ behind)
+    → IsPrintable (digits_onto count 10 false (n / 10) (digit_glyph false (n % 10) ∷ behind))
+    → IsPrintable (digits_onto (suc count) 10 false n behind)
+one-more count n behind true is here more = rw is here
+one-more count n behind false is here more = rw is more
+
+digits-printable : (count n : ℕ) (behind : List ℕ) → IsPrintable behind
+    → IsPrintable (digits_onto count 10 false n behind)
+digits-printable zero n behind h = h
+digits-printable (suc count) n behind h =
+    let few : n % 10 < 10 = omega arith in
+    let glyph : is_printable (digit_glyph false (n % 10)) ≡ true =
+    ap is_printable (glyph-is (n % 10) few) ∙ digit-printable (48 + n % 10) (omega arith) (omega (arith, few)) in
+    let here = first-and-behind (digit_glyph false (n % 10)) behind glyph h in
+    one-more count n behind (n / 10 == 0) refl here
+    (digits-printable count (n / 10) (digit_glyph false (n % 10) ∷ behind) here)
+
+number : (n : ℕ) → IsPrintable (decimal n)
+unfolding digits
+number n = digits-printable 64 n [] refl
 
 after-comma : (xs : List ℕ) → IsPrintable xs → IsPrintable (44 ∷ xs)
 after-comma xs h = h
@@ -62,28 +80,28 @@ side : (s : Side) → IsPrintable (side_field s)
 side Bid = refl
 side Ask = refl
 
-limit : (l : Limit) → HasShortTick l → IsPrintable (limit_field l)
-limit Market h = refl
-limit (At tick) h = short tick h
+limit : (l : Limit) → IsPrintable (limit_field l)
+limit Market = refl
+limit (At tick) = number tick
 
-optional : (n : Option ℕ) → IfSome n FitsU32 → IsPrintable (number_field n)
-optional None h = refl
-optional (Some n) h = short n h
+optional : (n : Option ℕ) → IsPrintable (number_field n)
+optional None = refl
+optional (Some n) = number n
 
-ending : (r : Restriction) (peak : Option ℕ) → IfSome peak FitsU32 → AllByRecursion IsPrintable (enter_ending r peak)
-ending Unrestricted None h = tt
-ending Unrestricted (Some peak) h = (short peak h, tt)
-ending OpeningOnly peak h = (optional peak h, (refl, tt))
-ending ClosingOnly peak h = (optional peak h, (refl, tt))
+ending : (r : Restriction) (peak : Option ℕ) → AllByRecursion IsPrintable (enter_ending r peak)
+ending Unrestricted None = tt
+ending Unrestricted (Some peak) = (number peak, tt)
+ending OpeningOnly peak = (optional peak, (refl, tt))
+ending ClosingOnly peak = (optional peak, (refl, tt))
 
-command : (c : Command) → FitsRecord c → AllByRecursion IsPrintable (command_fields c)
-command (Enter s r l q p) h = (refl, (side s, (short q h.1, (limit l h.0, ending r p h.2))))
-command (Change id l q) h = (refl, (short id h.0, (short q h.2, (limit l h.1, tt))))
-command (Delete id) h = (refl, (short id h, tt))
-command (OrderStatus id) h = (refl, (short id h, tt))
-command Indicate h = (refl, tt)
-command (ReadTrade n) h = (refl, (short n h, tt))
-command Uncross h = (refl, tt)
+command : (c : Command) → AllByRecursion IsPrintable (command_fields c)
+command (Enter s r l q p) = (refl, (side s, (number q, (limit l, ending r p))))
+command (Change id l q) = (refl, (number id, (number q, (limit l, tt))))
+command (Delete id) = (refl, (number id, tt))
+command (OrderStatus id) = (refl, (number id, tt))
+command Indicate = (refl, tt)
+command (ReadTrade n) = (refl, (number n, tt))
+command Uncross = (refl, tt)
 
 -- ---- the lines without their ends
 
@@ -94,15 +112,14 @@ inside_call entry =
 inside_day : DayHeader → List ℕ
 inside_day day = codes "day" ++ (ticks_text day.config ++ sizes_text day)
 
-call-printable : (members : ℕ) → members < 2 ^ 32 → (entry : Entry) → FitsJournal members entry
-    → IsPrintable (inside_call entry)
+call-printable : (entry : Entry) → IsWideReply entry.reply → IsPrintable (inside_call entry)
 unfolding inside_call
-call-printable members few entry h =
+call-printable entry h =
     both (decimal entry.member) (comma_fields (command_fields entry.command) ++ (44 ∷ reply_text entry.reply))
-    (number entry.member (omega (arith, few, h.member)))
+    (number entry.member)
     (both (comma_fields (command_fields entry.command)) (44 ∷ reply_text entry.reply)
-    (fields (command_fields entry.command) (command entry.command h.command))
-    (after-comma (reply_text entry.reply) (reply-printable entry.reply h.reply)))
+    (fields (command_fields entry.command) (command entry.command))
+    (after-comma (reply_text entry.reply) (reply-printable entry.reply h)))
 
 line-of-call : (entry : Entry) → inside_call entry ++ 10 ∷ [] ≡ call_line entry
 unfolding inside_call
@@ -135,13 +152,19 @@ pub first-and-more : (line : List ℕ) (lines : List (List ℕ)) → IsInLine li
 first-and-more line lines h all zero d lt = h
 first-and-more line lines h all (suc k) d lt = all k d (omega (arith, lt))
 
-pub in-lines : (members : ℕ) → members < 2 ^ 32 → (entries : List Entry) → AllByRecursion (FitsJournal members) entries
-    → All IsInLine (insides entries)
+pub each-in-line : (entries : List Entry) → AreWide entries → All IsInLine (insides entries)
 unfolding insides
-in-lines members few [] h = λ k d lt. absurd (omega (arith, lt))
-in-lines members few (e ∷ es) h =
-    first-and-more (inside_call e) (insides es) (in-line (inside_call e) (call-printable members few e h.0))
-    (in-lines members few es h.1)
+each-in-line [] h = λ k d lt. absurd (omega (arith, lt))
+each-in-line (e ∷ es) h =
+    first-and-more (inside_call e) (insides es) (in-line (inside_call e) (call-printable e h.0)) (each-in-line es h.1)
+
+replies-wide : (members : ℕ) (entries : List Entry) → AllByRecursion (FitsJournal members) entries → AreWide entries
+replies-wide members [] h = tt
+replies-wide members (e ∷ es) h = (h.0.reply, replies-wide members es h.1)
+
+pub in-lines : (members : ℕ) (entries : List Entry) → AllByRecursion (FitsJournal members) entries
+    → All IsInLine (insides entries)
+in-lines members entries h = each-in-line entries (replies-wide members entries h)
 
 pub first-insides : (count : ℕ) (entries : List Entry) → take count (insides entries) ≡ insides (take count entries)
 unfolding insides
@@ -163,30 +186,26 @@ pub day-text : (day : DayHeader) → day_line day ≡ text_of (day_inside day �
 unfolding day_inside
 day-text day = sym (line-of-day day)
 
-pub day-in-line : (day : DayHeader) → FitsDay day → IsInLine (day_inside day)
+pub day-in-line : (day : DayHeader) → IsInLine (day_inside day)
 unfolding day_inside inside_day
-day-in-line day h = in-line (inside_day day) (both (codes "day") (ticks_text day.config ++ sizes_text day) refl
+day-in-line day = in-line (inside_day day) (both (codes "day") (ticks_text day.config ++ sizes_text day) refl
     (both (ticks_text day.config) (sizes_text day) ticks sizes))
   where
-    range : (r : Option ℕ) → IfSome r (λ n. n ≤ MAX_TICK) → IsPrintable (number_field r)
-    range None k = refl
-    range (Some n) k = number n (omega (arith, k))
-
     ticks : IsPrintable (ticks_text day.config)
     ticks =
         both (decimal day.config.low) (44 ∷ (decimal day.config.high ++ (44 ∷ decimal day.config.reference)))
-        (number _ (omega (arith, h.low)))
-        (both (decimal day.config.high) (44 ∷ decimal day.config.reference) (number _ (omega (arith, h.high)))
-        (number _ (omega (arith, h.reference))))
+        (number day.config.low)
+        (both (decimal day.config.high) (44 ∷ decimal day.config.reference) (number day.config.high)
+        (number day.config.reference))
 
     sizes : IsPrintable (sizes_text day)
     sizes =
         both (decimal day.members)
         (44 ∷ (decimal day.config.max_open ++ (44 ∷ (decimal day.config.max_calls
         ++ (44 ∷ number_field day.config.range)))))
-        (number _ (omega (arith, h.members)))
+        (number day.members)
         (both (decimal day.config.max_open)
         (44 ∷ (decimal day.config.max_calls ++ (44 ∷ number_field day.config.range)))
-        (number _ (omega (arith, h.max_open)))
+        (number day.config.max_open)
         (both (decimal day.config.max_calls) (44 ∷ number_field day.config.range)
-        (number _ (omega (arith, h.max_calls))) (range day.config.range h.range)))
+        (number day.config.max_calls) (optional day.config.range)))

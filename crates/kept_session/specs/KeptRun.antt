@@ -1,5 +1,5 @@
 -- What came of a session whose entries are kept.
-use Rattle.std.specs.Prelude.{◌≡◌, ℕ, List, [], ◌++◌, Option, Some, Result}
+use Rattle.std.specs.Prelude.{◌≡◌, ◌<◌, ℕ, List, [], ◌++◌, Option, Some, Result}
 use Rattle.auction_terms.specs.Auxiliary.RunningAuction.{RunningAuction}
 use Rattle.journal_file.specs.Committed.{IsBegun, committed}
 use Rattle.journal_file.specs.Device.{LeavesOnly}
@@ -10,6 +10,7 @@ use Rattle.live_session.specs.declared.conversation.Conversation.{Ghosts}
 use Rattle.live_session.specs.declared.fault.Ending.{Ending}
 use Rattle.live_session.specs.declared.fault.LiveFault.{LiveFault}
 use Rattle.live_session.specs.declared.terms.SessionTerms.{SessionTerms}
+use Rattle.kept_session.specs.Kept.{IsCauseOfFailure}
 
 -- What is known of the ends of a session: bytes that are left to read, the text that was written, the lines of entries
 -- that were to be committed, and how often each has failed.
@@ -45,13 +46,15 @@ ends_at left written reads writes entries commits = record {
 }
 
 -- It ran as any session does, and these lines of entries were to be committed. A crash at any moment of it leaves what
--- was committed before, and the first of them; and where no commit has failed, all of them are committed.
+-- was committed before, and the first of them; where no commit has failed, all of them are committed, and none fails but
+-- where the file does, or has no room.
 pub record RunsKept {D : Type 0} (seen : D → List ℕ) (may_leave : D → List ℕ → Type 0) (moment : D → ℕ)
-    (left_since : D → ℕ → List ℕ → Type 0) (terms : SessionTerms) (start : RunningAuction) (old new : CommittedLines D)
-    (begun ended : List ℕ → ℕ → KeptEnds) (result : Result Ending LiveFault) : Type 0 where
+    (left_since : D → ℕ → List ℕ → Type 0) (faults : D → ℕ) (terms : SessionTerms) (start : RunningAuction)
+    (old new : CommittedLines D) (begun ended : List ℕ → ℕ → KeptEnds) (result : Result Ending LiveFault) : Type 0 where
   pub entries : List ℕ
   pub failures : ℕ
   pub session : EndsSession kept_ends terms start (begun [] 0) (ended entries failures) result
   pub leaves : LeavesOnly moment left_since old.device new.device (IsBegun (committed (seen old.device)) entries)
+  pub failed : 0 < failures → IsCauseOfFailure seen faults old.device new.device entries
   pub all : failures ≡ 0
       → IsSettled seen may_leave new × (committed (seen new.device) ≡ committed (seen old.device) ++ entries)

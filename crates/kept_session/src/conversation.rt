@@ -4,7 +4,7 @@ ghost use Rattle.std.specs.Prelude.{◌≡◌, [], Bool, false};
 ghost use Rattle.journal_file.specs.Settled.{IsSettled};
 
 use byte_streams::{Sink, Source, SourceFailed, WriteFailed, write_all};
-use journal_file::{CommittedLines, Device, Record, is_whole};
+use journal_file::{CommittedLines, Device, Record};
 use live_session::{CommitFailed, Conversation};
 
 /// Which call is noted.
@@ -70,21 +70,21 @@ impl<R: Source, O: Sink, D: Device> Conversation for KeptConversation<'_, R, O, 
     ghost MayWrite = { λ c _. c.is_broken ≡ false };
 
     ghost Becomes = { λ a b. (b.input.ghost_name ≡ a.input.ghost_name) × (b.output.ghost_name ≡ a.output.ghost_name)
-        × (b.journal.ghost_name ≡ a.journal.ghost_name) × IsSameOrLater D.seen D.moment D.left_since a.journal.now
-        b.journal.now a.calls.events b.calls.events a.is_broken b.is_broken };
+        × (b.journal.ghost_name ≡ a.journal.ghost_name) × IsSameOrLater D.seen D.moment D.left_since D.faults
+        a.journal.now b.journal.now a.calls.events b.calls.events a.is_broken b.is_broken };
 
     ghost becomes_itself = { λ c. (
       refl,
       refl,
       refl,
-      same D.seen D.moment D.left_since c.journal.now c.calls.events c.is_broken,
+      same D.seen D.moment D.left_since D.faults c.journal.now c.calls.events c.is_broken,
     ) };
 
     ghost becomes_on = { λ a b c h k. (
       k.0 ∙ h.0,
       k.1 ∙ h.1,
       k.2 ∙ h.2,
-      on D.seen D.moment D.left_since a.journal.now b.journal.now c.journal.now
+      on D.seen D.moment D.left_since D.faults a.journal.now b.journal.now c.journal.now
           a.calls.events b.calls.events c.calls.events a.is_broken b.is_broken c.is_broken h.3 k.3,
     ) };
 
@@ -96,7 +96,7 @@ impl<R: Source, O: Sink, D: Device> Conversation for KeptConversation<'_, R, O, 
         if entries.is_empty() {
             return Ok(());
         }
-        if self.is_broken || !is_whole(entries) {
+        if self.is_broken {
             self.calls.note(&[COMMIT, 0, 0], &[]);
             return Err(CommitFailed);
         }
@@ -107,7 +107,7 @@ impl<R: Source, O: Sink, D: Device> Conversation for KeptConversation<'_, R, O, 
                 self.is_broken = false;
                 Ok(())
             }
-            Err(_) => {
+            Err(_error) => {
                 self.calls.note(&[COMMIT, 0, 0], entries);
                 Err(CommitFailed)
             }

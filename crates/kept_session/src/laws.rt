@@ -18,5 +18,5 @@ pub fn lawful_is_gone_on_with()
 
 /// From the opening of its file on, a session that has begun leaves what the file had, and the first of its entries.
 pub fn leaves_from_opening<D: Device>()
-    ensures { LeavesFromOpening D.seen D.may_leave D.moment D.left_since }
+    ensures { LeavesFromOpening D.seen D.may_leave D.moment D.left_since D.faults }
 {}

@@ -24,7 +24,7 @@ pub fn run_kept<R: Source, O: Sink, D: Device>(
     terms: SessionTerms,
 ) -> Result<Ending, LiveFault>
     requires { IsSettled D.seen D.may_leave journal.old }
-    ensures { RunsKept D.seen D.may_leave D.moment D.left_since terms auction journal.old journal.new
+    ensures { RunsKept D.seen D.may_leave D.moment D.left_since D.faults terms auction journal.old journal.new
         (ends_at (R.left input.old) (O.written output.old) (R.failures input.old) (O.failures output.old))
         (ends_at (R.left input.new) (O.written output.new) (R.failures input.new) (O.failures output.new)) result }
 {

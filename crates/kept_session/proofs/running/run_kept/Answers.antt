@@ -13,7 +13,8 @@ returns g c =
     let input = same.0 in
     let output = same.1 in
     let journal = same.2 in
-    kept-by _ g.D.Device.seen g.D.Device.may_leave g.D.Device.moment g.D.Device.left_since g.met.D.Device.only_now
+    kept-by _ g.D.Device.seen g.D.Device.may_leave g.D.Device.moment g.D.Device.left_since g.D.Device.faults
+    g.met.D.Device.only_now
     c.args.terms c.args.auction talk last c.run_live-ended.result c.args.journal.now _ talk.journal.now
     last.journal.now talk.calls.events last.calls.events talk.is_broken last.is_broken g.R.Source g.O.Sink
     c.args.input.now _ last.input.now c.args.output.now _ last.output.now c.requires made.calls made.broken

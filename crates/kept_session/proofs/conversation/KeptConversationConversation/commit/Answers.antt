@@ -2,8 +2,11 @@
 use Rattle.std.proofs.Common.{[], inr, refl, ap}
 use Rattle.std.proofs.lemmas.List.{append-nil}
 use Rattle.kept_session.specs.Kept.{text_tried}
-use Rattle.kept_session.proofs.CommitLaws.{refused}
+use Rattle.kept_session.proofs.CommitLaws.{cause-of, entry-lines-whole, failed, made, refused}
 use Rattle.kept_session.proofs.conversation.KeptConversationConversation.commit.Goals as goal
+
+pub commit-requires-clause-whole : goal.commit-requires-clause-whole
+commit-requires-clause-whole g c = entry-lines-whole c.args.entries.now c.requires
 
 pub returns-then-self-clause-same : goal.returns-then-self-clause-same
 returns-then-self-clause-same g c =
@@ -11,8 +14,34 @@ returns-then-self-clause-same g c =
       refl,
       refl,
       refl,
-      inr (refused g.D.Device.seen g.D.Device.may_leave g.D.Device.moment g.D.Device.left_since g.met.D.Device.only_now
-          s.journal.now s.calls.events c.note.new.self.events s.is_broken s.steady c.note.ensures),
+      inr (refused g.D.Device.seen g.D.Device.moment g.D.Device.left_since g.D.Device.faults s.journal.now
+          s.calls.events c.note.new.self.events s.is_broken c.if-self.true c.note.ensures),
+    )
+
+pub returns-in-Ok-clause-same : goal.returns-in-Ok-clause-same
+returns-in-Ok-clause-same g c =
+    let s = c.args.self.now in (
+      refl,
+      refl,
+      refl,
+      inr (made g.D.Device.seen g.D.Device.moment g.D.Device.left_since g.D.Device.faults s.journal.now
+          c.commit.new.self s.calls.events c.note-in-Ok.new.self.events s.is_broken c.args.entries.now c.if-self.false
+          (entry-lines-whole c.args.entries.now c.requires) c.commit.ensures.any_moment c.commit.ensures.causes
+          c.note-in-Ok.ensures c.in-Ok.ensures.committed),
+    )
+
+pub returns-in-Err-clause-same : goal.returns-in-Err-clause-same
+returns-in-Err-clause-same g c =
+    let s = c.args.self.now in (
+      refl,
+      refl,
+      refl,
+      inr (failed g.D.Device.seen g.D.Device.moment g.D.Device.left_since g.D.Device.faults s.journal.now
+          c.commit.new.self s.calls.events c.note-in-Err.new.self.events s.is_broken c.args.entries.now c.if-self.false
+          (entry-lines-whole c.args.entries.now c.requires) c.commit.ensures.any_moment c.commit.ensures.causes
+          c.note-in-Err.ensures (cause-of g.D.Device.seen g.D.Device.moment g.D.Device.left_since g.D.Device.faults
+          s.journal.now c.commit.new.self c.args.entries.now c.in-Err._error (s.steady c.if-self.false).end
+          c.in-Err.ensures.failed c.in-Err.ensures.full)),
     )
 
 pub returns-in-Err-clause-entries : goal.returns-in-Err-clause-entries
