@@ -1,12 +1,12 @@
 //! A session that begins on a journal's file.
 
-ghost use Rattle.std.specs.Prelude.{◌≡◌, [], length, IfOk, OnOk};
+ghost use Rattle.std.specs.Prelude.{◌≡◌, ◌≤◌, [], length, IfErr, IfOk, OnOk};
 ghost use Rattle.auction_terms.specs.Auxiliary.RunningAuction.{opened_auction};
 ghost use Rattle.journal.specs.JournalText.{journal_text};
 ghost use Rattle.journal_file.specs.Committed.{committed};
-ghost use Rattle.journal_file.specs.Device.{IsOnlyOutcome, LeavesOnly};
+ghost use Rattle.journal_file.specs.Device.{IsOnlyOutcome};
 ghost use Rattle.journal_file.specs.Settled.{IsSettled};
-ghost use Rattle.kept_session.specs.Begun.{AddsLines, HasBegun};
+ghost use Rattle.kept_session.specs.Begun.{AddsLines, HasBegun, HasNotBegun, LacksDay, LacksLines};
 
 use crate::day::day_lines;
 use crate::fault::BeginFault;
@@ -35,13 +35,17 @@ fn repair<D: Device + Drop>(device: D, end: usize) -> Result<CommittedLines<D>, 
     requires durable { IsOnlyOutcome (D.seen device) (D.may_leave device) }
     ensures settled { IfOk result (λ journal. IsSettled D.seen D.may_leave journal) }
     ensures lines { IfOk result (λ journal. AddsLines D.seen D.moment D.left_since device journal.device []) }
+    ensures causes { IfOk result (λ journal. D.faults device ≤ D.faults journal.device) }
+    ensures lacks { IfErr result (LacksLines D.seen D.moment D.left_since D.faults device []) }
 {
     if end > MAX_BYTES {
         return Err(DeviceError::Full);
     }
     let mut device = device;
-    recover(&mut device, end)?;
-    Ok(CommittedLines::new(device, end, SPARE))
+    match recover(&mut device, end) {
+        Ok(()) => Ok(CommittedLines::new(device, end, SPARE)),
+        Err(error) => Err(error),
+    }
 }
 
 /// Commits the record of a day.
@@ -54,6 +58,7 @@ fn keep_day<D: Device>(
     ensures settled { OnOk result (IsSettled D.seen D.may_leave journal.new) }
     ensures lines { OnOk result
         (AddsLines D.seen D.moment D.left_since journal.old.device journal.new.device (journal_text day [])) }
+    ensures lacks { IfErr result (LacksDay D.seen D.moment D.left_since D.faults day journal.old.device) }
 {
     let Ok(lines) = day_lines(alloc, day) else {
         return Err(BeginFault::NoMemory);
@@ -81,8 +86,9 @@ pub fn begin<D: Device + Drop>(
     // After a restart, what is read is what is on the disk.
     requires read { bytes.now ≡ D.seen device }
     requires durable { IsOnlyOutcome (D.seen device) (D.may_leave device) }
-    ensures { IfOk result (λ begun.
+    ensures begun { IfOk result (λ begun.
         HasBegun D.seen D.may_leave D.moment D.left_since day device begun.journal begun.auction) }
+    ensures refused { IfErr result (HasNotBegun D.seen D.moment D.left_since D.faults day device) }
 {
     let end = committed_len(bytes);
     let auction = match resume(alloc, auction, &bytes[..end], day) {

@@ -3,11 +3,10 @@
 ghost use Rattle.std.specs.Prelude.{◌≡◌, [], IfOk};
 ghost use Rattle.byte_streams.specs.Writing.{WritesAll};
 ghost use Rattle.journal.specs.JournalText.{journal_text};
-ghost use Rattle.journal_file.specs.Committed.{committed};
 
 use byte_streams::{Sink, SinkFailed, WriteFailed};
 use journal::{DayHeader, print_journal};
-use journal_file::{Record, is_whole};
+use journal_file::Record;
 use printed_lines::Printer;
 use std::alloc::{AllocError, Global};
 
@@ -50,8 +49,7 @@ fn write_day<S: Sink>(writer: &mut S, day: DayHeader) -> Result<(), WriteFailed>
 
 /// The journal of a day without entries.
 pub(crate) fn day_lines(alloc: Global, day: DayHeader) -> Result<Vec<u8>, AllocError>
-    ensures text { IfOk result (λ lines. lines.items ≡ journal_text day []) }
-    ensures whole { IfOk result (λ lines. committed lines.items ≡ lines.items) }
+    ensures { IfOk result (λ lines. lines.items ≡ journal_text day []) }
 {
     let mut text = TextInMemory {
         bytes: Vec::new(alloc),
@@ -60,8 +58,5 @@ pub(crate) fn day_lines(alloc: Global, day: DayHeader) -> Result<Vec<u8>, AllocE
     let Ok(()) = write_day(&mut text, day) else {
         return Err(AllocError);
     };
-    if !is_whole(text.bytes.as_slice()) {
-        return Err(AllocError);
-    }
     Ok(text.bytes)
 }
