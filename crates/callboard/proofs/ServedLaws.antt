@@ -1,5 +1,5 @@
 -- What the program answers, by what it was asked to do.
-use Rattle.std.proofs.Common.{◌≡◌, ◌≢◌, ◌<◌, ◌≤◌, ◌⊎◌, ◌∙◌, ℕ, List, Option, None, Some, true, false, Ok, Err, inl, inr}
+use Rattle.std.proofs.Common.{◌≡◌, ◌≢◌, ◌≤◌, ◌⊎◌, ◌∙◌, ℕ, List, Option, None, Some, false, Ok, Err, inl, inr}
 use Rattle.std.proofs.Common.{ap, arith, refl, subst, sym}
 use Rattle.auction.specs.declared.OpenFault.{OpenFault}
 use Rattle.auction.specs.declared.OpenFault.TheVariants as opening
@@ -24,7 +24,7 @@ use Rattle.callboard.specs.AuctionRun.{auction_job}
 use Rattle.callboard.specs.AuditRun.{audit_job}
 use Rattle.callboard.specs.BoardRun.{board_job}
 use Rattle.callboard.specs.FileRun.{Ends, IsRunOf, Job}
-use Rattle.callboard.specs.KeptLive.{RunsKeptSession}
+use Rattle.callboard.specs.KeptLive.{JournalFiles, RunsKeptSession}
 use Rattle.callboard.specs.LiveRun.{RunsLive, SessionResult, session_status}
 use Rattle.callboard.specs.Served.{AnswersFault, DoesTask, RefusesMix, RunsSession, Serves, ServesSettings, day_of}
 use Rattle.callboard.specs.Served.{is_session, words_status}
@@ -33,7 +33,7 @@ use Rattle.callboard.specs.declared.fault.Fault.TheVariants as fault
 use Rattle.callboard.specs.declared.fault.Finish.TheVariants.{Lawful, Unlawful}
 use Rattle.callboard.specs.declared.live.SessionFault.TheVariants as session
 
-file-small : (f : FileFault) → file_status f ≤ 4
+pub file-small : (f : FileFault) → file_status f ≤ 4
 file-small file.TooLong = omega arith
 file-small file.ReadFailed = omega arith
 file-small (file.BadMember n) = omega arith
@@ -44,7 +44,7 @@ file-small (file.TooManyCommands n) = omega arith
 file-small file.NotADay = omega arith
 file-small file.NoMemory = omega arith
 
-open-small : (f : OpenFault) → open_status f ≤ 4
+pub open-small : (f : OpenFault) → open_status f ≤ 4
 open-small opening.BadBounds = omega arith
 open-small opening.BadReference = omega arith
 open-small opening.BadCapacity = omega arith
@@ -115,71 +115,77 @@ pub as-task : (asked : Option Task) (task : Task) (status : ℕ) → asked ≡ S
 as-task asked task status is (inl e) = inl e
 as-task asked task status is (inr e) = inr (e.0, sym (ap is_session is) ∙ e.1)
 
-pub does-quiet : (day : DayHeader) (journal : Option JournalFile) (task : Task) (ends : Ends) (status : ℕ)
-    → DoesTask day journal task ends status → (status ≡ 2) ⊎ ((status ≡ 1) × (is_session (Some task) ≡ false))
+pub does-quiet : {D : Type 0} (files : JournalFiles D) (day : DayHeader) (journal : Option JournalFile) (task : Task)
+    (ends : Ends) (status : ℕ)
+    → DoesTask files day journal task ends status → (status ≡ 2) ⊎ ((status ≡ 1) × (is_session (Some task) ≡ false))
     → ends.new ≡ ends.old
-does-quiet day journal (Run form) ends status h q =
+does-quiet files day journal (Run form) ends status h q =
     run-quiet (auction_job day form) ends h.0 h.1 (one-or-two status q h.2)
-does-quiet day journal (Floor form) ends status h q =
+does-quiet files day journal (Floor form) ends status h q =
     run-quiet (board_job day form) ends h.0 h.1 (one-or-two status q h.2)
-does-quiet day journal (Audit results) ends status h q =
+does-quiet files day journal (Audit results) ends status h q =
     run-quiet (audit_job results) ends h.0 h.1 (one-or-two status q h.2)
-does-quiet day None (Live reserve) ends status h (inl e) = session-quiet day reserve ends h.0 h.1 (sym h.2 ∙ e)
-does-quiet day None (Live reserve) ends status h (inr e) = absurd (cc (e.1))
-does-quiet day (Some file) (Live reserve) ends status h (inl e) = h.quiet e
-does-quiet day (Some file) (Live reserve) ends status h (inr e) = absurd (cc (e.1))
+does-quiet files day None (Live reserve) ends status h (inl e) = session-quiet day reserve ends h.0 h.1 (sym h.2 ∙ e)
+does-quiet files day None (Live reserve) ends status h (inr e) = absurd (cc (e.1))
+does-quiet files day (Some file) (Live reserve) ends status h (inl e) = h.quiet e
+does-quiet files day (Some file) (Live reserve) ends status h (inr e) = absurd (cc (e.1))
 
-pub does-read : (day : DayHeader) (journal : Option JournalFile) (task : Task) (ends : Ends) (status : ℕ)
-    → DoesTask day journal task ends status → ends.ReadFailed → status ≡ 3
-does-read day journal (Run form) ends status h f = h.2 ∙ ap run_status (h.1.read_failed.1 f)
-does-read day journal (Floor form) ends status h f = h.2 ∙ ap run_status (h.1.read_failed.1 f)
-does-read day journal (Audit results) ends status h f = h.2 ∙ ap run_status (h.1.read_failed.1 f)
-does-read day None (Live reserve) ends status h f = h.2 ∙ session-read day reserve ends h.0 h.1 f
-does-read day (Some file) (Live reserve) ends status h f = h.read_failed f
+pub does-read : {D : Type 0} (files : JournalFiles D) (day : DayHeader) (journal : Option JournalFile) (task : Task)
+    (ends : Ends) (status : ℕ)
+    → DoesTask files day journal task ends status → ends.ReadFailed → status ≡ 3
+does-read files day journal (Run form) ends status h f = h.2 ∙ ap run_status (h.1.read_failed.1 f)
+does-read files day journal (Floor form) ends status h f = h.2 ∙ ap run_status (h.1.read_failed.1 f)
+does-read files day journal (Audit results) ends status h f = h.2 ∙ ap run_status (h.1.read_failed.1 f)
+does-read files day None (Live reserve) ends status h f = h.2 ∙ session-read day reserve ends h.0 h.1 f
+does-read files day (Some file) (Live reserve) ends status h f = h.read_failed f
 
-pub does-write : (day : DayHeader) (journal : Option JournalFile) (task : Task) (ends : Ends) (status : ℕ)
-    → DoesTask day journal task ends status → ends.WriteFailed → status ≡ 3
-does-write day journal (Run form) ends status h f = h.2 ∙ ap run_status (h.1.write_failed.1 f)
-does-write day journal (Floor form) ends status h f = h.2 ∙ ap run_status (h.1.write_failed.1 f)
-does-write day journal (Audit results) ends status h f = h.2 ∙ ap run_status (h.1.write_failed.1 f)
-does-write day None (Live reserve) ends status h f = h.2 ∙ session-write day reserve ends h.0 h.1 f
-does-write day (Some file) (Live reserve) ends status h f = h.write_failed f
+pub does-write : {D : Type 0} (files : JournalFiles D) (day : DayHeader) (journal : Option JournalFile) (task : Task)
+    (ends : Ends) (status : ℕ)
+    → DoesTask files day journal task ends status → ends.WriteFailed → status ≡ 3
+does-write files day journal (Run form) ends status h f = h.2 ∙ ap run_status (h.1.write_failed.1 f)
+does-write files day journal (Floor form) ends status h f = h.2 ∙ ap run_status (h.1.write_failed.1 f)
+does-write files day journal (Audit results) ends status h f = h.2 ∙ ap run_status (h.1.write_failed.1 f)
+does-write files day None (Live reserve) ends status h f = h.2 ∙ session-write day reserve ends h.0 h.1 f
+does-write files day (Some file) (Live reserve) ends status h f = h.write_failed f
 
-pub does-small : (day : DayHeader) (journal : Option JournalFile) (task : Task) (ends : Ends) (status : ℕ)
-    → DoesTask day journal task ends status → status ≤ 4
-does-small day journal (Run form) ends status h = rw h.2 (run-small h.0)
-does-small day journal (Floor form) ends status h = rw h.2 (run-small h.0)
-does-small day journal (Audit results) ends status h = rw h.2 (run-small h.0)
-does-small day None (Live reserve) ends status h = rw h.2 (session-small h.0)
-does-small day (Some file) (Live reserve) ends status h = h.small
+pub does-small : {D : Type 0} (files : JournalFiles D) (day : DayHeader) (journal : Option JournalFile) (task : Task)
+    (ends : Ends) (status : ℕ)
+    → DoesTask files day journal task ends status → status ≤ 4
+does-small files day journal (Run form) ends status h = rw h.2 (run-small h.0)
+does-small files day journal (Floor form) ends status h = rw h.2 (run-small h.0)
+does-small files day journal (Audit results) ends status h = rw h.2 (run-small h.0)
+does-small files day None (Live reserve) ends status h = rw h.2 (session-small h.0)
+does-small files day (Some file) (Live reserve) ends status h = h.small
 
 -- a session with a journal
-pub does-kept : (day : DayHeader) (journal : Option JournalFile) (file : JournalFile) (reserve : ℕ) (ends : Ends)
-    (status : ℕ) → journal ≡ Some file → RunsKeptSession day reserve ends status
-    → DoesTask day journal (Live reserve) ends status
-does-kept day journal file reserve ends status is h = rw is h
+pub does-kept : {D : Type 0} (files : JournalFiles D) (day : DayHeader) (journal : Option JournalFile)
+    (file : JournalFile) (reserve : ℕ) (ends : Ends) (status : ℕ) → journal ≡ Some file
+    → RunsKeptSession files file day reserve ends status → DoesTask files day journal (Live reserve) ends status
+does-kept files day journal file reserve ends status is h = rw is h
 
 -- and without one
-pub does-live : (day : DayHeader) (journal : Option JournalFile) (reserve : ℕ) (ends : Ends) (status : ℕ)
-    → journal ≡ None → RunsSession day reserve ends status → DoesTask day journal (Live reserve) ends status
-does-live day journal reserve ends status is h = rw is h
+pub does-live : {D : Type 0} (files : JournalFiles D) (day : DayHeader) (journal : Option JournalFile) (reserve : ℕ)
+    (ends : Ends) (status : ℕ) → journal ≡ None → RunsSession day reserve ends status
+    → DoesTask files day journal (Live reserve) ends status
+does-live files day journal reserve ends status is h = rw is h
 
 -- ---- the words
 
 -- settings that were served
-pub serves-settings : (words : List Text) (s : Settings) (task : Task) (ends : Ends) (status : ℕ)
-    → AcceptsWords words s → IsInRange s → s.task ≡ task → DoesTask (day_of s) s.journal task ends status
-    → Serves words ends status
-serves-settings words s task ends status accepts ranges is h =
-    let does : ServesSettings s ends status =
-    subst (λ (t : Task). DoesTask (day_of s) s.journal t ends status) (sym is) h in
+pub serves-settings : {D : Type 0} (files : JournalFiles D) (words : List Text) (s : Settings) (task : Task)
+    (ends : Ends) (status : ℕ)
+    → AcceptsWords words s → IsInRange s → s.task ≡ task → DoesTask files (day_of s) s.journal task ends status
+    → Serves files words ends status
+serves-settings files words s task ends status accepts ranges is h =
+    let does : ServesSettings files s ends status =
+    subst (λ (t : Task). DoesTask files (day_of s) s.journal t ends status) (sym is) h in
     record {
       answer = inl (s, accepts, ranges, does);
-      quiet = λ q. does-quiet (day_of s) s.journal s.task ends status does
+      quiet = λ q. does-quiet files (day_of s) s.journal s.task ends status does
           (as-task _ s.task status accepts.1.task q);
-      read_failed = does-read (day_of s) s.journal s.task ends status does;
-      write_failed = does-write (day_of s) s.journal s.task ends status does;
-      few = does-small (day_of s) s.journal s.task ends status does;
+      read_failed = does-read files (day_of s) s.journal s.task ends status does;
+      write_failed = does-write files (day_of s) s.journal s.task ends status does;
+      few = does-small files (day_of s) s.journal s.task ends status does;
     }
 
 -- a status that isn't that of help
@@ -215,16 +221,17 @@ few-of-words kind status (inl is) fails = rw is (words-small kind)
 few-of-words kind status (inr f) fails = let late = fails f in omega (arith, late)
 
 -- words that say none
-pub serves-words : (words : List Text) (ends : Ends) (status : ℕ) → AnswersFault words ends status
-    → Serves words ends status
-serves-words words ends status (inl h) = record {
+pub serves-words : {D : Type 0} (files : JournalFiles D) (words : List Text) (ends : Ends) (status : ℕ)
+    → AnswersFault words ends status
+    → Serves files words ends status
+serves-words files words ends status (inl h) = record {
   answer = inr (inl h);
   quiet = λ q. not-help (words_status h.kind) status h.status_is h.write_failed h.kept (one-or-two status q refl);
   read_failed = λ f. absurd (h.none_read f);
   write_failed = h.write_failed;
   few = few-of-words h.kind status h.status_is h.write_failed;
 }
-serves-words words ends status (inr h) = record {
+serves-words files words ends status (inr h) = record {
   answer = inr (inr h);
   quiet = λ q. h.kept;
   read_failed = λ f. absurd (h.none_read f);

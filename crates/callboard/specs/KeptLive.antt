@@ -1,19 +1,25 @@
 -- What a session does whose commands are kept in a journal's file.
-use Rattle.std.specs.Prelude.{◌≡◌, ◌≤◌, ◌⊎◌, ℕ, List, Bool, true, false, Result, Ok}
-use Rattle.auction_terms.specs.Auxiliary.RunningAuction.{RunningAuction, opened_auction}
-use Rattle.journal.specs.JournalFile.{journal_of}
+use Rattle.std.specs.Prelude.{◌≡◌, ◌<◌, ◌≤◌, ◌⊎◌, ◌↔◌, ℕ, Bool, true, false, None, Result, Err, unwrap_or}
+use Rattle.auction.specs.ConfigFault.{open_fault}
+use Rattle.auction.specs.declared.OpenFault.TheVariants.{NoMemory}
+use Rattle.auction_terms.specs.Auxiliary.RunningAuction.{RunningAuction}
 use Rattle.journal.specs.declared.day.DayHeader.{DayHeader}
+use Rattle.journal_file.specs.Committed.{committed}
+use Rattle.journal_file.specs.Device.{LeavesOnly}
+use Rattle.journal_file.specs.declared.device.Device.{Ghosts}
 use Rattle.journal_file.specs.declared.file.OpenFileFault.{OpenFileFault}
 use Rattle.journal_file.specs.declared.file.OpenFileFault.TheVariants.{Busy, Failed}
-use Rattle.kept_session.specs.KeptRun.{KeptEnds, kept_ends}
-use Rattle.kept_session.specs.Resumed.{IsResumedFrom}
+use Rattle.journal_file.specs.declared.journal.CommittedLines.{CommittedLines}
+use Rattle.kept_session.specs.Begun.{HasBegun, HasNotBegun}
+use Rattle.kept_session.specs.KeptRun.{RunsKept, ends_at}
 use Rattle.kept_session.specs.declared.fault.BeginFault.{BeginFault}
 use Rattle.kept_session.specs.declared.fault.BeginFault.TheVariants as begin
 use Rattle.kept_session.specs.declared.fault.ResumeFault.{ResumeFault}
 use Rattle.kept_session.specs.declared.fault.ResumeFault.TheVariants as resume
-use Rattle.live_session.specs.Talk.{EndsSession}
 use Rattle.live_session.specs.declared.fault.Ending.{Ending}
 use Rattle.live_session.specs.declared.fault.LiveFault.{LiveFault}
+use Rattle.live_session.specs.declared.fault.LiveFault.TheVariants.{CommitFailed}
+use Rattle.settings.specs.declared.types.JournalFile.{JournalFile}
 use Rattle.callboard.specs.FileRun.{Ends}
 use Rattle.callboard.specs.LiveRun.{as_session, session_status, terms_of}
 use Rattle.callboard.specs.Status.{file_status, open_status}
@@ -40,41 +46,91 @@ kept_status (kept.Day f) = open_status f
 kept_status (kept.Opening f) = opening_status f
 kept_status (kept.Begin f) = begin_status f
 
--- the auction that the day begins with, or the one that the lines of its journal leave, each reply of which is lawful
-abbrev pub IsBegunFor : DayHeader → RunningAuction → Type 0
-IsBegunFor day auction =
-    (auction ≡ opened_auction day.config) ⊎ ((lines : List ℕ) × IsResumedFrom day (journal_of lines) (Ok auction))
+-- what is known of the files of journals: of their devices, what opening one gives, and why it can't be opened
+pub record JournalFiles (D : Type 0) : Type 1 where
+  pub device : Ghosts D
+  pub Opens : JournalFile → D → Type 0
+  pub CannotOpen : JournalFile → OpenFileFault → Type 0
+
+abbrev pub files_of : {D : Type 0} → Ghosts D → (JournalFile → D → Type 0) → (JournalFile → OpenFileFault → Type 0)
+    → JournalFiles D
+files_of device Opens CannotOpen = record { device = device; Opens = Opens; CannotOpen = CannotOpen }
+
+-- The day can be opened, and so could the file: what it had has begun the journal, and left the auction so.
+pub record IsBegunFor {D : Type 0} (files : JournalFiles D) (file : JournalFile) (day : DayHeader)
+    (journal : CommittedLines D)
+    (auction : RunningAuction) : Type 0 where
+  pub opens : open_fault day.config ≡ None
+  pub device : D
+  pub opened : files.Opens file device
+  pub begun : HasBegun files.device.seen files.device.may_leave files.device.moment files.device.left_since day device
+      journal auction
+
+-- The file could be opened, and no session begins on what it had.
+pub record IsNotBegunOn {D : Type 0} (files : JournalFiles D) (file : JournalFile) (day : DayHeader)
+    (fault : BeginFault) : Type 0 where
+  pub opens : open_fault day.config ≡ None
+  pub device : D
+  pub opened : files.Opens file device
+  pub why : HasNotBegun files.device.seen files.device.moment files.device.left_since files.device.faults day device
+      fault
+
+-- why a session of this day doesn't begin
+abbrev pub IsReason : {D : Type 0} → JournalFiles D → JournalFile → DayHeader → KeptFault → Type 0
+IsReason files file day (kept.Day f) = f ≡ unwrap_or (open_fault day.config) NoMemory
+IsReason files file day (kept.Opening f) = (open_fault day.config ≡ None) × files.CannotOpen file f
+IsReason files file day (kept.Begin f) = IsNotBegunOn files file day f
 
 -- that of a session, and 3 where its journal couldn't be closed
 abbrev pub EndsAs : Result Ending LiveFault → Bool → ℕ → Type 0
 EndsAs ended true status = status ≡ session_status (as_session ended)
 EndsAs ended false status = status ≡ 3
 
--- The session didn't begin: nothing was read, and nothing written.
-pub record DidNotBegin (ends : Ends) (status : ℕ) : Type 0 where
+-- A journal was cut behind its lines, unless a commit had failed or the file did.
+pub record HasClosed {D : Type 0} (device : Ghosts D) (ended : Result Ending LiveFault) (old new : D) (is_closed : Bool)
+    : Type 0 where
+  pub leaves : (ended ≡ Err CommitFailed → ⊥)
+      → LeavesOnly device.moment device.left_since old new (λ c. committed c ≡ committed (device.seen old))
+  pub text : is_closed ≡ true → device.seen new ≡ committed (device.seen old)
+  pub why : is_closed ≡ false → (ended ≡ Err CommitFailed) ⊎ (device.faults old < device.faults new)
+
+-- The session didn't begin, for this reason: nothing was read, and nothing written.
+pub record DidNotBegin {D : Type 0} (files : JournalFiles D) (file : JournalFile) (day : DayHeader) (ends : Ends)
+    (status : ℕ) : Type 0 where
   pub why : KeptFault
+  pub reason : IsReason files file day why
   pub status_is : status ≡ kept_status why
   pub rest : ends.rest ≡ ends.left
   pub new : ends.new ≡ ends.old
+  pub none_read : ends.ReadFailed → ⊥
+  pub none_written : ends.WriteFailed → ⊥
 
--- It began on an auction of the day, and ran as any session does.
-pub record RanKept (day : DayHeader) (reserve : ℕ) (ends : Ends) (status : ℕ) : Type 0 where
+-- It began on what the file had, ran as any session that is kept does, and closed its journal.
+pub record RanKept {D : Type 0} (files : JournalFiles D) (file : JournalFile) (day : DayHeader) (reserve : ℕ)
+    (ends : Ends) (status : ℕ) : Type 0 where
   pub start : RunningAuction
-  pub begun : IsBegunFor day start
-  pub before : KeptEnds
-  pub after : KeptEnds
+  pub journal : CommittedLines D
+  pub begun : IsBegunFor files file day journal start
   pub ended : Result Ending LiveFault
-  pub session : EndsSession kept_ends (terms_of day reserve) start before after ended
-  pub left : ends.left ≡ before.left
-  pub rest : ends.rest ≡ after.left
-  pub old : ends.old ≡ before.written
-  pub new : ends.new ≡ after.written
+  pub last : CommittedLines D
+  pub reads : ℕ
+  pub reads_after : ℕ
+  pub writes : ℕ
+  pub writes_after : ℕ
+  pub session : RunsKept files.device.seen files.device.may_leave files.device.moment files.device.left_since
+      files.device.faults (terms_of day reserve) start journal last (ends_at ends.left ends.old reads writes)
+      (ends_at ends.rest ends.new reads_after writes_after) ended
+  pub read_failed : ends.ReadFailed ↔ (reads < reads_after)
+  pub write_failed : ends.WriteFailed ↔ (writes < writes_after)
   pub is_closed : Bool
+  pub closed : CommittedLines D
+  pub closing : HasClosed files.device ended last.device closed.device is_closed
   pub status_is : EndsAs ended is_closed status
 
--- What came of a session of this day, with so many calls for the operator, whose commands are kept.
-pub record RunsKeptSession (day : DayHeader) (reserve : ℕ) (ends : Ends) (status : ℕ) : Type 0 where
-  pub came : DidNotBegin ends status ⊎ RanKept day reserve ends status
+-- What came of a session of this day, with so many calls for the operator, whose commands are kept in this file.
+pub record RunsKeptSession {D : Type 0} (files : JournalFiles D) (file : JournalFile) (day : DayHeader) (reserve : ℕ)
+    (ends : Ends) (status : ℕ) : Type 0 where
+  pub came : DidNotBegin files file day ends status ⊎ RanKept files file day reserve ends status
   pub quiet : status ≡ 2 → ends.new ≡ ends.old
   pub read_failed : ends.ReadFailed → status ≡ 3
   pub write_failed : ends.WriteFailed → status ≡ 3

@@ -1,11 +1,14 @@
 -- What the program answers to its words.
-use Rattle.std.specs.Prelude.{◌≡◌, Option, ◌<◌, ◌≤◌, ◌≢◌, ◌⊎◌, ℕ, List, Some, None, Bool, true, false}
+use Rattle.std.specs.Prelude.{◌≡◌, Option, ◌≤◌, ◌≢◌, ◌⊎◌, ℕ, List, Some, None, Bool, true, false}
 use Rattle.clap.specs.Kinds.{IsAmong}
 use Rattle.clap.specs.Simple.{matches_of}
 use Rattle.clap.specs.Walk.{Text}
 use Rattle.clap.specs.declared.error.kind.ErrorKind.{ErrorKind}
 use Rattle.clap.specs.declared.error.kind.ErrorKind.TheVariants.{DisplayHelp, DisplayVersion, OutOfMemory}
 use Rattle.journal.specs.declared.day.DayHeader.{DayHeader}
+use Rattle.journal_file.specs.Tracked.{tracked_device}
+use Rattle.journal_file.specs.declared.file.Opened.{Opened}
+use Rattle.journal_file.specs.declared.tracked.Tracked.{Tracked}
 use Rattle.settings.specs.CommandLine.{AcceptsWords, RefusesWords, words_kinds}
 use Rattle.settings.specs.Options.{callboard}
 use Rattle.settings.specs.Ranges.{IsInRange}
@@ -20,7 +23,7 @@ use Rattle.callboard.specs.AuctionRun.{auction_job}
 use Rattle.callboard.specs.AuditRun.{audit_job}
 use Rattle.callboard.specs.BoardRun.{board_job}
 use Rattle.callboard.specs.FileRun.{Ends, Job, IsRunOf, ends_by}
-use Rattle.callboard.specs.KeptLive.{RunsKeptSession}
+use Rattle.callboard.specs.KeptLive.{JournalFiles, RunsKeptSession, files_of}
 use Rattle.callboard.specs.LiveRun.{SessionResult, RunsLive, session_status}
 use Rattle.callboard.specs.Status.{RunResult, run_status}
 
@@ -34,20 +37,20 @@ RunsSession day reserve ends status =
     (ended : SessionResult) × RunsLive day reserve ends ended × (status ≡ session_status ended)
 
 -- what is done with an input, which is of this day where it says no other
-abbrev pub DoesTask : DayHeader → Option JournalFile → Task → Ends → ℕ → Type 0
-DoesTask day journal (Run form) = RunsJobForStatus (auction_job day form)
-DoesTask day journal (Floor form) = RunsJobForStatus (board_job day form)
-DoesTask day journal (Audit results) = RunsJobForStatus (audit_job results)
-DoesTask day None (Live reserve) = RunsSession day reserve
-DoesTask day (Some file) (Live reserve) = RunsKeptSession day reserve
+abbrev pub DoesTask : {D : Type 0} → JournalFiles D → DayHeader → Option JournalFile → Task → Ends → ℕ → Type 0
+DoesTask files day journal (Run form) = RunsJobForStatus (auction_job day form)
+DoesTask files day journal (Floor form) = RunsJobForStatus (board_job day form)
+DoesTask files day journal (Audit results) = RunsJobForStatus (audit_job results)
+DoesTask files day None (Live reserve) = RunsSession day reserve
+DoesTask files day (Some file) (Live reserve) = RunsKeptSession files file day reserve
 
 -- the day that the settings say
 abbrev pub day_of : Settings → DayHeader
 day_of s = record { config = s.config; members = s.members }
 
 -- with the input was done what the settings say
-abbrev pub ServesSettings : Settings → Ends → ℕ → Type 0
-ServesSettings s = DoesTask (day_of s) s.journal s.task
+abbrev pub ServesSettings : {D : Type 0} → JournalFiles D → Settings → Ends → ℕ → Type 0
+ServesSettings files s = DoesTask files (day_of s) s.journal s.task
 
 -- 0 where the words ask for help, 3 for want of memory, and 2 where the words are wrong
 abbrev pub words_status : ErrorKind → ℕ
@@ -82,9 +85,9 @@ abbrev pub AnswersFault : List Text → Ends → ℕ → Type 0
 AnswersFault words ends status = AnswersWords words ends status ⊎ RefusesMix words ends status
 
 -- the words say settings, each in its range, which were served, or they were answered
-abbrev pub AnswersCommandLine : List Text → Ends → ℕ → Type 0
-AnswersCommandLine words ends status =
-    ((s : Settings) × AcceptsWords words s × IsInRange s × ServesSettings s ends status)
+abbrev pub AnswersCommandLine : {D : Type 0} → JournalFiles D → List Text → Ends → ℕ → Type 0
+AnswersCommandLine files words ends status =
+    ((s : Settings) × AcceptsWords words s × IsInRange s × ServesSettings files s ends status)
     ⊎ AnswersFault words ends status
 
 -- records are answered as they come
@@ -98,18 +101,22 @@ IsQuiet words status = (status ≡ 2) ⊎ ((status ≡ 1) × (is_session (task_a
 
 -- What the program does on these words, and what that says of its status: a bad command line or input prints nothing
 -- but in a session, and a read or a write that fails is 3.
-pub record Serves (words : List Text) (ends : Ends) (status : ℕ) : Type 0 where
-  pub answer : AnswersCommandLine words ends status
+pub record Serves {D : Type 0} (files : JournalFiles D) (words : List Text) (ends : Ends) (status : ℕ) : Type 0 where
+  pub answer : AnswersCommandLine files words ends status
   pub quiet : IsQuiet words status → ends.new ≡ ends.old
   pub read_failed : ends.ReadFailed → status ≡ 3
   pub write_failed : ends.WriteFailed → status ≡ 3
   pub few : status ≤ 4
 
+-- the files of the file system, of which no clause says what opening one gives
+abbrev pub host_files : JournalFiles (Tracked Opened)
+host_files = files_of tracked_device (λ file device. Unit {0}) (λ file fault. Unit {0})
+
 -- a status that the program answers to some words with some ends
 abbrev pub IsAnswer : ℕ → Type 0
 IsAnswer status = (words : List Text) × (left rest old new : Option (List ℕ))
     × (reads reads_after writes writes_after : ℕ)
-    × AnswersCommandLine words (ends_by left rest old new reads reads_after writes writes_after) status
+    × AnswersCommandLine host_files words (ends_by left rest old new reads reads_after writes writes_after) status
 
 -- a status that the process ends with: that is one, or its words couldn't be had
 abbrev pub IsOfProcess : ℕ → Type 0

@@ -1,12 +1,14 @@
 //! A live session whose commands are kept in a journal's file.
 
-ghost use Rattle.std.specs.Prelude.{◌≡◌, Err, IfOk};
+ghost use Rattle.std.specs.Prelude.{◌≡◌, Err, IfErr, IfOk};
 ghost use Rattle.journal_file.specs.Device.{IsOnlyOutcome};
 ghost use Rattle.journal_file.specs.Settled.{IsSettled};
+ghost use Rattle.journal_file.specs.declared.file.OpenFileFault.{OpenFileFault};
 ghost use Rattle.live_session.specs.declared.fault.LiveFault.TheVariants.{CommitFailed};
+ghost use Rattle.settings.specs.declared.types.JournalFile.{JournalFile};
 ghost use Rattle.callboard.specs.FileRun.{ends_of};
-ghost use Rattle.callboard.specs.KeptLive.{EndsAs, IsBegunFor, RunsKeptSession, begin_status, kept_status};
-ghost use Rattle.callboard.specs.KeptLive.{resume_status};
+ghost use Rattle.callboard.specs.KeptLive.{EndsAs, HasClosed, IsBegunFor, IsReason, RunsKeptSession, begin_status};
+ghost use Rattle.callboard.specs.KeptLive.{files_of, kept_status, resume_status};
 
 use crate::fault::Fault;
 use crate::serve::{tell_open, write_line};
@@ -34,8 +36,16 @@ pub struct OpenedJournal<D: Device> {
 
 /// What opens the file of a journal.
 pub trait OpensJournal<D: Device> {
+    // What opening a file gives, where that is known.
+    ghost Opens: { Self → JournalFile → D → Type 0 } = { λ _ _ _. Unit {0} };
+
+    // Why it can't be opened, where that is known.
+    ghost CannotOpen: { Self → JournalFile → OpenFileFault → Type 0 } = { λ _ _ _. Unit {0} };
+
     /// Opens a file, or makes it, and reads it.
-    fn open(self, alloc: Global, file: JournalFile<'_>) -> Result<OpenedJournal<D>, OpenFileFault>;
+    fn open(self, alloc: Global, file: JournalFile<'_>) -> Result<OpenedJournal<D>, OpenFileFault>
+        ensures opened { IfOk result (λ opened. Opens self file.entry opened.device) }
+        ensures fault { IfErr result (CannotOpen self file.entry) };
 }
 
 /// Why a session with a journal doesn't begin.
@@ -175,7 +185,10 @@ fn begin_kept<D: Device + Drop, P: OpensJournal<D> + Drop>(
     file: JournalFile<'_>,
     day: DayHeader,
 ) -> Result<Begun<D>, KeptFault>
-    ensures { IfOk result (λ begun. IsSettled D.seen D.may_leave begun.journal × IsBegunFor day begun.auction) }
+    ensures begun { IfOk result (λ begun.
+        IsBegunFor (files_of D.Device (P.Opens files) (P.CannotOpen files)) file.entry day begun.journal
+        begun.auction) }
+    ensures reason { IfErr result (IsReason (files_of D.Device (P.Opens files) (P.CannotOpen files)) file.entry day) }
 {
     let auction = match Auction::open(alloc, day.config) {
         Ok(auction) => auction,
@@ -225,6 +238,7 @@ fn close_journal<D: Device>(
     ended: Result<Ending, LiveFault>,
 ) -> bool
     requires { (ended ≡ Err CommitFailed → ⊥) → IsSettled D.seen D.may_leave journal.old }
+    ensures { HasClosed D.Device ended journal.old.device journal.new.device result }
 {
     match ended {
         Err(LiveFault::CommitFailed) => false,
@@ -244,7 +258,8 @@ pub fn serve_kept<R: Source, O: Sink, E: Sink, D: Device + Drop, P: OpensJournal
     day: DayHeader,
     reserve: u32,
 ) -> u8
-    ensures { RunsKeptSession day reserve (ends_of R.Source O.Sink reader.old reader.new out.old out.new) result }
+    ensures { RunsKeptSession (files_of D.Device (P.Opens files) (P.CannotOpen files)) file.entry day reserve
+        (ends_of R.Source O.Sink reader.old reader.new out.old out.new) result }
 {
     let Begun {
         mut journal,

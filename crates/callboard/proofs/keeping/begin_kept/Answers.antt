@@ -1,9 +1,22 @@
 -- Answers of `begin_kept` (src/keeping.rt): what the prover left open; rt looks here.
-use Rattle.callboard.proofs.KeptLiveLaws.{begun-for}
+use Rattle.callboard.proofs.LiveLaws.{opened-well}
 use Rattle.callboard.proofs.keeping.begin_kept.Goals as goal
 
-pub returns-in-Ok-begin : goal.returns-in-Ok-begin
-returns-in-Ok-begin g c = (
-  c.in-Ok-begin.ensures.settled,
-  begun-for _ c.args.day c.in-Ok-begin.begun.auction c.in-Ok-begin.ensures.new_day c.in-Ok-begin.ensures.gone_on,
-)
+pub returns-in-Err-open-clause-reason : goal.returns-in-Err-open-clause-reason
+returns-in-Err-open-clause-reason g c = (opened-well _ _ c.in-Ok.ensures.refused, c.in-Err-open.ensures.fault)
+
+pub returns-in-Ok-begin-clause-begun : goal.returns-in-Ok-begin-clause-begun
+returns-in-Ok-begin-clause-begun g c = record {
+  opens = opened-well _ _ c.in-Ok.ensures.refused;
+  device = c.in-Ok-open.opened.device;
+  opened = c.in-Ok-open.ensures.opened;
+  begun = c.in-Ok-begin.ensures.begun;
+}
+
+pub returns-clause-reason : goal.returns-clause-reason
+returns-clause-reason g c = record {
+  opens = opened-well _ _ c.in-Ok.ensures.refused;
+  device = c.in-Ok-open.opened.device;
+  opened = c.in-Ok-open.ensures.opened;
+  why = c.in-Err-begin.ensures.refused;
+}
