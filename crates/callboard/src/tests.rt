@@ -30,6 +30,7 @@ mod floor;
 mod forms;
 mod full;
 mod hints;
+mod keeping;
 mod live;
 mod refused;
 
