@@ -177,9 +177,9 @@ module _ {D : Type 0} (seen : D → List ℕ) (moment : D → ℕ) (left_since :
         let nonempty : committed (seen old) ≢ [] = λ empty. absurd (cc (fresh (lines_are ∙ empty))) in
         (nonempty, rw (← lines_are) (read (λ empty. nonempty (sym lines_are ∙ empty))))
 
-    may-go-on : (day : DayHeader) (text lines : List ℕ) (auction : RunningAuction) → lines ≡ text
+    goes-on-from : (day : DayHeader) (text lines : List ℕ) (auction : RunningAuction) → lines ≡ text
         → (lines ≢ [] → IsResumedFrom day (journal_of lines) (Ok auction)) → MayGoOn day text
-    may-go-on day text lines auction is read some = (auction, rw (← is) (read (λ empty. some (sym is ∙ empty))))
+    goes-on-from day text lines auction is read some = (auction, rw (← is) (read (λ empty. some (sym is ∙ empty))))
 
     -- the file isn't repaired
     pub not-repaired : (day : DayHeader) (old : D) (lines : List ℕ) (auction : RunningAuction) (error : DeviceError)
@@ -188,7 +188,7 @@ module _ {D : Type 0} (seen : D → List ℕ) (moment : D → ℕ) (left_since :
         → LacksLines seen moment left_since faults old [] error
         → HasNotBegun seen moment left_since faults day old (begin_fault.Device error)
     not-repaired day old lines auction error lines_are read lacks = (
-      may-go-on day (committed (seen old)) lines auction lines_are read,
+      goes-on-from day (committed (seen old)) lines auction lines_are read,
       lacks-more old (opening_lines day (committed (seen old))) error lacks,
     )
 

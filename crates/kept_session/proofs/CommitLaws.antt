@@ -81,10 +81,10 @@ module _ {D : Type 0} (seen : D → List ℕ) (moment : D → ℕ) (left_since :
       }
 
     -- by the device's error
-    pub cause-of : (old new : CommittedLines D) (lines : List ℕ) (error : DeviceError)
+    pub fault-cause : (old new : CommittedLines D) (lines : List ℕ) (error : DeviceError)
         → old.end ≡ length (committed (seen old.device))
         → (as-failure error ≡ as-failure device_error.Failed → faults old.device < faults new.device)
         → (as-failure error ≡ as-failure device_error.Full → 2 ^ 60 < old.end + length lines)
         → IsCauseOfFailure seen faults old.device new.device lines
-    cause-of old new lines device_error.Failed end failed full = inl (failed refl)
-    cause-of old new lines device_error.Full end failed full = inr (omega (arith, end, full refl))
+    fault-cause old new lines device_error.Failed end failed full = inl (failed refl)
+    fault-cause old new lines device_error.Full end failed full = inr (omega (arith, end, full refl))

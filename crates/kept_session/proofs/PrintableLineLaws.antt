@@ -47,12 +47,12 @@ glyph-is d h = let digit : nat_lt d 10 ≡ true = search rules in rw digit refl
 first-and-behind : (b : ℕ) (bs : List ℕ) → is_printable b ≡ true → IsPrintable bs → IsPrintable (b ∷ bs)
 first-and-behind b bs h k = rw (h, k) refl
 
-one-more : (count n : ℕ) (behind : List ℕ) (is_last : Bool) → (n / 10 == 0) ≡ is_last
+one-entry-more : (count n : ℕ) (behind : List ℕ) (is_last : Bool) → (n / 10 == 0) ≡ is_last
     → IsPrintable (digit_glyph false (n % 10) ∷ behind)
     → IsPrintable (digits_onto count 10 false (n / 10) (digit_glyph false (n % 10) ∷ behind))
     → IsPrintable (digits_onto (suc count) 10 false n behind)
-one-more count n behind true is here more = rw is here
-one-more count n behind false is here more = rw is more
+one-entry-more count n behind true is here more = rw is here
+one-entry-more count n behind false is here more = rw is more
 
 digits-printable : (count n : ℕ) (behind : List ℕ) → IsPrintable behind
     → IsPrintable (digits_onto count 10 false n behind)
@@ -62,7 +62,7 @@ digits-printable (suc count) n behind h =
     let glyph : is_printable (digit_glyph false (n % 10)) ≡ true =
     ap is_printable (glyph-is (n % 10) few) ∙ digit-printable (48 + n % 10) (omega arith) (omega (arith, few)) in
     let here = first-and-behind (digit_glyph false (n % 10)) behind glyph h in
-    one-more count n behind (n / 10 == 0) refl here
+    one-entry-more count n behind (n / 10 == 0) refl here
     (digits-printable count (n / 10) (digit_glyph false (n % 10) ∷ behind) here)
 
 number : (n : ℕ) → IsPrintable (decimal n)

@@ -27,14 +27,14 @@ without_memory day (Ok j) = refl
 without_memory day (Err f) = inr refl
 
 -- lines that are no journal, or at fault as one
-pub no_journal : (day : DayHeader) (said : Result RecordedDay FileFault) (f : FileFault) → FailsAsWanted f said
+pub never_a_journal : (day : DayHeader) (said : Result RecordedDay FileFault) (f : FileFault) → FailsAsWanted f said
     → IsOfRecord f → IsResumedFrom day said (Err (resume_fault.File f))
-no_journal day said file_fault.TooLong h parsed = absurd parsed
-no_journal day said file_fault.ReadFailed h parsed = absurd parsed
-no_journal day said (file_fault.BadMember number) h parsed = rw h (inl refl)
-no_journal day said (file_fault.BadCommand number) h parsed = rw h (inl refl)
-no_journal day said (file_fault.BadCount number) h parsed = rw h (inl refl)
-no_journal day said (file_fault.BadField number field) h parsed = rw h (inl refl)
-no_journal day said (file_fault.TooManyCommands number) h parsed = rw h (inl refl)
-no_journal day said file_fault.NotADay h parsed = rw h (inl refl)
-no_journal day said file_fault.NoMemory h parsed = without_memory day said
+never_a_journal day said file_fault.TooLong h parsed = absurd parsed
+never_a_journal day said file_fault.ReadFailed h parsed = absurd parsed
+never_a_journal day said (file_fault.BadMember number) h parsed = rw h (inl refl)
+never_a_journal day said (file_fault.BadCommand number) h parsed = rw h (inl refl)
+never_a_journal day said (file_fault.BadCount number) h parsed = rw h (inl refl)
+never_a_journal day said (file_fault.BadField number field) h parsed = rw h (inl refl)
+never_a_journal day said (file_fault.TooManyCommands number) h parsed = rw h (inl refl)
+never_a_journal day said file_fault.NotADay h parsed = rw h (inl refl)
+never_a_journal day said file_fault.NoMemory h parsed = without_memory day said

@@ -46,8 +46,8 @@ ends_at left written reads writes entries commits = record {
 }
 
 -- It ran as any session does, and these lines of entries were to be committed. A crash at any moment of it leaves what
--- was committed before, and the first of them; where no commit has failed, all of them are committed, and none fails but
--- where the file does, or has no room.
+-- was committed before, and the first of them; where no commit has failed, all of them are committed, and none fails
+-- but where the file does, or has no room.
 pub record RunsKept {D : Type 0} (seen : D → List ℕ) (may_leave : D → List ℕ → Type 0) (moment : D → ℕ)
     (left_since : D → ℕ → List ℕ → Type 0) (faults : D → ℕ) (terms : SessionTerms) (start : RunningAuction)
     (old new : CommittedLines D) (begun ended : List ℕ → ℕ → KeptEnds) (result : Result Ending LiveFault) : Type 0 where

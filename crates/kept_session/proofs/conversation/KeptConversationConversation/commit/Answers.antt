@@ -2,7 +2,7 @@
 use Rattle.std.proofs.Common.{[], inr, refl, ap}
 use Rattle.std.proofs.lemmas.List.{append-nil}
 use Rattle.kept_session.specs.Kept.{text_tried}
-use Rattle.kept_session.proofs.CommitLaws.{cause-of, entry-lines-whole, failed, made, refused}
+use Rattle.kept_session.proofs.CommitLaws.{fault-cause, entry-lines-whole, failed, made, refused}
 use Rattle.kept_session.proofs.conversation.KeptConversationConversation.commit.Goals as goal
 
 pub commit-requires-clause-whole : goal.commit-requires-clause-whole
@@ -39,7 +39,7 @@ returns-in-Err-clause-same g c =
       inr (failed g.D.Device.seen g.D.Device.moment g.D.Device.left_since g.D.Device.faults s.journal.now
           c.commit.new.self s.calls.events c.note-in-Err.new.self.events s.is_broken c.args.entries.now c.if-self.false
           (entry-lines-whole c.args.entries.now c.requires) c.commit.ensures.any_moment c.commit.ensures.causes
-          c.note-in-Err.ensures (cause-of g.D.Device.seen g.D.Device.moment g.D.Device.left_since g.D.Device.faults
+          c.note-in-Err.ensures (fault-cause g.D.Device.seen g.D.Device.moment g.D.Device.left_since g.D.Device.faults
           s.journal.now c.commit.new.self c.args.entries.now c.in-Err._error (s.steady c.if-self.false).end
           c.in-Err.ensures.failed c.in-Err.ensures.full)),
     )
