@@ -66,12 +66,12 @@ step-between c = by_return (c == 13) (c == 10) refl refl
   where
     by_return : (y z : Bool) → (c == 13) ≡ y → (c == 10) ≡ z
         → step default_config st.AfterCr c ≡ step default_config st.StartRecord c
-    by_return y true q r = by_return (c == 13) refl r
+    by_return y true q r = by_line_end (c == 13) refl r
       where
-        by_return : (y : Bool) → (c == 13) ≡ y → (c == 10) ≡ true
+        by_line_end : (y : Bool) → (c == 13) ≡ y → (c == 10) ≡ true
             → step default_config st.AfterCr c ≡ step default_config st.StartRecord c
-        by_return true q r = rw (r, q) refl
-        by_return false q r = rw (r, q) refl
+        by_line_end true q r = rw (r, q) refl
+        by_line_end false q r = rw (r, q) refl
     by_return y false q r = rw r refl
 
 does : (s : State) (c : ℕ) → IsReached s → IsOneOfThree s c

@@ -19,4 +19,4 @@ mod threads;
 pub use gate::{Gate, OpenGate};
 pub use played::ScriptRun;
 pub use script::Script;
-pub use threads::{Outcome, RunFault, run};
+pub use threads::{FloorOutcome, RunFault, run};

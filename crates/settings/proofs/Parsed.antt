@@ -36,7 +36,7 @@ Keeps c id a = (j : ℕ) (y : Arg) → j < length (args_of c) → slice_index_or
     → bytes_eq y.id.now id ≡ true → SameRules a y
 
 -- the entry is read by the parser, and its values pass it
-record IsReadBy (q : ValueParser) (x : MatchedArg) : Type 0 where
+record PassesParser (q : ValueParser) (x : MatchedArg) : Type 0 where
   pub reading : x.reading ≡ reading_of q
   pub values : All (λ v. Accepts false q v.now) x.vals.items
 
@@ -119,12 +119,12 @@ record TakesOne (a : Arg) : Type 0 where
   pub least : 1 ≤ least_values a
 
 matched-holds : (c : Command) (f : Found) (id : List ℕ) (a : Arg) (q : ValueParser) (x : MatchedArg) → Known c id a q
-    → ValuesPass c f → matched_of f id ≡ Some x → IsReadBy q x
+    → ValuesPass c f → matched_of f id ≡ Some x → PassesParser q x
 matched-holds c f id a q x known values found =
     let got = entry_by_id (EntryPasses c) f.entries.items id x values found in
     let key : got.0.0.now ≡ id = (bytes_eq-Decides got.0.0.now id).0 got.2 in
     let plain : got.0.1.is_group ≡ true → ⊥ = no_group c id got.0 known.groups known.named key got.3 in
-    subst (IsReadBy q) got.1 (record {
+    subst (PassesParser q) got.1 (record {
       reading = held_reading c id a q got.0 plain known.keeps known.parser key got.3;
       values = held_values c id a q got.0 plain known.keeps known.parser known.case key got.3;
     })
