@@ -244,7 +244,7 @@ pub mix-refused : (words : List Text) (fault : WordsFault) (ends : Ends) (status
     → ((error : Error) → fault ≡ Parse error → ⊥) → status ≡ 2 → ends.new ≡ ends.old → (ends.ReadFailed → ⊥)
     → (ends.WriteFailed → ⊥) → RefusesMix words ends status
 mix-refused words fault ends status refused mixed two kept none_read none_written = record {
-  refused = by fault refused mixed;
+  refused = by_fault fault refused mixed;
   status_is = two;
   kept = kept;
   none_read = none_read;
