@@ -178,10 +178,19 @@ def uncross_before_its_orders(chance: random.Random, extract: Extract) -> Plante
         ]
         if outcome.trades and own and not outcome.is_interrupted:
             first = own[0]
+            if not _are_entries(extract.rows[first:place]):
+                continue
             row = extract.rows.pop(place)
             extract.rows.insert(first, row)
             return "auction", first
     return None
+
+
+def _are_entries(rows: list[dict[str, Any]]) -> bool:
+    """Whether these enter orders, and no more: what changes or deletes one, or is for one auction
+    alone, says another thing behind an uncross that came too early, which is a finding of its own.
+    """
+    return all(row["event"] == "new" and not row.get("restriction") for row in rows)
 
 
 def _trades_of(extract: Extract, row: dict[str, Any], uncross: int) -> bool:
