@@ -60,7 +60,7 @@ def test_members_and_orders_have_what_is_lawful_beside_what_is_recorded(tmp_path
         ["A17", "Adler", "bid", "1,200", "20.02", "1,000", "0", "0", "executed"],
         ["C3", "Cohn", "bid", "1,000", "20.02", "0", "1,000", "1,000", "left"],
         ["B4", "Birk", "ask", "1,000", "market", "1,000", "1,000", "0", "executed"],
-        ["D9", "Dorn", "ask", "500", "20.03", "0", "0", "500", "deleted"],
+        ["G6", "Dorn", "ask", "500", "20.03", "0", "0", "500", "deleted"],
         ["E2", "Ehrl", "bid", "300", "20.00", "0", "0", "300", "left"],
     ]
     assert cells_of(text, "members")[:2] == [
