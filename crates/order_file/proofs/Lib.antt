@@ -5,3 +5,4 @@ pub mod WholeLineLaws
 pub mod BlockLaws
 pub mod BlockCallLaws
 pub mod FirstFieldLaws
+pub mod WordLaws

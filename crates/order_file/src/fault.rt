@@ -79,6 +79,7 @@ pub enum RecordFault {
 
 impl RecordFault {
     /// The same, with the number of the record.
+    #[inline(always)]
     pub fn in_record(self, number: u64) -> FileFault
         ensures { result ≡ in_record number self }
     {

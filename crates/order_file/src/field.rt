@@ -7,6 +7,7 @@ use auction_terms::{Limit, Restriction, Side};
 
 /// A number: one to ten digits, at most the greatest `u32`.
 #[tactic(auto, unfolding(crate::specs::Field::number_of))]
+#[inline(always)]
 pub fn number_of(field: &[u8]) -> Option<u32>
     ensures { result ≡ number_of field.now }
 {
@@ -25,24 +26,24 @@ pub fn number_of(field: &[u8]) -> Option<u32>
 
 /// A side: `bid` or `ask`.
 #[tactic(auto, unfolding(crate::specs::Field::side_of))]
+#[inline(always)]
 pub fn side_of(field: &[u8]) -> Option<Side>
     ensures { result ≡ side_of field.now }
 {
-    if field == b"bid".as_slice() {
-        Some(Side::Bid)
-    } else if field == b"ask".as_slice() {
-        Some(Side::Ask)
-    } else {
-        None
+    match field {
+        [b'b', b'i', b'd'] => Some(Side::Bid),
+        [b'a', b's', b'k'] => Some(Side::Ask),
+        _ => None,
     }
 }
 
 /// A limit: `market`, or the number of a tick.
 #[tactic(auto, unfolding(crate::specs::Field::limit_of))]
+#[inline(always)]
 pub fn limit_of(field: &[u8]) -> Option<Limit>
     ensures { result ≡ limit_of field.now }
 {
-    if field == b"market".as_slice() {
+    if let [b'm', b'a', b'r', b'k', b'e', b't'] = field {
         return Some(Limit::Market);
     }
     let tick = number_of(field)?;
@@ -51,6 +52,7 @@ pub fn limit_of(field: &[u8]) -> Option<Limit>
 
 /// A peak, which an empty field leaves out.
 #[tactic(auto, unfolding(crate::specs::Field::peak_of))]
+#[inline(always)]
 pub fn peak_of(field: &[u8]) -> Option<Option<u64>>
     ensures { result ≡ peak_of field.now }
 {
@@ -63,16 +65,14 @@ pub fn peak_of(field: &[u8]) -> Option<Option<u64>>
 
 /// The auctions that an order is for: every one where the field is empty.
 #[tactic(auto, unfolding(crate::specs::Field::restriction_of))]
+#[inline(always)]
 pub fn restriction_of(field: &[u8]) -> Option<Restriction>
     ensures { result ≡ restriction_of field.now }
 {
-    if field.is_empty() {
-        Some(Restriction::Unrestricted)
-    } else if field == b"opening".as_slice() {
-        Some(Restriction::OpeningOnly)
-    } else if field == b"closing".as_slice() {
-        Some(Restriction::ClosingOnly)
-    } else {
-        None
+    match field {
+        [] => Some(Restriction::Unrestricted),
+        [b'o', b'p', b'e', b'n', b'i', b'n', b'g'] => Some(Restriction::OpeningOnly),
+        [b'c', b'l', b'o', b's', b'i', b'n', b'g'] => Some(Restriction::ClosingOnly),
+        _ => None,
     }
 }

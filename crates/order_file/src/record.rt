@@ -1,7 +1,6 @@
 //! A record of the order file as a call.
 
 ghost use Rattle.std.specs.Prelude.{◌≡◌, ◌<◌, IfErr, IfOk, Some, None, if◌then◌else◌};
-ghost use Rattle.std.specs.Str.{bytes_eq};
 ghost use Rattle.csv.specs.Records.{fields_of};
 ghost use Rattle.order_file.specs.Field.{number_of, side_of, limit_of, peak_of, restriction_of};
 ghost use Rattle.order_file.specs.File.{IsOfRecord};
@@ -26,36 +25,26 @@ pub enum Word {
     Uncross,
 }
 
-/// This word, where the field is its text.
-#[inline(always)]
-fn word_if(field: &[u8], text: &[u8], word: Word) -> Option<Word>
-    ensures { result ≡ (if bytes_eq field.now text.now then Some word else None) }
-{
-    if field == text {
-        return Some(word);
-    }
-    None
-}
-
 #[tactic(auto, unfolding(crate::specs::CommandWord::word_of))]
+#[inline(always)]
 fn word_of(field: &[u8]) -> Option<Word>
     ensures { result ≡ word_of field.now }
 {
     match field {
-        [b'e', ..] => word_if(field, b"enter".as_slice(), Word::Enter),
-        [b'c', ..] => word_if(field, b"change".as_slice(), Word::Change),
-        [b'd', ..] => word_if(field, b"delete".as_slice(), Word::Delete),
-        [b's', ..] => word_if(field, b"status".as_slice(), Word::OrderStatus),
-        [b'a', ..] => word_if(field, b"ask".as_slice(), Word::Indicate),
-        [b't', ..] => word_if(field, b"trade".as_slice(), Word::ReadTrade),
-        [b'u', ..] => word_if(field, b"uncross".as_slice(), Word::Uncross),
+        [b'e', b'n', b't', b'e', b'r'] => Some(Word::Enter),
+        [b'c', b'h', b'a', b'n', b'g', b'e'] => Some(Word::Change),
+        [b'd', b'e', b'l', b'e', b't', b'e'] => Some(Word::Delete),
+        [b's', b't', b'a', b't', b'u', b's'] => Some(Word::OrderStatus),
+        [b'a', b's', b'k'] => Some(Word::Indicate),
+        [b't', b'r', b'a', b'd', b'e'] => Some(Word::ReadTrade),
+        [b'u', b'n', b'c', b'r', b'o', b's', b's'] => Some(Word::Uncross),
         _ => None,
     }
 }
 
 /// Whether the record has from `least` to `most` fields.
 #[tactic(auto, unfolding(crate::specs::Record::count_within))]
-#[inline]
+#[inline(always)]
 pub fn count_within(fields: &ByteRecord, least: usize, most: usize) -> Result<(), RecordFault>
     ensures { result ≡ count_within least most (fields_of fields.now) }
 {
@@ -68,40 +57,44 @@ pub fn count_within(fields: &ByteRecord, least: usize, most: usize) -> Result<()
 
 /// The number at a place, from 0.
 #[tactic(auto, unfolding(crate::specs::Record::field_as))]
+#[inline(always)]
 pub fn number_at(fields: &ByteRecord, place: usize) -> Result<u32, RecordFault>
     requires { place < 64 }
     ensures { result ≡ field_as number_of place (fields_of fields.now) }
 {
-    fields
-        .get(place)
-        .and_then(|field| number_of(field))
-        .ok_or(RecordFault::BadField { field: place + 1 })
+    match fields.get(place) {
+        None => Err(RecordFault::BadField { field: place + 1 }),
+        Some(field) => number_of(field).ok_or(RecordFault::BadField { field: place + 1 }),
+    }
 }
 
 #[tactic(auto, unfolding(crate::specs::Record::field_as))]
+#[inline(always)]
 fn side_at(fields: &ByteRecord, place: usize) -> Result<Side, RecordFault>
     requires { place < 64 }
     ensures { result ≡ field_as side_of place (fields_of fields.now) }
 {
-    fields
-        .get(place)
-        .and_then(|field| side_of(field))
-        .ok_or(RecordFault::BadField { field: place + 1 })
+    match fields.get(place) {
+        None => Err(RecordFault::BadField { field: place + 1 }),
+        Some(field) => side_of(field).ok_or(RecordFault::BadField { field: place + 1 }),
+    }
 }
 
 #[tactic(auto, unfolding(crate::specs::Record::field_as))]
+#[inline(always)]
 fn limit_at(fields: &ByteRecord, place: usize) -> Result<Limit, RecordFault>
     requires { place < 64 }
     ensures { result ≡ field_as limit_of place (fields_of fields.now) }
 {
-    fields
-        .get(place)
-        .and_then(|field| limit_of(field))
-        .ok_or(RecordFault::BadField { field: place + 1 })
+    match fields.get(place) {
+        None => Err(RecordFault::BadField { field: place + 1 }),
+        Some(field) => limit_of(field).ok_or(RecordFault::BadField { field: place + 1 }),
+    }
 }
 
 /// The peak, which may be left out.
 #[tactic(auto, unfolding(crate::specs::Record::peak_at))]
+#[inline(always)]
 fn peak_at(fields: &ByteRecord, place: usize) -> Result<Option<u64>, RecordFault>
     requires { place < 64 }
     ensures { result ≡ peak_at place (fields_of fields.now) }
@@ -114,6 +107,7 @@ fn peak_at(fields: &ByteRecord, place: usize) -> Result<Option<u64>, RecordFault
 
 /// The auctions that the order is for, which may be left out.
 #[tactic(auto, unfolding(crate::specs::Record::restriction_at))]
+#[inline(always)]
 fn restriction_at(fields: &ByteRecord, place: usize) -> Result<Restriction, RecordFault>
     requires { place < 64 }
     ensures { result ≡ restriction_at place (fields_of fields.now) }
@@ -126,34 +120,34 @@ fn restriction_at(fields: &ByteRecord, place: usize) -> Result<Restriction, Reco
 
 /// The member in the first field: a number below the count of members.
 #[tactic(auto, unfolding(crate::specs::Record::member_of))]
-#[inline]
+#[inline(always)]
 pub fn member_of(fields: &ByteRecord, members: u8) -> Result<u8, RecordFault>
     ensures member { result ≡ member_of members (fields_of fields.now) }
     ensures below { IfOk result (λ member. member < members) }
 {
-    let member = fields
-        .get(0)
-        .and_then(|field| number_of(field))
-        .ok_or(RecordFault::BadMember)?;
-    if member >= u32::from(members) {
+    let Some(field) = fields.get(0) else {
         return Err(RecordFault::BadMember);
+    };
+    match number_of(field) {
+        Some(member) if member < u32::from(members) => Ok(member as u8),
+        _ => Err(RecordFault::BadMember),
     }
-    Ok(member as u8)
 }
 
 /// The command word in the second field.
 #[tactic(auto, unfolding(crate::specs::Record::word_at))]
-#[inline]
+#[inline(always)]
 pub fn word_at(fields: &ByteRecord) -> Result<Word, RecordFault>
     ensures { result ≡ word_at (fields_of fields.now) }
 {
-    fields
-        .get(1)
-        .and_then(|field| word_of(field))
-        .ok_or(RecordFault::BadCommand)
+    match fields.get(1) {
+        None => Err(RecordFault::BadCommand),
+        Some(field) => word_of(field).ok_or(RecordFault::BadCommand),
+    }
 }
 
 #[tactic(auto, unfolding(crate::specs::Record::enter_of))]
+#[inline(always)]
 fn enter_of(fields: &ByteRecord) -> Result<Command, RecordFault>
     ensures { result ≡ enter_of (fields_of fields.now) }
 {
@@ -173,6 +167,7 @@ fn enter_of(fields: &ByteRecord) -> Result<Command, RecordFault>
 }
 
 #[tactic(auto, unfolding(crate::specs::Record::change_of))]
+#[inline(always)]
 fn change_of(fields: &ByteRecord) -> Result<Command, RecordFault>
     ensures { result ≡ change_of (fields_of fields.now) }
 {
@@ -189,6 +184,7 @@ fn change_of(fields: &ByteRecord) -> Result<Command, RecordFault>
 
 /// The number that stands alone behind the command word.
 #[tactic(auto, unfolding(crate::specs::Record::lone_number))]
+#[inline(always)]
 fn lone_number(fields: &ByteRecord) -> Result<u32, RecordFault>
     ensures { result ≡ lone_number (fields_of fields.now) }
 {
@@ -198,6 +194,7 @@ fn lone_number(fields: &ByteRecord) -> Result<u32, RecordFault>
 
 /// The command of a record with this word: the number of fields is looked at first, then the fields from left to right.
 #[tactic(auto, unfolding(crate::specs::Record::command_of))]
+#[inline(always)]
 pub fn command_of(word: Word, fields: &ByteRecord) -> Result<Command, RecordFault>
     ensures { result ≡ command_of word (fields_of fields.now) }
 {
@@ -229,7 +226,7 @@ pub fn command_of(word: Word, fields: &ByteRecord) -> Result<Command, RecordFaul
 
 /// The call of a record, or its first fault.
 #[tactic(auto, unfolding(crate::specs::Record::call_of))]
-#[inline]
+#[inline(always)]
 pub fn call_of(fields: &ByteRecord, members: u8) -> Result<Call, RecordFault>
     ensures call { result ≡ call_of members (fields_of fields.now) }
     ensures below { IfOk result (λ call. call.member < members) }
@@ -242,7 +239,7 @@ pub fn call_of(fields: &ByteRecord, members: u8) -> Result<Call, RecordFault>
 
 /// The same, with the number of the record in its fault.
 #[tactic(auto, unfolding(crate::specs::Record::numbered_call))]
-#[inline]
+#[inline(always)]
 pub fn numbered_call(fields: &ByteRecord, number: u64, members: u8) -> Result<Call, FileFault>
     ensures call { result ≡ numbered_call members number (fields_of fields.now) }
     ensures parsed { IfErr result IsOfRecord }
