@@ -7,6 +7,7 @@ use Rattle.std.proofs.lemmas.Grind.{common_steps}
 use Rattle.auction_terms.specs.declared.Call.{Call}
 use Rattle.auction_terms.specs.declared.Config.{Config}
 use Rattle.auction_terms.specs.declared.Entry.{Entry}
+use Rattle.auction_terms.specs.declared.Reply.{Reply}
 use Rattle.auction_terms.specs.Day.{State, step, state_after}
 use Rattle.auction_terms.specs.Auxiliary.RunningAuction.{RunningAuction, auction_after_call, opened_auction}
 use Rattle.auction_terms.proofs.RunLaws.{state_after-push}
@@ -30,6 +31,7 @@ use Rattle.settings.specs.declared.types.Form.{Form}
 use Rattle.callboard.specs.declared.fault.Fault.TheVariants as fault
 use Rattle.callboard.specs.declared.kept.Kept.{Kept}
 use Rattle.callboard.specs.KeptEntries.{KeepsEntries, IsClosedDay, KeepsCalls, KeepsDay, KeepsDayOfText, after_calls}
+use Rattle.callboard.specs.KeptEntries.{KeepsUpToCall, entry_in}
 use Rattle.callboard.specs.KeptEntries.{calls_for, form_of}
 use Rattle.callboard.specs.AuctionRun.{IsOfAuction, auction_job, run_text}
 use Rattle.callboard.specs.FileRun.{Ends, IsRunOf, WritesText}
@@ -89,6 +91,22 @@ call-end calls front i is h = sym (append-nil front) ∙ rw (drop_all i calls h)
 pub was_put : {E P : Type 0} (r : Result (Unit {0}) E) → is_err r ≡ false → OnOk r P → P
 was_put (Ok u) e h = h
 was_put (Err f) e h = absurd cc
+
+-- what was kept before a call, and then its reply, is what is kept of the auction behind it
+pub kept-answered : {E : Type 0} (r s : Result (Unit {0}) E) (between kept : Kept) (old mid new : RunningAuction)
+    (call : Call) (reply : Reply) (entries : List Entry) → is_err r ≡ false → is_err s ≡ false → mid ≡ old
+    → new ≡ auction_after_call mid call → reply ≡ (step mid.config mid.state call).1
+    → OnOk r (KeepsUpToCall between old entries call)
+    → ((auction : RunningAuction) (es : List Entry) → reply ≡ (step auction.config auction.state call).1
+    → KeepsUpToCall between auction es call
+    → OnOk s (KeepsEntries kept (auction_after_call auction call) (es ++ entry_in auction call ∷ [])))
+    → KeepsEntries kept new (entries ++ entry_in old call ∷ [])
+kept-answered r s between kept old mid new call reply entries put answered same is told before after =
+    let said : reply ≡ (step old.config old.state call).1 =
+    told ∙ ap (λ (a : RunningAuction). (step a.config a.state call).1) same in
+    let last : new ≡ auction_after_call old call = is ∙ ap (λ (a : RunningAuction). auction_after_call a call) same in
+    subst (λ (a : RunningAuction). KeepsEntries kept a (entries ++ entry_in old call ∷ [])) (sym last)
+    (was_put s answered (after old entries said (was_put r put before)))
 
 -- a fault of an order file is one of what it gives
 pub refused-records : (form : Form) (day : DayHeader) (f : FileFault) (r : Result (List Call) FileFault)

@@ -1,11 +1,11 @@
 -- What a run keeps of a day's entries until they are printed.
-use Rattle.std.specs.Prelude.{◌≡◌, ◌≤◌, ℕ, ◌+◌, ◌++◌, List, length, map}
+use Rattle.std.specs.Prelude.{◌≡◌, ◌≤◌, ℕ, ◌+◌, ◌++◌, List, [], ◌∷◌, length, map}
 use Rattle.std.specs.Prelude.{Option, None, IfSome, unwrap_or, Result, Ok, Err}
 use Rattle.auction_terms.specs.declared.Call.{Call}
 use Rattle.auction_terms.specs.declared.Config.{Config}
 use Rattle.auction_terms.specs.declared.Entry.{Entry}
-use Rattle.auction_terms.specs.Day.{state_after}
-use Rattle.auction_terms.specs.Auxiliary.RunningAuction.{RunningAuction}
+use Rattle.auction_terms.specs.Day.{state_after, step}
+use Rattle.auction_terms.specs.Auxiliary.RunningAuction.{RunningAuction, auction_after_call}
 use Rattle.auction.specs.ConfigFault.{open_fault}
 use Rattle.auction.specs.declared.OpenFault.TheVariants.{NoMemory}
 use Rattle.auction_terms.specs.Results.{◌>>=◌}
@@ -25,7 +25,11 @@ use Rattle.callboard.specs.declared.fault.Fault.TheVariants as fault
 use Rattle.callboard.specs.declared.kept.Kept.{Kept}
 use Rattle.callboard.specs.declared.kept.Kept.TheVariants.{Lines, Journal, Trades, Book}
 use Rattle.callboard.specs.declared.kept_day.KeptDay.{KeptDay}
-use Rattle.callboard.specs.Printed.{entries_from, history_of, reply_of}
+use Rattle.callboard.specs.Printed.{entries_from, entry_of_call, history_of, reply_of}
+
+-- the entry of the auction's next call
+abbrev pub entry_in : RunningAuction → Call → Entry
+entry_in auction call = entry_of_call call (step auction.config auction.state call).1
 
 -- the form that it is kept for
 abbrev pub form_of : Kept → Form
@@ -41,6 +45,13 @@ KeepsEntries (Lines replies) auction entries = replies ≡ map reply_of entries
 KeepsEntries (Journal lines) auction entries = HasEntryLines (text_of lines) entries
 KeepsEntries (Trades kept) auction entries = kept.items ≡ entries
 KeepsEntries (Book book) auction entries = HasTablesSoFar book auction entries
+
+-- What is kept when the auction's next call comes, of the entries before it: those, and of the book the table before the
+-- call too, if it is an uncross that will be accepted.
+abbrev pub KeepsUpToCall : Kept → RunningAuction → List Entry → Call → Type 0
+KeepsUpToCall (Book book) auction entries call =
+    HasTablesSoFar book (auction_after_call auction call) (entries ++ entry_in auction call ∷ [])
+KeepsUpToCall kept auction entries call = KeepsEntries kept auction entries
 
 -- the same of all entries of a day, and the tables are all
 abbrev pub KeepsWholeDay : Kept → Config → List Entry → Type 0

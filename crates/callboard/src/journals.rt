@@ -10,7 +10,7 @@ use crate::kept::Kept;
 use crate::kept_day::{KeptDay, close_day};
 use crate::orders::keep_file;
 use auction::Auction;
-use auction_terms::Call;
+use auction_terms::{Call, Reply};
 use byte_streams::FromMemory;
 use journal::{DayHeader, Journal, journal_of};
 use order_file::{FileFault, MAX_BYTES};
@@ -31,8 +31,13 @@ fn keep_all(
         → KeepsCalls (KeepsEntries kept.new auction.new) entries auction.old auction.new result (Ok calls.now) }
     ensures memory { IfErr result (λ e. e ≡ FileFault.NoMemory) }
 {
+    let mut reply = Reply::Deleted;
     for call in calls {
-        if kept.keep_call(alloc, auction, call).is_err() {
+        if kept.keep_before(alloc, auction, call).is_err() {
+            return Err(FileFault::NoMemory);
+        }
+        auction.answer_call(call, &mut reply);
+        if kept.keep_reply(call, &reply).is_err() {
             return Err(FileFault::NoMemory);
         }
     }

@@ -1,10 +1,10 @@
 //! What is kept of a day's entries until they are printed.
 
-ghost use Rattle.std.specs.Prelude.{◌≡◌, ◌<◌, ◌++◌, ◌∷◌, [], List, IfOk, OnOk};
+ghost use Rattle.std.specs.Prelude.{◌≡◌, ◌++◌, ◌∷◌, [], List, IfOk, OnOk};
 ghost use Rattle.auction_terms.specs.declared.Entry.{Entry};
 ghost use Rattle.auction_terms.specs.Day.{step};
-ghost use Rattle.auction_terms.specs.Auxiliary.RunningAuction.{auction_after_call, opened_auction};
-ghost use Rattle.callboard.specs.KeptEntries.{KeepsEntries, KeepsWholeDay, form_of};
+ghost use Rattle.auction_terms.specs.Auxiliary.RunningAuction.{RunningAuction, auction_after_call, opened_auction};
+ghost use Rattle.callboard.specs.KeptEntries.{KeepsEntries, KeepsUpToCall, KeepsWholeDay, entry_in, form_of};
 ghost use Rattle.callboard.specs.Printed.{entry_of_call};
 
 use auction::Auction;
@@ -26,19 +26,15 @@ pub enum Kept {
     Book(KeptBook),
 }
 
-/// Applies a call, and answers its entry.
-#[inline]
-fn apply(auction: &mut Auction, call: &Call) -> Entry
-    requires { auction.old.calls < auction.old.config.max_calls }
-    ensures auction { auction.new ≡ auction_after_call auction.old call.now }
-    ensures entry { result ≡ entry_of_call call.now (step auction.old.config auction.old.state call.now).1 }
+/// The entry of a call that was answered so.
+fn entry_of(call: &Call, reply: &Reply) -> Entry
+    ensures { result ≡ entry_of_call call.now reply.now }
 {
-    let reply = auction.apply_call(call);
     let Call { member, command } = *call;
     Entry {
         member,
         command,
-        reply,
+        reply: *reply,
     }
 }
 
@@ -65,30 +61,41 @@ impl Kept {
         }
     }
 
-    /// Applies a call, and keeps its entry. The error is that memory is refused; the call is applied then too.
+    /// Keeps what the auction's next call changes and its form needs: of the book the ladder before an uncross that will
+    /// be accepted. The error is that memory is refused.
     #[inline]
-    pub fn keep_call(
+    pub fn keep_before(
         &mut self,
         alloc: Global,
         auction: &mut Auction,
         call: &Call,
     ) -> Result<(), AllocError>
-        requires { auction.old.calls < auction.old.config.max_calls }
-        ensures state { auction.new ≡ auction_after_call auction.old call.now }
+        ensures auction { auction.new ≡ auction.old }
         ensures form { form_of self.new ≡ form_of self.old }
-        ensures kept { (entries : List Entry) → KeepsEntries self.old auction.old entries → OnOk result
-            (KeepsEntries self.new auction.new
-            (entries ++ entry_of_call call.now (step auction.old.config auction.old.state call.now).1 ∷ [])) }
+        ensures kept { (entries : List Entry) → KeepsEntries self.old auction.old entries
+            → OnOk result (KeepsUpToCall self.new auction.old entries call.now) }
     {
         match self {
-            Kept::Lines(replies) => {
-                let mut reply = Reply::Deleted;
-                auction.answer_call(call, &mut reply);
-                replies.push(&reply)
-            }
-            Kept::Journal(lines) => keep_entry(lines, apply(auction, call)),
-            Kept::Trades(entries) => keep_whole(entries, apply(auction, call)),
-            Kept::Book(book) => book.keep_call(alloc, auction, *call),
+            Kept::Book(book) => book.keep_before(alloc, auction, call),
+            _ => Ok(()),
+        }
+    }
+
+    /// Keeps the entry of a call that the auction answered so, and before which [`Kept::keep_before`] was called. The
+    /// error is that memory is refused.
+    #[inline]
+    pub fn keep_reply(&mut self, call: &Call, reply: &Reply) -> Result<(), AllocError>
+        ensures form { form_of self.new ≡ form_of self.old }
+        ensures kept { (auction : RunningAuction) (entries : List Entry)
+            → reply.now ≡ (step auction.config auction.state call.now).1
+            → KeepsUpToCall self.old auction entries call.now → OnOk result (KeepsEntries self.new
+            (auction_after_call auction call.now) (entries ++ entry_in auction call.now ∷ [])) }
+    {
+        match self {
+            Kept::Lines(replies) => replies.push(reply),
+            Kept::Journal(lines) => keep_entry(lines, entry_of(call, reply)),
+            Kept::Trades(entries) => keep_whole(entries, entry_of(call, reply)),
+            Kept::Book(_) => Ok(()),
         }
     }
 

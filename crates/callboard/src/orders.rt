@@ -15,6 +15,7 @@ use crate::fault::Fault;
 use crate::kept::Kept;
 use crate::kept_day::{KeptDay, close_day};
 use auction::{Auction, OpenFault};
+use auction_terms::Reply;
 use byte_streams::Source;
 use journal::DayHeader;
 use order_file::{Blocks, FileFault, MAX_BYTES, bytes_after, calls_of};
@@ -40,8 +41,13 @@ fn keep_block(
 {
     let max_calls = auction.config().max_calls;
     let mut calls = blocks.calls(alloc, members, max_calls, auction.calls())?;
+    let mut reply = Reply::Deleted;
     'turns: while let Some(call) = calls.next_call()? {
-        if kept.keep_call(alloc, auction, &call).is_err() {
+        if kept.keep_before(alloc, auction, &call).is_err() {
+            return Err(FileFault::NoMemory);
+        }
+        auction.answer_call(&call, &mut reply);
+        if kept.keep_reply(&call, &reply).is_err() {
             return Err(FileFault::NoMemory);
         }
     }

@@ -1,13 +1,13 @@
 -- The tables of a book that are kept while a day's calls are applied.
-use Rattle.std.proofs.Common.{◌≡◌, ◌∙◌, ◌+◌, ◌-◌, ◌<◌, ◌++◌, ◌∷◌, [], ℕ, List, Bool, true, false, if◌then◌else◌, length}
+use Rattle.std.proofs.Common.{◌≡◌, ◌∙◌, ◌+◌, ◌-◌, ◌<◌, ◌++◌, ◌∷◌, [], ℕ, List, length}
 use Rattle.std.proofs.Common.{drop, get_or, add-one, drop-cons, refl, sym, ap, subst, append_assoc, length-append}
-use Rattle.std.proofs.Common.{arith, Result, Ok, Err, OnOk}
-use Rattle.std.proofs.lemmas.List.{append-nil, drop_all}
+use Rattle.std.proofs.Common.{Result, Ok, Err, OnOk}
+use Rattle.std.proofs.lemmas.List.{append-nil}
 use Rattle.std.specs.List.{AllByRecursion}
 use Rattle.auction_terms.specs.declared.Call.{Call}
 use Rattle.auction_terms.specs.declared.Config.{Config}
 use Rattle.auction_terms.specs.declared.Entry.{Entry}
-use Rattle.auction_terms.specs.Day.{State, opening_state, step}
+use Rattle.auction_terms.specs.Day.{State, step}
 use Rattle.auction_terms.specs.Auxiliary.RunningAuction.{RunningAuction, auction_after_call, opened_auction}
 use Rattle.auction.specs.AuctionState.{current_orders}
 use Rattle.day_tables.specs.declared.keeping.KeptTable.{KeptTable}
@@ -16,7 +16,6 @@ use Rattle.day_tables.specs.AnsweredCalls.{entry_of}
 use Rattle.day_tables.specs.BookTable.{table_before, tables_after, text_before}
 use Rattle.day_tables.specs.KeptBook.{AreTables, HasTablesSoFar, HasRoomFor, HasAllTables, tables_of}
 use Rattle.day_tables.specs.ShownTable.{IsShownIn}
-use Rattle.day_tables.specs.TableCurves.{HasRoomForTicks}
 use Rattle.day_tables.proofs.BookTableLaws.{ladder_ticks}
 
 -- one table more

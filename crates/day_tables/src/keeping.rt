@@ -1,12 +1,12 @@
 //! The book behind each price of a day, kept while the day's calls are applied.
 
-ghost use Rattle.std.specs.Prelude.{◌≡◌, ◌<◌, ◌+◌, ◌-◌, ◌++◌, ◌∷◌, [], ℕ, List, IfOk, OnOk};
+ghost use Rattle.std.specs.Prelude.{◌≡◌, ◌+◌, ◌-◌, ◌++◌, ◌∷◌, [], ℕ, List, IfOk, OnOk};
 ghost use Rattle.auction_terms.specs.declared.Config.{Config};
 ghost use Rattle.auction_terms.specs.declared.Entry.{Entry};
 ghost use Rattle.auction_terms.specs.Day.{is_uncross_reply, step};
 ghost use Rattle.auction_terms.specs.Auxiliary.RunningAuction.{auction_after_call, opened_auction};
 ghost use Rattle.printed_lines.specs.Printing.{Prints};
-ghost use Rattle.day_tables.specs.BookTable.{book_text, table_before, text_before};
+ghost use Rattle.day_tables.specs.BookTable.{book_text, table_before};
 ghost use Rattle.day_tables.specs.KeptBook.{AreTables, HasTablesSoFar, HasAllTables};
 ghost use Rattle.day_tables.specs.AnsweredCalls.{entry_of, is_uncross_command};
 ghost use Rattle.day_tables.specs.TableCurves.{HasRoomForTicks};
@@ -102,43 +102,23 @@ impl KeptBook {
         Ok(())
     }
 
-    /// Keeps the table before a call, if it is an uncross that will be accepted.
-    fn keep_before(
+    /// Keeps the table before the auction's next call, if that is an uncross that will be accepted. The error is that
+    /// memory is refused.
+    pub fn keep_before(
         &mut self,
         alloc: Global,
         auction: &mut Auction,
-        call: Call,
+        call: &Call,
     ) -> Result<(), AllocError>
         ensures auction { auction.new ≡ auction.old }
-        ensures curves { self.new.curves ≡ self.old.curves }
-        ensures tables { (front : List ℕ) → AreTables auction.old.config self.old.tables.items front
-            → OnOk result (AreTables auction.old.config self.new.tables.items
-            (front ++ text_before auction.old.config (auction.old.calls + 1) auction.old.state
-            (step auction.old.config auction.old.state call).1)) }
+        ensures kept { (entries : List Entry) → HasTablesSoFar self.old auction.old entries
+            → OnOk result (HasTablesSoFar self.new (auction_after_call auction.old call.now)
+            (entries ++ entry_of call.now (step auction.old.config auction.old.state call.now).1 ∷ [])) }
     {
-        if !will_uncross(auction, call) {
+        if !will_uncross(auction, *call) {
             return Ok(());
         }
         self.keep_table(alloc, auction)
-    }
-
-    /// Applies a call, and keeps the table before it if it is an uncross that is accepted. The error is that memory is
-    /// refused; the call is applied then too.
-    pub fn keep_call(
-        &mut self,
-        alloc: Global,
-        auction: &mut Auction,
-        call: Call,
-    ) -> Result<(), AllocError>
-        requires { auction.old.calls < auction.old.config.max_calls }
-        ensures auction { auction.new ≡ auction_after_call auction.old call }
-        ensures kept { (entries : List Entry) → HasTablesSoFar self.old auction.old entries
-            → OnOk result (HasTablesSoFar self.new auction.new
-            (entries ++ entry_of call (step auction.old.config auction.old.state call).1 ∷ [])) }
-    {
-        let kept = self.keep_before(alloc, auction, call);
-        auction.apply(call.member, call.command);
-        kept
     }
 
     /// Keeps the table at the end of the input, if the day isn't over. The error is that memory is refused.

@@ -1,5 +1,5 @@
 -- Answers of `print_tables` (src/keeping.rt): what the prover left open; rt looks here.
-use Rattle.std.proofs.Common.{◌∙◌, Ok, refl, sym, ap, subst, append_assoc, drop, []}
+use Rattle.std.proofs.Common.{◌∙◌, Ok, refl, sym, subst, append_assoc, []}
 use Rattle.std.proofs.lemmas.List.{append-nil, drop_all}
 use Rattle.day_tables.specs.KeptBook.{AreTables}
 use Rattle.day_tables.specs.TableCurves.{HasRoomForTicks}

@@ -1,10 +1,14 @@
 -- Answers of `KeptBook::keep_before` (src/keeping.rt): what the prover left open; rt looks here.
-use Rattle.day_tables.proofs.KeptBookLaws.{tables-same}
+use Rattle.std.proofs.Common.{refl}
+use Rattle.day_tables.proofs.KeptBookLaws.{follows-kept, follows-more, tables-same}
 use Rattle.day_tables.proofs.keeping.KeptBook.keep_before.Goals as goal
 
-pub returns-then-not-will_uncross-clause-tables : goal.returns-then-not-will_uncross-clause-tables
-returns-then-not-will_uncross-clause-tables c =
-    λ front are. rw (← c.if-not-will_uncross.ensures) (tables-same _ _ front are)
+pub returns-then-not-will_uncross-clause-kept : goal.returns-then-not-will_uncross-clause-kept
+returns-then-not-will_uncross-clause-kept c = λ entries is.
+    follows-more _ _ c.args.auction.now c.args.call.now entries refl
+    (λ front are. rw (← c.if-not-will_uncross.ensures) (tables-same _ _ front are)) is
 
-pub returns-clause-tables : goal.returns-clause-tables
-returns-clause-tables c = λ front are. rw (← c.if-not-will_uncross.ensures) (c.keep_table.ensures.tables front are)
+pub returns-clause-kept : goal.returns-clause-kept
+returns-clause-kept c = λ entries is.
+    follows-kept c.keep_table.result _ _ c.args.auction.now c.args.call.now entries c.keep_table.ensures.curves
+    (λ front are. rw (← c.if-not-will_uncross.ensures) (c.keep_table.ensures.tables front are)) is
