@@ -46,8 +46,8 @@ KeepsEntries (Journal lines) auction entries = HasEntryLines (text_of lines) ent
 KeepsEntries (Trades kept) auction entries = kept.items ≡ entries
 KeepsEntries (Book book) auction entries = HasTablesSoFar book auction entries
 
--- What is kept when the auction's next call comes, of the entries before it: those, and of the book the table before the
--- call too, if it is an uncross that will be accepted.
+-- What is kept when the auction's next call comes, of the entries before it: those, and of the book the table before
+-- the call too, if it is an uncross that will be accepted.
 abbrev pub KeepsUpToCall : Kept → RunningAuction → List Entry → Call → Type 0
 KeepsUpToCall (Book book) auction entries call =
     HasTablesSoFar book (auction_after_call auction call) (entries ++ entry_in auction call ∷ [])

@@ -61,8 +61,8 @@ impl Kept {
         }
     }
 
-    /// Keeps what the auction's next call changes and its form needs: of the book the ladder before an uncross that will
-    /// be accepted. The error is that memory is refused.
+    /// Keeps what its form needs from before the auction's next call: of the book the ladder, where the call is an
+    /// uncross that will be accepted. The error is that memory is refused.
     #[inline]
     pub fn keep_before(
         &mut self,

@@ -25,7 +25,8 @@ loop-call-preserved c =
         call-next c.args.calls.now front c.loop-call.call-index _ left c.loop-call-test.true,
         λ entries h. holds-more _ _ _ _ entries front call is
             (kept-answered c.keep_before.result c.keep_reply.result _ _ _ _ _ call _ _
-            (sym c.is_err.ensures.value ∙ c.if-is_err.false) (sym c.is_err-in-loop-call.ensures.value ∙ c.if-is_err-2.false)
+            (sym c.is_err.ensures.value ∙ c.if-is_err.false)
+            (sym c.is_err-in-loop-call.ensures.value ∙ c.if-is_err-2.false)
             c.keep_before.ensures.auction c.answer_call.ensures.state c.answer_call.ensures.reply
             (c.keep_before.ensures.kept _ (holds entries h)) c.keep_reply.ensures.kept),
       );

@@ -51,8 +51,12 @@ turns-preserved c =
         rows = ready.rows;
         members_are = ready.members_are ∙ inv.ready.members_are;
         most = ready.most ∙ inv.ready.most;
-        read = rw (c.answer_call.ensures.state, c.keep_before.ensures.auction) (omega (arith, ready.read, inv.ready.read));
-        room = rw (c.answer_call.ensures.state, c.keep_before.ensures.auction) (omega (arith, ready.room, inv.ready.read, inv.ready.most));
+        read =
+            rw (c.answer_call.ensures.state, c.keep_before.ensures.auction)
+            (omega (arith, ready.read, inv.ready.read));
+        room =
+            rw (c.answer_call.ensures.state, c.keep_before.ensures.auction)
+            (omega (arith, ready.room, inv.ready.read, inv.ready.most));
       };
       form = c.keep_reply.ensures.form ∙ c.keep_before.ensures.form ∙ inv.form;
       config = rw (c.answer_call.ensures.state, c.keep_before.ensures.auction) inv.config;
@@ -64,7 +68,8 @@ turns-preserved c =
         after-next front _ _ _ _ all next,
         λ entries h. holds-more _ _ _ _ entries front c.in-Some.call is
             (kept-answered c.keep_before.result c.keep_reply.result _ _ _ _ _ c.in-Some.call _ _
-            (sym c.is_err.ensures.value ∙ c.if-is_err.false) (sym c.is_err-in-Some.ensures.value ∙ c.if-is_err-2.false)
+            (sym c.is_err.ensures.value ∙ c.if-is_err.false)
+            (sym c.is_err-in-Some.ensures.value ∙ c.if-is_err-2.false)
             c.keep_before.ensures.auction c.answer_call.ensures.state c.answer_call.ensures.reply
             (c.keep_before.ensures.kept _ (holds entries h)) c.keep_reply.ensures.kept),
       );
