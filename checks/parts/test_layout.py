@@ -115,6 +115,12 @@ def test_another_kit(tmp_path: pathlib.Path) -> None:
     assert len(faults_of(documents.kits, tree)) == 1
 
 
+def test_this_kit_among_others(tmp_path: pathlib.Path) -> None:
+    names = f"rattle-kit-1 and {documents.kit().split()[0]}"
+    tree = planted(tmp_path, **{"docs/PROVED.md": f"Proved by {names}.\n"})
+    assert not faults_of(documents.kits, tree)
+
+
 OLD = ["    Side::Buy", "use call_board::Board;", "CALLAUCTION_ASK_SIDE", "best_buy"]
 
 

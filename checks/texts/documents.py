@@ -6,7 +6,7 @@
   it names is declared once.
 - No document has a word that FORBIDDEN lists.
 - Together they have at most MOST_BYTES, docs/WRONG_BODIES.md and CHANGELOG.md aside.
-- The kit that they name is the one of `rt version`.
+- The kit of `rt version` is among those that a document names, where it names any.
 """
 import collections
 import functools
@@ -149,14 +149,15 @@ def kit() -> str:
 
 def kits(tree: Tree) -> Iterator[str]:
     if shutil.which("rt") is None:
-        yield "there is no rt: the kit that documents name can't be compared"
+        yield "there is no rt: the kits that documents name can't be compared"
         return
     version = kit()
     for file in tree.documents:
-        for place, line in enumerate(tree.lines(file), 1):
-            for name in KIT.findall(line):
-                if name not in version.split():
-                    yield f"{tree.name(file)}:{place}: {name}, and rt version is {version.strip()}"
+        lines = enumerate(tree.lines(file), 1)
+        places = {name: place for place, line in lines for name in KIT.findall(line)}
+        if places and not set(places) & set(version.split()):
+            names, place = ", ".join(places), min(places.values())
+            yield f"{tree.name(file)}:{place}: {names}, and rt version is {version.strip()}"
 
 
 # ---- the glossary
