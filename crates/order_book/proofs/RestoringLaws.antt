@@ -1,15 +1,14 @@
 -- Orders that are put back into slots are the same line.
-use Rattle.std.proofs.Common.{◌≡◌, ◌≢◌, inl, inr, ℕ, ◌+◌, ◌-◌, ◌<◌, ◌≤◌, List, [], ◌++◌, length, Option, Some, None}
-use Rattle.std.proofs.Common.{refl, sym, ap, subst, ◌∙◌, arith, set, take}
-use Rattle.std.proofs.Common.{slice_index, length-append, count_by, is_some, IfSome}
+use Rattle.std.proofs.Common.{◌≡◌, ◌≢◌, inl, inr, ℕ, ◌+◌, ◌-◌, ◌<◌, ◌≤◌, List, [], length, Option, Some, None}
+use Rattle.std.proofs.Common.{sym, ap, subst, ◌∙◌, arith, set, take}
+use Rattle.std.proofs.Common.{length-append, count_by, is_some, IfSome}
 use Rattle.std.specs.Option.{option_to_list}
 use Rattle.std.proofs.lemmas.Bool.{cases_eq, cases_lt}
-use Rattle.std.proofs.lemmas.Grind.{common_steps}
 use Rattle.std.proofs.lemmas.List.{get_or_past, get_or-set_other, get_or-set_same, length-set}
-use Rattle.slab.specs.Slab.{HasRoomFor, Slab, Updates, slab_len}
+use Rattle.slab.specs.Slab.{HasRoomFor, Slab, slab_len}
 use Rattle.auction_terms.specs.declared.Stamped.{Stamped}
 use Rattle.order_book.specs.Orders.{HasSoundSlots, IsStoredAt, line_of, present, slot_at}
-use Rattle.order_book.specs.Restoring.{AreRestored, Restores, RestoresAt}
+use Rattle.order_book.specs.Restoring.{AreRestored, RestoresSlot, RestoresAt}
 use Rattle.order_book.proofs.KeyLaws.{length-present, one_key, same_some}
 use Rattle.order_book.proofs.LineLaws.{Among-line, Among-line_from, line_is, rising_line}
 use Rattle.order_book.proofs.WalkLaws.{present_few, present_more}
@@ -157,7 +156,7 @@ module _ (from : List (Option Stamped)) (from_keys : List ℕ) (stamps : ℕ)
   -- one more place
   pub restored_more : (old new : Slab Stamped) (keys keys' : List ℕ) (place : ℕ) (found : Option Stamped)
       → AreRestored from place stamps old.slots keys → length keys ≡ length from_keys → found ≡ slot_at from place
-      → Restores found old new keys keys' → AreRestored from (place + 1) stamps new.slots keys'
+      → RestoresSlot found old new keys keys' → AreRestored from (place + 1) stamps new.slots keys'
   restored_more old new keys keys' place None is long at done =
       subst (λ l. AreRestored from (place + 1) stamps l keys') (ap (λ (o : Slab Stamped). o.slots) (sym done.0))
       (subst (λ l. AreRestored from (place + 1) stamps old.slots l) (sym done.1)
@@ -217,7 +216,7 @@ has_room from place orders (Some x) at len room =
     omega (arith, more, present_few from (place + 1), length-present from)
 
 pub len_more : (from : List (Option Stamped)) (place : ℕ) (old new : Slab Stamped) (keys keys' : List ℕ)
-    (found : Option Stamped) → found ≡ slot_at from place → Restores found old new keys keys'
+    (found : Option Stamped) → found ≡ slot_at from place → RestoresSlot found old new keys keys'
     → slab_len old ≡ length (present (take place from)) → slab_len new ≡ length (present (take (place + 1) from))
 len_more from place old new keys keys' None at done len =
     ap slab_len done.0 ∙ len
@@ -232,7 +231,7 @@ len_more from place old new keys keys' (Some x) at done len =
     ∙ ap (λ o. length (present (take place from)) + length (option_to_list o)) (sym at))
 
 pub keys_long : (old new : Slab Stamped) (keys keys' : List ℕ) (found : Option Stamped)
-    → Restores found old new keys keys' → length keys' ≡ length keys
+    → RestoresSlot found old new keys keys' → length keys' ≡ length keys
 keys_long old new keys keys' None done = ap length done.1
 keys_long old new keys keys' (Some x) done = ap length done.written ∙ length-set keys (x.order.id - 1) done.key
 

@@ -6,7 +6,7 @@ use Rattle.std.specs.List.{filter_map}
 use Rattle.std.specs.Ordering.{nat_cmp}
 use Rattle.std.specs.declared.cmp.Ordering.{Ordering}
 use Rattle.slab.specs.Slab.{Slab, slab_len}
-use Rattle.auction_terms.specs.declared.limits.TheConstants.{MAX_OPEN_ORDERS, MAX_QUANTITY, MAX_TOTAL}
+use Rattle.auction_terms.specs.declared.limits.TheConstants.{MAX_CALLS, MAX_OPEN_ORDERS, MAX_QUANTITY, MAX_TOTAL}
 use Rattle.order_book.specs.declared.slots.TheConstants.{MAX_KEY}
 use Rattle.auction_terms.specs.declared.Order.{Order}
 use Rattle.auction_terms.specs.declared.Limit.{Limit}
@@ -134,6 +134,7 @@ pub record HasRoomForOrders (orders : Slab Stamped) (keys : Vec ℕ) (stamps max
   pub ids : length keys.items ≤ stamps
   pub calls : stamps ≤ max_calls
   pub keys_room : max_calls ≤ vec_capacity keys
+  pub few_calls : max_calls ≤ MAX_CALLS
 
 -- ---- an order by its id
 

@@ -1,8 +1,8 @@
 -- Orders put back into slots, one after the other.
-use Rattle.std.specs.Prelude.{◌≡◌, ℕ, ◌+◌, ◌-◌, ◌<◌, List, length, Option, Some, None, slice_set, take}
+use Rattle.std.specs.Prelude.{◌≡◌, ℕ, ◌+◌, ◌-◌, ◌<◌, List, Option, Some, None, slice_set}
 use Rattle.slab.specs.Slab.{Slab, Updates, slab_len}
 use Rattle.auction_terms.specs.declared.Stamped.{Stamped}
-use Rattle.order_book.specs.Orders.{HasSoundSlots, present, slot_at}
+use Rattle.order_book.specs.Orders.{HasSoundSlots, slot_at}
 
 -- the order stands at a new key, which is written down as that of its id
 pub record RestoresAt (s : Stamped) (old new : Slab Stamped) (keys keys' : List ℕ) : Type 0 where
@@ -12,9 +12,9 @@ pub record RestoresAt (s : Stamped) (old new : Slab Stamped) (keys keys' : List 
   pub len : slab_len new ≡ slab_len old + 1
   pub written : keys' ≡ slice_set keys (s.order.id - 1) key
 
-abbrev pub Restores : Option Stamped → Slab Stamped → Slab Stamped → List ℕ → List ℕ → Type 0
-Restores None old new keys keys' = (new ≡ old) × (keys' ≡ keys)
-Restores (Some s) old new keys keys' = RestoresAt s old new keys keys'
+abbrev pub RestoresSlot : Option Stamped → Slab Stamped → Slab Stamped → List ℕ → List ℕ → Type 0
+RestoresSlot None old new keys keys' = (new ≡ old) × (keys' ≡ keys)
+RestoresSlot (Some s) old new keys keys' = RestoresAt s old new keys keys'
 
 -- the orders at the first places are in the slots, and no others are
 pub record AreRestored (from : List (Option Stamped)) (place stamps : ℕ) (slots : List (Option Stamped))

@@ -4,13 +4,13 @@ ghost use Rattle.slab.specs.Slab.{slab_len};
 ghost use Rattle.order_book.specs.Orders.{HasKeys, without_orders};
 
 use crate::Orders;
+use crate::packed::PackedOrder;
 use crate::slots::with_keys;
-use auction_terms::Stamped;
 use slab::Slab;
 use std::alloc::{AllocError, Global};
 
 /// The same orders under the same keys, with room for `room` of them.
-fn copied_slots(orders: &Slab<Stamped>, room: usize) -> Result<Slab<Stamped>, AllocError>
+fn copied_slots(orders: &Slab<PackedOrder>, room: usize) -> Result<Slab<PackedOrder>, AllocError>
     requires { slab_len orders.now ≤ room }
     ensures slots { IfOk result (λ copy. copy.slots ≡ orders.now.slots) }
     ensures room { IfOk result (λ copy. room ≤ copy.capacity) }

@@ -2,10 +2,10 @@
 ghost use Rattle.std.specs.Prelude.{◌≡◌, ◌<◌, ◌≤◌, length, IfSome, vec_capacity};
 ghost use Rattle.slab.specs.Slab.{HasRoomFor};
 ghost use Rattle.order_book.specs.Orders.{HasKeys, HasSameRoom, IsSameButWalk};
-ghost use Rattle.order_book.specs.Restoring.{Restores};
+ghost use Rattle.order_book.specs.Restoring.{RestoresSlot};
 
 use crate::Orders;
-use auction_terms::Stamped;
+use crate::packed::PackedOrder;
 use slab::Slab;
 
 // The same keys, where there is room for them.
@@ -19,19 +19,19 @@ fn copy_keys(from: &[u32], to: &mut Vec<u32>)
 }
 
 // Puts an order into a slot, if there is one, and writes down its key.
-fn restore(orders: &mut Slab<Stamped>, keys: &mut Vec<u32>, found: Option<Stamped>)
+fn restore(orders: &mut Slab<PackedOrder>, keys: &mut Vec<u32>, found: Option<PackedOrder>)
     requires room { IfSome found (λ s. HasRoomFor orders.old 1) }
     requires keyed { HasKeys orders.old }
     requires within { IfSome found (λ s. (0 < s.order.id) × (s.order.id ≤ length keys.old.items)) }
-    ensures restored { Restores found orders.old orders.new keys.old.items keys.new.items }
+    ensures restored { RestoresSlot found orders.old orders.new keys.old.items keys.new.items }
     ensures slots { orders.new.capacity ≡ orders.old.capacity }
     ensures room { vec_capacity keys.new ≡ vec_capacity keys.old }
 {
-    let Some(stamped) = found else {
+    let Some(packed) = found else {
         return;
     };
-    let key = orders.insert_reserved(stamped);
-    keys[stamped.order.id as usize - 1] = key as u32;
+    let key = orders.insert_reserved(packed);
+    keys[packed.id() as usize - 1] = key as u32;
 }
 
 impl Orders {

@@ -25,7 +25,7 @@ both c =
     append-sound (record {
       order = c.with_id-order.result;
       stamp = c.self.inside.stamps;
-    }) c.insert_reserved-key.ensures.updates c.self.invariant.0
+    }) (rw c.new-packed.ensures at c.insert_reserved-key.ensures.updates) c.self.invariant.0
     c.insert_reserved-key.ensures.was_vacant refl (omega arith) c.push_reserved.ensures.items (omega arith)
     (omega arith)
 

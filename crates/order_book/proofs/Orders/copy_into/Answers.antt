@@ -85,6 +85,7 @@ invariant_of-other c =
         ids = omega (arith, is.ids, entered, c.self.invariant.1.ids);
         calls = omega (arith, c.self.invariant.1.calls, same_calls);
         keys_room = omega (arith, c.other.invariant.1.keys_room, c.copy_keys.ensures.capacity, is.room);
+        few_calls = c.other.invariant.1.few_calls;
       },
     )
 
