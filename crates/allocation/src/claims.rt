@@ -1,5 +1,7 @@
 //! The claims of the orders that take part in an auction, in rank order.
-ghost use Rattle.std.specs.Prelude.{◌≡◌, ◌+◌, ◌<◌, ◌≤◌, ◌^◌, ◌++◌, length, true, vec_len, vec_capacity, IsPermutation};
+ghost use Rattle.std.specs.Prelude.{◌≡◌, ◌+◌, ◌<◌, ◌≤◌, ◌^◌, ◌++◌, length, true, vec_len, vec_capacity};
+ghost use Rattle.std.specs.Prelude.{IfSome, IsPermutation};
+ghost use Rattle.auction_terms.specs.declared.Side.TheVariants.{Bid, Ask};
 ghost use Rattle.std.specs.Option.{option_to_list};
 ghost use Rattle.allocation.specs.Claim.{priority, rank, is_narrow, is_narrow_limit, is_claimant};
 ghost use Rattle.allocation.specs.Claim.{claims_of, claimed_by, orders_in_auction, AreInOrder, AreNarrow, IsRanked};
@@ -10,9 +12,9 @@ use order_book::Orders;
 /// What an eligible order asks for, in shares, behind what ranks it.
 #[derive(Clone, Copy)]
 pub(crate) struct Claim {
-    /// Where it stands on its side: the lesser number goes first.
-    pub rank: u128,
-    pub quantity: u64,
+    /// Its place on its side: the lesser number goes first.
+    pub rank: u64,
+    pub quantity: u32,
     pub id: u32,
 }
 
@@ -47,18 +49,21 @@ fn priority_of(side: Side, limit: Limit) -> u64
     }
 }
 
-/// Where an order stands on its side, as a number: by its limit first, and then by its place in time.
-pub(crate) fn rank_of(side: Side, stamped: Stamped) -> u128
+/// The place of an order on its side, as a number: by its limit first, and then by its place in time.
+pub(crate) fn rank_of(side: Side, stamped: Stamped) -> u64
+    requires { stamped.stamp < 2 ^ 31 }
     ensures value { result ≡ rank side stamped }
     ensures narrow { is_narrow stamped ≡ true }
 {
     let priority = priority_of(side, stamped.order.limit);
-    priority as u128 * (1 << 64) + stamped.stamp as u128
+    priority * (1 << 31) + stamped.stamp
 }
 
 // Adds the claim of the order at a place, if there is one and it takes part.
 fn consider(claims: &mut Vec<Claim>, claimants: Claimants, found: Option<Stamped>)
-    requires { vec_len claims.old + length (option_to_list found) ≤ vec_capacity claims.old }
+    requires room { vec_len claims.old + length (option_to_list found) ≤ vec_capacity claims.old }
+    requires stamp { IfSome found (λ s. s.stamp < 2 ^ 31) }
+    requires quantity { IfSome found (λ s. s.order.quantity < 2 ^ 32) }
     ensures items { claims.new.items ≡ claims.old.items ++ claims_of claimants (option_to_list found) }
     ensures narrow { AreNarrow (option_to_list found) }
     ensures few { vec_len claims.new ≤ vec_len claims.old + length (option_to_list found) }
@@ -71,7 +76,7 @@ fn consider(claims: &mut Vec<Claim>, claimants: Claimants, found: Option<Stamped
     if claimants.include(&stamped) {
         claims.push_reserved(Claim {
             rank,
-            quantity: stamped.order.quantity,
+            quantity: stamped.order.quantity as u32,
             id: stamped.order.id,
         });
     }
@@ -88,18 +93,39 @@ fn put_in_order(claims: &mut Vec<Claim>)
     }
 }
 
-/// Makes the claims of one side of the open orders, in rank order.
-pub(crate) fn rank_side(claims: &mut Vec<Claim>, claimants: Claimants, orders: &Orders)
-    requires { length orders.now.line ≤ vec_capacity claims.old }
-    ensures ranked { IsRanked claimants.side claimants.price
-        (orders_in_auction claimants.kind orders.now) claims.new.items }
-    ensures capacity { vec_capacity claims.new ≡ vec_capacity claims.old }
+/// Makes the claims of both sides of the open orders, each in rank order, in one walk through the orders.
+pub(crate) fn rank_sides(
+    bids: &mut Vec<Claim>,
+    asks: &mut Vec<Claim>,
+    kind: AuctionKind,
+    price: u32,
+    orders: &Orders,
+)
+    requires bids_room { length orders.now.line ≤ vec_capacity bids.old }
+    requires asks_room { length orders.now.line ≤ vec_capacity asks.old }
+    ensures bids { IsRanked Bid price (orders_in_auction kind orders.now) bids.new.items }
+    ensures asks { IsRanked Ask price (orders_in_auction kind orders.now) asks.new.items }
+    ensures bids_capacity { vec_capacity bids.new ≡ vec_capacity bids.old }
+    ensures asks_capacity { vec_capacity asks.new ≡ vec_capacity asks.old }
 {
-    claims.clear();
+    let bidders = Claimants {
+        side: Side::Bid,
+        kind,
+        price,
+    };
+    let askers = Claimants {
+        side: Side::Ask,
+        ..bidders
+    };
+    bids.clear();
+    asks.clear();
     for place in 0..orders.places() {
-        consider(claims, claimants, orders.at(place));
+        let found = orders.at(place);
+        consider(bids, bidders, found);
+        consider(asks, askers, found);
     }
-    put_in_order(claims);
+    put_in_order(bids);
+    put_in_order(asks);
 }
 
 /// What all claims ask for, in shares.
@@ -107,5 +133,5 @@ pub(crate) fn total(claims: &[Claim]) -> u64
     requires { claimed_by claims.now < 2 ^ 64 }
     ensures { result ≡ claimed_by claims.now }
 {
-    claims.iter().map(|claim| claim.quantity).sum()
+    claims.iter().map(|claim| u64::from(claim.quantity)).sum()
 }

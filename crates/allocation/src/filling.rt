@@ -14,7 +14,7 @@ fn fill_down(claims: &[Claim], volume: u64, fills: &mut Vec<Fill>)
 {
     let mut left = volume;
     for claim in claims {
-        let quantity = left.min(claim.quantity);
+        let quantity = left.min(u64::from(claim.quantity));
         if quantity > 0 {
             fills.push_reserved(Fill {
                 id: claim.id,

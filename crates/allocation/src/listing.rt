@@ -1,5 +1,5 @@
 //! The open orders of a side, in priority.
-ghost use Rattle.std.specs.Prelude.{◌≡◌, ◌++◌, IfOk};
+ghost use Rattle.std.specs.Prelude.{◌≡◌, ◌<◌, ◌^◌, ◌++◌, IfOk, IfSome};
 ghost use Rattle.std.specs.Option.{option_to_list};
 ghost use Rattle.auction_terms.specs.Auxiliary.StampedOrders.{orders_of};
 ghost use Rattle.allocation.specs.Claim.{AreNarrow};
@@ -13,8 +13,8 @@ use std::alloc::{AllocError, Global};
 /// An open order, behind what ranks it.
 #[derive(Clone, Copy)]
 pub struct RankedOrder {
-    /// Where it stands on its side: the lesser number goes first.
-    pub rank: u128,
+    /// Its place on its side: the lesser number goes first.
+    pub rank: u64,
     pub order: Order,
 }
 
@@ -45,6 +45,7 @@ fn consider(
     listed: Listed,
     found: Option<Stamped>,
 ) -> Result<(), AllocError>
+    requires { IfSome found (λ s. s.stamp < 2 ^ 31) }
     ensures items { IfOk result (λ _. ranked.new.items
         ≡ ranked.old.items ++ ranked_orders_of listed (option_to_list found)) }
     ensures narrow { IfOk result (λ _. AreNarrow (option_to_list found)) }
