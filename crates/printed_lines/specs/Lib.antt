@@ -1,5 +1,6 @@
-pub mod Printing
+pub mod DisplayText
 pub mod KeptText
-pub mod ReplyWords
+pub mod Printing
 pub mod ReplyLines
+pub mod ReplyWords
 pub mod Tally

@@ -7,6 +7,7 @@
 //! of the text.
 #![tactic(auto)]
 
+mod display_text;
 mod kept;
 mod line;
 mod page;
@@ -16,6 +17,7 @@ mod same;
 mod tally;
 mod words;
 
+pub use display_text::DisplayText;
 pub use kept::KeptText;
 pub use line::{print_line, put_line};
 pub use page::{LONGEST_LINE, LONGEST_NUMBER, Page, ROOM};

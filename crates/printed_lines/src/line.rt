@@ -1,15 +1,28 @@
 //! A printed line.
 
-ghost use Rattle.std.specs.Prelude.{◌≡◌, ◌≤◌, ◌+◌, ◌++◌, length};
+ghost use Rattle.std.specs.Prelude.{◌≡◌, ◌≤◌, ◌+◌, ◌++◌, codes, decimal, length};
+ghost use Rattle.auction_terms.specs.declared.Reply.TheVariants as reply;
 ghost use Rattle.printed_lines.specs.Printing.{Prints};
 ghost use Rattle.printed_lines.specs.ReplyLines.{line};
-ghost use Rattle.printed_lines.specs.declared.page.TheConstants.{LONGEST_LINE, ROOM};
+ghost use Rattle.printed_lines.specs.declared.page.TheConstants.{LONGEST_LINE, LONGEST_NUMBER, ROOM};
 
+use crate::display_text::DisplayText;
 use crate::page::Page;
 use crate::printer::Printer;
 use crate::reply::put_reply;
-use auction_terms::Reply;
+use auction_terms::{Display, Reply};
 use byte_streams::{Sink, WriteFailed};
+
+/// Puts the beginning of a line on the page: the command's number from 1, and a colon.
+#[inline]
+fn put_beginning(page: &mut Page, number: u64)
+    requires { length page.old + LONGEST_LINE ≤ ROOM }
+    ensures text { page.new ≡ page.old ++ (decimal number ++ codes ": ") }
+    ensures longer { length page.new ≤ length page.old + LONGEST_NUMBER + 2 }
+{
+    page.put_number(number);
+    page.put(": ");
+}
 
 /// Puts the line of a command's reply on the page: the command's number from 1, a colon, the reply's text.
 #[tactic(auto, unfolding(crate::specs::ReplyLines::line))]
@@ -18,9 +31,20 @@ pub fn put_line(page: &mut Page, number: u64, reply: Reply)
     requires { length page.old + LONGEST_LINE ≤ ROOM }
     ensures { page.new ≡ page.old ++ line number reply }
 {
-    page.put_number(number);
-    page.put(": ");
+    put_beginning(page, number);
     put_reply(page, reply);
+    page.put("\n");
+}
+
+/// Puts the line of a display that was asked for on the page; its text is copied where it is the last one again.
+#[tactic(auto, unfolding(crate::specs::ReplyLines::line))]
+#[inline]
+fn put_display_line(page: &mut Page, number: u64, display: Display, last: &mut DisplayText)
+    requires { length page.old + LONGEST_LINE ≤ ROOM }
+    ensures { page.new ≡ page.old ++ line number (reply.Indicated display) }
+{
+    put_beginning(page, number);
+    last.put(page, display);
     page.put("\n");
 }
 
@@ -33,6 +57,11 @@ pub fn print_line<S: Sink>(
     ensures { Prints S.Sink printer.old printer.new result (line number reply) }
 {
     printer.make_room()?;
-    put_line(&mut printer.page, number, reply);
+    match reply {
+        Reply::Indicated(display) => {
+            put_display_line(&mut printer.page, number, display, &mut printer.last);
+        }
+        _ => put_line(&mut printer.page, number, reply),
+    }
     Ok(())
 }

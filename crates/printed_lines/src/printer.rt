@@ -4,6 +4,7 @@ ghost use Rattle.std.specs.Prelude.{◌≡◌, ◌≤◌, ◌+◌, ℕ, List, []
 ghost use Rattle.printed_lines.specs.Printing.{IsFresh, Prints};
 ghost use Rattle.printed_lines.specs.declared.page.TheConstants.{LONGEST_LINE, ROOM};
 
+use crate::display_text::DisplayText;
 use crate::page::{LONGEST_LINE, Page, ROOM};
 use byte_streams::{Sink, WriteFailed, write_all};
 
@@ -13,6 +14,8 @@ use byte_streams::{Sink, WriteFailed, write_all};
 pub struct Printer<'a, S: Sink> {
     pub sink: &'a mut S,
     pub page: Page,
+    /// The display that was printed last, with its text.
+    pub last: DisplayText,
 }
 
 impl<'a, S: Sink> Printer<'a, S> {
@@ -23,6 +26,7 @@ impl<'a, S: Sink> Printer<'a, S> {
         Printer {
             sink,
             page: Page::new(),
+            last: DisplayText::new(),
         }
     }
 

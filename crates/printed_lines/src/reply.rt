@@ -36,7 +36,8 @@ fn put_price(page: &mut Page, price: Price)
     page.put(side_word(price.side));
 }
 
-fn put_display(page: &mut Page, display: Display)
+/// Puts the text of a display on the page, at most 100 bytes.
+pub(crate) fn put_display(page: &mut Page, display: Display)
     requires { length page.old + 100 ≤ ROOM }
     ensures text { page.new ≡ page.old ++ reply_text (reply.Indicated display) }
     ensures longer { length page.new ≤ length page.old + 100 }
