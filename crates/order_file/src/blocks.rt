@@ -24,10 +24,10 @@ use std::alloc::Global;
 use std::marker::Model;
 
 // How many bytes a block has at least, where the input has as many.
-const BLOCK: usize = 262_144;
+const BLOCK: usize = 131_072;
 
 // How many bytes are asked for at a time.
-const PIECE: usize = 65_536;
+const PIECE: usize = 32_768;
 
 /// An input, of which whole lines are held, as many as a block has, and the beginning of the next one.
 ///
