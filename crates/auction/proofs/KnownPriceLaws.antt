@@ -121,12 +121,12 @@ known_once : (low n : ℕ) (kind : AuctionKind) (found : Option KnownPrice) (o :
     → IfSome (still_known found kind o) (IsKnown low n (auction_orders new kind))
 known_once low n kind None o old new same known = tt
 known_once low n kind (Some s) o old new same known =
-    at (participates_in kind o && not (is_beyond s o.side o.limit)) refl
+    by_test (participates_in kind o && not (is_beyond s o.side o.limit)) refl
   where
-    at : (b : Bool) → participates_in kind o && not (is_beyond s o.side o.limit) ≡ b
+    by_test : (b : Bool) → participates_in kind o && not (is_beyond s o.side o.limit) ≡ b
         → IfSome (cond b None (Some s)) (IsKnown low n (auction_orders new kind))
-    at true e = tt
-    at false e = known_of low n s (auction_orders old kind) (auction_orders new kind) (same s e) known
+    by_test true e = tt
+    by_test false e = known_of low n s (auction_orders old kind) (auction_orders new kind) (same s e) known
 
 known_more : (low n : ℕ) (kind : AuctionKind) (found : Option KnownPrice) (o : Order) (old new : List Order)
     → HasOrderMore o old new → IfSome found (IsKnown low n (auction_orders old kind))
@@ -230,13 +230,13 @@ pub best_ask_same : (low n from to : ℕ) (book other : List Order) → IsBookOv
 best_ask_same low n from to book other over others same some none =
     lowest_agree xs ys
     (λ q e. elim (cases_lt to q) [
-      | inl above ↦ (let b = bottom q above (within book over q e) in
+      | inl above ↦ (let b = bottom q above (ticks_within book over q e) in
           (b.0, has_still Ask book other b.0 over.positive (same.asks b.0 b.2) b.1, omega (arith, b.2)))
       | inr below ↦
           (q, has_still Ask book other q over.positive (same.asks q below) e, omega arith)
     ])
     (λ q e. elim (cases_lt to q) [
-      | inl above ↦ (let b = bottom q above (within other others q e) in
+      | inl above ↦ (let b = bottom q above (ticks_within other others q e) in
           (b.0, b.1, omega (arith, b.2)))
       | inr below ↦
           (q, has_still Ask other book q others.positive (sym (same.asks q below)) e, omega arith)
@@ -248,9 +248,10 @@ best_ask_same low n from to book other over others same some none =
     ys : List ℕ
     ys = limits (filter (is_on Ask) other)
 
-    within : (l : List Order) → IsBookOver low n l → (q : ℕ) → has q (limits (filter (is_on Ask) l)) ≡ true
+    ticks_within : (l : List Order) → IsBookOver low n l → (q : ℕ) → has q (limits (filter (is_on Ask) l)) ≡ true
         → q < low + n
-    within l is q e = (All_at (λ tick. (low ≤ tick) × (tick < low + n)) (limits l) is.within q (side_limit Ask l q e)).1
+    ticks_within l is q e =
+        (All_at (λ tick. (low ≤ tick) × (tick < low + n)) (limits l) is.within q (side_limit Ask l q e)).1
 
     bottom_of : (o : Option ℕ) → lowest xs ≡ o → IfSome o (λ t. t ≤ to) → IfNone o (low + n ≤ to + 1) → (q : ℕ) → to < q
         → q < low + n → (b : ℕ) × (has b xs ≡ true) × (b ≤ to)

@@ -149,7 +149,7 @@ module _ {low n : ℕ} {kind : AuctionKind} {book new : List Order} {ladder view
   kept-change id limit quantity o between e tick orderly is before after =
       kept-same
       (subst (λ l. HasLadder low n kind l (ladder_with kind changed between)) same
-      (at (keeps_place o limit quantity) (subst IsOrderly (is ∙ sym same) orderly))) is after
+      (by_test (keeps_place o limit quantity) (subst IsOrderly (is ∙ sym same) orderly))) is after
     where
       changed : Order
       changed = with_terms limit quantity o
@@ -166,13 +166,13 @@ module _ {low n : ℕ} {kind : AuctionKind} {book new : List Order} {ladder view
       less : HasLadder low n kind (without_id id book) between
       less = kept-same (kept_removed was id o e) refl before
 
-      at : (b : Bool) → IsOrderly (cond b here there)
+      by_test : (b : Bool) → IsOrderly (cond b here there)
           → HasLadder low n kind (cond b here there) (ladder_with kind changed between)
-      at true h =
+      by_test true h =
           kept_more less here changed h
           (changed_ticks low n id (with_terms limit quantity) book (λ o h. tick) was.within) tick
           (more-changed id (with_terms limit quantity) book o was.orderly.ids e)
-      at false h =
+      by_test false h =
           kept_more less there changed h
           (subst (All (HasTick low n)) (sym (moved_is id (with_terms limit quantity) book o was.orderly.ids e))
           (All-push (HasTick low n) (without_id id book) changed less.within tick)) tick

@@ -46,9 +46,9 @@ module _ (P : ℕ → Type 0) where
 pub price_among : (low n reference : ℕ) (book : List Order) (known : KnownPrice)
     → All (λ tick. (low ≤ tick) × (tick < low + n)) (limits book) → (low ≤ reference) × (reference < low + n)
     → IsPriceAt reference book known → IfSome known.price (λ (p : Price). (low ≤ p.tick) × (p.tick < low + n))
-price_among low n reference book known all within is = at known.price is.found
+price_among low n reference book known all within is = by_option known.price is.found
   where
-    at : (found : Option Price) → price book reference ≡ found
+    by_option : (found : Option Price) → price book reference ≡ found
         → IfSome found (λ (p : Price). (low ≤ p.tick) × (p.tick < low + n))
-    at None e = tt
-    at (Some p) e = price_in (λ tick. (low ≤ tick) × (tick < low + n)) book reference p e all within
+    by_option None e = tt
+    by_option (Some p) e = price_in (λ tick. (low ≤ tick) × (tick < low + n)) book reference p e all within

@@ -75,7 +75,7 @@ pub extern "C" fn callauction_board_call(
     ensures done { result ≡ 0 → IsSomeAnd (decoded_as.command_in command.now) (λ c.
         HoldsAfter (RecordsCall c receipt.new) member.old.held.value member.new.held.value) }
     ensures fault { 0 < result → receipt.new ≡ receipt.old }
-    ensures held { 0 < result → result ≢ FULL → member.new.held.value ≡ member.old.held.value }
+    ensures member { 0 < result → result ≢ FULL → member.new.held.value ≡ member.old.held.value }
     ensures missing { IfNone member.old.held.value (result ≡ NO_MEMBER) }
     ensures none { IfSome member.old.held.value (λ m.
         IfNone (decoded_as.command_in command.now) (result ≡ NO_COMMAND)) }
@@ -187,7 +187,7 @@ pub extern "C" fn callauction_board_history(
 pub extern "C" fn callauction_board_calls(member: &mut AuctionMember, calls: &mut u32) -> u32
     ensures done { result ≡ 0 → IsSomeAnd member.old.held.value (λ m. calls.new ≡ m.view.calls) }
     ensures none { 0 < result → (member.old.held.value ≡ None) × (result ≡ NO_MEMBER) × (calls.new ≡ calls.old) }
-    ensures held { member.new.held.value ≡ member.old.held.value }
+    ensures member { member.new.held.value ≡ member.old.held.value }
 {
     if !member.is_open {
         return NO_MEMBER;
@@ -205,7 +205,7 @@ pub extern "C" fn callauction_board_config_of(
     ensures done { result ≡ 0 →
         IsSomeAnd member.old.held.value (λ m. config.new ≡ encoded_as.config_out m.board.config) }
     ensures none { 0 < result → (member.old.held.value ≡ None) × (result ≡ NO_MEMBER) × (config.new ≡ config.old) }
-    ensures held { member.new.held.value ≡ member.old.held.value }
+    ensures member { member.new.held.value ≡ member.old.held.value }
 {
     if !member.is_open {
         return NO_MEMBER;
@@ -250,7 +250,7 @@ pub extern "C" fn callauction_board_close(
 /// Gives up the handle's member, and the board with the last of its members.
 #[unsafe(no_mangle)]
 pub extern "C" fn callauction_board_leave(alloc: Global, member: &mut AuctionMember) -> u32
-    ensures held { member.new.held.value ≡ None }
+    ensures member { member.new.held.value ≡ None }
     ensures none { IfNone member.old.held.value (result ≡ NO_MEMBER) }
     ensures done { IfSome member.old.held.value (λ m. result ≡ DONE) }
 {

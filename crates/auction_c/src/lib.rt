@@ -97,7 +97,7 @@ pub extern "C" fn callauction_apply(
 ) -> u32
     ensures error { result ≡
         option_map_or (λ a. (apply_struct a command.now reply.old).error) handle.old.held.value NO_AUCTION }
-    ensures held { handle.new.held.value ≡
+    ensures auction { handle.new.held.value ≡
         option_map (λ a. (apply_struct a command.now reply.old).auction) handle.old.held.value }
     ensures reply { reply.new ≡
         option_map_or (λ a. (apply_struct a command.now reply.old).reply) handle.old.held.value reply.old }
@@ -123,7 +123,7 @@ pub extern "C" fn callauction_apply_many(
         option_map_or (λ a. (apply_all a commands.now replies.old).error) handle.old.held.value NO_AUCTION }
     ensures applied { applied.new ≡
         option_map_or (λ a. (apply_all a commands.now replies.old).applied) handle.old.held.value 0 }
-    ensures held { handle.new.held.value ≡
+    ensures auction { handle.new.held.value ≡
         option_map (λ a. (apply_all a commands.now replies.old).auction) handle.old.held.value }
     ensures replies { replies.new ≡
         option_map_or (λ a. (apply_all a commands.now replies.old).replies) handle.old.held.value replies.old }
@@ -142,7 +142,7 @@ pub extern "C" fn callauction_apply_many(
 #[unsafe(no_mangle)]
 pub extern "C" fn callauction_display(handle: &mut AuctionHandle, shown: &mut AuctionReply) -> u32
     ensures error { result ≡ option_map_or (λ a. DONE) handle.old.held.value NO_AUCTION }
-    ensures held { handle.new.held.value ≡ handle.old.held.value }
+    ensures auction { handle.new.held.value ≡ handle.old.held.value }
     ensures shown { shown.new ≡
         option_map_or (λ a. encoded_as.display_out (display a.state)) handle.old.held.value shown.old }
 {
@@ -167,7 +167,7 @@ pub extern "C" fn callauction_ladder(
 ) -> u32
     ensures error { result ≡ option_map_or
         (λ a. ladder_error (ticks_of a.config) (length bids.old) (length asks.old)) handle.old.held.value NO_AUCTION }
-    ensures held { handle.new.held.value ≡ handle.old.held.value }
+    ensures auction { handle.new.held.value ≡ handle.old.held.value }
     ensures bids { result ≡ 0 → IfSome handle.old.held.value (λ a. bids.new ≡ (ladder_now a).bids) }
     ensures asks { result ≡ 0 → IfSome handle.old.held.value (λ a. asks.new ≡ (ladder_now a).asks) }
     ensures market { result ≡ 0 → IfSome handle.old.held.value (λ a. market.new ≡
@@ -190,7 +190,7 @@ pub extern "C" fn callauction_trades(
     copied: &mut usize,
 ) -> u32
     ensures error { result ≡ option_map_or (λ a. DONE) handle.old.held.value NO_AUCTION }
-    ensures held { handle.new.held.value ≡ handle.old.held.value }
+    ensures auction { handle.new.held.value ≡ handle.old.held.value }
     ensures copied { copied.new ≡ min (length (unseen_trades seen handle.old.held.value)) (length trades.old) }
     ensures trades { trades.new ≡
         map encoded_as.trade_out (take copied.new (unseen_trades seen handle.old.held.value))
@@ -212,7 +212,7 @@ pub extern "C" fn callauction_trades(
 #[unsafe(no_mangle)]
 pub extern "C" fn callauction_calls(handle: &mut AuctionHandle, calls: &mut u32) -> u32
     ensures error { result ≡ option_map_or (λ a. DONE) handle.old.held.value NO_AUCTION }
-    ensures held { handle.new.held.value ≡ handle.old.held.value }
+    ensures auction { handle.new.held.value ≡ handle.old.held.value }
     ensures calls { calls.new ≡ option_map_or (λ a. a.calls) handle.old.held.value calls.old }
 {
     if !handle.is_open {
@@ -229,7 +229,7 @@ pub extern "C" fn callauction_config_of(
     config: &mut AuctionConfig,
 ) -> u32
     ensures error { result ≡ option_map_or (λ a. DONE) handle.old.held.value NO_AUCTION }
-    ensures held { handle.new.held.value ≡ handle.old.held.value }
+    ensures auction { handle.new.held.value ≡ handle.old.held.value }
     ensures config { config.new ≡
         option_map_or (λ a. encoded_as.config_out a.config) handle.old.held.value config.old }
 {
@@ -244,7 +244,7 @@ pub extern "C" fn callauction_config_of(
 #[unsafe(no_mangle)]
 pub extern "C" fn callauction_reset(handle: &mut AuctionHandle) -> u32
     ensures error { result ≡ option_map_or (λ a. DONE) handle.old.held.value NO_AUCTION }
-    ensures held { handle.new.held.value ≡ option_map (λ a. opened_auction a.config) handle.old.held.value }
+    ensures auction { handle.new.held.value ≡ option_map (λ a. opened_auction a.config) handle.old.held.value }
 {
     if !handle.is_open {
         return NO_AUCTION;
@@ -264,7 +264,7 @@ pub extern "C" fn callauction_clone(
     handle: &mut AuctionHandle,
     other: &mut AuctionHandle,
 ) -> u32
-    ensures held { handle.new.held.value ≡ handle.old.held.value }
+    ensures auction { handle.new.held.value ≡ handle.old.held.value }
     ensures copied { result ≡ 0 → other.new.held.value ≡ handle.old.held.value }
     ensures refused { 0 < result → other.new.held.value ≡ other.old.held.value }
     ensures missing { IsNone handle.old.held.value → result ≡ NO_AUCTION }
@@ -291,7 +291,7 @@ pub extern "C" fn callauction_clone(
 #[unsafe(no_mangle)]
 pub extern "C" fn callauction_close(alloc: Global, handle: &mut AuctionHandle) -> u32
     ensures error { result ≡ option_map_or (λ a. DONE) handle.old.held.value NO_AUCTION }
-    ensures held { handle.new.held.value ≡ None }
+    ensures auction { handle.new.held.value ≡ None }
 {
     if !handle.is_open {
         return NO_AUCTION;

@@ -24,7 +24,7 @@ pub extern "C" fn callauction_orders(
     orders: &mut [AuctionOrder],
     copied: &mut usize,
 ) -> u32
-    ensures held { handle.new.held.value ≡ handle.old.held.value }
+    ensures auction { handle.new.held.value ≡ handle.old.held.value }
     ensures missing { IsNone handle.old.held.value → result ≡ NO_AUCTION }
     ensures member { IsSome handle.old.held.value → IsNone (decoded_as.member_in member) → result ≡ BAD_MEMBER }
     ensures memory { IsSome handle.old.held.value → IsSome (decoded_as.member_in member) → 0 < result →
@@ -63,7 +63,7 @@ pub extern "C" fn callauction_expiring(
     orders: &mut [AuctionOrder],
     copied: &mut usize,
 ) -> u32
-    ensures held { handle.new.held.value ≡ handle.old.held.value }
+    ensures auction { handle.new.held.value ≡ handle.old.held.value }
     ensures missing { IsNone handle.old.held.value → result ≡ NO_AUCTION }
     ensures memory { IsSome handle.old.held.value → 0 < result → result ≡ NO_MEMORY }
     ensures copied { result ≡ 0 → IfSome handle.old.held.value (λ a.

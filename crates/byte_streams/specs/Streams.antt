@@ -25,8 +25,8 @@ abbrev pub AppendsBeginning : Option (List ℕ) → Option (List ℕ) → List �
 AppendsBeginning old new text = (done : List ℕ) × (rest : List ℕ) × (done ++ rest ≡ text) × Appends old new done
 
 -- the text was written, or at a failure a beginning of it
-abbrev pub Writes : {E : Type 0} → Option (List ℕ) → Option (List ℕ) → Result (Unit {0}) E → List ℕ → Type 0
-Writes old new r text = MatchResult r (λ _. Appends old new text) (λ _. AppendsBeginning old new text)
+abbrev pub AppendsOrBegins : {E : Type 0} → Option (List ℕ) → Option (List ℕ) → Result (Unit {0}) E → List ℕ → Type 0
+AppendsOrBegins old new r text = MatchResult r (λ _. Appends old new text) (λ _. AppendsBeginning old new text)
 
 -- it failed where the count of failures rose, and else the count stayed
 abbrev pub ReportsFailure : {X E : Type 0} → ℕ → ℕ → Result X E → Type 0

@@ -18,7 +18,7 @@ use Rattle.live_session.specs.declared.fault.LiveFault.{LiveFault}
 use Rattle.live_session.specs.declared.terms.SessionTerms.{SessionTerms}
 use Rattle.settings.specs.declared.types.JournalFile.{JournalFile}
 use Rattle.callboard.specs.FileRun.{ends_of}
-use Rattle.callboard.specs.KeptLive.{EndsAs, HasClosed, IsBegunFor, IsReason, JournalFiles, RunsKeptSession}
+use Rattle.callboard.specs.KeptLive.{EndsWithStatus, HasClosed, IsBegunFor, IsReason, JournalFiles, RunsKeptSession}
 use Rattle.callboard.specs.KeptLive.{begin_status, kept_status, resume_status}
 use Rattle.callboard.specs.LiveRun.{terms_of}
 use Rattle.callboard.specs.declared.keeping.KeptFault.{KeptFault}
@@ -41,14 +41,14 @@ kept-small (kept.Opening Busy) = omega arith
 kept-small (kept.Opening (Failed error)) = omega arith
 kept-small (kept.Begin f) = begin-small f
 
-ended-small : (ended : Result Ending LiveFault) (is_closed : Bool) (status : ℕ) → EndsAs ended is_closed status
+ended-small : (ended : Result Ending LiveFault) (is_closed : Bool) (status : ℕ) → EndsWithStatus ended is_closed status
     → status ≤ 4
 ended-small ended false status is = omega (arith, is)
 ended-small (Ok AllGood) true status is = omega (arith, is)
 ended-small (Ok SomeBad) true status is = omega (arith, is)
 ended-small (Err f) true status is = omega (arith, is)
 
-never-two : (ended : Result Ending LiveFault) (is_closed : Bool) (status : ℕ) → EndsAs ended is_closed status
+never-two : (ended : Result Ending LiveFault) (is_closed : Bool) (status : ℕ) → EndsWithStatus ended is_closed status
     → status ≡ 2 → ⊥
 never-two ended false status is two = omega (arith, is, two)
 never-two (Ok AllGood) true status is two = omega (arith, is, two)
@@ -57,7 +57,7 @@ never-two (Err f) true status is two = omega (arith, is, two)
 
 failed-read : (terms : SessionTerms) (start : RunningAuction) (before after : KeptEnds)
     (ended : Result Ending LiveFault) (is_closed : Bool) (status : ℕ)
-    → EndsSession kept_ends terms start before after ended → EndsAs ended is_closed status
+    → EndsSession kept_ends terms start before after ended → EndsWithStatus ended is_closed status
     → before.read_failures < after.read_failures → status ≡ 3
 failed-read terms start before after ended false status h is f = is
 failed-read terms start before after (Ok ending) true status h is f =
@@ -66,7 +66,7 @@ failed-read terms start before after (Err fault) true status h is f = is
 
 failed-write : (terms : SessionTerms) (start : RunningAuction) (before after : KeptEnds)
     (ended : Result Ending LiveFault) (is_closed : Bool) (status : ℕ)
-    → EndsSession kept_ends terms start before after ended → EndsAs ended is_closed status
+    → EndsSession kept_ends terms start before after ended → EndsWithStatus ended is_closed status
     → before.write_failures < after.write_failures → status ≡ 3
 failed-write terms start before after ended false status h is f = is
 failed-write terms start before after (Ok ending) true status h is f =
@@ -104,7 +104,7 @@ module _ {D : Type 0} (files : JournalFiles D) (file : JournalFile) (day : DayHe
       (ends_at (reads.left reader) (writes.written out) (reads.failures reader) (writes.failures out))
       (ends_at (reads.left last_reader) (writes.written last_out) (reads.failures last_reader)
       (writes.failures last_out)) ended
-      → HasClosed files.device ended last.device closed.device is_closed → EndsAs ended is_closed status
+      → HasClosed files.device ended last.device closed.device is_closed → EndsWithStatus ended is_closed status
       → RunsKeptSession files file day reserve (ends_of reads writes reader last_reader out last_out) status
   ran-kept reader last_reader out last_out start journal last closed ended is_closed status begun ran closing is =
       record {

@@ -16,7 +16,7 @@ use Rattle.byte_streams.specs.declared.sink.Sink as sink
 use Rattle.byte_streams.specs.declared.source.Source as source
 use Rattle.callboard.specs.declared.live.SessionFault.TheVariants.{Open}
 use Rattle.callboard.specs.FileRun.{Ends, ends_of}
-use Rattle.callboard.specs.LiveRun.{RanSession, RunsLive, as_session, terms_of}
+use Rattle.callboard.specs.LiveRun.{HasRunSession, RunsLive, as_session, terms_of}
 
 -- a device before and after a session, as the ends of a run
 abbrev pub ends_between : {C : Type 0} → Ghosts C → C → C → Ends
@@ -32,7 +32,7 @@ ends_between c old new = record {
 -- what a session does, by its ends alone
 ran-session : {C : Type 0} (c : Ghosts C) (terms : SessionTerms) (start : RunningAuction) (old new : C)
     (ended : Result Ending LiveFault)
-    → EndsSession c terms start old new ended → RanSession terms start (ends_between c old new) ended
+    → EndsSession c terms start old new ended → HasRunSession terms start (ends_between c old new) ended
 ran-session c terms start old new ended h = record {
   before = seen_as c old;
   after = seen_as c new;

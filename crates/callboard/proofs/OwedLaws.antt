@@ -42,8 +42,8 @@ wrote_well r u is told h = let late : r ≡ Err fault.WriteFailed = told.1 h in 
 -- ---- a fault of the input
 
 -- what the input says is what was given
-abbrev SaysWhatWasGiven : (job : Job) → Ends → job.Given → Type 0
-SaysWhatWasGiven job ends run_input = IfSome ends.left (λ bytes. job.says bytes ≡ Ok run_input)
+abbrev IsSaidByInput : (job : Job) → Ends → job.Given → Type 0
+IsSaidByInput job ends run_input = IfSome ends.left (λ bytes. job.says bytes ≡ Ok run_input)
 
 known : (left : Option (List ℕ)) (job : Job) (ends : Ends) (run_input : job.Given) (run : RunResult)
     → IfSome left (λ bytes. job.says bytes ≡ Ok run_input)
@@ -73,7 +73,7 @@ refused_input {X} job ends r f is told wrote_well kept faults fails = record {
 -- ---- a fault before anything was written
 
 pub refused_opening : (job : Job) (ends : Ends) (run_input : job.Given) (f : OpenFault)
-    → SaysWhatWasGiven job ends run_input
+    → IsSaidByInput job ends run_input
     → (ends.ReadFailed → ⊥) → (ends.WriteFailed → ⊥) → ends.new ≡ ends.old
     → job.Faults (fault.Open f) → f ≡ unwrap_or (job.opening run_input) NoMemory → IsRunOf job ends (Err (fault.Open f))
 refused_opening job ends run_input f hears read_well wrote_well kept faults opens = record {
@@ -85,7 +85,7 @@ refused_opening job ends run_input f hears read_well wrote_well kept faults open
 }
 
 pub ended_between : (X : Type 0) (job : Job) (ends : Ends) (run_input : job.Given) (f : Fault)
-    → SaysWhatWasGiven job ends run_input → (ends.ReadFailed → ⊥) → (ends.WriteFailed → ⊥) → ends.new ≡ ends.old
+    → IsSaidByInput job ends run_input → (ends.ReadFailed → ⊥) → (ends.WriteFailed → ⊥) → ends.new ≡ ends.old
     → job.Faults f → IsOfOpeningOrDay f → OpensUnless {X = X} (job.opening run_input) (Err f) → IsRunOf job ends (Err f)
 ended_between X job ends run_input (fault.File f) hears read_well wrote_well kept faults between opens = absurd between
 ended_between X job ends run_input (fault.Open f) hears read_well wrote_well kept faults between opens =
@@ -110,7 +110,7 @@ ended_between X job ends run_input fault.WriteFailed hears read_well wrote_well 
 -- ---- what was written
 
 pub ran_whole : (job : Job) (ends : Ends) (run_input : job.Given) (finish : Finish) (text : List ℕ)
-    → SaysWhatWasGiven job ends run_input → (ends.ReadFailed → ⊥) → (ends.WriteFailed → ⊥)
+    → IsSaidByInput job ends run_input → (ends.ReadFailed → ⊥) → (ends.WriteFailed → ⊥)
     → job.opening run_input ≡ None → job.Text run_input finish text → Appends ends.old ends.new text
     → IsRunOf job ends (Ok finish)
 ran_whole job ends run_input finish text hears read_well wrote_well opens is wrote = record {
@@ -122,7 +122,7 @@ ran_whole job ends run_input finish text hears read_well wrote_well opens is wro
 }
 
 pub ran_short : (job : Job) (ends : Ends) (run_input : job.Given) (finish : Finish) (text : List ℕ)
-    (r : Result (Unit {0}) Fault) (f : Fault) → r ≡ Err f → SaysWhatWasGiven job ends run_input
+    (r : Result (Unit {0}) Fault) (f : Fault) → r ≡ Err f → IsSaidByInput job ends run_input
     → (ends.ReadFailed → ⊥) → (IsErrOf r fault.WriteFailed ↔ ends.WriteFailed) → job.opening run_input ≡ None
     → job.Faults f → IsOfListing f → (f ≡ fault.WriteFailed → job.Text run_input finish text)
     → WritesText ends.old ends.new text (Err f) → IsRunOf job ends (Err f)

@@ -26,7 +26,7 @@ use Rattle.callboard.specs.BoardRun.{board_job}
 use Rattle.callboard.specs.FileRun.{Ends, IsRunOf, Job}
 use Rattle.callboard.specs.KeptLive.{JournalFiles, RunsKeptSession}
 use Rattle.callboard.specs.LiveRun.{RunsLive, SessionResult, session_status}
-use Rattle.callboard.specs.Served.{AnswersFault, DoesTask, RefusesMix, RunsSession, Serves, ServesSettings, day_of}
+use Rattle.callboard.specs.Served.{AnswersFault, DoesTask, RefusesMix, RunsSession, ServesWords, ServesSettings, day_of}
 use Rattle.callboard.specs.Served.{is_session, words_status}
 use Rattle.callboard.specs.Status.{RunResult, file_status, open_status, run_status}
 use Rattle.callboard.specs.declared.fault.Fault.TheVariants as fault
@@ -175,7 +175,7 @@ does-live files day journal reserve ends status is h = rw is h
 pub serves-settings : {D : Type 0} (files : JournalFiles D) (words : List Text) (s : Settings) (task : Task)
     (ends : Ends) (status : ℕ)
     → AcceptsWords words s → IsInRange s → s.task ≡ task → DoesTask files (day_of s) s.journal task ends status
-    → Serves files words ends status
+    → ServesWords files words ends status
 serves-settings files words s task ends status accepts ranges is h =
     let does : ServesSettings files s ends status =
     subst (λ (t : Task). DoesTask files (day_of s) s.journal t ends status) (sym is) h in
@@ -223,7 +223,7 @@ few-of-words kind status (inr f) fails = let late = fails f in omega (arith, lat
 -- words that say none
 pub serves-words : {D : Type 0} (files : JournalFiles D) (words : List Text) (ends : Ends) (status : ℕ)
     → AnswersFault words ends status
-    → Serves files words ends status
+    → ServesWords files words ends status
 serves-words files words ends status (inl h) = record {
   answer = inr (inl h);
   quiet = λ q. not-help (words_status h.kind) status h.status_is h.write_failed h.kept (one-or-two status q refl);

@@ -82,9 +82,9 @@ IsReason files file day (kept.Opening f) = (open_fault day.config ≡ None) × f
 IsReason files file day (kept.Begin f) = IsNotBegunOn files file day f
 
 -- that of a session, and 3 where its journal couldn't be closed
-abbrev pub EndsAs : Result Ending LiveFault → Bool → ℕ → Type 0
-EndsAs ended true status = status ≡ session_status (as_session ended)
-EndsAs ended false status = status ≡ 3
+abbrev pub EndsWithStatus : Result Ending LiveFault → Bool → ℕ → Type 0
+EndsWithStatus ended true status = status ≡ session_status (as_session ended)
+EndsWithStatus ended false status = status ≡ 3
 
 -- A journal was cut behind its lines, unless a commit had failed or the file did.
 pub record HasClosed {D : Type 0} (device : Ghosts D) (ended : Result Ending LiveFault) (old new : D) (is_closed : Bool)
@@ -95,7 +95,7 @@ pub record HasClosed {D : Type 0} (device : Ghosts D) (ended : Result Ending Liv
   pub why : is_closed ≡ false → (ended ≡ Err CommitFailed) ⊎ (device.faults old < device.faults new)
 
 -- The session didn't begin, for this reason: nothing was read, and nothing written.
-pub record DidNotBegin {D : Type 0} (files : JournalFiles D) (file : JournalFile) (day : DayHeader) (ends : Ends)
+pub record HasNotBegunSession {D : Type 0} (files : JournalFiles D) (file : JournalFile) (day : DayHeader) (ends : Ends)
     (status : ℕ) : Type 0 where
   pub why : KeptFault
   pub reason : IsReason files file day why
@@ -106,7 +106,7 @@ pub record DidNotBegin {D : Type 0} (files : JournalFiles D) (file : JournalFile
   pub none_written : ends.WriteFailed → ⊥
 
 -- It began on what the file had, ran as any session that is kept does, and closed its journal.
-pub record RanKept {D : Type 0} (files : JournalFiles D) (file : JournalFile) (day : DayHeader) (reserve : ℕ)
+pub record HasRunKeptSession {D : Type 0} (files : JournalFiles D) (file : JournalFile) (day : DayHeader) (reserve : ℕ)
     (ends : Ends) (status : ℕ) : Type 0 where
   pub start : RunningAuction
   pub journal : CommittedLines D
@@ -125,12 +125,12 @@ pub record RanKept {D : Type 0} (files : JournalFiles D) (file : JournalFile) (d
   pub is_closed : Bool
   pub closed : CommittedLines D
   pub closing : HasClosed files.device ended last.device closed.device is_closed
-  pub status_is : EndsAs ended is_closed status
+  pub status_is : EndsWithStatus ended is_closed status
 
 -- What came of a session of this day, with so many calls for the operator, whose commands are kept in this file.
 pub record RunsKeptSession {D : Type 0} (files : JournalFiles D) (file : JournalFile) (day : DayHeader) (reserve : ℕ)
     (ends : Ends) (status : ℕ) : Type 0 where
-  pub came : DidNotBegin files file day ends status ⊎ RanKept files file day reserve ends status
+  pub came : HasNotBegunSession files file day ends status ⊎ HasRunKeptSession files file day reserve ends status
   pub quiet : status ≡ 2 → ends.new ≡ ends.old
   pub read_failed : ends.ReadFailed → status ≡ 3
   pub write_failed : ends.WriteFailed → status ≡ 3

@@ -44,7 +44,7 @@ abbrev pub terms_of : DayHeader → ℕ → SessionTerms
 terms_of day reserve = record { members = day.members; reserve = reserve }
 
 -- A session ran between these ends, on an auction that began so.
-pub record RanSession (terms : SessionTerms) (start : RunningAuction) (ends : Ends) (ended : Result Ending LiveFault)
+pub record HasRunSession (terms : SessionTerms) (start : RunningAuction) (ends : Ends) (ended : Result Ending LiveFault)
     : Type 0 where
   pub before : KeptEnds
   pub after : KeptEnds
@@ -57,7 +57,7 @@ pub record RanSession (terms : SessionTerms) (start : RunningAuction) (ends : En
   pub write_failed : ends.WriteFailed ↔ (before.write_failures < after.write_failures)
 
 -- The day couldn't be opened: nothing was read, and nothing written.
-pub record DidNotOpen (day : DayHeader) (ends : Ends) (fault : OpenFault) : Type 0 where
+pub record HasNotOpenedDay (day : DayHeader) (ends : Ends) (fault : OpenFault) : Type 0 where
   pub why : fault ≡ unwrap_or (open_fault day.config) NoMemory
   pub rest : ends.rest ≡ ends.left
   pub new : ends.new ≡ ends.old
@@ -68,7 +68,7 @@ pub record DidNotOpen (day : DayHeader) (ends : Ends) (fault : OpenFault) : Type
 abbrev pub RunsLive : DayHeader → ℕ → Ends → SessionResult → Type 0
 RunsLive day reserve ends (Ok ending) =
     (open_fault day.config ≡ None)
-    × RanSession (terms_of day reserve) (opened_auction day.config) ends (Ok ending)
+    × HasRunSession (terms_of day reserve) (opened_auction day.config) ends (Ok ending)
 RunsLive day reserve ends (Err (Live f)) =
-    (open_fault day.config ≡ None) × RanSession (terms_of day reserve) (opened_auction day.config) ends (Err f)
-RunsLive day reserve ends (Err (Open f)) = DidNotOpen day ends f
+    (open_fault day.config ≡ None) × HasRunSession (terms_of day reserve) (opened_auction day.config) ends (Err f)
+RunsLive day reserve ends (Err (Open f)) = HasNotOpenedDay day ends f

@@ -101,7 +101,8 @@ IsQuiet words status = (status ≡ 2) ⊎ ((status ≡ 1) × (is_session (task_a
 
 -- What the program does on these words, and what that says of its status: a bad command line or input prints nothing
 -- but in a session, and a read or a write that fails is 3.
-pub record Serves {D : Type 0} (files : JournalFiles D) (words : List Text) (ends : Ends) (status : ℕ) : Type 0 where
+pub record ServesWords {D : Type 0} (files : JournalFiles D) (words : List Text) (ends : Ends) (status : ℕ)
+    : Type 0 where
   pub answer : AnswersCommandLine files words ends status
   pub quiet : IsQuiet words status → ends.new ≡ ends.old
   pub read_failed : ends.ReadFailed → status ≡ 3

@@ -7,7 +7,8 @@ ghost use Rattle.journal_file.specs.declared.file.OpenFileFault.{OpenFileFault};
 ghost use Rattle.live_session.specs.declared.fault.LiveFault.TheVariants.{CommitFailed};
 ghost use Rattle.settings.specs.declared.types.JournalFile.{JournalFile};
 ghost use Rattle.callboard.specs.FileRun.{ends_of};
-ghost use Rattle.callboard.specs.KeptLive.{EndsAs, HasClosed, IsBegunFor, IsReason, RunsKeptSession, begin_status};
+ghost use Rattle.callboard.specs.KeptLive.{EndsWithStatus, HasClosed, IsBegunFor, IsReason, RunsKeptSession};
+ghost use Rattle.callboard.specs.KeptLive.{begin_status};
 ghost use Rattle.callboard.specs.KeptLive.{files_of, kept_status, resume_status};
 
 use crate::fault::Fault;
@@ -206,7 +207,7 @@ fn begin_kept<D: Device + Drop, P: OpensJournal<D> + Drop>(
 
 /// Tells how a session ended, and answers its status, which a journal that can't be closed changes.
 fn tell_ended<E: Sink>(err: &mut E, ended: Result<Ending, LiveFault>, is_closed: bool) -> u8
-    ensures { EndsAs ended is_closed result }
+    ensures { EndsWithStatus ended is_closed result }
 {
     let status = match ended {
         Ok(Ending::AllGood) => 0,

@@ -7,7 +7,7 @@ ghost use Rattle.clap.specs.declared.error.kind.ErrorKind.TheVariants.{OutOfMemo
 ghost use Rattle.callboard.specs.FileRun.{ends_by, ends_of};
 ghost use Rattle.callboard.specs.KeptLive.{files_of};
 ghost use Rattle.callboard.specs.LiveRun.{live_status};
-ghost use Rattle.callboard.specs.Served.{AnswersFault, RunsSession, Serves, words_status};
+ghost use Rattle.callboard.specs.Served.{AnswersFault, RunsSession, ServesWords, words_status};
 ghost use Rattle.callboard.specs.Status.{open_status, run_status, status_of};
 ghost use Rattle.settings.specs.CommandLine.{RefusesWords};
 
@@ -262,7 +262,7 @@ pub fn serve<
     files: P,
     rt: &T,
 ) -> u8
-    ensures { Serves (files_of D.Device (P.Opens files) (P.CannotOpen files)) (texts words.now)
+    ensures { ServesWords (files_of D.Device (P.Opens files) (P.CannotOpen files)) (texts words.now)
         (ends_of R.Source O.Sink reader.old reader.new out.old out.new) result }
 {
     let settings = match settings(alloc, words) {

@@ -102,11 +102,11 @@ members-all entries i all e h = e ∙ ap entering_members (take_all i entries h)
 -- ---- the records, one by one
 
 one_done : (a b i : ℕ) → min a b ≤ i → (a ≤ i) ⊎ (b ≤ i)
-one_done a b i h = go (leb_tells a i)
+one_done a b i h = by_case (leb_tells a i)
   where
-    go : ((leb a i ≡ true) × (a ≤ i)) ⊎ ((leb a i ≡ false) × (i < a)) → (a ≤ i) ⊎ (b ≤ i)
-    go (inl (e, done)) = inl done
-    go (inr (e, more)) = inr (omega (arith, more, h))
+    by_case : ((leb a i ≡ true) × (a ≤ i)) ⊎ ((leb a i ≡ false) × (i < a)) → (a ≤ i) ⊎ (b ≤ i)
+    by_case (inl (e, done)) = inl done
+    by_case (inr (e, more)) = inr (omega (arith, more, h))
 
 module _ (member : ℕ → Option ℕ) where
   pub records-next : (kinds : List AuctionKind) (tape : List Trade) (front all : List ℕ) (i : ℕ) (k : AuctionKind)
@@ -197,17 +197,19 @@ none_before : (config : Config) (state : State) (entries : List Entry) (id : ℕ
     → id < state.next_id → find (has_entered_id id) entries ≡ None
 none_before config state [] id h before = refl
 none_before config state (entry ∷ entries) id h before =
-    go (none_before config (step config state (call_of entry)).0 entries id (tail_replied config state entry entries h))
+    by_case
+    (none_before config (step config state (call_of entry)).0 entries id (tail_replied config state entry entries h))
     (entered_id entry.reply) refl
   where
     next : State
     next = (step config state (call_of entry)).0
 
-    go : (id < next.next_id → find (has_entered_id id) entries ≡ None) → (o : Option ℕ) → entered_id entry.reply ≡ o
+    by_case : (id < next.next_id → find (has_entered_id id) entries ≡ None) → (o : Option ℕ)
+        → entered_id entry.reply ≡ o
         → find (has_entered_id id) (entry ∷ entries) ≡ None
-    go later None e = let same = ids_of config state entry entries None h e in
+    by_case later None e = let same = ids_of config state entry entries None h e in
         rw e (later (omega (arith, same, before)))
-    go later (Some told) e =
+    by_case later (Some told) e =
         let parts = ids_of config state entry entries (Some told) h e in
         let apart : eqb told id ≡ false = ne_eqb told id (λ is. omega (arith, is, parts.0, before)) in
         rw (e, apart) (later (omega (arith, parts.1, before)))
@@ -218,27 +220,27 @@ nth_member : (config : Config) (state : State) (entries : List Entry) (n : ℕ) 
     (find (has_entered_id (state.next_id + n)) entries)
 nth_member config state [] n h = refl
 nth_member config state (entry ∷ entries) n h =
-    go
+    by_case
     (λ k. nth_member config (step config state (call_of entry)).0 entries k
     (tail_replied config state entry entries h)) n (entered_id entry.reply) refl
   where
     next : State
     next = (step config state (call_of entry)).0
 
-    go : ((k : ℕ) → slice_get (entering_members entries) k
+    by_case : ((k : ℕ) → slice_get (entering_members entries) k
         ≡ option_map (λ (e : Entry). e.member) (find (has_entered_id (next.next_id + k)) entries))
         → (n : ℕ) (o : Option ℕ) → entered_id entry.reply ≡ o → slice_get (entering_members (entry ∷ entries)) n
         ≡ option_map (λ (e : Entry). e.member) (find (has_entered_id (state.next_id + n)) (entry ∷ entries))
-    go rest n None e =
+    by_case rest n None e =
         let same = ids_of config state entry entries None h e in
         let to : next.next_id + n ≡ state.next_id + n = omega (arith, same) in
         rw e (rest n ∙ ap (λ id. option_map (λ (x : Entry). x.member) (find (has_entered_id id) entries)) to)
-    go rest zero (Some told) e =
+    by_case rest zero (Some told) e =
         let parts = ids_of config state entry entries (Some told) h e in
         let here : eqb told (state.next_id + zero) ≡ true =
         eq-eqb told (state.next_id + zero) (omega (arith, parts.0)) in
         rw (e, here) refl
-    go rest (suc m) (Some told) e =
+    by_case rest (suc m) (Some told) e =
         let parts = ids_of config state entry entries (Some told) h e in
         let apart : eqb told (state.next_id + suc m) ≡ false =
         ne_eqb told (state.next_id + suc m) (λ is. omega (arith, is, parts.0)) in

@@ -64,14 +64,14 @@ limit-short : (field : List ℕ) (limit : Limit) → limit_of field ≡ Some lim
 unfolding limit_of
 limit-short field limit h = by_word (bytes_eq field (codes "market")) refl h
   where
-    at : (o : Option ℕ) → ((n : ℕ) → o ≡ Some n → FitsU32 n) → option_map At o ≡ Some limit → HasShortTick limit
-    at None k q = absurd (cc q)
-    at (Some n) k q = let is : At n ≡ limit = cc in subst HasShortTick is (k n refl)
+    by_option : (o : Option ℕ) → ((n : ℕ) → o ≡ Some n → FitsU32 n) → option_map At o ≡ Some limit → HasShortTick limit
+    by_option None k q = absurd (cc q)
+    by_option (Some n) k q = let is : At n ≡ limit = cc in subst HasShortTick is (k n refl)
 
     by_word : (b : Bool) → bytes_eq field (codes "market") ≡ b → limit_of field ≡ Some limit → HasShortTick limit
     by_word true t q = let same : Some Market ≡ Some limit = rw t at q in let is : Market ≡ limit =
         cc in subst HasShortTick is tt
-    by_word false t q = at (number_of field) (number-short field) (rw t at q)
+    by_word false t q = by_option (number_of field) (number-short field) (rw t at q)
 
 peak-short : (field : List ℕ) (peak : Option ℕ) → peak_of field ≡ Some peak → IfSome peak FitsU32
 unfolding peak_of

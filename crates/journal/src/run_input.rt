@@ -82,7 +82,7 @@ fn run_input_of(alloc: Global, bytes: &[u8], day: DayHeader) -> Result<RunInput,
 ///
 /// Where the first field of the first record is `day`, it is a journal: its day record is the day, its calls are the
 /// calls, and its replies are dropped, once their form was looked at. Else it is an order file of this day, with the
-/// faults of `read_orders`. An order file may have `order_file::MAX_BYTES` bytes, a journal `MAX_JOURNAL_BYTES`.
+/// faults of [`calls_of`]. An order file may have `order_file::MAX_BYTES` bytes, a journal `MAX_JOURNAL_BYTES`.
 #[tactic(auto, unfolding(crate::specs::DayWithCalls::run_input))]
 pub fn read_run_input<R: Source>(
     alloc: Global,

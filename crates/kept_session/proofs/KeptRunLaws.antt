@@ -13,7 +13,7 @@ use Rattle.journal_file.specs.declared.journal.CommittedLines.{CommittedLines}
 use Rattle.journal_file.proofs.Lines.{bool_cases}
 use Rattle.journal_file.proofs.Moments.{started}
 use Rattle.live_session.specs.Answered.{Answered}
-use Rattle.live_session.specs.Talk.{BreaksOff, EndsSession, HasAnswered, HasRead}
+use Rattle.live_session.specs.Talk.{HasBrokenOff, EndsSession, HasAnswered, HasRead}
 use Rattle.live_session.specs.declared.conversation.Conversation.{Ghosts}
 use Rattle.live_session.specs.declared.fault.Ending.{Ending}
 use Rattle.live_session.specs.declared.fault.LiveFault.{LiveFault}
@@ -53,8 +53,8 @@ module _ {C : Type 0} (c : Ghosts C) where
   as-answered old new answers h =
       record { text = h.text; entries = h.entries; writes = h.writes; commits = h.commits }
 
-  as-broken-off : (terms : SessionTerms) (start : RunningAuction) (old new : C) → BreaksOff c terms start old new
-      → BreaksOff kept_ends terms start (seen_as old) (seen_as new)
+  as-broken-off : (terms : SessionTerms) (start : RunningAuction) (old new : C) → HasBrokenOff c terms start old new
+      → HasBrokenOff kept_ends terms start (seen_as old) (seen_as new)
   as-broken-off terms start old new h = record {
     before = h.before;
     last = h.last;

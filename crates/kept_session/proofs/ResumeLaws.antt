@@ -7,14 +7,14 @@ use Rattle.order_file.specs.declared.fault.FileFault.{FileFault}
 use Rattle.order_file.specs.declared.fault.FileFault.TheVariants as file_fault
 use Rattle.journal.specs.declared.day.DayHeader.{DayHeader}
 use Rattle.kept_session.specs.Replayed.{replayed}
-use Rattle.kept_session.specs.Resumed.{IsResumedAfter, IsResumedFrom, IsTold}
+use Rattle.kept_session.specs.Resumed.{IsResumedAfter, IsResumedFrom, IsFaultOfEntry}
 use Rattle.kept_session.specs.declared.fault.ResumeFault.{ResumeFault}
 use Rattle.kept_session.specs.declared.fault.ResumeFault.TheVariants as resume_fault
 use Rattle.kept_session.specs.declared.fault.UnlawfulEntry.{UnlawfulEntry}
 
 -- an unlawful entry, told with what was recorded
 pub told : (day : DayHeader) (j : RecordedDay) (entry : UnlawfulEntry) (f : ResumeFault) → j.day ≡ day
-    → replayed 0 j.texts (opened_auction day.config) j.calls ≡ Err entry → IsTold j entry f
+    → replayed 0 j.texts (opened_auction day.config) j.calls ≡ Err entry → IsFaultOfEntry j entry f
     → IsResumedAfter day j (Err f)
 told day j entry (resume_fault.Unlawful as_told recorded) same is h =
     (same, is ∙ ap Err (sym h.0), rw h.0 h.1)

@@ -29,9 +29,9 @@ IsResumedFrom day (Err f) (Err (AnotherDay other)) = ⊥
 IsResumedFrom day (Err f) (Err (Unlawful entry recorded)) = ⊥
 IsResumedFrom day (Err f) (Ok auction) = ⊥
 
--- what is told of an unlawful entry of a recorded day
-abbrev pub IsTold : RecordedDay → UnlawfulEntry → ResumeFault → Type 0
-IsTold j entry (Unlawful told recorded) =
-    (told ≡ entry) × (recorded.items ≡ unwrap_or (field_at j.texts (entry.number - 1)) [])
-IsTold j entry (File f) = f ≡ NoMemory
-IsTold j entry (AnotherDay other) = ⊥
+-- the fault of an unlawful entry of a recorded day
+abbrev pub IsFaultOfEntry : RecordedDay → UnlawfulEntry → ResumeFault → Type 0
+IsFaultOfEntry j entry (Unlawful named recorded) =
+    (named ≡ entry) × (recorded.items ≡ unwrap_or (field_at j.texts (entry.number - 1)) [])
+IsFaultOfEntry j entry (File f) = f ≡ NoMemory
+IsFaultOfEntry j entry (AnotherDay other) = ⊥

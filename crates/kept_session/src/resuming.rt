@@ -3,7 +3,7 @@
 ghost use Rattle.std.specs.Prelude.{◌≡◌, ◌≢◌, ◌≤◌, [], Ok, length};
 ghost use Rattle.auction_terms.specs.Auxiliary.RunningAuction.{opened_auction};
 ghost use Rattle.journal.specs.JournalFile.{journal_of, recorded};
-ghost use Rattle.kept_session.specs.Resumed.{IsResumedAfter, IsResumedFrom, IsTold};
+ghost use Rattle.kept_session.specs.Resumed.{IsResumedAfter, IsResumedFrom, IsFaultOfEntry};
 
 use crate::fault::{ResumeFault, UnlawfulEntry};
 use crate::replaying::{replay, text_at};
@@ -14,7 +14,7 @@ use std::alloc::Global;
 
 /// The fault of an entry, with what was recorded.
 fn unlawful(alloc: Global, journal: &Journal, entry: UnlawfulEntry) -> ResumeFault
-    ensures { IsTold (recorded journal.now) entry result }
+    ensures { IsFaultOfEntry (recorded journal.now) entry result }
 {
     let place = entry.number.saturating_sub(1);
     let mut recorded = Vec::new(alloc);

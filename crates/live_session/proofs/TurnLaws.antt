@@ -16,7 +16,7 @@ use Rattle.order_file.proofs.RowLaws.{records_from-done}
 use Rattle.printed_lines.specs.KeptText.{text_of}
 use Rattle.live_session.specs.Answered.{Answered, after_lines, answered, answered_lines, answered_whole}
 use Rattle.live_session.specs.Gathered.{Gathers, IsCommitted}
-use Rattle.live_session.specs.Giving.{Gives, HasGiven, IsEmptied, IsUnread}
+use Rattle.live_session.specs.Giving.{GivesGathered, HasGiven, IsEmptied, IsUnread}
 use Rattle.live_session.specs.Hearing.{HasAnsweredAll, HasHeard, IsNewSession}
 use Rattle.live_session.specs.InputLines.{Lines, lines_after, lines_of, no_lines}
 use Rattle.live_session.specs.Talk.{AppendsBetween, EndsSession, HasAnswered, HasRead}
@@ -268,7 +268,7 @@ module _ {C : Type 0} (c : Ghosts C) (terms : SessionTerms) (start : RunningAuct
           ∙ (entries-begin answers whole first).1
 
       -- not all was given
-      pub breaks-giving : (d : C) (after : Responder) (f : LiveFault) → Gives c now d responder after (Err f)
+      pub breaks-giving : (d : C) (after : Responder) (f : LiveFault) → GivesGathered c now d responder after (Err f)
           → EndsSession c terms start base d (Err f)
       breaks-giving d after fault.ReadFailed h = absurd h
       breaks-giving d after fault.NoMemory h =

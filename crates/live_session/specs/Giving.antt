@@ -74,11 +74,12 @@ pub record IsEmptied (old new : Responder) : Type 0 where
   pub entries : text_of new.entries ≡ []
 
 -- what came of giving what is gathered
-abbrev pub Gives : {C : Type 0} → Ghosts C → C → C → Responder → Responder → Result (Unit {0}) LiveFault → Type 0
-Gives c old new before after (Ok u) =
+abbrev pub GivesGathered : {C : Type 0} → Ghosts C → C → C → Responder → Responder → Result (Unit {0}) LiveFault
+    → Type 0
+GivesGathered c old new before after (Ok u) =
     HasGiven c old new (text_of before.answers) (text_of before.entries) × IsEmptied before after
-Gives c old new before after (Err fault.WriteFailed) =
+GivesGathered c old new before after (Err fault.WriteFailed) =
     HasGivenBeginning c old new (text_of before.answers) (text_of before.entries)
-Gives c old new before after (Err fault.CommitFailed) = HasCommittedBeginning c old new (text_of before.entries)
-Gives c old new before after (Err fault.NoMemory) = new ≡ old
-Gives c old new before after (Err fault.ReadFailed) = ⊥
+GivesGathered c old new before after (Err fault.CommitFailed) = HasCommittedBeginning c old new (text_of before.entries)
+GivesGathered c old new before after (Err fault.NoMemory) = new ≡ old
+GivesGathered c old new before after (Err fault.ReadFailed) = ⊥

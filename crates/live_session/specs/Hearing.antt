@@ -25,8 +25,8 @@ pub record HasHeard (session : Session) (terms : SessionTerms) (start : RunningA
   pub line : session.line.items ≡ take (MAX_RECORD_BYTES + 1) lines.at_hand
 
 -- more lines come
-abbrev pub Hears : {E : Type 0} → Session → Session → (Lines → Lines) → Result (Unit {0}) E → Type 0
-Hears old new after result =
+abbrev pub HearsLines : {E : Type 0} → Session → Session → (Lines → Lines) → Result (Unit {0}) E → Type 0
+HearsLines old new after result =
     (terms : SessionTerms) (start : RunningAuction) (lines : Lines) (given : List ℕ) (committed : List Entry)
     → HasHeard old terms start lines given committed
     → OnOk result (HasHeard new terms start (after lines) given committed)
@@ -63,8 +63,8 @@ pub record IsNewSession (session : Session) (terms : SessionTerms) (start : Runn
 -- a line that isn't read as a record is answered behind those before it
 abbrev pub RefusesLine : {E : Type 0} → Session → Session → BadRecord → Result (Unit {0}) E → Type 0
 RefusesLine old new fault result =
-    (line_fault old.line.items ≡ Some fault) → Hears old new (λ lines. line_ended lines) result
+    (line_fault old.line.items ≡ Some fault) → HearsLines old new (λ lines. line_ended lines) result
 
 -- a line that is read as one waits behind those before it
 abbrev pub KeepsLine : {E : Type 0} → Session → Session → Result (Unit {0}) E → Type 0
-KeepsLine old new result = (line_fault old.line.items ≡ None) → Hears old new (λ lines. line_ended lines) result
+KeepsLine old new result = (line_fault old.line.items ≡ None) → HearsLines old new (λ lines. line_ended lines) result

@@ -74,7 +74,8 @@ AppendsBetween old new least most = (done : List ℕ) × (more : List ℕ) × (r
 
 -- The session broke off while it answered what its last read had brought, `last`. All that had come before is
 -- answered, and of the rest a beginning.
-pub record BreaksOff {C : Type 0} (c : Ghosts C) (terms : SessionTerms) (start : RunningAuction) (old new : C) : Type 0
+pub record HasBrokenOff {C : Type 0} (c : Ghosts C) (terms : SessionTerms) (start : RunningAuction) (old new : C)
+    : Type 0
   where
     pub before : List ℕ
     pub last : List ℕ
@@ -92,9 +93,9 @@ abbrev pub EndsSession : {C : Type 0} → Ghosts C → SessionTerms → RunningA
     → Type 0
 EndsSession c terms start old new (Ok ending) = IsDone c terms start old new ending
 EndsSession c terms start old new (Err fault.ReadFailed) = EndsAtFailedRead c terms start old new
-EndsSession c terms start old new (Err fault.WriteFailed) = BreaksOff c terms start old new
+EndsSession c terms start old new (Err fault.WriteFailed) = HasBrokenOff c terms start old new
     × (c.write_failures old < c.write_failures new) × (c.commit_failures new ≡ c.commit_failures old)
-EndsSession c terms start old new (Err fault.CommitFailed) = BreaksOff c terms start old new
+EndsSession c terms start old new (Err fault.CommitFailed) = HasBrokenOff c terms start old new
     × (c.write_failures new ≡ c.write_failures old) × (c.commit_failures old < c.commit_failures new)
-EndsSession c terms start old new (Err fault.NoMemory) = BreaksOff c terms start old new
+EndsSession c terms start old new (Err fault.NoMemory) = HasBrokenOff c terms start old new
     × (c.write_failures new ≡ c.write_failures old) × (c.commit_failures new ≡ c.commit_failures old)

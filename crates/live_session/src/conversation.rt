@@ -3,7 +3,7 @@
 ghost use Rattle.std.specs.Prelude.{◌≡◌, ◌+◌, ℕ, List, Option, is_ok};
 ghost use Rattle.std.specs.Io.KnownBytes.{ReadConsumes};
 ghost use Rattle.auction_terms.specs.declared.Entry.{Entry};
-ghost use Rattle.byte_streams.specs.Streams.{FitsBuffer, ReportsFailure, Writes, failures_after};
+ghost use Rattle.byte_streams.specs.Streams.{AppendsOrBegins, FitsBuffer, ReportsFailure, failures_after};
 ghost use Rattle.journal.specs.KeptLines.{HasEntryLines};
 
 use byte_streams::{SourceFailed, WriteFailed};
@@ -55,7 +55,7 @@ pub trait Conversation {
     /// Commits lines of entries, all of them, or at a failure a beginning: from then on they last.
     fn commit(&mut self, entries: &[u8]) -> Result<(), CommitFailed>
         requires { (kept : List Entry) × HasEntryLines entries.now kept }
-        ensures entries { Writes (committed self.old) (committed self.new) result entries.now }
+        ensures entries { AppendsOrBegins (committed self.old) (committed self.new) result entries.now }
         ensures failures { ReportsFailure (commit_failures self.old) (commit_failures self.new) result }
         ensures left { left self.new ≡ left self.old }
         ensures written { written self.new ≡ written self.old }
@@ -66,7 +66,7 @@ pub trait Conversation {
     /// Writes all of a text, or at a failure a beginning of it.
     fn write(&mut self, text: &[u8]) -> Result<(), WriteFailed>
         requires { MayWrite self.old text.now }
-        ensures text { Writes (written self.old) (written self.new) result text.now }
+        ensures text { AppendsOrBegins (written self.old) (written self.new) result text.now }
         ensures failures { ReportsFailure (write_failures self.old) (write_failures self.new) result }
         ensures left { left self.new ≡ left self.old }
         ensures committed { committed self.new ≡ committed self.old }

@@ -12,7 +12,7 @@ ghost use Rattle.live_session.specs.Answered.{after_record, after_records, answe
 ghost use Rattle.live_session.specs.Answered.{is_reserved};
 ghost use Rattle.live_session.specs.Answered.{live_call, refused, refused_row, refused_with, replied, shown};
 ghost use Rattle.live_session.specs.Gathered.{AddsAnswers, IsCommitted};
-ghost use Rattle.live_session.specs.Giving.{Gives, IsGatheredAs, IsNew};
+ghost use Rattle.live_session.specs.Giving.{GivesGathered, IsGatheredAs, IsNew};
 
 use crate::conversation::Conversation;
 use crate::fault::{BadRecord, Ending, LiveFault, put_bad_line};
@@ -262,7 +262,7 @@ impl Responder {
         requires lines { (kept : List Entry) × HasEntryLines (text_of self.old.entries) kept }
         requires writes { (now : C) → IsCommitted C.Conversation talk.old now (text_of self.old.entries)
             → C.MayWrite now (text_of self.old.answers) }
-        ensures { Gives C.Conversation talk.old talk.new self.old self.new result }
+        ensures { GivesGathered C.Conversation talk.old talk.new self.old self.new result }
     {
         let Ok(()) = self.turn_pages() else {
             return Err(LiveFault::NoMemory);

@@ -1,7 +1,7 @@
 //! An input that is answered line by line.
 
 ghost use Rattle.std.specs.Prelude.{IfOk};
-ghost use Rattle.live_session.specs.Hearing.{AnswersAll, AnswersEnd, Hears, IsNewSession, KeepsLine, RefusesLine};
+ghost use Rattle.live_session.specs.Hearing.{AnswersAll, AnswersEnd, HearsLines, IsNewSession, KeepsLine, RefusesLine};
 ghost use Rattle.live_session.specs.InputLines.{line_ended, line_longer, lines_after};
 
 use crate::fault::BadRecord;
@@ -69,7 +69,7 @@ impl Session {
 
     /// Ends the line at hand.
     fn end_line(&mut self, alloc: Global) -> Result<(), AllocError>
-        ensures { Hears self.old self.new (λ lines. line_ended lines) result }
+        ensures { HearsLines self.old self.new (λ lines. line_ended lines) result }
     {
         match line_fault(self.line.as_slice()) {
             Some(fault) => self.refuse_line(alloc, fault),
@@ -79,7 +79,7 @@ impl Session {
 
     /// Takes the bytes of the line at hand up to its end.
     fn take_line(&mut self, alloc: Global, bytes: &[u8]) -> Result<(), AllocError>
-        ensures { Hears self.old self.new (λ lines. line_ended (line_longer bytes.now lines)) result }
+        ensures { HearsLines self.old self.new (λ lines. line_ended (line_longer bytes.now lines)) result }
     {
         self.take_bytes(bytes)?;
         self.end_line(alloc)
@@ -87,7 +87,7 @@ impl Session {
 
     /// Takes bytes that belong to the line at hand.
     fn take_bytes(&mut self, bytes: &[u8]) -> Result<(), AllocError>
-        ensures { Hears self.old self.new (λ lines. line_longer bytes.now lines) result }
+        ensures { HearsLines self.old self.new (λ lines. line_longer bytes.now lines) result }
     {
         add_to_line(&mut self.line, bytes)?;
         Ok(())
@@ -95,7 +95,7 @@ impl Session {
 
     /// Takes the bytes that come next, of any number of lines.
     fn take_all(&mut self, alloc: Global, bytes: &[u8]) -> Result<(), AllocError>
-        ensures { Hears self.old self.new (λ lines. lines_after lines bytes.now) result }
+        ensures { HearsLines self.old self.new (λ lines. lines_after lines bytes.now) result }
     {
         let mut rest = bytes;
         'lines: while !rest.is_empty() {

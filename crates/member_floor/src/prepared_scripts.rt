@@ -1,4 +1,4 @@
-//! Members at their seats: each with its script's commands, and room for the receipts.
+//! Members with their scripts: the commands of each, and room for the receipts.
 ghost use Rattle.std.specs.Prelude.{◌≡◌, ◌≤◌, [], List, All, map, length, vec_capacity, IfOk};
 ghost use Rattle.std.specs.Vec.Iter.{into_iter_items};
 ghost use Rattle.auction_terms.specs.declared.Command.{Command};
@@ -36,7 +36,7 @@ impl Model for PreparedScript {
         × (length s.commands.items ≤ MAX_CALLS) };
 }
 
-/// A member at its seat.
+/// A member with its script.
 #[derive(Drop)]
 pub(crate) struct MemberTask<K: BoardIdentity> {
     member: Member<K>,
@@ -73,7 +73,7 @@ pub(crate) fn prepare_scripts(
     Ok(prepared_scripts)
 }
 
-// Puts each member at its seat. The room is there.
+// Gives each member its script. The room is there.
 pub(crate) fn pair_members<K: BoardIdentity>(
     tasks: Vec<MemberTask<K>>,
     members: Vec<Member<K>>,
@@ -109,7 +109,7 @@ pub(crate) fn members_left<K: BoardIdentity>(
     for _ in 0..tasks.len() {
         let MemberTask {
             member,
-            prepared: _seat,
+            prepared: _script,
         } = tasks.next().unwrap();
         rest.push_reserved(member);
     }

@@ -44,7 +44,7 @@ impl<K: BoardIdentity> Promise<ScriptRun<K>> for ThreadPromise<K> {
     ghost kept_by = { λ p r. PlaysScript K.config p.task.value.member p.task.value.commands r };
 }
 
-/// The members at their seats, and the room that a run needs beside that for the receipts.
+/// The members with their scripts, and the room that a run needs beside that for threads and receipts.
 #[derive(Drop)]
 struct RunRoom<K: BoardIdentity> {
     tasks: Vec<MemberTask<K>>,
@@ -56,7 +56,7 @@ struct RunRoom<K: BoardIdentity> {
     ghost rest_fit: { (rest.items ≡ []) × (length tasks.items ≤ vec_capacity rest) },
 }
 
-// A stage for so many members, on which there is nobody.
+// Room for so many members, with none of them.
 fn take_run_room<K: BoardIdentity>(alloc: Global, n: usize) -> Result<RunRoom<K>, AllocError>
     ensures tasks { IfOk result (λ s. (s.tasks.items ≡ []) × (n ≤ vec_capacity s.tasks)) }
     ensures handles { IfOk result (λ s. n ≤ vec_capacity s.handles) }
@@ -71,7 +71,7 @@ fn take_run_room<K: BoardIdentity>(alloc: Global, n: usize) -> Result<RunRoom<K>
     })
 }
 
-// Puts the members at their seats on a stage that has room for them.
+// Gives each member its script, in room that was made for them.
 fn pair_all<K: BoardIdentity>(
     run_room: RunRoom<K>,
     members: Vec<Member<K>>,

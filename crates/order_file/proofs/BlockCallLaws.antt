@@ -96,15 +96,15 @@ pub at-bad_input : (members max_calls : ℕ) (front : List Call) (e : FileFault)
 at-bad_input members max_calls front e before all same is = same ∙ ap (and_calls members max_calls front) is
 
 -- the calls so far, and then those of the records to come, are those of the file
-abbrev pub Carries : Option (List ℕ) → Option (List ℕ) → ℕ → ℕ → List Call → BlockState → Type 0
-Carries a b members max_calls front held =
+abbrev pub CarriesCalls : Option (List ℕ) → Option (List ℕ) → ℕ → ℕ → List Call → BlockState → Type 0
+CarriesCalls a b members max_calls front held =
     IfSome a
     (λ text. IsSomeAnd b
     (λ left. file text members max_calls ≡ and_calls members max_calls front (rows_to_come held left)))
 
 pub carries-open : (a b : Option (List ℕ)) (members max_calls : ℕ) (held : BlockState)
     → IfSome a (λ text. IsSomeAnd b (λ left. rows_within MAX_BYTES text ≡ rows_to_come held left))
-    → Carries a b members max_calls [] held
+    → CarriesCalls a b members max_calls [] held
 carries-open None b members max_calls held is = tt
 carries-open (Some text) None members max_calls held is = is
 carries-open (Some text) (Some left) members max_calls held is =
@@ -123,11 +123,11 @@ added front all (Ok x) is = let same : okay (front ++ x) ≡ okay all = is in (x
 added front all (Err e) is = let same : bad_of e ≡ okay all = is in absurd (cc)
 
 pub carries-next : (a b c : Option (List ℕ)) (members max_calls : ℕ) (front all : List Call) (old held : BlockState)
-    → Carries a b members max_calls front old
+    → CarriesCalls a b members max_calls front old
     → IfSome b
     (λ before. IsSomeAnd c
     (λ left. rows_to_come old before ≡ and_then_rows (block_rows old) (rows_to_come held left)))
-    → calls_with_more members max_calls front (block_rows old) ≡ Ok all → Carries a c members max_calls all held
+    → calls_with_more members max_calls front (block_rows old) ≡ Ok all → CarriesCalls a c members max_calls all held
 carries-next None b c members max_calls front all old held is next good = tt
 carries-next (Some text) None c members max_calls front all old held is next good = absurd is
 carries-next (Some text) (Some before) None members max_calls front all old held is next good = next
@@ -138,7 +138,7 @@ carries-next (Some text) (Some before) (Some left) members max_calls front all o
     ∙ ap (λ (calls : List Call). and_calls members max_calls calls (rows_to_come held left)) more.2
 
 pub carries-last : (a b : Option (List ℕ)) (members max_calls : ℕ) (front all : List Call) (old : BlockState)
-    → Carries a b members max_calls front old
+    → CarriesCalls a b members max_calls front old
     → IfSome b (λ before. rows_to_come old before ≡ Ok (block_rows old))
     → calls_with_more members max_calls front (block_rows old) ≡ Ok all
     → IfSome a (λ text. file text members max_calls ≡ Ok all)
@@ -161,7 +161,7 @@ fails-alike (fault.TooManyCommands k) w v same h = same h
 fails-alike fault.NotADay w v same h = same h
 
 pub carries-bad : (a b : Option (List ℕ)) (members max_calls : ℕ) (front : List Call) (old : BlockState) (e : FileFault)
-    → Carries a b members max_calls front old
+    → CarriesCalls a b members max_calls front old
     → IfSome b (λ before. (rest : Rows) × (rows_to_come old before ≡ Ok (block_rows old ++ rest)))
     → FailsAsWanted e (calls_with_more members max_calls front (block_rows old))
     → IfSome a (λ text. FailsAsWanted e (file text members max_calls))
@@ -181,7 +181,7 @@ carries-bad (Some text) (Some before) members max_calls front old e is rest bad 
         (failed (calls_after members max_calls (length front) (block_rows old)) h)
 
 pub carries-fault : (a b : Option (List ℕ)) (members max_calls : ℕ) (front : List Call) (old : BlockState)
-    (e : FileFault) → Carries a b members max_calls front old
+    (e : FileFault) → CarriesCalls a b members max_calls front old
     → IfSome b (λ before. FailsAsWanted e (rows_to_come old before))
     → IfSome a (λ text. FailsAsWanted e (file text members max_calls))
 carries-fault None b members max_calls front old e is bad = tt

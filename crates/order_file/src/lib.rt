@@ -1,9 +1,8 @@
 //! What the order file of a call auction board says.
 //!
-//! `read_orders` reads a whole file, and answers its calls, each a member and a command, or the
-//! file's first fault; no command is handed out of a file that has one. What it is made of is public, for
-//! other files in the same form: the bytes up to a limit, at once or in blocks of whole lines, the records one by one,
-//! and the parts of a record.
+//! [`calls_of`] gives the calls of a whole file, each a member and a command, or the file's first fault. [`Blocks`]
+//! reads a file in blocks of whole lines, and [`Calls`] gives the calls of a block one by one. What they are made of is
+//! public, for other files in the same form: the bytes up to a limit, the records one by one, the parts of a record.
 #![tactic(auto)]
 
 mod blocks;

@@ -31,14 +31,14 @@ no_better : (book : List Order) (few : List ℕ) (leaders : Leaders) (q : ℕ)
 no_better book few leaders q all covered = grind (arith, common_steps)
 
 -- a covered limit as good as the leaders is one of the few, or behind one that is as good
-data Good (book : List Order) (few : List ℕ) (v s q : ℕ) : Type 0 where
-  one : has q few ≡ true → Good book few v s q
+data IsGoodTick (book : List Order) (few : List ℕ) (v s q : ℕ) : Type 0 where
+  one : has q few ≡ true → IsGoodTick book few v s q
   farther : (c : ℕ) → has c few ≡ true → has_key book v s c ≡ true → c ≤ q → demand book c < supply book c
-      → demand book q < supply book q → Good book few v s q
+      → demand book q < supply book q → IsGoodTick book few v s q
 
 good : (book : List Order) (few : List ℕ) (leaders : Leaders) (q : ℕ)
     → ((c : ℕ) → has c few ≡ true → IsNoBetterThan book leaders c) → has_key book leaders.volume leaders.surplus q
-    ≡ true → Covered book few q → Good book few leaders.volume leaders.surplus q
+    ≡ true → Covered book few q → IsGoodTick book few leaders.volume leaders.surplus q
 good book few leaders q all key (among h) = one h
 good book few leaders q all key (beaten c h less worse) = grind (arith, common_steps, key_parts)
 good book few leaders q all key (behind c h far ask_c ask_q less worse) =
@@ -68,7 +68,7 @@ lead_all book few leaders stand lead =
     let into : (q : ℕ) → has q (keyed book v s few) ≡ true → has q (keyed book v s all) ≡ true =
     λ q e. let h = filter-has (has_key book v s) few q e in
     has-filter (has_key book v s) all q (stand.limits_too q h.0) h.1 in
-    let back : (q : ℕ) → has q (keyed book v s all) ≡ true → Good book few v s q =
+    let back : (q : ℕ) → has q (keyed book v s all) ≡ true → IsGoodTick book few v s q =
     λ q e. let h = filter-has (has_key book v s) all q e in good book few leaders q each h.1 (stand.covers q h.0) in
     let some = some_in (keyed book v s few) lead.some_among in
     record {
@@ -81,7 +81,7 @@ lead_all book few leaders stand lead =
     }
   where
     even_back : (book : List Order) (few all : List ℕ) (v s : ℕ) → s ≡ 0
-        → ((q : ℕ) → has q (keyed book v s all) ≡ true → Good book few v s q) → (q : ℕ)
+        → ((q : ℕ) → has q (keyed book v s all) ≡ true → IsGoodTick book few v s q) → (q : ℕ)
         → has q (keyed book v s all) ≡ true → has q (keyed book v s few) ≡ true
     even_back book few all v s zero back q e =
         let h = filter-has (has_key book v s) all q e in
@@ -92,7 +92,7 @@ lead_all book few leaders stand lead =
         ]
 
     bid_back : (book : List Order) (few all : List ℕ) (v s : ℕ)
-        → ((q : ℕ) → has q (keyed book v s all) ≡ true → Good book few v s q) → (q : ℕ)
+        → ((q : ℕ) → has q (keyed book v s all) ≡ true → IsGoodTick book few v s q) → (q : ℕ)
         → has q (filter (has_bid_surplus book) (keyed book v s all)) ≡ true
         → has q (filter (has_bid_surplus book) (keyed book v s few)) ≡ true
     bid_back book few all v s back q e =
@@ -105,7 +105,7 @@ lead_all book few leaders stand lead =
         ]
 
     ask_back : (book : List Order) (few all : List ℕ) (v s : ℕ)
-        → ((q : ℕ) → has q (keyed book v s all) ≡ true → Good book few v s q) → (q : ℕ)
+        → ((q : ℕ) → has q (keyed book v s all) ≡ true → IsGoodTick book few v s q) → (q : ℕ)
         → has q (filter (has_ask_surplus book) (keyed book v s all)) ≡ true
         → (c : ℕ) × (has c (filter (has_ask_surplus book) (keyed book v s few)) ≡ true) × (c ≤ q)
     ask_back book few all v s back q e =
@@ -135,7 +135,8 @@ lead_all book few leaders stand lead =
 
     same_lower : (book : List Order) (few all : List ℕ) (v s : ℕ)
         → ((q : ℕ) → has q (keyed book v s few) ≡ true → has q (keyed book v s all) ≡ true)
-        → ((q : ℕ) → has q (keyed book v s all) ≡ true → Good book few v s q) → lower_among book s (keyed book v s few)
+        → ((q : ℕ) → has q (keyed book v s all) ≡ true → IsGoodTick book few v s q)
+        → lower_among book s (keyed book v s few)
         ≡ lower_among book s (keyed book v s all)
     same_lower book few all v s into back = elim (cases_eq s 0) [
       | inl zero ↦
@@ -152,7 +153,8 @@ lead_all book few leaders stand lead =
 
     same_upper : (book : List Order) (few all : List ℕ) (v s : ℕ)
         → ((q : ℕ) → has q (keyed book v s few) ≡ true → has q (keyed book v s all) ≡ true)
-        → ((q : ℕ) → has q (keyed book v s all) ≡ true → Good book few v s q) → upper_among book s (keyed book v s few)
+        → ((q : ℕ) → has q (keyed book v s all) ≡ true → IsGoodTick book few v s q)
+        → upper_among book s (keyed book v s few)
         ≡ upper_among book s (keyed book v s all)
     same_upper book few all v s into back = elim (cases_eq s 0) [
       | inl zero ↦

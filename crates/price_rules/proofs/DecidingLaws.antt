@@ -17,7 +17,7 @@ use Rattle.price_rules.specs.declared.surroundings.Around.{Around}
 use Rattle.price_rules.specs.Decision.{IsBookOver, IsSameWithin, IsNear, from_place, to_place}
 use Rattle.price_rules.specs.Around.{IsAround, IsFar, here_at, tick_list, few_limits}
 use Rattle.price_rules.specs.ClampedPrice.{market_priced}
-use Rattle.price_rules.specs.Candidates.{AreCandidates, AreMarked, OfMarked}
+use Rattle.price_rules.specs.Candidates.{AreCandidates, AreMarked, IsOfMarkedTicks}
 use Rattle.price_rules.specs.declared.candidates.Lanes.{Lanes}
 use Rattle.price_rules.proofs.CurveLaws.{HasCurvesOf}
 use Rattle.price_rules.proofs.NearbyLaws.{has-either, one_is, here_is, first_stands, far_stands}
@@ -266,7 +266,7 @@ module _ (v w : LadderView) (a : Around) (near : IsNear v a w) where
     pub best_there : (book other : List Order) (lanes : Lanes) (found : Option Leaders) → HasCurvesOf v book
         → HasCurvesOf w other
         → AreMarked lanes.ticks lanes.flags (few_limits v a) → AreCandidates book lanes
-        → OfMarked lanes lanes.flags (λ list few. AreBest list few found) → AreBest other (few_limits w a) found
+        → IsOfMarkedTicks lanes lanes.flags (λ list few. AreBest list few found) → AreBest other (few_limits w a) found
     best_there book other lanes found tells others marked are best =
         best other (few_limits w a) (candidates_there book other lanes tells others marked are) (λ k e. e)
         (marked_there lanes.ticks lanes.flags marked)

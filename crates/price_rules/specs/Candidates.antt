@@ -25,8 +25,8 @@ in_lanes a b c d = record {
 }
 
 -- the ticks with a flag rise
-abbrev pub Rise : List ℕ → List ℕ → Type 0
-Rise ticks flags =
+abbrev pub AreRisingTicks : List ℕ → List ℕ → Type 0
+AreRisingTicks ticks flags =
     (j k : ℕ) → j < k → IsFlagged flags j → IsFlagged flags k → slice_index ticks j ≤ slice_index ticks k
 
 -- the numbers are those of the flagged ticks
@@ -37,7 +37,7 @@ AreOfTicks lanes numbers f = (k : ℕ) → IsFlagged lanes.flags k → slice_ind
 pub record AreCandidates (book : List Order) (lanes : Lanes) : Type 0 where
   pub demands_are : AreOfTicks lanes lanes.demands (demand book)
   pub supplies_are : AreOfTicks lanes lanes.supplies (supply book)
-  pub rising : Rise lanes.ticks lanes.flags
+  pub rising : AreRisingTicks lanes.ticks lanes.flags
 
 -- the ticks with a flag are those of the list
 pub record AreMarked (ticks flags few : List ℕ) : Type 0 where
@@ -49,8 +49,8 @@ abbrev pub FlagsNoOther : List ℕ → List ℕ → Type 0
 FlagsNoOther flags others = (k : ℕ) → IsFlagged flags k → IsFlagged others k
 
 -- P of each book whose candidates these are, and of each list of ticks that some of the flags mark
-abbrev pub OfMarked : Lanes → List ℕ → (List Order → List ℕ → Type 0) → Type 0
-OfMarked lanes flags P =
+abbrev pub IsOfMarkedTicks : Lanes → List ℕ → (List Order → List ℕ → Type 0) → Type 0
+IsOfMarkedTicks lanes flags P =
     (book : List Order) (few : List ℕ)
     → AreCandidates book lanes
     → FlagsNoOther flags lanes.flags

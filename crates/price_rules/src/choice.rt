@@ -2,7 +2,7 @@
 
 ghost use Rattle.std.specs.Prelude.{◌≡◌, ◌<◌, IfSome, option_map, slice_index};
 ghost use Rattle.auction_terms.specs.Auxiliary.BestTicks.{AreBest, lower_among, upper_among};
-ghost use Rattle.price_rules.specs.Candidates.{OfMarked, lead_of};
+ghost use Rattle.price_rules.specs.Candidates.{IsOfMarkedTicks, lead_of};
 
 use crate::candidates::Lanes;
 use lane_select::{
@@ -32,7 +32,7 @@ fn tick_in(lanes: &Lanes, lane: Option<usize>) -> Option<u32>
 
 /// The lower of the two that the price is held between, where `flags` are those of the best.
 fn lower_of(lanes: &Lanes, flags: [u64; 8], surplus: u64) -> Option<u32>
-    ensures { OfMarked lanes.now flags (λ book best. result ≡ lower_among book surplus best) }
+    ensures { IsOfMarkedTicks lanes.now flags (λ book best. result ≡ lower_among book surplus best) }
 {
     if surplus == 0 {
         return tick_in(lanes, first(&flags));
@@ -44,7 +44,7 @@ fn lower_of(lanes: &Lanes, flags: [u64; 8], surplus: u64) -> Option<u32>
 
 /// The upper of the two that the price is held between, where `flags` are those of the best.
 fn upper_of(lanes: &Lanes, flags: [u64; 8], surplus: u64) -> Option<u32>
-    ensures { OfMarked lanes.now flags (λ book best. result ≡ upper_among book surplus best) }
+    ensures { IsOfMarkedTicks lanes.now flags (λ book best. result ≡ upper_among book surplus best) }
 {
     if surplus == 0 {
         return tick_in(lanes, last(&flags));
@@ -57,7 +57,7 @@ fn upper_of(lanes: &Lanes, flags: [u64; 8], surplus: u64) -> Option<u32>
 /// What the best of the candidates have in common, if one has volume: those with the most volume and, among these, the
 /// least surplus.
 pub fn best_of(lanes: &Lanes) -> Option<Leaders>
-    ensures { OfMarked lanes.now lanes.now.flags (λ book few. AreBest book few (option_map lead_of result)) }
+    ensures { IsOfMarkedTicks lanes.now lanes.now.flags (λ book few. AreBest book few (option_map lead_of result)) }
 {
     let mut flags = lanes.flags;
     let mut volumes = [0; 8];

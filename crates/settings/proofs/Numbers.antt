@@ -14,11 +14,11 @@ use Rattle.settings.specs.NumberTexts.{number_in}
 
 minus_off : (t : List ℕ) → without_minus t ≡ cond (starts_with_minus t) (drop 1 t) t
 minus_off [] = refl
-minus_off (x ∷ xs) = go (x == 45)
+minus_off (x ∷ xs) = by_test (x == 45)
   where
-    go : (b : Bool) → unwrap_or (cond b (Some xs) None) (x ∷ xs) ≡ cond b xs (x ∷ xs)
-    go true = refl
-    go false = refl
+    by_test : (b : Bool) → unwrap_or (cond b (Some xs) None) (x ∷ xs) ≡ cond b xs (x ∷ xs)
+    by_test true = refl
+    by_test false = refl
 
 no_plus : (ds : List ℕ) → IsNumeral 10 ds → without_leading_plus ds ≡ ds
 no_plus [] h = refl
@@ -29,14 +29,14 @@ no_plus (d ∷ ds) h =
 -- a text that passed a range is a number in it, with its minus taken off
 pub passed_text : (low high : ℕ) (t : List ℕ) → IsSignedIn (pos low) (pos high) t
     → IsNumberIn low high (without_minus t)
-passed_text low high t passed = subst (IsNumberIn low high) (sym (minus_off t)) (go (starts_with_minus t) refl)
+passed_text low high t passed = subst (IsNumberIn low high) (sym (minus_off t)) (by_test (starts_with_minus t) refl)
   where
-    go : (b : Bool) → starts_with_minus t ≡ b → IsNumberIn low high (cond (starts_with_minus t) (drop 1 t) t)
-    go true minus =
+    by_test : (b : Bool) → starts_with_minus t ≡ b → IsNumberIn low high (cond (starts_with_minus t) (drop 1 t) t)
+    by_test true minus =
         let numeral : IsNumeral 10 (drop 1 t) = rw minus at passed.0 in
         let low_ok = rw minus at passed.2 in
         rw (minus, no_plus (drop 1 t) numeral) (numeral, omega (arith, ints), omega (arith, ints))
-    go false minus =
+    by_test false minus =
         let numeral = rw minus at passed.0 in
         let low_ok = rw minus at passed.2 in
         let high_ok = rw minus at passed.3 in

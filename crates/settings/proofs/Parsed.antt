@@ -31,8 +31,8 @@ use Rattle.settings.specs.OptionTexts.{IsParsed}
 use Rattle.settings.proofs.Places.{alone, named, not_auto, only, only_at, place, has_own_place}
 
 -- each argument of the command with this id keeps the rules of `a`
-abbrev Keeps : Command → List ℕ → Arg → Type 0
-Keeps c id a = (j : ℕ) (y : Arg) → j < length (args_of c) → slice_index_or (args_of c) j y ≡ y
+abbrev KeepsArg : Command → List ℕ → Arg → Type 0
+KeepsArg c id a = (j : ℕ) (y : Arg) → j < length (args_of c) → slice_index_or (args_of c) j y ≡ y
     → bytes_eq y.id.now id ≡ true → SameRules a y
 
 -- the entry is read by the parser, and its values pass it
@@ -59,7 +59,7 @@ no_group c id e none named key pass g = elim (pass.3 g) [
 ]
 
 held_reading : (c : Command) (id : List ℕ) (a : Arg) (q : ValueParser) (e : Entry) → (e.1.is_group ≡ true → ⊥)
-    → Keeps c id a → a.value_parser ≡ Some q
+    → KeepsArg c id a → a.value_parser ≡ Some q
     → e.0.now ≡ id → EntryPasses c e → e.1.reading ≡ reading_of q
 held_reading c id a q e plain keeps parser key pass = elim pass.4 [
   | inl g ↦ absurd (plain g)
@@ -68,7 +68,7 @@ held_reading c id a q e plain keeps parser key pass = elim pass.4 [
 ]
 
 held_values : (c : Command) (id : List ℕ) (a : Arg) (q : ValueParser) (e : Entry) → (e.1.is_group ≡ true → ⊥)
-    → Keeps c id a → a.value_parser ≡ Some q → a.ignore_case ≡ false
+    → KeepsArg c id a → a.value_parser ≡ Some q → a.ignore_case ≡ false
     → e.0.now ≡ id → EntryPasses c e → All (λ v. Accepts false q v.now) e.1.vals.items
 held_values c id a q e plain keeps parser case key pass = elim pass.0 [
   | inl g ↦ absurd (plain g)
@@ -78,7 +78,7 @@ held_values c id a q e plain keeps parser case key pass = elim pass.0 [
 ]
 
 -- an option that takes a value has one
-filled_entry : (c : Command) (id : List ℕ) (a : Arg) (e : Entry) → (e.1.is_group ≡ true → ⊥) → Keeps c id a
+filled_entry : (c : Command) (id : List ℕ) (a : Arg) (e : Entry) → (e.1.is_group ≡ true → ⊥) → KeepsArg c id a
     → a.action ≡ Some Set → a.val_delim ≡ None → 1 ≤ least_values a
     → e.0.now ≡ id → EntryPasses c e → 0 < length e.1.vals.items
 filled_entry c id a e plain keeps set delim least key pass = elim pass.1 [
@@ -105,10 +105,10 @@ filled_entry c id a e plain keeps set delim least key pass = elim pass.1 [
 -- ---- what the entry of one id gives
 
 -- the argument `a` of the built command c, which `q` parses
-record Known (c : Command) (id : List ℕ) (a : Arg) (q : ValueParser) : Type 0 where
+record IsKnownArg (c : Command) (id : List ℕ) (a : Arg) (q : ValueParser) : Type 0 where
   pub groups : groups_of c ≡ []
   pub named : id ≡ [] → ⊥
-  pub keeps : Keeps c id a
+  pub keeps : KeepsArg c id a
   pub parser : a.value_parser ≡ Some q
   pub case : a.ignore_case ≡ false
 
@@ -118,7 +118,8 @@ record TakesOne (a : Arg) : Type 0 where
   pub delimiter : a.val_delim ≡ None
   pub least : 1 ≤ least_values a
 
-matched-holds : (c : Command) (f : Found) (id : List ℕ) (a : Arg) (q : ValueParser) (x : MatchedArg) → Known c id a q
+matched-holds : (c : Command) (f : Found) (id : List ℕ) (a : Arg) (q : ValueParser) (x : MatchedArg)
+    → IsKnownArg c id a q
     → ValuesPass c f → matched_of f id ≡ Some x → PassesParser q x
 matched-holds c f id a q x known values found =
     let got = entry_by_id (EntryPasses c) f.entries.items id x values found in
@@ -130,7 +131,7 @@ matched-holds c f id a q x known values found =
     })
 
 matched-is_filled : (c : Command) (f : Found) (id : List ℕ) (a : Arg) (q : ValueParser) (x : MatchedArg)
-    → Known c id a q → TakesOne a → ValuesPass c f → matched_of f id ≡ Some x
+    → IsKnownArg c id a q → TakesOne a → ValuesPass c f → matched_of f id ≡ Some x
     → 0 < length x.vals.items
 matched-is_filled c f id a q x known one values found =
     let got = entry_by_id (EntryPasses c) f.entries.items id x values found in
@@ -151,15 +152,15 @@ first_text q how (v ∷ vs) t is all h =
     let same : read_as how v.now ≡ t = ap (λ (o : Option (List ℕ)). unwrap_or o t) h in
     (v.now, sym same ∙ ap (λ (w : Reading). read_as w v.now) is, all 0 v (omega arith))
 
-text_read : (c : Command) (f : Found) (id : List ℕ) (a : Arg) (q : ValueParser) (t : List ℕ) → Known c id a q
+text_read : (c : Command) (f : Found) (id : List ℕ) (a : Arg) (q : ValueParser) (t : List ℕ) → IsKnownArg c id a q
     → ValuesPass c f → one_text f id ≡ Some t → IsReadBy q t
-text_read c f id a q t known values h = go (matched_of f id) refl
+text_read c f id a q t known values h = by_option (matched_of f id) refl
   where
-    go : (o : Option MatchedArg) → matched_of f id ≡ o → IsReadBy q t
-    go None e =
+    by_option : (o : Option MatchedArg) → matched_of f id ≡ o → IsReadBy q t
+    by_option None e =
         let bad : None ≡ Some t = rw e at h in
         cc
-    go (Some x) e =
+    by_option (Some x) e =
         let holds = matched-holds c f id a q x known values e in
         first_text q x.reading x.vals.items t holds.reading holds.values (rw e at h)
 
@@ -168,13 +169,13 @@ found_at : (xs : List Entry) (id : List ℕ) (i : ℕ) (d : Entry) → i < lengt
     → (x : MatchedArg) × (option_map (λ e. e.1) (find (λ e. bytes_eq e.0.now id) xs) ≡ Some x)
 found_at [] id i d lt h = absurd (omega arith)
 found_at (y ∷ ys) id zero d lt h = (y.1, rw h refl)
-found_at (y ∷ ys) id (suc i) d lt h = go (bytes_eq y.0.now id) refl (found_at ys id i d (omega arith) h)
+found_at (y ∷ ys) id (suc i) d lt h = by_test (bytes_eq y.0.now id) refl (found_at ys id i d (omega arith) h)
   where
-    go : (b : Bool) → bytes_eq y.0.now id ≡ b
+    by_test : (b : Bool) → bytes_eq y.0.now id ≡ b
         → (x : MatchedArg) × (option_map (λ e. e.1) (find (λ e. bytes_eq e.0.now id) ys) ≡ Some x)
         → (x : MatchedArg) × (option_map (λ e. e.1) (find (λ e. bytes_eq e.0.now id) (y ∷ ys)) ≡ Some x)
-    go true b rest = (y.1, rw b refl)
-    go false b rest = (rest.0, rw b rest.1)
+    by_test true b rest = (y.1, rw b refl)
+    by_test false b rest = (rest.0, rw b rest.1)
 
 found_in : (xs : List Entry) (id : List ℕ) → HasIn xs id
     → (x : MatchedArg) × (option_map (λ e. e.1) (find (λ e. bytes_eq e.0.now id) xs) ≡ Some x)
@@ -186,7 +187,7 @@ some_text : (how : Reading) (vs : List (Bor (List ℕ))) → 0 < length vs
 some_text how [] lt = absurd (omega arith)
 some_text how (v ∷ vs) lt = (read_as how v.now, refl)
 
-text_there : (c : Command) (f : Found) (id : List ℕ) (a : Arg) (q : ValueParser) → Known c id a q → TakesOne a
+text_there : (c : Command) (f : Found) (id : List ℕ) (a : Arg) (q : ValueParser) → IsKnownArg c id a q → TakesOne a
     → ValuesPass c f → HasId f id
     → (t : List ℕ) × (one_text f id ≡ Some t)
 text_there c f id a q known one values has =
@@ -222,7 +223,7 @@ without_groups c same = simple_groups c (ap (λ (a : App). list_all (λ r. r.is_
 record Argument (c : Command) (m : ArgMatches) (p : IsParsedFrom c m) (r : Rule) (q : ValueParser) : Type 0 where
   pub a : Arg
   pub is : rule_of a ≡ r
-  pub known : Known p.built a.id.now a q
+  pub known : IsKnownArg p.built a.id.now a q
   pub simple : IsSimpleArg a
   pub default : WantsDefault a → HasId (found_of m) a.id.now
 

@@ -31,12 +31,13 @@ pub number_got : (E : Type 0) (G : List ℕ → Result ℕ E → Type 0) (f : Fo
     → ((t : Text) → one_text f id ≡ Some t → ReadsOne G t r)
     → ((t : Text) (x : Result ℕ E) → G t x → ParsesUnsigned 32 10 t x)
     → (n : ℕ) × (r ≡ Some n) × (number_at id (rows_of f) ≡ Some n)
-number_got E G f id r has read parses = go (one_of id (rows_of f)) refl has
+number_got E G f id r has read parses = by_option (one_of id (rows_of f)) refl has
   where
-    go : (o : Option Text) → one_of id (rows_of f) ≡ o → IsSomeAnd o (IsNumberIn 0 4294967295) → (n : ℕ) × (r ≡ Some n)
+    by_option : (o : Option Text) → one_of id (rows_of f) ≡ o → IsSomeAnd o (IsNumberIn 0 4294967295)
+        → (n : ℕ) × (r ≡ Some n)
         × (number_at id (rows_of f) ≡ Some n)
-    go None e is = absurd is
-    go (Some t) e is = (
+    by_option None e is = absurd is
+    by_option (Some t) e is = (
       number_in t,
       number_read E G 0 4294967295 t r (read t (one_text-rows f id ∙ e)) (parses t) (omega arith) is,
       ap (option_map number_in) e,
@@ -48,12 +49,12 @@ pub number_or_none : (E : Type 0) (G : List ℕ → Result ℕ E → Type 0) (f 
     → (one_text f id ≡ None → r ≡ None) → ((t : Text) → one_text f id ≡ Some t → ReadsOne G t r)
     → ((t : Text) (x : Result ℕ E) → G t x → ParsesUnsigned 32 10 t x)
     → number_at id (rows_of f) ≡ r
-number_or_none E G f id r has none read parses = go (one_of id (rows_of f)) refl has
+number_or_none E G f id r has none read parses = by_option (one_of id (rows_of f)) refl has
   where
-    go : (o : Option Text) → one_of id (rows_of f) ≡ o → IfSome o (IsNumberIn 0 4294967295)
+    by_option : (o : Option Text) → one_of id (rows_of f) ≡ o → IfSome o (IsNumberIn 0 4294967295)
         → number_at id (rows_of f) ≡ r
-    go None e is = ap (option_map number_in) e ∙ sym (none (one_text-rows f id ∙ e))
-    go (Some t) e is =
+    by_option None e is = ap (option_map number_in) e ∙ sym (none (one_text-rows f id ∙ e))
+    by_option (Some t) e is =
         ap (option_map number_in) e
         ∙ sym (number_read E G 0 4294967295 t r (read t (one_text-rows f id ∙ e)) (parses t) (omega arith) is)
 
@@ -61,15 +62,15 @@ number_or_none E G f id r has none read parses = go (one_of id (rows_of f)) refl
 pub flag_got : (f : Found) (id : Text) (r : Bool) → HasSwitch id (rows_of f) → (one_text f id ≡ None → r ≡ false)
     → (one_text f id ≡ Some (codes "true") → r ≡ true)
     → (one_text f id ≡ Some (codes "false") → r ≡ false) → is_given id (rows_of f) ≡ r
-flag_got f id r has none yes_flag no_flag = go (one_of id (rows_of f)) refl has
+flag_got f id r has none yes_flag no_flag = by_option (one_of id (rows_of f)) refl has
   where
-    go : (o : Option Text) → one_of id (rows_of f) ≡ o
+    by_option : (o : Option Text) → one_of id (rows_of f) ≡ o
         → IfSome o (λ text. (text ≡ codes "true") ⊎ (text ≡ codes "false")) → is_given id (rows_of f) ≡ r
-    go None e is = ap is_yes e ∙ sym (none (one_text-rows f id ∙ e))
-    go (Some t) e (inl is) =
+    by_option None e is = ap is_yes e ∙ sym (none (one_text-rows f id ∙ e))
+    by_option (Some t) e (inl is) =
         let text : one_of id (rows_of f) ≡ Some (codes "true") = e ∙ ap (λ (x : Text). Some x) is in
         ap is_yes text ∙ sym (yes_flag (one_text-rows f id ∙ text))
-    go (Some t) e (inr is) =
+    by_option (Some t) e (inr is) =
         let text : one_of id (rows_of f) ≡ Some (codes "false") = e ∙ ap (λ (x : Text). Some x) is in
         ap is_yes text ∙ sym (no_flag (one_text-rows f id ∙ text))
 
@@ -94,32 +95,32 @@ maybe_number : (m : ArgMatches) (k : ℕ) (name : Text) (least most : ℕ) → I
     → slice_get callboard.top.rules k ≡ Some (number name least most None)
     → has_own_place k (number name least most None) callboard.top.rules ≡ true
     → MayHaveNumber least most name (rows_of (found_of m))
-maybe_number m k name least most parsed at alone = go (one_of name (rows_of (found_of m))) refl
+maybe_number m k name least most parsed at alone = by_option (one_of name (rows_of (found_of m))) refl
   where
-    go : (o : Option Text) → one_of name (rows_of (found_of m)) ≡ o → IfSome o (IsNumberIn least most)
-    go None e = tt
-    go (Some t) e =
+    by_option : (o : Option Text) → one_of name (rows_of (found_of m)) ≡ o → IfSome o (IsNumberIn least most)
+    by_option None e = tt
+    by_option (Some t) e =
         passed_number least most t (option_text m k (number name least most None) (parser.Signed (pos least) (pos most))
         parsed (record { at = at; alone = alone; parser = refl; case = refl }) t e)
 
 true_or_false : (t : Text) → (bytes_eq t (codes "true") || bytes_eq t (codes "false")) ≡ true → (t ≡ codes "true")
     ⊎ (t ≡ codes "false")
-true_or_false t h = go (bytes_eq t (codes "true")) refl
+true_or_false t h = by_test (bytes_eq t (codes "true")) refl
   where
-    go : (b : Bool) → bytes_eq t (codes "true") ≡ b → (t ≡ codes "true") ⊎ (t ≡ codes "false")
-    go true e = inl ((bytes_eq-Decides t (codes "true")).0 e)
-    go false e =
+    by_test : (b : Bool) → bytes_eq t (codes "true") ≡ b → (t ≡ codes "true") ⊎ (t ≡ codes "false")
+    by_test true e = inl ((bytes_eq-Decides t (codes "true")).0 e)
+    by_test false e =
         let other : bytes_eq t (codes "false") ≡ true = rw e at h in
         inr ((bytes_eq-Decides t (codes "false")).0 other)
 
 a_flag : (m : ArgMatches) (k : ℕ) (name : Text) → IsParsed m → slice_get callboard.top.rules k ≡ Some (flag name)
     → has_own_place k (flag name) callboard.top.rules ≡ true → HasSwitch name (rows_of (found_of m))
-a_flag m k name parsed at alone = go (one_of name (rows_of (found_of m))) refl
+a_flag m k name parsed at alone = by_option (one_of name (rows_of (found_of m))) refl
   where
-    go : (o : Option Text) → one_of name (rows_of (found_of m)) ≡ o
+    by_option : (o : Option Text) → one_of name (rows_of (found_of m)) ≡ o
         → IfSome o (λ text. (text ≡ codes "true") ⊎ (text ≡ codes "false"))
-    go None e = tt
-    go (Some t) e =
+    by_option None e = tt
+    by_option (Some t) e =
         let read = option_text m k (flag name) parser.Bool parsed (record {
           at = at;
           alone = alone;
@@ -167,39 +168,39 @@ has_options m parsed = record {
 
 pub wider : (least most : ℕ) (name : Text) (rows : List Row) → most ≤ 4294967295 → HasNumber least most name rows
     → HasNumber 0 4294967295 name rows
-wider least most name rows le has = go (one_of name rows) has
+wider least most name rows le has = by_option (one_of name rows) has
   where
-    go : (o : Option Text) → IsSomeAnd o (IsNumberIn least most) → IsSomeAnd o (IsNumberIn 0 4294967295)
-    go None is = is
-    go (Some t) is = (is.0, omega arith, omega arith)
+    by_option : (o : Option Text) → IsSomeAnd o (IsNumberIn least most) → IsSomeAnd o (IsNumberIn 0 4294967295)
+    by_option None is = is
+    by_option (Some t) is = (is.0, omega arith, omega arith)
 
 pub wider_or_none : (least most : ℕ) (name : Text) (rows : List Row) → most ≤ 4294967295
     → MayHaveNumber least most name rows → MayHaveNumber 0 4294967295 name rows
-wider_or_none least most name rows le has = go (one_of name rows) has
+wider_or_none least most name rows le has = by_option (one_of name rows) has
   where
-    go : (o : Option Text) → IfSome o (IsNumberIn least most) → IfSome o (IsNumberIn 0 4294967295)
-    go None is = is
-    go (Some t) is = (is.0, omega arith, omega arith)
+    by_option : (o : Option Text) → IfSome o (IsNumberIn least most) → IfSome o (IsNumberIn 0 4294967295)
+    by_option None is = is
+    by_option (Some t) is = (is.0, omega arith, omega arith)
 
 pub between : (least most : ℕ) (name : Text) (rows : List Row) (n : ℕ) → HasNumber least most name rows
     → number_at name rows ≡ Some n → (least ≤ n) × (n ≤ most)
-between least most name rows n has at = go (one_of name rows) has at
+between least most name rows n has at = by_option (one_of name rows) has at
   where
-    go : (o : Option Text) → IsSomeAnd o (IsNumberIn least most) → option_map number_in o ≡ Some n
+    by_option : (o : Option Text) → IsSomeAnd o (IsNumberIn least most) → option_map number_in o ≡ Some n
         → (least ≤ n) × (n ≤ most)
-    go None is e = absurd is
-    go (Some t) is e =
+    by_option None is e = absurd is
+    by_option (Some t) is e =
         let same : number_in t ≡ n = ap (λ (o : Option ℕ). unwrap_or o n) e in
         subst (λ (x : ℕ). (least ≤ x) × (x ≤ most)) same (is.1, is.2)
 
 pub at_most_if_some : (least most : ℕ) (name : Text) (rows : List Row) (r : Option ℕ)
     → MayHaveNumber least most name rows → number_at name rows ≡ r → IfSome r (λ n. n ≤ most)
 at_most_if_some least most name rows r has at =
-    subst (λ (o : Option ℕ). IfSome o (λ n. n ≤ most)) at (go (one_of name rows) has)
+    subst (λ (o : Option ℕ). IfSome o (λ n. n ≤ most)) at (by_option (one_of name rows) has)
   where
-    go : (o : Option Text) → IfSome o (IsNumberIn least most) → IfSome (option_map number_in o) (λ n. n ≤ most)
-    go None is = tt
-    go (Some t) is = is.2
+    by_option : (o : Option Text) → IfSome o (IsNumberIn least most) → IfSome (option_map number_in o) (λ n. n ≤ most)
+    by_option None is = tt
+    by_option (Some t) is = is.2
 
 -- ---- the command
 

@@ -92,14 +92,14 @@ others_keep_none false results false history (Some form) task is =
 
 pub reserve_in_range : (rows : List Row) (task : Task) → MayHaveNumber 0 MAX_CALLS (codes "reserve") rows
     → task_at rows ≡ Some task → HasReserveInRange task
-reserve_in_range rows task has is = go (is_given (codes "live") rows) refl
+reserve_in_range rows task has is = by_test (is_given (codes "live") rows) refl
   where
-    go : (live : Bool) → is_given (codes "live") rows ≡ live → HasReserveInRange task
-    go true e =
+    by_test : (live : Bool) → is_given (codes "live") rows ≡ live → HasReserveInRange task
+    by_test true e =
         let same : Live (reserve_at rows) ≡ task = ap (λ (t : Option Task). unwrap_or t task) (rw e at is) in
         subst HasReserveInRange same (usual_or_less (number_at (codes "reserve") rows)
         (at_most_if_some 0 MAX_CALLS (codes "reserve") rows (number_at (codes "reserve") rows) has refl))
-    go false e =
+    by_test false e =
         others_keep_none (is_given (codes "audit") rows) (is_given (codes "results") rows)
         (is_given (codes "floor") rows) (is_given (codes "history") rows) (wanted_form (word_in rows)) task
         (rw e at is)

@@ -3,17 +3,17 @@ use Rattle.std.proofs.Common.{◌≡◌, ◌≤◌, ◌<◌, ◌+◌, ◌-◌, �
 use Rattle.lane_prefix.specs.Meeting.{before}
 use Rattle.lane_prefix.proofs.meet.Given as goal
 
-pub record Walked (falls rises : List ℕ) (first last place high low : ℕ) : Type 0 where
+pub record HasWalked (falls rises : List ℕ) (first last place high low : ℕ) : Type 0 where
   pub within : place < length falls
   pub high_is : high + before falls place ≡ first
   pub low_is : low ≡ last + before rises place
   pub met : (place ≡ 0) ⊎ (low ≤ high)
 
 abbrev pub invariant-eights : goal.invariant-eights
-invariant-eights l = Walked l.falls l.rises l.fn.high l.fn.low l.place l.high l.low
+invariant-eights l = HasWalked l.falls l.rises l.fn.high l.fn.low l.place l.high l.low
 
 abbrev pub invariant-rest : goal.invariant-rest
-invariant-rest l = Walked l.falls l.rises l.fn.high l.fn.low l.place l.high l.low
+invariant-rest l = HasWalked l.falls l.rises l.fn.high l.fn.low l.place l.high l.low
 
 abbrev pub decreases-eights : goal.decreases-eights
 decreases-eights l = length l.falls - l.place

@@ -4,7 +4,7 @@ use Rattle.std.specs.Io.KnownBytes.{prepend_known}
 use Rattle.auction_terms.specs.declared.Call.{Call}
 use Rattle.auction_terms.specs.Auxiliary.RunningAuction.{opened_auction}
 use Rattle.order_file.specs.Blocks.{turns_left}
-use Rattle.order_file.proofs.BlockCallLaws.{Carries}
+use Rattle.order_file.proofs.BlockCallLaws.{CarriesCalls}
 use Rattle.callboard.specs.KeptEntries.{KeepsEntries, after_calls, form_of}
 use Rattle.callboard.specs.Printed.{history_of}
 use Rattle.callboard.proofs.orders.keep_file.Given as goal
@@ -17,8 +17,8 @@ invariant-turns g l = record {
   form : form_of l.kept ≡ l.fn.form;
   room : l.auction.calls ≤ l.day.config.max_calls;
   calls : (front : List Call) × (l.auction ≡ after_calls (opened_auction l.day.config) front)
-      × Carries (prepend_known l.fn.start.items (g.R.Source.left l.fn.reader)) (g.R.Source.left l.reader) l.day.members
-      l.day.config.max_calls front l.blocks
+      × CarriesCalls (prepend_known l.fn.start.items (g.R.Source.left l.fn.reader)) (g.R.Source.left l.reader)
+      l.day.members l.day.config.max_calls front l.blocks
       × KeepsEntries l.kept l.auction (history_of l.day.config front);
 }
 

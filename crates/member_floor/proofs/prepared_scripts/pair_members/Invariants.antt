@@ -8,7 +8,7 @@ abbrev pub invariant-loop : goal.invariant-loop
 invariant-loop g l = record {
   count : length l.tasks.items ≡ l.counter;
   left : l.counter + length (into_iter_items l.members) ≡ l.n;
-  seats_left : l.counter + length (into_iter_items l.prepared_scripts) ≡ l.n;
+  scripts_left : l.counter + length (into_iter_items l.prepared_scripts) ≡ l.n;
   room : l.n ≤ vec_capacity l.tasks;
   members : map (λ (t : MemberScript). t.member) l.tasks.items ++ into_iter_items l.members ≡ l.fn.members.items;
   prepared_scripts : map (λ (t : MemberScript). t.commands) l.tasks.items ++ into_iter_items l.prepared_scripts
