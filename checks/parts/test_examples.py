@@ -5,8 +5,8 @@ book, which examples/forms has; its journal is run for the same and audited. The
 examples/audits are audited. README's session and its script are held. `rt ci` runs copies of the
 order files: the examples of crates/callboard/src/tests/examples.rt, one for each file and with its
 name. They are compared with the files, and the journals with the records and the lines that they
-have in them. The program's own stored run, crates/callboard/args, stdin and stdout, is no copy of a
-file, and is run here too.
+have in them. The files of examples/floors are run on a board. The program's own stored run, which
+`rt ci` makes, is the audit of examples/audits/changed.csv: its status isn't 0.
 """
 import itertools
 import pathlib
@@ -53,12 +53,12 @@ def stored(name: str) -> Example:
     return words, (EXAMPLES / f"{name}.csv").read_text(), (EXAMPLES / f"{name}.txt").read_text()
 
 
-def run_by_gate() -> Example:
+def run_by_gate() -> Row:
     """The program's stored run. Raises OSError where a file of it is missing."""
-    words, records, lines = (
-        (CRATE / name).read_text() for name in ("args", "stdin", "stdout")
+    words, records, lines, status = (
+        (CRATE / name).read_text() for name in ("args", "stdin", "stdout", "status")
     )
-    return words.split(), records, lines
+    return "the stored run", words.split(), records, int(status), lines
 
 
 def copied() -> dict[str, Example]:
@@ -102,14 +102,18 @@ def audit_table() -> Iterator[Row]:
         yield f"{file.stem}, audit", ["--audit"], file.read_text(), status, text
 
 
+def floor_table() -> Iterator[Row]:
+    """The runs on a board."""
+    for file in sorted((EXAMPLES / "floors").glob("*.csv")):
+        words = file.with_suffix(".args").read_text().split()
+        text = file.with_suffix(".txt").read_text()
+        yield f"{file.stem}, on a board", words, file.read_text(), 0, text
+
+
 STORED = {path.stem: stored(path.stem) for path in sorted(EXAMPLES.glob("*.csv"))}
 COPIES = copied()
-OWN_WORDS, OWN_RECORDS, OWN_LINES = run_by_gate()
-ROWS: list[Row] = [
-    ("the stored run", OWN_WORDS, OWN_RECORDS, 0, OWN_LINES),
-    *run_table(STORED),
-    *audit_table(),
-]
+STORED_RUN = run_by_gate()
+ROWS: list[Row] = [STORED_RUN, *run_table(STORED), *audit_table(), *floor_table()]
 
 
 @pytest.mark.parametrize("name", sorted(STORED.keys() | COPIES.keys()))

@@ -118,7 +118,3 @@ abbrev pub IsAnswer : ℕ → Type 0
 IsAnswer status = (words : List Text) × (left rest old new : Option (List ℕ))
     × (reads reads_after writes writes_after : ℕ)
     × AnswersCommandLine host_files words (ends_by left rest old new reads reads_after writes writes_after) status
-
--- a status that the process ends with: that is one, or its words couldn't be had
-abbrev pub IsOfProcess : ℕ → Type 0
-IsOfProcess status = IsAnswer status ⊎ ((status ≡ 2) ⊎ (status ≡ 3))

@@ -4,9 +4,9 @@
 //! audits a journal.
 #![tactic(auto)]
 
-ghost use Rattle.std.specs.Prelude.{◌≡◌, ◌<◌, ◌⊎◌, map, string_bytes, IfOk};
+ghost use Rattle.std.specs.Prelude.{◌≡◌, ◌<◌, ◌⊎◌, map, string_bytes, IfErr, IfOk};
 ghost use Rattle.clap.specs.Walk.{texts};
-ghost use Rattle.callboard.specs.Served.{IsAnswer, IsOfProcess};
+ghost use Rattle.callboard.specs.Served.{IsAnswer};
 ghost use Rattle.std.specs.Process.{exit_status};
 
 mod audit;
@@ -149,10 +149,12 @@ fn refuse_words(rt: &HostRuntime, error: &io::Error) -> u8
     2
 }
 
-/// What the process ends with: the status that the program answered, or that of words that couldn't be had.
+/// What the process ends with: the status that the program answered, which is one that `serve` answers to some words,
+/// or where its words couldn't be had 2 or 3.
 fn exit_code(rt: &HostRuntime, answered: &io::Result<u8>) -> ExitCode
     requires { IfOk answered.now IsAnswer }
-    ensures { IsOfProcess (exit_status result) }
+    ensures answered { IfOk answered.now (λ status. exit_status result ≡ status) }
+    ensures refused { IfErr answered.now (λ _. (exit_status result ≡ 2) ⊎ (exit_status result ≡ 3)) }
 {
     match answered {
         Ok(status) => ExitCode::from(*status),
