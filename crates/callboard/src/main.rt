@@ -13,6 +13,7 @@ mod audit;
 mod day;
 mod fault;
 mod floor;
+mod journal_lines;
 mod journals;
 mod keeping;
 mod kept;

@@ -34,7 +34,7 @@ use std::fmt::InlineText;
 use std::sync::Wait;
 use std::thread::Threads;
 
-/// Writes a line on standard error. Where that fails there is nobody left to tell.
+/// Writes a line on standard error. Where that fails there is nobody left to write to.
 pub(crate) fn write_line<E: Sink>(err: &mut E, line: &str) {
     if write_all(err, line.as_bytes()).is_ok() {
         let _ = write_all(err, b"\n".as_slice());
@@ -42,7 +42,7 @@ pub(crate) fn write_line<E: Sink>(err: &mut E, line: &str) {
 }
 
 /// Writes the line of a fault on standard error, and answers its status.
-fn tell<E: Sink>(err: &mut E, fault: Fault) -> u8
+fn write_fault<E: Sink>(err: &mut E, fault: Fault) -> u8
     ensures { result ≡ status_of fault }
 {
     write_line(err, InlineText::<64>::of(fault).as_str());
@@ -69,10 +69,14 @@ fn bounds_of(day: DayHeader) -> Bounds {
 
 /// Writes the line of a fault of this day's config, and behind it one with what is wrong with its bounds or its
 /// reference, if anything is.
-pub(crate) fn tell_open<E: Sink>(err: &mut E, fault: auction::OpenFault, day: DayHeader) -> u8
+pub(crate) fn write_open_fault<E: Sink>(
+    err: &mut E,
+    fault: auction::OpenFault,
+    day: DayHeader,
+) -> u8
     ensures { result ≡ open_status fault }
 {
-    let status = tell(err, Fault::Open(fault));
+    let status = write_fault(err, Fault::Open(fault));
     if let Some(hint) = bounds_hint(bounds_of(day)) {
         write_line(err, InlineText::<64>::of(hint).as_str());
     }
@@ -80,7 +84,7 @@ pub(crate) fn tell_open<E: Sink>(err: &mut E, fault: auction::OpenFault, day: Da
 }
 
 /// Writes a line with the likely cause of this fault of an input that begins so, where there is one.
-fn tell_cause<E: Sink>(alloc: Global, err: &mut E, fault: Fault, start: &[u8], day: DayHeader) {
+fn write_cause<E: Sink>(alloc: Global, err: &mut E, fault: Fault, start: &[u8], day: DayHeader) {
     match fault {
         Fault::File(fault) => {
             if let Ok(Some(hint)) = hint_of(alloc, fault, start, terms_of(day)) {
@@ -97,7 +101,7 @@ fn tell_cause<E: Sink>(alloc: Global, err: &mut E, fault: Fault, start: &[u8], d
 }
 
 /// Writes the line of a fault, and behind it one with its likely cause in an input that begins so, where there is one.
-fn tell_of_input<E: Sink>(
+fn write_input_fault<E: Sink>(
     alloc: Global,
     err: &mut E,
     fault: Fault,
@@ -106,13 +110,13 @@ fn tell_of_input<E: Sink>(
 ) -> u8
     ensures { result ≡ status_of fault }
 {
-    let status = tell(err, fault);
-    tell_cause(alloc, err, fault, start, day);
+    let status = write_fault(err, fault);
+    write_cause(alloc, err, fault, start, day);
     status
 }
 
 /// Where an argument that there isn't looks like a file, says how the program is given one.
-fn tell_of_file<E: Sink>(err: &mut E, error: &Error, words: &[&str]) {
+fn write_file_hint<E: Sink>(err: &mut E, error: &Error, words: &[&str]) {
     let [_, words @ ..] = words else {
         return;
     };
@@ -128,7 +132,7 @@ fn tell_of_file<E: Sink>(err: &mut E, error: &Error, words: &[&str]) {
     }
 }
 
-/// Tells what doesn't go together, and answers the status of a bad command line.
+/// Writes what doesn't go together, and answers the status of a bad command line.
 fn refuse_mix<E: Sink>(err: &mut E, fault: &WordsFault) -> u8
     ensures { result ≡ 2 }
 {
@@ -159,12 +163,12 @@ fn print_text<O: Sink, E: Sink>(out: &mut O, err: &mut E, error: &Error, text: &
         return 2;
     }
     if write_all(out, text.as_bytes()).is_err() {
-        return tell(err, Fault::WriteFailed);
+        return write_fault(err, Fault::WriteFailed);
     }
     0
 }
 
-/// Prints the help that these words ask for, or tells why they say no settings, and answers the status.
+/// Prints the help that these words ask for, or writes why they say no settings, and answers the status.
 fn answer_words<O: Sink, E: Sink>(
     alloc: Global,
     out: &mut O,
@@ -181,24 +185,27 @@ fn answer_words<O: Sink, E: Sink>(
         return refuse_mix(err, fault);
     };
     let Some(text) = text_of(alloc, error) else {
-        return tell(err, Fault::NoMemory);
+        return write_fault(err, Fault::NoMemory);
     };
     let status = print_text(out, err, error, text.as_str());
-    tell_of_file(err, error, words);
+    write_file_hint(err, error, words);
     status
 }
 
-/// Tells why a session of this day ended before its input, and answers its status.
-fn tell_end<E: Sink>(err: &mut E, fault: SessionFault, day: DayHeader) -> u8
+/// Writes why a session of this day ended before its input, and answers its status.
+fn write_end_fault<E: Sink>(err: &mut E, fault: SessionFault, day: DayHeader) -> u8
     ensures { result ≡ live_status fault }
 {
     match fault {
-        SessionFault::Open(fault) => tell_open(err, fault, day),
-        SessionFault::Live(LiveFault::ReadFailed) => tell(err, Fault::File(FileFault::ReadFailed)),
+        SessionFault::Open(fault) => write_open_fault(err, fault, day),
+        SessionFault::Live(LiveFault::ReadFailed) => write_fault(
+            err,
+            Fault::File(FileFault::ReadFailed),
+        ),
         SessionFault::Live(LiveFault::WriteFailed | LiveFault::CommitFailed) => {
-            tell(err, Fault::WriteFailed)
+            write_fault(err, Fault::WriteFailed)
         }
-        SessionFault::Live(LiveFault::NoMemory) => tell(err, Fault::NoMemory),
+        SessionFault::Live(LiveFault::NoMemory) => write_fault(err, Fault::NoMemory),
     }
 }
 
@@ -216,12 +223,12 @@ fn serve_live<R: Source, O: Sink, E: Sink>(
     match run_session(alloc, reader, out, day, reserve) {
         Ok(Ending::AllGood) => 0,
         Ok(Ending::SomeBad) => 1,
-        Err(fault) => tell_end(err, fault, day),
+        Err(fault) => write_end_fault(err, fault, day),
     }
 }
 
-/// Tells the fault of a run of an input that begins so, if there is one, and answers the run's status.
-fn tell_run<E: Sink>(
+/// Writes the fault of a run of an input that begins so, if there is one, and answers the run's status.
+fn write_run_fault<E: Sink>(
     alloc: Global,
     err: &mut E,
     run: Result<Finish, Fault>,
@@ -232,7 +239,7 @@ fn tell_run<E: Sink>(
 {
     match run {
         Ok(finish) => finish.status(),
-        Err(fault) => tell_of_input(alloc, err, fault, start, day),
+        Err(fault) => write_input_fault(alloc, err, fault, start, day),
     }
 }
 
@@ -283,15 +290,15 @@ pub fn serve<
         },
         Task::Audit { results } => {
             let run = run_audit(alloc, reader, out, results);
-            tell_run(alloc, err, run, reader.start(), day)
+            write_run_fault(alloc, err, run, reader.start(), day)
         }
         Task::Run(form) => {
             let run = run_file(alloc, reader, out, day, form);
-            tell_run(alloc, err, run, reader.start(), day)
+            write_run_fault(alloc, err, run, reader.start(), day)
         }
         Task::Floor(form) => {
             let run = run_floor(alloc, reader, out, day, form, &OpenGate, rt);
-            tell_run(alloc, err, run, reader.start(), day)
+            write_run_fault(alloc, err, run, reader.start(), day)
         }
     }
 }
