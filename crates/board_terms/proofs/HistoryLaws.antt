@@ -10,7 +10,8 @@ use Rattle.board_terms.specs.declared.calls.Receipt.{Receipt}
 use Rattle.board_terms.proofs.PrefixLaws.{prefix_whole, prefix_trans, prefix_length}
 use Rattle.board_terms.specs.declared.calls.Shown.{Shown}
 use Rattle.board_terms.specs.CallsAndLooks.{IsLook, ShowsAfter, CallsOnce, entry}
-use Rattle.board_terms.specs.MemberView.{MemberView, PlacedCall, call_by, placed_calls, placed_calls_from, placed_call}
+use Rattle.auction.specs.AuctionState.{call_by}
+use Rattle.board_terms.specs.MemberView.{MemberView, PlacedCall, placed_calls, placed_calls_from, placed_call}
 use Rattle.board_terms.specs.MemberView.{member_view, after_call}
 use Rattle.std.proofs.lemmas.List.Elements.{All-append, All-cons, All-nil}
 use Rattle.std.proofs.lemmas.List.{map_push, take-append-drop, take-append-le}

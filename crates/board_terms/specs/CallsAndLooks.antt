@@ -7,7 +7,8 @@ use Rattle.auction_terms.specs.declared.Command.{Command}
 use Rattle.auction_terms.specs.declared.Reply.{Reply}
 use Rattle.auction_terms.specs.declared.Entry.{Entry}
 use Rattle.auction_terms.specs.Day.{IsLegal, step, replay, calls_of, display}
-use Rattle.board_terms.specs.MemberView.{MemberView, placed_calls, placed_call, call_by}
+use Rattle.auction.specs.AuctionState.{call_by}
+use Rattle.board_terms.specs.MemberView.{MemberView, placed_calls, placed_call}
 use Rattle.board_terms.specs.declared.calls.CallFault.{CallFault}
 use Rattle.board_terms.specs.declared.calls.CallFault.TheVariants.{Behind}
 use Rattle.board_terms.specs.declared.calls.Receipt.{Receipt}

@@ -3,9 +3,6 @@ use Rattle.std.specs.Prelude.{ℕ, ◌+◌, ◌==◌, List, [], ◌∷◌, take,
 use Rattle.auction_terms.specs.declared.Call.{Call}
 use Rattle.auction_terms.specs.declared.Command.{Command}
 
-abbrev pub call_by : ℕ → Command → Call
-call_by member command = record { member = member; command = command }
-
 -- a member's own call, by its place in the history, from 1
 pub record PlacedCall : Type 0 where
   pub place : ℕ

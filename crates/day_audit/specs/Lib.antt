@@ -1,7 +1,6 @@
 pub mod Answers
 pub mod AuditCounts
 pub mod AuditText
-pub mod AuditStatus
 pub mod BegunAudit
 pub mod ResultsText
 pub mod JournalAudit

@@ -2,7 +2,6 @@
 
 ghost use Rattle.std.specs.Prelude.{◌≡◌, ◌<◌, ◌≤◌, ◌-◌, ◌^◌};
 ghost use Rattle.day_audit.specs.AuditCounts.{counts_with, first_or, no_counts};
-ghost use Rattle.day_audit.specs.AuditStatus.{counts_status};
 
 /// What is found of an entry.
 #[derive(Clone, Copy)]
@@ -77,16 +76,6 @@ impl Counts {
                 unlawful: self.unlawful + 1,
                 first_unlawful: first_or(self.first_unlawful, self.entries),
             },
-        }
-    }
-
-    /// The status that a program ends with: 0 where every recorded reply is the lawful one, else 4.
-    pub fn status(self) -> u8
-        ensures { result ≡ counts_status self }
-    {
-        match self.first_unlawful {
-            None => 0,
-            Some(_) => 4,
         }
     }
 }

@@ -4,7 +4,8 @@ ghost use Rattle.std.specs.Prelude.{IfOk, IfNone, IfSome, OnOk, OnErr, Err, Some
 ghost use Rattle.auction_terms.specs.Day.{IsLegal, calls_of};
 ghost use Rattle.board_terms.specs.declared.calls.Shown.{Shown};
 ghost use Rattle.board_terms.specs.Closings.{HasSeenBeginning};
-ghost use Rattle.board_terms.specs.MemberView.{call_by, placed_calls};
+ghost use Rattle.auction.specs.AuctionState.{call_by};
+ghost use Rattle.board_terms.specs.MemberView.{placed_calls};
 ghost use Rattle.board_terms.specs.CallsAndLooks.{behind_fault, entry, CallsOnce, IsBehind, IsLook, ShowsAfter};
 
 use crate::identity::BoardIdentity;

@@ -6,7 +6,8 @@ use Rattle.auction_terms.specs.declared.Entry.{Entry}
 use Rattle.auction_terms.specs.Day.{calls_of, replay, step}
 use Rattle.auction_terms.specs.Auxiliary.RunningAuction.{RunningAuction}
 use Rattle.board_terms.specs.declared.calls.Receipt.{Receipt}
-use Rattle.board_terms.specs.MemberView.{MemberView, call_by}
+use Rattle.auction.specs.AuctionState.{call_by}
+use Rattle.board_terms.specs.MemberView.{MemberView}
 use Rattle.board_terms.specs.CallsAndLooks.{CallsOnce}
 use Rattle.board_terms.proofs.HistoryLaws.{FloorInvariant-push, CallsOnce-recorded, placed_calls-one_more}
 use Rattle.board_terms.proofs.HistoryLaws.{ShowsAfter-call}

@@ -8,7 +8,8 @@ use Rattle.auction_terms.specs.Day.{calls_of, replay, step}
 use Rattle.auction_terms.specs.Auxiliary.RunningAuction.{RunningAuction}
 use Rattle.board_terms.specs.declared.calls.Receipt.{Receipt}
 use Rattle.board_terms.specs.declared.calls.Shown.{Shown}
-use Rattle.board_terms.specs.MemberView.{call_by, after_call}
+use Rattle.auction.specs.AuctionState.{call_by}
+use Rattle.board_terms.specs.MemberView.{after_call}
 use Rattle.board_terms.specs.CallsAndLooks.{CallsOnce, ShowsAfter, entry}
 use Rattle.board_terms.proofs.HistoryLaws.{FloorInvariant-push, CallsOnce-recorded, placed_calls-one_more}
 use Rattle.board_terms.proofs.HistoryLaws.{ShowsAfter-call}
