@@ -35,7 +35,7 @@ fn put_display(text: &mut KeptText, auction: &mut Auction) -> Result<(), AllocEr
     let display = auction.show();
     let page = &mut text.page;
     page.put("show ");
-    put_reply(page, Reply::Indicated(display));
+    put_reply(page, &Reply::Indicated(display));
     page.put("\n");
     Ok(())
 }

@@ -57,7 +57,7 @@ fn write_unlawful<E: Sink>(err: &mut E, entry: UnlawfulEntry, recorded: &[u8]) {
     let _ = write_all(err, recorded);
     page.clear();
     page.put("\", lawful \"");
-    put_reply(&mut page, entry.lawful);
+    put_reply(&mut page, &entry.lawful);
     page.put("\"\n");
     let _ = write_all(err, page.as_slice());
 }

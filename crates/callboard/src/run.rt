@@ -35,7 +35,7 @@ fn print_replies<S: Sink>(
 {
     let mut left = replies.iter();
     for place in 0..replies.len() {
-        print_line(printer, place as u64 + 1, left.next_reply())?;
+        print_line(printer, place as u64 + 1, &left.next_reply())?;
     }
     Ok(())
 }

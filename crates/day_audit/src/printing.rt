@@ -39,7 +39,7 @@ fn put_lawful_words(page: &mut Page, reply: Reply)
     ensures { page.new ≡ page.old ++ lawful_words (reply_text reply) }
 {
     page.put("\", lawful \"");
-    put_reply(page, reply);
+    put_reply(page, &reply);
     page.put("\"\n");
 }
 

@@ -23,7 +23,7 @@ fn print_uncross<S: Sink>(
     if !reply.is_uncross() {
         return Ok(());
     }
-    print_line(printer, number, reply)
+    print_line(printer, number, &reply)
 }
 
 /// Applies each call, and prints the lines of the uncrosses.

@@ -170,7 +170,7 @@ pub(crate) fn put_entry(page: &mut Page, entry: Entry)
     page.put_number(u64::from(entry.member));
     put_command(page, entry.command);
     page.put(",");
-    put_reply(page, entry.reply);
+    put_reply(page, &entry.reply);
     page.put("\n");
 }
 

@@ -106,7 +106,7 @@ impl Responder {
         put_line(
             &mut self.answers.page,
             u64::from(self.auction.calls()),
-            reply,
+            &reply,
         );
         self.records = number;
         let Call { member, command } = call;

@@ -1,6 +1,6 @@
 //! The text of the last display, as the same one often comes again.
 
-ghost use Rattle.std.specs.Prelude.{◌≡◌, ◌≤◌, ◌+◌, ◌++◌, length, None, Some};
+ghost use Rattle.std.specs.Prelude.{◌≡◌, ◌≤◌, ◌+◌, ◌++◌, length, true, None, Some};
 ghost use Rattle.auction_terms.specs.declared.Reply.TheVariants as reply;
 ghost use Rattle.printed_lines.specs.ReplyWords.{reply_text};
 ghost use Rattle.printed_lines.specs.declared.page.TheConstants.{ROOM};
@@ -45,24 +45,34 @@ impl DisplayText {
         }
     }
 
+    /// Whether it has the text of this display.
+    fn is_of(&self, display: &Display) -> bool
+        ensures { result ≡ true → self.now ≡ Some display.now }
+    {
+        match &self.display {
+            Some(last) => last == display,
+            None => false,
+        }
+    }
+
     /// Keeps a display with its text.
-    fn keep(&mut self, display: Display, text: &[u8])
-        requires text { text.now ≡ reply_text (reply.Indicated display) }
+    fn keep(&mut self, display: &Display, text: &[u8])
+        requires text { text.now ≡ reply_text (reply.Indicated display.now) }
         requires short { length text.now ≤ LONGEST_DISPLAY }
-        ensures { self.new ≡ Some display }
+        ensures { self.new ≡ Some display.now }
     {
         self.text[..text.len()].copy_from_slice(text);
         self.len = text.len();
-        self.display = Some(display);
+        self.display = Some(*display);
     }
 
     /// Puts the text of a display on a page, which is copied where it is the last one again.
-    pub(crate) fn put(&mut self, page: &mut Page, display: Display)
+    pub(crate) fn put(&mut self, page: &mut Page, display: &Display)
         requires { length page.old + LONGEST_DISPLAY ≤ ROOM }
-        ensures text { page.new ≡ page.old ++ reply_text (reply.Indicated display) }
+        ensures text { page.new ≡ page.old ++ reply_text (reply.Indicated display.now) }
         ensures longer { length page.new ≤ length page.old + LONGEST_DISPLAY }
     {
-        if self.display == Some(display) {
+        if self.is_of(display) {
             page.put_bytes(&self.text[..self.len]);
             return;
         }

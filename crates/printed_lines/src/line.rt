@@ -27,9 +27,9 @@ fn put_beginning(page: &mut Page, number: u64)
 /// Puts the line of a command's reply on the page: the command's number from 1, a colon, the reply's text.
 #[tactic(auto, unfolding(crate::specs::ReplyLines::line))]
 #[inline]
-pub fn put_line(page: &mut Page, number: u64, reply: Reply)
+pub fn put_line(page: &mut Page, number: u64, reply: &Reply)
     requires { length page.old + LONGEST_LINE ≤ ROOM }
-    ensures { page.new ≡ page.old ++ line number reply }
+    ensures { page.new ≡ page.old ++ line number reply.now }
 {
     put_beginning(page, number);
     put_reply(page, reply);
@@ -39,9 +39,9 @@ pub fn put_line(page: &mut Page, number: u64, reply: Reply)
 /// Puts the line of a display that was asked for on the page; its text is copied where it is the last one again.
 #[tactic(auto, unfolding(crate::specs::ReplyLines::line))]
 #[inline]
-fn put_display_line(page: &mut Page, number: u64, display: Display, last: &mut DisplayText)
+fn put_display_line(page: &mut Page, number: u64, display: &Display, last: &mut DisplayText)
     requires { length page.old + LONGEST_LINE ≤ ROOM }
-    ensures { page.new ≡ page.old ++ line number (reply.Indicated display) }
+    ensures { page.new ≡ page.old ++ line number (reply.Indicated display.now) }
 {
     put_beginning(page, number);
     last.put(page, display);
@@ -52,9 +52,9 @@ fn put_display_line(page: &mut Page, number: u64, display: Display, last: &mut D
 pub fn print_line<S: Sink>(
     printer: &mut Printer<'_, S>,
     number: u64,
-    reply: Reply,
+    reply: &Reply,
 ) -> Result<(), WriteFailed>
-    ensures { Prints S.Sink printer.old printer.new result (line number reply) }
+    ensures { Prints S.Sink printer.old printer.new result (line number reply.now) }
 {
     printer.make_room()?;
     match reply {

@@ -21,9 +21,9 @@ fn put_number_word(page: &mut Page, number: Option<u32>)
     }
 }
 
-fn put_price(page: &mut Page, price: Price)
+fn put_price(page: &mut Page, price: &Price)
     requires { length page.old + 100 ≤ ROOM }
-    ensures text { page.new ≡ page.old ++ words_text (price_words price) }
+    ensures text { page.new ≡ page.old ++ words_text (price_words price.now) }
     ensures longer { length page.new ≤ length page.old + 100 }
 {
     page.put("price ");
@@ -37,18 +37,18 @@ fn put_price(page: &mut Page, price: Price)
 }
 
 /// Puts the text of a display on the page, at most 100 bytes.
-pub(crate) fn put_display(page: &mut Page, display: Display)
+pub(crate) fn put_display(page: &mut Page, display: &Display)
     requires { length page.old + 100 ≤ ROOM }
-    ensures text { page.new ≡ page.old ++ reply_text (reply.Indicated display) }
+    ensures text { page.new ≡ page.old ++ reply_text (reply.Indicated display.now) }
     ensures longer { length page.new ≤ length page.old + 100 }
 {
     match display {
         Display::Priced(price) => put_price(page, price),
         Display::Unpriced { best_bid, best_ask } => {
             page.put("no price bid ");
-            put_number_word(page, best_bid);
+            put_number_word(page, *best_bid);
             page.put(" ask ");
-            put_number_word(page, best_ask);
+            put_number_word(page, *best_ask);
         }
     }
 }
@@ -85,9 +85,9 @@ fn put_open_order(page: &mut Page, side: Side, limit: Limit, quantity: u64, visi
     put_limit(page, limit, visible);
 }
 
-fn put_trade(page: &mut Page, trade: Trade)
+fn put_trade(page: &mut Page, trade: &Trade)
     requires { length page.old + 100 ≤ ROOM }
-    ensures text { page.new ≡ page.old ++ reply_text (reply.Traded trade) }
+    ensures text { page.new ≡ page.old ++ reply_text (reply.Traded trade.now) }
     ensures longer { length page.new ≤ length page.old + 100 }
 {
     page.put("trade ");
@@ -100,9 +100,9 @@ fn put_trade(page: &mut Page, trade: Trade)
     page.put_number(u64::from(trade.tick));
 }
 
-fn put_uncrossed(page: &mut Page, kind: AuctionKind, price: Option<Price>, trades: u32)
+fn put_uncrossed(page: &mut Page, kind: AuctionKind, price: &Option<Price>, trades: u32)
     requires { length page.old + 150 ≤ ROOM }
-    ensures text { page.new ≡ page.old ++ reply_text (reply.Uncrossed kind trades price) }
+    ensures text { page.new ≡ page.old ++ reply_text (reply.Uncrossed kind trades price.now) }
     ensures longer { length page.new ≤ length page.old + 150 }
 {
     page.put(kind_word(kind));
@@ -118,19 +118,19 @@ fn put_uncrossed(page: &mut Page, kind: AuctionKind, price: Option<Price>, trade
 }
 
 /// Puts the text of a reply on the page, at most 150 bytes.
-pub fn put_reply(page: &mut Page, reply: Reply)
+pub fn put_reply(page: &mut Page, reply: &Reply)
     requires { length page.old + 150 ≤ ROOM }
-    ensures text { page.new ≡ page.old ++ reply_text reply }
+    ensures text { page.new ≡ page.old ++ reply_text reply.now }
     ensures longer { length page.new ≤ length page.old + 150 }
 {
     match reply {
         Reply::Entered { id } => {
             page.put("entered ");
-            page.put_number(u64::from(id));
+            page.put_number(u64::from(*id));
         }
         Reply::Changed { kept } => {
             page.put("changed ");
-            page.put(place_word(kept));
+            page.put(place_word(*kept));
         }
         Reply::Deleted => page.put("deleted"),
         Reply::OpenOrder {
@@ -138,14 +138,14 @@ pub fn put_reply(page: &mut Page, reply: Reply)
             limit,
             quantity,
             visible,
-        } => put_open_order(page, side, limit, quantity, visible),
+        } => put_open_order(page, *side, *limit, *quantity, *visible),
         Reply::Indicated(display) => put_display(page, display),
         Reply::Traded(trade) => put_trade(page, trade),
         Reply::Uncrossed {
             kind,
             price,
             trades,
-        } => put_uncrossed(page, kind, price, trades),
+        } => put_uncrossed(page, *kind, price, *trades),
         Reply::Interrupted(price) => {
             page.put("interrupted ");
             put_price(page, price);
@@ -154,7 +154,7 @@ pub fn put_reply(page: &mut Page, reply: Reply)
             page.put("refused ");
             page.put_number(u64::from(refused.number()));
             page.put(" ");
-            page.put(refusal_name(refused));
+            page.put(refusal_name(*refused));
         }
     }
 }

@@ -14,7 +14,7 @@ pub fn is_text_of(page: &mut Page, text: &[u8], reply: Reply) -> bool
     ensures same { result ≡ bytes_eq text.now (reply_text reply) }
     ensures page { page.new ≡ [] }
 {
-    put_reply(page, reply);
+    put_reply(page, &reply);
     let same = page.is_text(text);
     page.clear();
     same

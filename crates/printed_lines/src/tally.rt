@@ -110,7 +110,7 @@ fn print_entry<S: Sink>(
     page.put(": member ");
     page.put_number(u64::from(entry.member));
     page.put(" ");
-    put_reply(page, entry.reply);
+    put_reply(page, &entry.reply);
     page.put("\n");
     Ok(())
 }

@@ -92,7 +92,7 @@ fn many_lines<L: Ledger>(alloc: Global, blank: Blank, count: u64) -> Vec<u8>
     let mut sink = memory::<L>(alloc, blank);
     let mut printer = Printer::new(&mut sink);
     for number in 0..count {
-        let _ = print_line(&mut printer, number, Reply::Deleted);
+        let _ = print_line(&mut printer, number, &Reply::Deleted);
     }
     let _ = printer.flush();
     sink.bytes
