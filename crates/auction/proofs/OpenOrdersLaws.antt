@@ -1,14 +1,17 @@
 -- What is seen of the open orders after each step.
 use Rattle.std.proofs.Common.{◌≡◌, ℕ, ◌+◌, ◌<◌, ◌≤◌, Bool, false, cond, List, length, ap, ◌∙◌, arith}
+use Rattle.std.proofs.Common.{Option, None, Some}
 use Rattle.std.proofs.lemmas.Bool.Decides.{nat_tests}
 use Rattle.auction_terms.specs.declared.limits.TheConstants.{MAX_QUANTITY, MAX_OPEN_ORDERS}
+use Rattle.auction_terms.specs.declared.Limit.{Limit}
 use Rattle.auction_terms.specs.declared.Order.{Order}
 use Rattle.auction_terms.specs.declared.AuctionKind.{AuctionKind}
 use Rattle.auction_terms.specs.Book.{auction_orders}
 use Rattle.auction_terms.specs.Auxiliary.StampedOrders.{orders_of}
-use Rattle.auction_terms.specs.Day.{is_bad_quantity}
+use Rattle.auction_terms.specs.Day.{is_bad_peak, is_bad_quantity}
 use Rattle.auction_terms.specs.Ladder.{LadderView}
 use Rattle.order_book.specs.Orders.{OrdersView as Orders}
+use Rattle.order_book.specs.Packing.{HasShortPeak}
 use Rattle.auction.specs.OpenOrders.{OpenOrders}
 use Rattle.auction.specs.LadderBook.{open_orders, HasLadder, IsLadderBook}
 use Rattle.auction.proofs.LadderBookLaws.{low_of, ticks_of, own_ticks}
@@ -21,6 +24,13 @@ good_quantity q e = (quantity-positive q e, quantity-bounded q e)
 
     quantity-bounded : (q : ℕ) → is_bad_quantity q ≡ false → q ≤ MAX_QUANTITY
     quantity-bounded q e = grind (arith, nat_tests)
+
+-- the peak of an order that isn't refused for its quantity or its peak
+pub short_peak : (limit : Limit) (quantity : ℕ) (peak : Option ℕ) → is_bad_quantity quantity ≡ false
+    → is_bad_peak limit quantity peak ≡ false → HasShortPeak peak
+short_peak limit quantity None good fine = tt
+short_peak limit quantity (Some peak) good fine =
+    let high = (good_quantity quantity good).1 in (grind (arith, nat_tests), grind (arith, nat_tests))
 
 -- the book holds after a step
 pub counted_again : {low n : ℕ} {kind : AuctionKind} {ladder : LadderView} (orders : Orders) (max_open : ℕ)

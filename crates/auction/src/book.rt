@@ -6,7 +6,7 @@ ghost use Rattle.auction_terms.specs.Edits.{order_with, keeps_place};
 ghost use Rattle.auction_terms.specs.AuctionPrice.{price as auction_price};
 ghost use Rattle.auction_terms.specs.Allotment.{trades};
 ghost use Rattle.auction_terms.specs.Ladder.{ladder_of};
-ghost use Rattle.auction_terms.specs.Day.{display_at, is_bad_quantity};
+ghost use Rattle.auction_terms.specs.Day.{display_at, is_bad_peak, is_bad_quantity};
 ghost use Rattle.tick_ladder.specs.TickLadder.{IsLadderOf};
 ghost use Rattle.auction.specs.ConfigFault.{open_fault};
 ghost use Rattle.auction.specs.Executions.{AreSmall};
@@ -144,6 +144,7 @@ impl Book {
         requires room { length self.old.orders < self.old.max_open }
         requires stamps { self.old.stamps < self.old.max_calls }
         requires quantity { is_bad_quantity new.quantity ≡ false }
+        requires peak { is_bad_peak new.limit new.quantity new.peak ≡ false }
         requires limit { IsLimitIn self.old new.limit }
         ensures id { result ≡ self.old.entered + 1 }
         ensures book { self.new ≡ with_order (order_of_new result new) self.old }

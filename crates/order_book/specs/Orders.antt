@@ -16,6 +16,7 @@ use Rattle.auction_terms.specs.Auxiliary.OrderLists.{moved_by, left_by, IsOrderl
 use Rattle.auction_terms.specs.Auxiliary.Sort.{in_order}
 use Rattle.auction_terms.specs.Auxiliary.StampedOrders.{order_of, orders_of, on_order, under_stamp, open_quantity_of}
 use Rattle.auction_terms.specs.Auxiliary.StampedOrders.{IsLineOf}
+use Rattle.order_book.specs.Packing.{HasShortPeak}
 
 -- the open orders in time order, with their stamps; the places that a walk goes through; how many
 -- stamps and ids were given out
@@ -142,6 +143,7 @@ pub record HasRoomForOrders (orders : Slab Stamped) (keys : Vec ℕ) (stamps max
 pub record IsOrderAt (slots : List (Option Stamped)) (id key : ℕ) (s : Stamped) : Type 0 where
   pub stands : slot_at slots key ≡ Some s
   pub same_id : s.order.id ≡ id
+  pub short : HasShortPeak s.order.peak
 
 -- some order with this id stands at the key
 pub record HasIdAt (slots : List (Option Stamped)) (key id : ℕ) : Type 0 where

@@ -1,6 +1,9 @@
 -- An order with its stamp, as a slot holds it.
-use Rattle.std.specs.Prelude.{◌≡◌, false, Some, None, if◌then◌else◌, is_some, unwrap_or}
+use Rattle.std.specs.Prelude.{◌≡◌, Bool, true, false, unwrap_or}
+use Rattle.auction_terms.specs.declared.Limit.{Limit}
+use Rattle.auction_terms.specs.declared.Limit.TheVariants.{Market, At}
 use Rattle.auction_terms.specs.declared.Stamped.{Stamped}
+use Rattle.order_book.specs.Packing.{limit_of, peak_of, tick_or_zero}
 use Rattle.order_book.specs.declared.packed.PackedOrder.TheInside.{Inside}
 
 -- the order with its stamp
@@ -11,16 +14,20 @@ stamped_order packed = record {
     member = packed.member;
     side = packed.side;
     restriction = packed.restriction;
-    limit = packed.limit;
+    limit = limit_of packed.has_limit packed.tick;
     quantity = packed.quantity;
-    peak = if packed.has_peak then Some packed.peak else None;
+    peak = peak_of packed.peak;
   };
   stamp = packed.stamp;
 }
 
--- where no peak is said, the place of the peak has 0
-abbrev pub HasNoPeakUnlessSaid : Inside → Type 0
-HasNoPeakUnlessSaid packed = packed.has_peak ≡ false → packed.peak ≡ 0
+-- a market order has tick 0
+abbrev pub HasNoTickUnlessLimited : Inside → Type 0
+HasNoTickUnlessLimited packed = packed.has_limit ≡ false → packed.tick ≡ 0
+
+abbrev pub has_limit : Limit → Bool
+has_limit Market = false
+has_limit (At tick) = true
 
 -- as it is held
 abbrev pub packed_order : Stamped → Inside
@@ -28,10 +35,10 @@ packed_order s = record {
   id = s.order.id;
   stamp = s.stamp;
   quantity = s.order.quantity;
+  tick = tick_or_zero s.order.limit;
+  peak = unwrap_or s.order.peak 0;
   member = s.order.member;
   side = s.order.side;
   restriction = s.order.restriction;
-  has_peak = is_some s.order.peak;
-  limit = s.order.limit;
-  peak = unwrap_or s.order.peak 0;
+  has_limit = has_limit s.order.limit;
 }

@@ -1,23 +1,25 @@
 //! An open order with its stamp, in few bytes.
 ghost use Rattle.std.specs.Prelude.{◌≡◌, ◌<◌, ◌^◌};
+ghost use Rattle.order_book.specs.Packing.{HasShortPeak, limit_of, peak_of, tick_or_zero};
 
 use auction_terms::{Limit, Order, Restriction, Side, Stamped};
 use std::marker::Model;
 
-/// An order with its stamp, as a slot holds it: what is always below 2^32 has four bytes. Contracts see the order with
-/// its stamp.
+/// An order with its stamp, as a slot holds it in 24 bytes: a number that is always below 2^32 has four of them, and a
+/// market order tick 0. Contracts see the order with its stamp.
 #[derive(Clone, Copy)]
 pub(crate) struct PackedOrder {
     id: u32,
     stamp: u32,
     quantity: u32,
+    // 0 without a limit.
+    tick: u32,
+    // 0 without a peak.
+    peak: u32,
     member: u8,
     side: Side,
     restriction: Restriction,
-    has_peak: bool,
-    limit: Limit,
-    // 0 without a peak.
-    peak: u64,
+    has_limit: bool,
 }
 
 impl Model for PackedOrder {
@@ -25,13 +27,44 @@ impl Model for PackedOrder {
 
     ghost Value = { StampedOrder };
 
-    ghost use Rattle.order_book.specs.Packed.{packed_order, stamped_order, HasNoPeakUnlessSaid};
+    ghost use Rattle.order_book.specs.Packed.{packed_order, stamped_order, HasNoTickUnlessLimited};
 
     ghost view = { stamped_order };
 
-    ghost invariant = { HasNoPeakUnlessSaid };
+    ghost invariant = { HasNoTickUnlessLimited };
 
     ghost inverse = { packed_order };
+}
+
+/// The tick of a limit, or 0 for none.
+fn tick_or_zero(limit: Limit) -> u32
+    ensures { result ≡ tick_or_zero limit }
+{
+    match limit {
+        Limit::Market => 0,
+        Limit::At(tick) => tick,
+    }
+}
+
+/// The limit at a tick, if there is one.
+fn limit_of(has_limit: bool, tick: u32) -> Limit
+    ensures { result ≡ limit_of has_limit tick }
+{
+    if has_limit {
+        return Limit::At(tick);
+    }
+    Limit::Market
+}
+
+/// The peak, or none for 0.
+fn peak_of(peak: u32) -> Option<u64>
+    ensures value { result ≡ peak_of peak }
+    ensures short { HasShortPeak result }
+{
+    if peak == 0 {
+        return None;
+    }
+    Some(u64::from(peak))
 }
 
 impl PackedOrder {
@@ -39,6 +72,7 @@ impl PackedOrder {
     pub(crate) fn new(stamped: Stamped) -> PackedOrder
         requires stamp { stamped.stamp < 2 ^ 32 }
         requires quantity { stamped.order.quantity < 2 ^ 32 }
+        requires peak { HasShortPeak stamped.order.peak }
         ensures { result ≡ stamped }
     {
         let Order {
@@ -54,12 +88,12 @@ impl PackedOrder {
             id,
             stamp: stamped.stamp as u32,
             quantity: quantity as u32,
+            tick: tick_or_zero(limit),
+            peak: peak.unwrap_or(0) as u32,
             member,
             side,
             restriction,
-            has_peak: peak.is_some(),
-            limit,
-            peak: peak.unwrap_or(0),
+            has_limit: matches!(limit, Limit::At(_)),
         }
     }
 
@@ -72,20 +106,21 @@ impl PackedOrder {
 
     /// The order with its stamp.
     pub(crate) fn stamped(self) -> Stamped
-        ensures { result ≡ self }
+        ensures value { result ≡ self }
+        ensures short { HasShortPeak result.order.peak }
     {
         let order = Order {
             id: self.id,
             member: self.member,
             side: self.side,
             restriction: self.restriction,
-            limit: self.limit,
-            quantity: self.quantity as u64,
-            peak: if self.has_peak { Some(self.peak) } else { None },
+            limit: limit_of(self.has_limit, self.tick),
+            quantity: u64::from(self.quantity),
+            peak: peak_of(self.peak),
         };
         Stamped {
             order,
-            stamp: self.stamp as u64,
+            stamp: u64::from(self.stamp),
         }
     }
 }

@@ -1,6 +1,7 @@
 //! Open orders at their keys.
 ghost use Rattle.std.specs.Prelude.{◌≡◌, ◌<◌, ◌≤◌, ◌^◌, [], Some, IfOk, IfSome, IfNone};
 ghost use Rattle.slab.specs.Slab.{ContainsKey, Updates, slab_len};
+ghost use Rattle.order_book.specs.Packing.{HasShortPeak};
 ghost use Rattle.order_book.specs.Orders.{HasIdAt, HasKeys, IsNotAtKey, IsOpenId, IsOrderAt};
 
 use crate::packed::PackedOrder;
@@ -59,6 +60,7 @@ pub(crate) fn put(orders: &mut Slab<PackedOrder>, key: usize, stamped: Stamped)
     requires key { ContainsKey orders.old key }
     requires stamp { stamped.stamp < 2 ^ 32 }
     requires quantity { stamped.order.quantity < 2 ^ 32 }
+    requires peak { HasShortPeak stamped.order.peak }
     ensures updates { Updates orders.old orders.new key (Some stamped) }
     ensures len { slab_len orders.new ≡ slab_len orders.old }
     ensures capacity { orders.new.capacity ≡ orders.old.capacity }

@@ -3,7 +3,7 @@ ghost use Rattle.std.specs.Prelude.{◌≡◌, ◌+◌, ◌<◌, ◌≤◌, leng
 ghost use Rattle.auction_terms.specs.Book.{order_of_new};
 ghost use Rattle.auction_terms.specs.Edits.{order_with, keeps_place, with_terms};
 ghost use Rattle.auction_terms.specs.Ladder.{ladder_of};
-ghost use Rattle.auction_terms.specs.Day.{display_at, is_bad_quantity};
+ghost use Rattle.auction_terms.specs.Day.{display_at, is_bad_peak, is_bad_quantity};
 ghost use Rattle.tick_ladder.specs.TickLadder.{IsLadderOf};
 ghost use Rattle.auction.specs.ConfigFault.{open_fault};
 ghost use Rattle.auction.specs.OpenOrders.{no_orders, current_orders, IsTickIn, IsLimitIn, IsOpenIn};
@@ -128,6 +128,7 @@ impl LadderBook {
         requires room { length self.old.book.orders < self.old.book.max_open }
         requires stamps { self.old.book.stamps < self.old.book.max_calls }
         requires quantity { is_bad_quantity new.quantity ≡ false }
+        requires peak { is_bad_peak new.limit new.quantity new.peak ≡ false }
         requires limit { IsLimitIn self.old.book new.limit }
         ensures order { result ≡ order_of_new (self.old.book.entered + 1) new }
         ensures book { self.new.book ≡ with_order result self.old.book }

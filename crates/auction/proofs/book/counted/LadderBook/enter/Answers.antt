@@ -8,7 +8,7 @@ use Rattle.order_book.proofs.OrderLaws.{orders_of-last}
 use Rattle.auction.specs.OpenOrders.{OpenOrders, IsLimitIn}
 use Rattle.auction.specs.LadderBook.{LadderBookView, HasLadder}
 use Rattle.auction.proofs.LadderBookLaws.{kept_fits, kept-push}
-use Rattle.auction.proofs.OpenOrdersLaws.{good_quantity, counted_again, seen_entered}
+use Rattle.auction.proofs.OpenOrdersLaws.{good_quantity, counted_again, seen_entered, short_peak}
 use Rattle.auction.proofs.KnownPriceLaws.{known-push}
 use Rattle.auction.proofs.book.counted.LadderBook.enter.Goals as goal
 
@@ -68,3 +68,7 @@ returns-clause-book c =
 
 pub returns-clause-known : goal.returns-clause-known
 returns-clause-known c = known-push c.args.self.now.book _ c.append-order.result (returns-clause-book c)
+
+pub append-order-requires-clause-peak : goal.append-order-requires-clause-peak
+append-order-requires-clause-peak c = short_peak c.args.new.limit c.args.new.quantity c.args.new.peak
+    c.requires.quantity c.requires.peak
