@@ -15,8 +15,8 @@ ghost use Rattle.callboard.specs.Printed.{IsOfPrinting, IsWideIfBegun, printed};
 use crate::fault::{Fault, Finish};
 use crate::journals::keep_input;
 use crate::kept::Kept;
-use crate::kept_day::KeptDay;
-use crate::orders::keep_file;
+use crate::kept_day::{KeptDay, close_day};
+use crate::orders::{OrderRun, keep_block, open_orders};
 use crate::printing::{write_book, write_journal, write_listing};
 use byte_streams::{Sink, Source, WriteFailed};
 use journal::{DayHeader, MAX_JOURNAL_BYTES};
@@ -135,11 +135,24 @@ pub fn run_file<R: Source, S: Sink>(
         (ends_of R.Source S.Sink reader.old reader.new writer.old writer.new) result }
 {
     let start = read_start(alloc, reader)?;
-    if begins_with_digit(start.as_slice()) {
-        let run = keep_file(alloc, start, reader, day, form);
+    if !begins_with_digit(start.as_slice()) {
+        let bytes = bytes_after(start, reader, MAX_JOURNAL_BYTES)?;
+        let run = keep_input(alloc, bytes, day, form);
         return write_run(alloc, writer, run);
     }
-    let bytes = bytes_after(start, reader, MAX_JOURNAL_BYTES)?;
-    let run = keep_input(alloc, bytes, day, form);
-    write_run(alloc, writer, run)
+    let OrderRun {
+        mut auction,
+        mut kept,
+        mut blocks,
+    } = open_orders(alloc, start, reader, day, form)?;
+    'turns: loop {
+        if let Err(fault) = keep_block(alloc, &blocks, &mut auction, &mut kept, day.members) {
+            blocks.drain(reader)?;
+            return Err(Fault::File(fault));
+        }
+        if !blocks.next(reader)? {
+            let run = close_day(alloc, day, &mut auction, kept);
+            return write_run(alloc, writer, run);
+        }
+    }
 }
