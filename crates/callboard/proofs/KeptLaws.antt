@@ -11,7 +11,7 @@ use Rattle.auction_terms.specs.declared.Reply.{Reply}
 use Rattle.auction_terms.specs.Day.{State, step, state_after}
 use Rattle.auction_terms.specs.Auxiliary.RunningAuction.{RunningAuction, auction_after_call, opened_auction}
 use Rattle.auction_terms.proofs.RunLaws.{state_after-push}
-use Rattle.std.specs.Prelude.{IfSome, IsErrOf, OnOk, unwrap_or, ◌↔◌}
+use Rattle.std.specs.Prelude.{IfSome, IsErrAnd, IsErrOf, OnOk, unwrap_or, ◌↔◌}
 use Rattle.std.specs.Result.{is_err}
 use Rattle.auction.specs.ConfigFault.{open_fault}
 use Rattle.auction.specs.declared.OpenFault.{OpenFault}
@@ -170,27 +170,13 @@ said_closed form day calls old (Err f) for opens few is =
     refused-closed form day old day.config (history_of day.config calls) f _ is
 
 -- it is kept
-pub orders-kept : (form : Form) (day : DayHeader) (kept : Kept) (old new : RunningAuction) (bytes : List ℕ)
-    (r : Result KeptDay Fault) → old ≡ opened_auction day.config → form_of kept ≡ form
-    → open_fault day.config ≡ None → length bytes ≤ MAX_BYTES → new.calls ≤ old.config.max_calls
-    → KeepsCalls (KeepsEntries kept new) [] old new (Ok tt) (calls_of day.members old.config.max_calls bytes)
-    → ((entries : List Entry) → KeepsEntries kept new entries → IsClosedDay day kept new.config entries r)
-    → KeepsDay form (orders_for day bytes) r
-orders-kept form day kept old new bytes r fresh for opens short room keeps closes =
-    let (calls, wanted, is, follows) = rw fresh at keeps in
-    let few : length calls ≤ day.config.max_calls = omega (arith, rw (is, fresh) at room) in
-    let closed : IsClosedDay day kept day.config (history_of day.config calls) r =
-    rw is at (closes (history_of day.config calls) follows) in
-    rw (orders-short day bytes short, wanted) (said_closed form day calls kept r for opens few closed)
-
--- a journal is kept
-pub journal-kept : (form : Form) (day : DayHeader) (kept : Kept) (old new : RunningAuction) (calls : List Call)
+pub calls-kept : (form : Form) (day : DayHeader) (kept : Kept) (old new : RunningAuction) (calls : List Call)
     (r : Result KeptDay Fault) → old ≡ opened_auction day.config → form_of kept ≡ form
     → open_fault day.config ≡ None → length calls ≤ day.config.max_calls
     → KeepsCalls (KeepsEntries kept new) [] old new (Ok tt) (Ok calls)
     → ((entries : List Entry) → KeepsEntries kept new entries → IsClosedDay day kept new.config entries r)
     → KeepsDay form (calls_for day (Ok calls)) r
-journal-kept form day kept old new calls r fresh for opens few keeps closes =
+calls-kept form day kept old new calls r fresh for opens few keeps closes =
     let (found, wanted, is, follows) = rw fresh at keeps in
     let same : calls ≡ found = cc (wanted) in
     let closed : IsClosedDay day kept day.config (history_of day.config found) r =
@@ -198,21 +184,22 @@ journal-kept form day kept old new calls r fresh for opens few keeps closes =
     subst (λ said. KeepsDay form said r) (sym (ap (calls_for day) wanted))
     (said_closed form day found kept r for opens (rw same at few) closed)
 
--- it has a fault
-pub orders-fault : (form : Form) (day : DayHeader) (kept : Kept) (old new : RunningAuction) (bytes : List ℕ)
-    (f : FileFault) → old ≡ opened_auction day.config → length bytes ≤ MAX_BYTES
-    → KeepsCalls (KeepsEntries kept new) [] old new (Err f) (calls_of day.members old.config.max_calls bytes)
-    → KeepsDay form (orders_for day bytes) (Err (fault.File f))
-orders-fault form day kept old new bytes f fresh short keeps =
-    rw (orders-short day bytes short)
-    (refused-records form day f (calls_of day.members day.config.max_calls bytes) (rw fresh at keeps))
+-- an order file that isn't too long says what its records do
+pub orders-said : (form : Form) (day : DayHeader) (bytes : List ℕ) (calls : List Call) (r : Result KeptDay Fault)
+    → length bytes ≤ MAX_BYTES → calls_of day.members day.config.max_calls bytes ≡ Ok calls
+    → KeepsDay form (calls_for day (Ok calls)) r → KeepsDay form (orders_for day bytes) r
+orders-said form day bytes calls r short wanted keeps =
+    subst (λ said. KeepsDay form said r) (sym (orders-short day bytes short ∙ ap (calls_for day) wanted)) keeps
 
--- it can't be opened
-pub orders-refused : (form : Form) (day : DayHeader) (bytes : List ℕ) (f : Fault) → length bytes ≤ MAX_BYTES
-    → KeepsDay form (calls_for day (calls_of day.members day.config.max_calls bytes)) (Err f)
-    → KeepsDay form (orders_for day bytes) (Err f)
-orders-refused form day bytes f short keeps =
-    subst (λ said. KeepsDay form said (Err f)) (sym (orders-short day bytes short)) keeps
+-- it has a fault, which a `?` handed on
+pub orders-stopped : (form : Form) (day : DayHeader) (bytes : List ℕ) (r : Result KeptDay Fault) (f : FileFault)
+    → IsErrAnd r (λ x. x ≡ fault.File f) → length bytes ≤ MAX_BYTES
+    → FailsAsWanted f (calls_of day.members day.config.max_calls bytes) → KeepsDay form (orders_for day bytes) r
+orders-stopped form day bytes (Ok kept) f is short fails = absurd is
+orders-stopped form day bytes (Err x) f is short fails =
+    subst (λ (e : Fault). KeepsDay form (orders_for day bytes) (Err e)) (sym is)
+    (rw (orders-short day bytes short)
+    (refused-records form day f (calls_of day.members day.config.max_calls bytes) fails))
 
 -- ---- an input
 

@@ -1,4 +1,4 @@
-//! The commands of a journal, applied to an auction once it was read.
+//! The commands of an input that was read whole, a journal or an order file, applied to an auction.
 
 ghost use Rattle.std.specs.Prelude.{◌≡◌, ◌≢◌, ◌≤◌, ◌+◌, List, length, Ok, Err, IfErr};
 ghost use Rattle.auction_terms.specs.declared.Entry.{Entry};
@@ -8,12 +8,10 @@ ghost use Rattle.callboard.specs.KeptEntries.{KeepsEntries, KeepsCalls, KeepsDay
 use crate::fault::Fault;
 use crate::kept::Kept;
 use crate::kept_day::{KeptDay, close_day};
-use crate::orders::keep_file;
 use auction::Auction;
 use auction_terms::{Call, Reply};
-use byte_streams::FromMemory;
-use journal::{DayHeader, Journal, journal_of};
-use order_file::{FileFault, MAX_BYTES};
+use journal::{DayHeader, journal_of};
+use order_file::{FileFault, MAX_BYTES, calls_of};
 use settings::Form;
 use std::alloc::Global;
 
@@ -44,13 +42,12 @@ fn keep_all(
     Ok(())
 }
 
-/// Runs the commands that a journal gives, its replies dropped.
-fn keep_journal(alloc: Global, journal: &Journal, form: Form) -> Result<KeptDay, Fault>
-    requires { length journal.now.calls.items ≤ journal.now.day.config.max_calls }
-    ensures kept { KeepsDay form (calls_for journal.now.day (Ok journal.now.calls.items)) result }
+/// Runs these calls on a day that can take as many.
+fn keep_calls(alloc: Global, day: DayHeader, calls: &[Call], form: Form) -> Result<KeptDay, Fault>
+    requires { length calls.now ≤ day.config.max_calls }
+    ensures kept { KeepsDay form (calls_for day (Ok calls.now)) result }
     ensures read { result ≢ Err (Fault.File FileFault.ReadFailed) }
 {
-    let day = journal.day;
     let mut auction = match Auction::open(alloc, day.config) {
         Ok(auction) => auction,
         Err(fault) => return Err(Fault::Open(fault)),
@@ -58,13 +55,13 @@ fn keep_journal(alloc: Global, journal: &Journal, form: Form) -> Result<KeptDay,
     let Ok(mut kept) = Kept::open(alloc, form, &auction) else {
         return Err(Fault::File(FileFault::NoMemory));
     };
-    match keep_all(alloc, &mut auction, &mut kept, journal.calls.as_slice()) {
+    match keep_all(alloc, &mut auction, &mut kept, calls) {
         Ok(()) => close_day(alloc, day, &mut auction, kept),
         Err(fault) => Err(Fault::File(fault)),
     }
 }
 
-/// Runs the commands of the bytes of an order file of this day.
+/// Runs the commands of the bytes of an order file of this day, whose own fault comes before one of the day.
 fn keep_orders(alloc: Global, bytes: Vec<u8>, day: DayHeader, form: Form) -> Result<KeptDay, Fault>
     ensures kept { KeepsDay form (orders_for day bytes.items) result }
     ensures read { result ≢ Err (Fault.File FileFault.ReadFailed) }
@@ -72,10 +69,10 @@ fn keep_orders(alloc: Global, bytes: Vec<u8>, day: DayHeader, form: Form) -> Res
     if bytes.len() > MAX_BYTES {
         return Err(Fault::File(FileFault::TooLong));
     }
-    let mut rest = FromMemory {
-        rest: b"".as_slice(),
-    };
-    keep_file(alloc, bytes, &mut rest, day, form)
+    let calls = calls_of(alloc, bytes.as_slice(), day.members, day.config.max_calls)?;
+    // The calls have all of it that is needed.
+    drop(bytes);
+    keep_calls(alloc, day, calls.as_slice(), form)
 }
 
 /// Runs the commands of an input that has this fault as a journal: what is no journal is an order file of this day.
@@ -107,7 +104,7 @@ pub fn keep_input(
     ensures read { result ≢ Err (Fault.File FileFault.ReadFailed) }
 {
     match journal_of(alloc, bytes.as_slice()) {
-        Ok(journal) => keep_journal(alloc, &journal, form),
+        Ok(journal) => keep_calls(alloc, journal.day, journal.calls.as_slice(), form),
         Err(fault) => keep_or_refuse(alloc, bytes, day, form, fault),
     }
 }

@@ -1,19 +1,19 @@
 //! The commands of an order file, applied to an auction as they are read.
 
-ghost use Rattle.std.specs.Prelude.{◌≡◌, ◌≢◌, ◌<◌, ◌≤◌, ◌↔◌};
-ghost use Rattle.std.specs.Prelude.{List, length, unwrap_or, Err, IfErr, IsErrOf};
+ghost use Rattle.std.specs.Prelude.{◌≡◌, ◌≢◌, ◌<◌, ◌≤◌, ◌↔◌, [], List, length, None, unwrap_or, Ok, Err};
+ghost use Rattle.std.specs.Prelude.{IfErr, IfOk, IfSome, IsErrOf};
 ghost use Rattle.std.specs.Io.KnownBytes.{prepend_known};
 ghost use Rattle.auction_terms.specs.declared.Entry.{Entry};
+ghost use Rattle.auction_terms.specs.Auxiliary.RunningAuction.{opened_auction};
 ghost use Rattle.auction.specs.ConfigFault.{open_fault};
 ghost use Rattle.journal.specs.DayWithCalls.{orders_for};
-ghost use Rattle.order_file.specs.Blocks.{block_rows};
+ghost use Rattle.order_file.specs.Blocks.{OpensBlock, block_rows};
 ghost use Rattle.order_file.specs.File.{IsOfRecord, calls_after, calls_of};
 ghost use Rattle.callboard.specs.KeptEntries.{KeepsEntries, KeepsCalls, KeepsDay, KeepsDayOfText, calls_for};
 ghost use Rattle.callboard.specs.KeptEntries.{form_of};
 
 use crate::fault::Fault;
 use crate::kept::Kept;
-use crate::kept_day::{KeptDay, close_day};
 use auction::{Auction, OpenFault};
 use auction_terms::Reply;
 use byte_streams::Source;
@@ -22,9 +22,18 @@ use order_file::{Blocks, FileFault, MAX_BYTES, bytes_after, calls_of};
 use settings::Form;
 use std::alloc::Global;
 
+/// An order file whose commands are being run: the auction that they are applied to, what is kept of their entries, and
+/// the block of records that comes next.
+#[derive(Drop)]
+pub struct OrderRun {
+    pub auction: Auction,
+    pub kept: Kept,
+    pub blocks: Blocks,
+}
+
 /// Applies the calls of a block's records, which come after the auction's so far, and keeps their entries; or answers
 /// the first fault, which may be want of memory.
-fn keep_block(
+pub fn keep_block(
     alloc: Global,
     blocks: &Blocks,
     auction: &mut Auction,
@@ -88,37 +97,38 @@ fn refused_file<R: Source>(
     }
 }
 
-/// Runs the commands of an order file of this day, of which these bytes at the start were read: opens an auction, and
-/// applies the calls of one block after the other.
-pub fn keep_file<R: Source>(
+/// Opens an auction for the commands of an order file of this day, of which these bytes at the start were read, and the
+/// file's first block. The start is dropped then: the block has a copy, and it may be the whole input.
+pub fn open_orders<R: Source>(
     alloc: Global,
     start: Vec<u8>,
     reader: &mut R,
     day: DayHeader,
     form: Form,
-) -> Result<KeptDay, Fault>
+) -> Result<OrderRun, Fault>
     requires { length start.items ≤ MAX_BYTES }
     ensures failed { IsErrOf result (Fault.File FileFault.ReadFailed)
         ↔ (R.failures reader.old < R.failures reader.new) }
-    ensures kept { KeepsDayOfText form result (prepend_known start.items (R.left reader.old)) (orders_for day) }
+    ensures steady { IfOk result (λ _. R.failures reader.new ≡ R.failures reader.old) }
+    ensures refused { IfErr result (λ fault.
+        KeepsDayOfText form (Err fault) (prepend_known start.items (R.left reader.old)) (orders_for day)) }
+    ensures opened { IfOk result (λ run.
+        (open_fault day.config ≡ None) × (run.auction ≡ opened_auction day.config)) }
+    ensures none { IfOk result (λ run. (form_of run.kept ≡ form) × KeepsEntries run.kept run.auction []) }
+    ensures rows { IfOk result (λ run. IfSome (prepend_known start.items (R.left reader.old)) (λ text.
+        OpensBlock (Ok run.blocks) MAX_BYTES (R.left reader.new) text)) }
 {
-    let mut auction = match Auction::open(alloc, day.config) {
+    let auction = match Auction::open(alloc, day.config) {
         Ok(auction) => auction,
         Err(fault) => return Err(refused_file(alloc, start, reader, day, fault)),
     };
-    let Ok(mut kept) = Kept::open(alloc, form, &auction) else {
+    let Ok(kept) = Kept::open(alloc, form, &auction) else {
         return Err(Fault::File(FileFault::NoMemory));
     };
-    let mut blocks = Blocks::open(alloc, start.as_slice(), reader, MAX_BYTES)?;
-    // The blocks have a copy, and the start may be the whole input.
-    drop(start);
-    'turns: loop {
-        if let Err(fault) = keep_block(alloc, &blocks, &mut auction, &mut kept, day.members) {
-            blocks.drain(reader)?;
-            return Err(Fault::File(fault));
-        }
-        if !blocks.next(reader)? {
-            return close_day(alloc, day, &mut auction, kept);
-        }
-    }
+    let blocks = Blocks::open(alloc, start.as_slice(), reader, MAX_BYTES)?;
+    Ok(OrderRun {
+        auction,
+        kept,
+        blocks,
+    })
 }

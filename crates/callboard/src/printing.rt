@@ -12,6 +12,7 @@ ghost use Rattle.journal.specs.JournalText.{journal_text};
 ghost use Rattle.journal.specs.KeptLines.{HasEntryLines};
 ghost use Rattle.printed_lines.specs.KeptText.{text_of};
 ghost use Rattle.printed_lines.specs.Printing.{Prints};
+ghost use Rattle.printed_lines.specs.ReplyLines.{lines};
 ghost use Rattle.callboard.specs.BoardRun.{closing_text};
 ghost use Rattle.callboard.specs.FileRun.{WritesText};
 ghost use Rattle.callboard.specs.Printed.{IsOfListing, IsWideListing, WritesTable, listing_text};
@@ -22,9 +23,45 @@ use byte_streams::{Sink, WriteFailed};
 use day_tables::{KeptBook, TableFault, print_book, print_trades};
 use journal::{DayHeader, print_journal, print_kept_journal};
 use member_board::Closing;
-use printed_lines::{KeptText, Printer, print_history, print_tally};
+use printed_lines::{KeptText, Printer, print_history, print_line, print_tally};
+use reply_list::ReplyList;
 use settings::Listing;
 use std::alloc::Global;
+
+/// Prints the line of each reply.
+fn print_replies<S: Sink>(
+    printer: &mut Printer<'_, S>,
+    replies: &ReplyList,
+) -> Result<(), WriteFailed>
+    ensures { Prints S.Sink printer.old printer.new result (lines replies.now) }
+{
+    let mut left = replies.iter();
+    for place in 0..replies.len() {
+        print_line(printer, place as u64 + 1, &left.next_reply())?;
+    }
+    Ok(())
+}
+
+/// Writes the lines of the replies. It takes no memory.
+fn write_replies<S: Sink>(writer: &mut S, replies: &ReplyList) -> Result<(), WriteFailed>
+    ensures { WritesAll S.Sink writer.old writer.new result (lines replies.now) }
+{
+    let mut printer = Printer::new(writer);
+    print_replies(&mut printer, replies)?;
+    printer.flush()
+}
+
+/// The same, as a run does: the only fault is a write that failed.
+pub fn write_lines<S: Sink>(writer: &mut S, replies: &ReplyList) -> Result<(), Fault>
+    ensures text { WritesText (S.written writer.old) (S.written writer.new) (lines replies.now) result }
+    ensures failed { IsErrOf result Fault.WriteFailed ↔ (S.failures writer.old < S.failures writer.new) }
+    ensures fault { IfErr result (λ f. f ≡ Fault.WriteFailed) }
+{
+    let Ok(()) = write_replies(writer, replies) else {
+        return Err(Fault::WriteFailed);
+    };
+    Ok(())
+}
 
 /// What is written of a closed day.
 #[derive(Clone, Copy)]

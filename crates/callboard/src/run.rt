@@ -3,9 +3,6 @@
 ghost use Rattle.std.specs.Prelude.{◌≡◌, ◌<◌, ◌≤◌, ◌↔◌, ◌∷◌, ℕ, List, Option, Result, true, IfErr, IsErrOf};
 ghost use Rattle.auction_terms.specs.Day.{IsLegal};
 ghost use Rattle.auction_terms.specs.declared.Entry.{Entry};
-ghost use Rattle.byte_streams.specs.Writing.{WritesAll};
-ghost use Rattle.printed_lines.specs.Printing.{Prints};
-ghost use Rattle.printed_lines.specs.ReplyLines.{lines};
 ghost use Rattle.callboard.specs.AuctionRun.{RunsOnAuction};
 ghost use Rattle.callboard.specs.FileRun.{WritesText, ends_by, ends_of};
 ghost use Rattle.callboard.specs.KeptEntries.{KeepsDay, KeepsDayOfText, KeepsWholeDay, form_of};
@@ -15,51 +12,14 @@ ghost use Rattle.callboard.specs.Printed.{IsOfPrinting, IsWideIfBegun, printed};
 use crate::fault::{Fault, Finish};
 use crate::journals::keep_input;
 use crate::kept::Kept;
-use crate::kept_day::KeptDay;
-use crate::orders::keep_file;
-use crate::printing::{write_book, write_journal, write_listing};
-use byte_streams::{Sink, Source, WriteFailed};
+use crate::kept_day::{KeptDay, close_day};
+use crate::orders::{OrderRun, keep_block, open_orders};
+use crate::printing::{write_book, write_journal, write_lines, write_listing};
+use byte_streams::{Sink, Source};
 use journal::{DayHeader, MAX_JOURNAL_BYTES};
 use order_file::{FileFault, bytes_after, read_start};
-use printed_lines::{Printer, print_line};
-use reply_list::ReplyList;
 use settings::{Form, Listing};
 use std::alloc::Global;
-
-/// Prints the line of each reply.
-fn print_replies<S: Sink>(
-    printer: &mut Printer<'_, S>,
-    replies: &ReplyList,
-) -> Result<(), WriteFailed>
-    ensures { Prints S.Sink printer.old printer.new result (lines replies.now) }
-{
-    let mut left = replies.iter();
-    for place in 0..replies.len() {
-        print_line(printer, place as u64 + 1, &left.next_reply())?;
-    }
-    Ok(())
-}
-
-/// Writes the lines of the replies. It takes no memory.
-fn write_replies<S: Sink>(writer: &mut S, replies: &ReplyList) -> Result<(), WriteFailed>
-    ensures { WritesAll S.Sink writer.old writer.new result (lines replies.now) }
-{
-    let mut printer = Printer::new(writer);
-    print_replies(&mut printer, replies)?;
-    printer.flush()
-}
-
-/// The same, as a run does.
-fn write_lines<S: Sink>(writer: &mut S, replies: &ReplyList) -> Result<(), Fault>
-    ensures text { WritesText (S.written writer.old) (S.written writer.new) (lines replies.now) result }
-    ensures failed { IsErrOf result Fault.WriteFailed ↔ (S.failures writer.old < S.failures writer.new) }
-    ensures fault { IfErr result (λ f. f ≡ Fault.WriteFailed) }
-{
-    let Ok(()) = write_replies(writer, replies) else {
-        return Err(Fault::WriteFailed);
-    };
-    Ok(())
-}
 
 /// Writes what is printed of a day in the form that its entries are kept for. But for the trades it takes no memory.
 fn write_kept<S: Sink>(
@@ -135,11 +95,24 @@ pub fn run_file<R: Source, S: Sink>(
         (ends_of R.Source S.Sink reader.old reader.new writer.old writer.new) result }
 {
     let start = read_start(alloc, reader)?;
-    if begins_with_digit(start.as_slice()) {
-        let run = keep_file(alloc, start, reader, day, form);
+    if !begins_with_digit(start.as_slice()) {
+        let bytes = bytes_after(start, reader, MAX_JOURNAL_BYTES)?;
+        let run = keep_input(alloc, bytes, day, form);
         return write_run(alloc, writer, run);
     }
-    let bytes = bytes_after(start, reader, MAX_JOURNAL_BYTES)?;
-    let run = keep_input(alloc, bytes, day, form);
-    write_run(alloc, writer, run)
+    let OrderRun {
+        mut auction,
+        mut kept,
+        mut blocks,
+    } = open_orders(alloc, start, reader, day, form)?;
+    'turns: loop {
+        if let Err(fault) = keep_block(alloc, &blocks, &mut auction, &mut kept, day.members) {
+            blocks.drain(reader)?;
+            return Err(Fault::File(fault));
+        }
+        if !blocks.next(reader)? {
+            let run = close_day(alloc, day, &mut auction, kept);
+            return write_run(alloc, writer, run);
+        }
+    }
 }

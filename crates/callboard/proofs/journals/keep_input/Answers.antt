@@ -4,8 +4,9 @@ use Rattle.callboard.proofs.journals.keep_input.Goals as goal
 
 pub returns-in-Ok-clause-kept : goal.returns-in-Ok-clause-kept
 returns-in-Ok-clause-kept c =
-    journal_said c.args.form c.args.day c.args.bytes.items _ c.keep_journal.result
-    (rw c.as_slice.ensures.value at c.in-Ok.ensures.recording) c.keep_journal.ensures.kept
+    journal_said c.args.form c.args.day c.args.bytes.items _ c.keep_calls.result
+    (rw c.as_slice.ensures.value at c.in-Ok.ensures.recording)
+    (rw c.as_slice-in-Ok.ensures.value at c.keep_calls.ensures.kept)
 
 pub returns-in-Err-clause-kept : goal.returns-in-Err-clause-kept
 returns-in-Err-clause-kept c =

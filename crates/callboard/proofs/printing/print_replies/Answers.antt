@@ -1,8 +1,8 @@
--- Answers of `print_replies` (src/run.rt): what the prover left open; rt looks here.
+-- Answers of `print_replies` (src/printing.rt): what the prover left open; rt looks here.
 use Rattle.std.proofs.Common.{arith}
 use Rattle.printed_lines.proofs.PrinterLaws.{prints_among, prints_more}
 use Rattle.callboard.proofs.ReplyLaws.{reply-count, reply-done, reply-end, reply-next}
-use Rattle.callboard.proofs.run.print_replies.Goals as goal
+use Rattle.callboard.proofs.printing.print_replies.Goals as goal
 
 pub returns-in_err-print_line : goal.returns-in_err-print_line
 returns-in_err-print_line g c =

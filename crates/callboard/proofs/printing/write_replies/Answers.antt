@@ -1,7 +1,7 @@
--- Answers of `write_replies` (src/run.rt): what the prover left open; rt looks here.
+-- Answers of `write_replies` (src/printing.rt): what the prover left open; rt looks here.
 use Rattle.std.proofs.Common.{rules}
 use Rattle.printed_lines.proofs.PrinterLaws.{writes_all}
-use Rattle.callboard.proofs.run.write_replies.Goals as goal
+use Rattle.callboard.proofs.printing.write_replies.Goals as goal
 
 pub returns : goal.returns
 returns g c =

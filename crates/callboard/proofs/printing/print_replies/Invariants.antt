@@ -1,8 +1,8 @@
--- Invariants of the loops of `print_replies` (src/run.rt); rt looks here.
+-- Invariants of the loops of `print_replies` (src/printing.rt); rt looks here.
 use Rattle.std.proofs.Common.{◌≡◌, ◌+◌, List, ℕ, ◌++◌, length, Ok}
 use Rattle.printed_lines.specs.ReplyLines.{lines, lines_after}
 use Rattle.printed_lines.specs.Printing.{Prints}
-use Rattle.callboard.proofs.run.print_replies.Given as goal
+use Rattle.callboard.proofs.printing.print_replies.Given as goal
 
 -- the lines so far were printed, and they and those that are left are all
 abbrev pub invariant-loop-place : goal.invariant-loop-place

@@ -1,5 +1,5 @@
--- Invariants of the loops of `keep_file` (src/orders.rt); rt looks here.
-use Rattle.std.proofs.Common.{◌≡◌, ◌≤◌, List}
+-- Invariants of the loops of `run_file` (src/run.rt); rt looks here.
+use Rattle.std.proofs.Common.{◌≡◌, ◌≤◌, ℕ, List, Option}
 use Rattle.std.specs.Io.KnownBytes.{prepend_known}
 use Rattle.auction_terms.specs.declared.Call.{Call}
 use Rattle.auction_terms.specs.Auxiliary.RunningAuction.{opened_auction}
@@ -7,18 +7,22 @@ use Rattle.order_file.specs.Blocks.{turns_left}
 use Rattle.order_file.proofs.BlockCallLaws.{CarriesCalls}
 use Rattle.callboard.specs.KeptEntries.{KeepsEntries, after_calls, form_of}
 use Rattle.callboard.specs.Printed.{history_of}
-use Rattle.callboard.proofs.orders.keep_file.Given as goal
+use Rattle.callboard.proofs.FileSaidLaws.{BeginsOrders}
+use Rattle.callboard.proofs.run.run_file.Given as goal
 
 -- The calls of the blocks so far came to the auction and are kept; they, and those of the records to come, are those
--- of the file; no read has failed.
+-- of the file; no read has failed, and nothing was written.
 abbrev pub invariant-turns : goal.invariant-turns
 invariant-turns g l = record {
+  untouched : l.writer ≡ l.fn.writer;
   steady : g.R.Source.failures l.reader ≡ g.R.Source.failures l.fn.reader;
   form : form_of l.kept ≡ l.fn.form;
   room : l.auction.calls ≤ l.day.config.max_calls;
-  calls : (front : List Call) × (l.auction ≡ after_calls (opened_auction l.day.config) front)
-      × CarriesCalls (prepend_known l.fn.start.items (g.R.Source.left l.fn.reader)) (g.R.Source.left l.reader)
-      l.day.members l.day.config.max_calls front l.blocks
+  calls : (start : List ℕ) × (rest : Option (List ℕ)) × (front : List Call)
+      × BeginsOrders (g.R.Source.left l.fn.reader) rest start
+      × (l.auction ≡ after_calls (opened_auction l.day.config) front)
+      × CarriesCalls (prepend_known start rest) (g.R.Source.left l.reader) l.day.members l.day.config.max_calls front
+      l.blocks
       × KeepsEntries l.kept l.auction (history_of l.day.config front);
 }
 
