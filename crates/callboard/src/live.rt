@@ -30,8 +30,10 @@ fn as_session(ended: Result<Ending, LiveFault>) -> Result<Ending, SessionFault>
 }
 
 /// Answers each record of the input as soon as its line has ended, on an auction of this day: the line of a good one,
-/// or the fault of a bad one, goes to `out`. The last `reserve` calls of the day are member 0's. Before the input is
-/// read on, all answers to what has come are written.
+/// or the fault of a bad one, goes to `out`. The last `reserve` calls of the day are member 0's.
+///
+/// At the end all that was read is answered; where a write failed or memory was refused, all but the last 65,536 bytes
+/// or less, of which a beginning is. That a device is read on only then, `live_session` promises.
 pub fn run_session<'a, R: Source, O: Sink>(
     alloc: Global,
     reader: &'a mut R,

@@ -62,7 +62,7 @@ impl OpensJournal<Tracked<Opened>> for NoFiles {
     }
 }
 
-/// Serves the program on this input and output: its status, and what it told as its error.
+/// Serves the program on this input and output: its status, and what it wrote as its error.
 fn served<
     R: Source + Drop,
     S: Sink,
@@ -135,7 +135,7 @@ fn gives<T: Abort + AllocGlobal + Wait + Threads + Sync>(
     assert_eq!(rt; printed.status, status);
 }
 
-/// A file of these bytes, run with these words, is told to have this fault, whatever its likely cause.
+/// A file of these bytes, run with these words, has this fault, whatever its likely cause.
 fn gives_fault<T: Abort + AllocGlobal + Wait + Threads + Sync>(
     rt: &T,
     words: &[&str],
@@ -143,9 +143,9 @@ fn gives_fault<T: Abort + AllocGlobal + Wait + Threads + Sync>(
     fault: &str,
 ) {
     let printed = run(rt, words, input);
-    let told = from_utf8(printed.err.as_slice()).unwrap_or("?");
+    let said = from_utf8(printed.err.as_slice()).unwrap_or("?");
     assert!(rt; printed.out.is_empty());
-    assert!(rt; told.starts_with(fault));
+    assert!(rt; said.starts_with(fault));
     assert_eq!(rt; printed.status, 1);
 }
 
