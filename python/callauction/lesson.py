@@ -99,11 +99,11 @@ class Exercise:
     def _price_faults(self, auction: RecordedAuction) -> list[str]:
         """What is wrong with the price and its rule."""
         book = auction.book()
-        found = book[book["price"] != ""]
+        found = book[book["rule"] != ""]
         if not len(found):
             wants = self.price is not None or self.rule is not None or self.is_off_limits
             return ["there is no price"] if wants else []
-        price, rule = int(found["limit"].iloc[0]), found["price"].iloc[0]
+        price, rule = int(found["limit"].iloc[0]), found["rule"].iloc[0]
         faults = []
         if self.price not in (None, price):
             faults.append(f"the price is {price}, and not {self.price}")

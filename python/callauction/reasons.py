@@ -1,6 +1,6 @@
 """Why a book has its price: the rules of docs/MODEL.md that decided, in sentences with its numbers.
 
-What decided is read from the columns `best` and `price` of a book that the program printed.
+What decided is read from the columns `best` and `rule` of a book that the program printed.
 """
 import dataclasses
 from collections.abc import Callable
@@ -11,7 +11,7 @@ from callauction.tables import book_at
 
 ON_SIDE = {"bid": "on the bid side", "ask": "on the ask side"}
 MARKET, HIGHEST, LOWEST, SINGLE = "market", "highest", "lowest", "single"
-"""Rules that decide, as the column `price` names them; the fifth is `reference`."""
+"""Rules that decide, as the column `rule` names them; the fifth is `reference`."""
 MOST_NAMED = 6
 """How many limits a sentence names one by one."""
 
@@ -47,7 +47,7 @@ class Book:
     @property
     def price(self) -> "pandas.Series | None":
         """The row of the auction price, if there is one."""
-        found = self.levels[self.levels["price"] != ""]
+        found = self.levels[self.levels["rule"] != ""]
         return found.iloc[0] if len(found) else None
 
     def names(self, rows: pandas.DataFrame) -> str:
@@ -77,7 +77,7 @@ def explain(
     price = book.price
     if price is None:
         return Explanation(_without_price(book))
-    if price["price"] == MARKET:
+    if price["rule"] == MARKET:
         return Explanation([_market_alone(book, price), *_executed(book, price)])
     steps = [*_market(book), _candidates(book), *_best(book), *_decided(book, price, reference)]
     return Explanation([*steps, *_executed(book, price)])
@@ -153,7 +153,7 @@ def _decided(book: Book, price: "pandas.Series", reference: int | None) -> list[
     """Which rule made one of the best limits, or the reference, the price. No more than two limits
     have one demand and one supply, as each limit changes one of them.
     """
-    name, rule = book.named(price["limit"]), price["price"]
+    name, rule = book.named(price["limit"]), price["rule"]
     if rule == SINGLE:
         return [f"It is the one best limit, so {name} is the price, whatever its surplus."]
     if rule in (HIGHEST, LOWEST):

@@ -196,7 +196,7 @@ def _draw_best(axes: Axes, levels: pandas.DataFrame, named: Namer) -> None:
             label="best limits",
             zorder=4,
         )
-    for _, price in levels[levels["price"] != ""].iterrows():
+    for _, price in levels[levels["rule"] != ""].iterrows():
         tick, volume, surplus = (int(price[name]) for name in ("limit", "volume", "surplus"))
         if surplus:
             axes.vlines(
@@ -229,7 +229,7 @@ def _draw_far(axes: Axes, side: str, text: str, begin: float) -> None:
 
 def _wanted(levels: pandas.DataFrame) -> list[int]:
     """The ticks whose labels matter: the price, and the ends of the best limits."""
-    price = numbers(levels["limit"][levels["price"] != ""])
+    price = numbers(levels["limit"][levels["rule"] != ""])
     best = numbers(levels["limit"][levels["best"] == 1])
     return [*map(int, price), *map(int, best[[0, -1]] if len(best) > 2 else best)]
 
@@ -248,7 +248,7 @@ def _label(
 
 def _told(levels: pandas.DataFrame, named: Namer) -> str:
     """The auction price of a book in words."""
-    for _, price in levels[levels["price"] != ""].iterrows():
+    for _, price in levels[levels["rule"] != ""].iterrows():
         side = "" if price["side"] == "none" else f" {price['side']}"
         name = named(int(price["limit"]))
         return f"price {name}, volume {price['volume']:,}, surplus {price['surplus']:,}{side}"
