@@ -57,15 +57,15 @@ callauction_reply python_delete(python_auction *own, uint8_t member, uint32_t id
     return reply_to(own, (callauction_command){.tag = CALLAUCTION_COMMAND_DELETE, .member = member, .id = id});
 }
 
-callauction_reply python_status(python_auction *own, uint8_t member, uint32_t id) {
+callauction_reply python_order_status(python_auction *own, uint8_t member, uint32_t id) {
     return reply_to(own, (callauction_command){.tag = CALLAUCTION_COMMAND_ORDER_STATUS, .member = member, .id = id});
 }
 
-callauction_reply python_ask(python_auction *own, uint8_t member) {
+callauction_reply python_indicate(python_auction *own, uint8_t member) {
     return reply_to(own, (callauction_command){.tag = CALLAUCTION_COMMAND_INDICATE, .member = member});
 }
 
-callauction_reply python_trade(python_auction *own, uint8_t member, uint32_t number) {
+callauction_reply python_read_trade(python_auction *own, uint8_t member, uint32_t number) {
     return reply_to(own, (callauction_command){.tag = CALLAUCTION_COMMAND_READ_TRADE, .member = member, .id = number});
 }
 

@@ -54,7 +54,7 @@ _ID, _NUMBER, _MEMBER = ("member", "id"), ("member", "number"), ("member",)
 _BID, _ASK = Side.BID, Side.ASK
 _PRICED = int(ReplyTag.PRICED)
 _HAS_LIMIT, _HAS_PEAK = int(lib.PYTHON_HAS_LIMIT), int(lib.PYTHON_HAS_PEAK)
-_enter, _ask = lib.python_enter, lib.python_ask
+_enter, _indicate = lib.python_enter, lib.python_indicate
 _AT_ONCE = 1024
 """How many trades are copied by one call of the library."""
 _ALL_MEMBERS = int(lib.CALLAUCTION_ALL_MEMBERS)
@@ -218,7 +218,8 @@ class Auction:
 
     def order_status(self, member: int, id: int, *, check: bool = False) -> OpenOrder | Refused:
         """What is open of the member's order with this id."""
-        reply: OpenOrder | Refused = self._applied(lib.python_status, _ID, (member, id), check)
+        reply: OpenOrder | Refused
+        reply = self._applied(lib.python_order_status, _ID, (member, id), check)
         return reply
 
     def indicate(self, member: int, *, check: bool = False) -> Price | NoPrice | Refused:
@@ -226,7 +227,7 @@ class Auction:
         if type(member) is not int:
             (member,) = numbers(_MEMBER, (member,))
         try:
-            found = _ask(self._own, member)
+            found = _indicate(self._own, member)
         except OverflowError:
             raise fault_of(_MEMBER, (member,)) from None
         if found.tag == _PRICED:
@@ -246,7 +247,8 @@ class Auction:
 
     def read_trade(self, member: int, number: int, *, check: bool = False) -> Traded | Refused:
         """The trade of the day with this number, from 1 on."""
-        reply: Traded | Refused = self._applied(lib.python_trade, _NUMBER, (member, number), check)
+        reply: Traded | Refused
+        reply = self._applied(lib.python_read_trade, _NUMBER, (member, number), check)
         return reply
 
     def apply(self, member: int, command: Command, *, check: bool = False) -> Reply:
@@ -302,7 +304,7 @@ class Auction:
     # ---- what is shown
 
     def display(self) -> Price | NoPrice:
-        """What `ask` shows, without a member and not counted as a call; after the day too."""
+        """What `indicate` answers, without a member and not counted as a call; after the day too."""
         shown = ffi.new("callauction_reply *")
         self._call(lib.python_display, shown)
         found: Price | NoPrice = read(shown)
