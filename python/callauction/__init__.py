@@ -27,7 +27,7 @@ if TYPE_CHECKING:
         NotAppliedError,
         RefusedError,
     )
-    from callauction.gains import Gains, surplus
+    from callauction.gains import Gains, gains_of
     from callauction.outcomes import Played
     from callauction.reading import reply_of
     from callauction.reasons import explain
@@ -117,6 +117,7 @@ __all__ = [
     "audit_auction",
     "audit_events",
     "explain",
+    "gains_of",
     "journal",
     "plot",
     "read_book",
@@ -125,7 +126,6 @@ __all__ = [
     "refusals",
     "reply_of",
     "report",
-    "surplus",
     "verdict",
 ]
 
@@ -140,11 +140,11 @@ _LATER = {
     "audit_auction": "verdict",
     "audit_events": "verdict",
     "explain": "reasons",
+    "gains_of": "gains",
     "read_book": "tables",
     "read_journal": "tables",
     "read_trades": "tables",
     "refusals": "refused",
-    "surplus": "gains",
 }
 _PLACES = ("words", "arrays", "errors", "reading", "auction", "board")
 
