@@ -31,7 +31,7 @@ from callauction.words import (
     Entered,
     Restriction,
     Interrupted,
-    Market,
+    MarketOrders,
     NoPrice,
     Price,
     Refused,
@@ -304,7 +304,7 @@ class Auction:
     # ---- what is shown
 
     def display(self) -> Price | NoPrice:
-        """What `indicate` answers, without a member and not counted as a call; after the day too."""
+        """As `indicate`, but without a member and not counted as a call; after the day too."""
         shown = ffi.new("callauction_reply *")
         self._call(lib.python_display, shown)
         found: Price | NoPrice = read(shown)
@@ -317,7 +317,7 @@ class Auction:
         bids, asks, _ = self._ladder()
         return bids, asks
 
-    def market(self) -> Market:
+    def market_orders(self) -> MarketOrders:
         """The shares of the market orders that count."""
         _, _, market = self._ladder()
         return market
@@ -454,7 +454,7 @@ class Auction:
             raise fault_of(names, given) from None
         return read(reply, check)
 
-    def _ladder(self) -> tuple[Shares, Shares, Market]:
+    def _ladder(self) -> tuple[Shares, Shares, MarketOrders]:
         config = self.config
         ticks = config.high - config.low + 1
         bids, asks = numpy.zeros(ticks, numpy.uint64), numpy.zeros(ticks, numpy.uint64)
@@ -466,4 +466,4 @@ class Auction:
             ticks,
             market,
         )
-        return bids, asks, Market(market.bids, market.asks)
+        return bids, asks, MarketOrders(market.bids, market.asks)

@@ -27,7 +27,7 @@ from callauction.words import (
     Entered,
     Restriction,
     Interrupted,
-    Market,
+    MarketOrders,
     NoPrice,
     Price,
     Refused,
@@ -187,10 +187,10 @@ class RecordedAuction(DayTables):
         with self._lock:
             return self._auction.ladder()
 
-    def market(self) -> Market:
-        """As Auction.market."""
+    def market_orders(self) -> MarketOrders:
+        """As Auction.market_orders."""
         with self._lock:
-            return self._auction.market()
+            return self._auction.market_orders()
 
     def orders(self, member: int | None = None) -> pandas.DataFrame:
         """The open orders of a member, or of all, in price-time priority (tables.ORDERS): the bids

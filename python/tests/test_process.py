@@ -45,7 +45,7 @@ CALLS: list[Call] = [
     lambda auction: auction.apply_many(array_of([])),
     lambda auction: auction.display(),
     lambda auction: auction.ladder(),
-    lambda auction: auction.market(),
+    lambda auction: auction.market_orders(),
     lambda auction: auction.trades(),
     lambda auction: auction.calls,
     lambda auction: auction.is_full,
