@@ -1,7 +1,7 @@
 """An auction in this process: see Auction."""
 import inspect
 from types import TracebackType
-from typing import Any, Self
+from typing import Any, Self, cast
 
 import numpy
 
@@ -208,19 +208,18 @@ class Auction:
         """
         tick, has = (0, 0) if limit is None else (limit, _HAS_LIMIT)
         given = (member, id, quantity, tick, has)
-        reply: Changed | Refused = self._applied(lib.python_change, _CHANGE, given, check)
-        return reply
+        reply = self._applied(lib.python_change, _CHANGE, given, check)
+        return cast("Changed | Refused", reply)
 
     def delete(self, member: int, id: int, *, check: bool = False) -> Deleted | Refused:
         """Takes the member's order with this id out."""
-        reply: Deleted | Refused = self._applied(lib.python_delete, _ID, (member, id), check)
-        return reply
+        reply = self._applied(lib.python_delete, _ID, (member, id), check)
+        return cast("Deleted | Refused", reply)
 
     def order_status(self, member: int, id: int, *, check: bool = False) -> OpenOrder | Refused:
         """What is open of the member's order with this id."""
-        reply: OpenOrder | Refused
         reply = self._applied(lib.python_order_status, _ID, (member, id), check)
-        return reply
+        return cast("OpenOrder | Refused", reply)
 
     def indicate(self, member: int, *, check: bool = False) -> Price | NoPrice | Refused:
         """The indicative price, or the best bid and ask where there is none."""
@@ -232,8 +231,7 @@ class Auction:
             raise fault_of(_MEMBER, (member,)) from None
         if found.tag == _PRICED:
             return price(found)
-        reply: NoPrice | Refused = read(found, check)
-        return reply
+        return cast("NoPrice | Refused", read(found, check))
 
     def uncross(
         self, member: int = 0, *, check: bool = False
@@ -241,15 +239,13 @@ class Auction:
         """Determines the price and executes. The next call phase follows at once; after the closing
         auction the day is over.
         """
-        reply: Uncrossed | Interrupted | Refused
         reply = self._applied(lib.python_uncross, _MEMBER, (member,), check)
-        return reply
+        return cast("Uncrossed | Interrupted | Refused", reply)
 
     def read_trade(self, member: int, number: int, *, check: bool = False) -> Traded | Refused:
         """The trade of the day with this number, from 1 on."""
-        reply: Traded | Refused
         reply = self._applied(lib.python_read_trade, _NUMBER, (member, number), check)
-        return reply
+        return cast("Traded | Refused", reply)
 
     def apply(self, member: int, command: Command, *, check: bool = False) -> Reply:
         """Applies a command. Raises TypeError where it is none of Command."""
@@ -307,8 +303,7 @@ class Auction:
         """As `indicate`, but without a member and not counted as a call; after the day too."""
         shown = ffi.new("callauction_reply *")
         self._call(lib.python_display, shown)
-        found: Price | NoPrice = read(shown)
-        return found
+        return cast("Price | NoPrice", read(shown))
 
     def ladder(self) -> tuple[Shares, Shares]:
         """The shares bid and the shares offered by the orders that count, with a limit at each tick
@@ -440,7 +435,7 @@ class Auction:
 
     def _applied(
         self, function: Any, names: tuple[str, ...], given: tuple[object, ...], check: bool
-    ) -> Any:
+    ) -> Reply:
         """The reply to the command that this call of the library applies, with the numbers given,
         which have these names.
         """

@@ -2,7 +2,7 @@
 import builtins
 import dataclasses
 from types import TracebackType
-from typing import TYPE_CHECKING, Any, Self
+from typing import TYPE_CHECKING, Any, Self, cast
 
 import numpy
 
@@ -141,7 +141,7 @@ class Member:
         """
         shown = ffi.new("callauction_shown *")
         self._call(lib.python_board_look, shown)
-        return Shown(int(shown.calls), read(shown.display))
+        return Shown(int(shown.calls), cast("Price | NoPrice", read(shown.display)))
 
     def ladder(self) -> tuple[Shares, Shares, MarketOrders, int]:
         """The shares bid and offered by the orders that count, with a limit at each tick from low

@@ -3,7 +3,7 @@ kept, and a slider. All prices and trades are the proved library's and program's
 """
 import dataclasses
 from collections.abc import Mapping, Sequence
-from typing import Any
+from typing import TYPE_CHECKING
 
 import pandas
 
@@ -12,6 +12,9 @@ from callauction.outcomes import queue_of
 from callauction.reasons import Explanation
 from callauction.recording import RecordedAuction
 from callauction.words import NoPrice, Price, Refused, Side
+
+if TYPE_CHECKING:
+    from matplotlib.figure import Figure
 
 BID, ASK = Side.BID, Side.ASK
 Order = tuple[Side, int, int | None]
@@ -160,7 +163,9 @@ def _numbers(shown: Price | NoPrice) -> tuple[int | None, ...]:
     return shown.tick, shown.volume, shown.surplus
 
 
-def draw_moved(orders: Sequence[Order], place: int, limit: int, limits: Sequence[int]) -> Any:
+def draw_moved(
+    orders: Sequence[Order], place: int, limit: int, limits: Sequence[int]
+) -> "Figure":
     """Draws the book with this limit of an order, and beside it price, volume and surplus against
     that limit. Answers the figure.
     """
