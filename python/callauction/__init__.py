@@ -8,7 +8,7 @@
         print(auction.indicate(1), auction.uncross())
 
 docs/LIBRARY.md has the calls, the errors, and what is proved; docs/MODEL.md has the rules. Tables,
-pictures, sentences and files from elsewhere: python/README.md.
+pictures, sentences, reports and extracts of other systems: python/README.md.
 """
 import importlib
 from typing import TYPE_CHECKING
@@ -36,7 +36,7 @@ if TYPE_CHECKING:
     from callauction.tables import audit, read_book, read_journal, read_trades
     from callauction.verdict import audit_auction, audit_events
     from callauction.words import (
-        Indicate,
+        AuctionKind,
         Change,
         Changed,
         Command,
@@ -46,29 +46,29 @@ if TYPE_CHECKING:
         Deleted,
         Enter,
         Entered,
-        Restriction,
+        Indicate,
         Interrupted,
-        AuctionKind,
         MarketOrders,
         NoPrice,
+        OpenOrder,
+        OrderStatus,
         Price,
+        ReadTrade,
         Refusal,
         Refused,
         Reply,
         ReplyTag,
+        Restriction,
         Side,
-        OpenOrder,
-        OrderStatus,
-        ReadTrade,
         Traded,
         Uncross,
         Uncrossed,
     )
 
 __all__ = [
-    "Indicate",
     "Auction",
     "AuctionError",
+    "AuctionKind",
     "Board",
     "BusyError",
     "COMMAND",
@@ -83,20 +83,22 @@ __all__ = [
     "ENTRY",
     "Enter",
     "Entered",
-    "Restriction",
     "FullError",
     "Gains",
+    "Indicate",
     "Interrupted",
-    "AuctionKind",
     "MarketOrders",
     "Member",
     "NoCommandError",
     "NoPrice",
     "NotAppliedError",
     "ORDER",
+    "OpenOrder",
+    "OrderStatus",
     "Played",
     "Price",
     "REPLY",
+    "ReadTrade",
     "Receipt",
     "RecordedAuction",
     "Refusal",
@@ -104,12 +106,10 @@ __all__ = [
     "RefusedError",
     "Reply",
     "ReplyTag",
+    "Restriction",
     "Shown",
     "Side",
-    "OpenOrder",
-    "OrderStatus",
     "TRADE",
-    "ReadTrade",
     "Traded",
     "Uncross",
     "Uncrossed",

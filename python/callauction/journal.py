@@ -1,4 +1,4 @@
-"""A day's record from elsewhere as a journal: `from_frame`, and the way back to its own names.
+"""Another system's record of a day as a journal: `from_frame`, and the way back to its own names.
 
 The frame has a row for each event, in the order in which the board took them. Its columns are
 
@@ -48,19 +48,19 @@ from callauction.program import Day
 from callauction.tables import audit_of, book_at, books_of, journal_of, trades_of
 from callauction.verdict.columns import OTHER_NAMES, refuse_unknown
 from callauction.words import (
-    Indicate,
-    OpenOrder,
     Change,
     Command,
     Delete,
     Enter,
     Entered,
-    Restriction,
+    Indicate,
+    OpenOrder,
+    ReadTrade,
     Refusal,
     Refused,
     Reply,
+    Restriction,
     Side,
-    ReadTrade,
     Uncross,
 )
 from callauction.written import fields_of, text_of

@@ -16,19 +16,19 @@ from callauction.errors import (
     RefusedError,
 )
 from callauction.words import (
+    AuctionKind,
     Changed,
     Deleted,
     Entered,
     Interrupted,
-    AuctionKind,
     NoPrice,
+    OpenOrder,
     Price,
     Refusal,
     Refused,
     Reply,
     ReplyTag,
     Side,
-    OpenOrder,
     Traded,
     Uncrossed,
 )

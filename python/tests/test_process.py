@@ -15,17 +15,17 @@ import numpy
 import pytest
 from arrayed import array_of
 from callauction import (
-    Indicate,
     Auction,
+    AuctionKind,
     BusyError,
     ClosedError,
     Enter,
     Entered,
-    AuctionKind,
+    Indicate,
     NoPrice,
+    OpenOrder,
     Price,
     Side,
-    OpenOrder,
     Uncrossed,
 )
 from callauction.arrays import Structs
