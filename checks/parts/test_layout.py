@@ -39,6 +39,7 @@ def planted(folder: pathlib.Path, **texts: str) -> Tree:
 
 
 def faults_of(rule: Rule, tree: Tree) -> list[str]:
+    """What a rule finds in a repository."""
     return [*rule(tree)]
 
 

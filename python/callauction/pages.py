@@ -147,6 +147,7 @@ def _row(columns: Sequence[str], kinds: Sequence[str], row: Sequence[str]) -> st
 
 
 def new_figure() -> Figure:
+    """An empty picture of a page, of SIZE inches."""
     return Figure(figsize=SIZE, layout="constrained")
 
 
