@@ -147,6 +147,17 @@ def test_a_long_line_of_python(tmp_path: pathlib.Path, name: str) -> None:
     assert faults_of(sources.long_lines, tree) == [f"{name}:3: 101 columns, 100 at most"]
 
 
+@pytest.mark.parametrize("name, head", [
+    ("library/door.c", "/* A door. */"),
+    ("library/callauction.hpp", "// A class."),
+    ("python/pages/texts.js", "// Words."),
+    ("library/build", "#!/usr/bin/env bash"),
+])
+def test_a_long_line_of_another_language(tmp_path: pathlib.Path, name: str, head: str) -> None:
+    tree = planted(tmp_path, **{name: f"{head}\n{'a' * 120}\n{'a' * 121}\n"})
+    assert faults_of(sources.long_lines, tree) == [f"{name}:3: 121 columns, 120 at most"]
+
+
 HEADS = [
     "use one.Thing",
     "-- Answers of `f` (src/lib.rt): what the prover left open.",

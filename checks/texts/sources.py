@@ -1,8 +1,8 @@
 """Rules for the texts of crates and of Python: each gives its faults as `FILE:LINE: ..` or
 `FILE: ..`.
 
-- A line of crates/*/src, crates/*/specs or crates/*/proofs has at most 120 characters, one of
-  Python at most 100.
+- A line of crates/*/src, crates/*/specs or crates/*/proofs, of C, C++, JavaScript or a shell has at
+  most 120 characters, one of Python at most 100.
 - No name of a file is shared by specs or proofs of two crates, but for Lib, Answers, Invariants and
   Proof, and for the folders of proofs that are named as a module or a function.
 - No file is named `..Lemmas.antt`: we say Laws.
@@ -51,7 +51,7 @@ BLOCK = re.compile(MODIFIERS + r"(?P<word>module|record|data)\b")
 
 def long_lines(tree: Tree) -> Iterator[str]:
     """Lines with more columns than their file may have."""
-    most = dict.fromkeys([*tree.sources, *tree.specs, *tree.proofs], MOST_COLUMNS)
+    most = dict.fromkeys([*tree.sources, *tree.specs, *tree.proofs, *tree.others], MOST_COLUMNS)
     most |= dict.fromkeys(tree.python, MOST_COLUMNS_OF_PYTHON)
     for file, columns in most.items():
         for place, line in enumerate(tree.lines(file), 1):
