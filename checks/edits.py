@@ -1,5 +1,6 @@
 """The wrong bodies: their edits, what makes one fit the code that it edits, and what each means."""
 import dataclasses
+import functools
 import pathlib
 import re
 from collections.abc import Iterator
@@ -98,6 +99,11 @@ class Row:
         return f"| {self.meaning} | {self.names} | {self.refused_by} |"
 
 
+CITED = re.compile(r"`(?:\w+::)?(?P<function>\w+)` \((?P<clauses>[^()]*)\)")
+"""A function of the last column with what it names of its contract."""
+CLAUSE = re.compile(r"\b(?:ensures|requires) (\w+) \{|\bpub (?:(?:record|data) )?(\w+)(?= [:({])")
+"""A clause of a contract; a field or a name of a definition."""
+
 HEAD = """# Wrong bodies, and what refuses each
 
 A contract is worth as much as the wrong bodies that it refuses. Each row has bodies that read well
@@ -159,6 +165,7 @@ def misfits(top: pathlib.Path = TOP) -> Iterator[str]:
             yield f"{edit.file.relative_to(top)}: another edit is named {edit.name} too"
     try:
         yield from wrong_rows(names, rows(top))
+        yield from unknown_clauses(rows(top), top)
         if (top / "docs/WRONG_BODIES.md").read_text(encoding="utf-8") != document(top):
             yield "docs/WRONG_BODIES.md: run checks/wrong-bodies --document > docs/WRONG_BODIES.md"
     except (BadEdit, OSError) as fault:
@@ -177,3 +184,30 @@ def wrong_rows(names: list[str], rows: list[Row]) -> Iterator[str]:
             places[name] = row.place
     for name in sorted(set(names) - set(places)):
         yield f"checks/wrong_bodies/{name.split('/')[0]}/meanings.txt has no line for {name}"
+
+
+def unknown_clauses(rows: list[Row], top: pathlib.Path = TOP) -> Iterator[str]:
+    """What a line says of the contract of a function, where no clause, field or definition of the
+    function's crate is named so. Raises OSError.
+    """
+    for row in rows:
+        functions, clauses = declared(row.crate, top)
+        for cited in CITED.finditer(row.refused_by):
+            for clause in re.findall(r"`(\w+)`", cited["clauses"]):
+                if cited["function"] in functions and clause not in clauses:
+                    yield f"{row.place}: `{cited['function']}` has no clause `{clause}`"
+
+
+@functools.cache
+def declared(crate: str, top: pathlib.Path) -> tuple[set[str], set[str]]:
+    """The functions of a crate, and the names of its clauses, fields and definitions. Raises
+    OSError.
+    """
+    functions: set[str] = set()
+    clauses: set[str] = set()
+    folder = top / "crates" / crate
+    for file in [*folder.glob("src/**/*.rt"), *folder.glob("specs/**/*.antt")]:
+        text = file.read_text(encoding="utf-8")
+        functions.update(re.findall(r"\bfn (\w+)", text))
+        clauses.update(*CLAUSE.findall(text))
+    return functions, clauses

@@ -11,6 +11,7 @@ import time
 
 
 def main() -> int:
+    """Runs a command and writes what it took; answers its status."""
     begin = time.perf_counter()
     child = os.spawnv(os.P_NOWAIT, sys.argv[2], sys.argv[2:])
     _, status, usage = os.wait4(child, 0)

@@ -230,6 +230,7 @@ def chosen(names: list[str]) -> list[Part]:
 
 
 def main() -> int:
+    """Runs the parts that are asked for; answers the status."""
     parser = argparse.ArgumentParser(prog="check", description="The test command.")
     parser.add_argument(
         "parts", nargs="*", metavar="PART", help="the parts to run (all, where none is named)"

@@ -103,7 +103,8 @@ int main() {
     const auto closing = want(board.close(), "close");
     std::printf("%zu members made %zu calls\n", members, closing.entries.size());
     for (std::size_t number = 0; number < members; number++)
-        if (closing.counts[number] != calls_of_a_member) std::printf("member %zu: %u\n", number, closing.counts[number]);
+        if (closing.counts[number] != calls_of_a_member)
+            std::printf("member %zu: %u\n", number, closing.counts[number]);
     std::printf("%zu replies are those of one auction\n", lawful(closing.entries));
     std::printf("what was shown %s\n", never_back ? "never went back, and has all calls at the end" : "went back");
     return 0;

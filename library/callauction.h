@@ -354,10 +354,10 @@ CALLAUCTION_RESULT uint32_t callauction_board_config_of(const callauction_member
  * thread; they are as many as the counts add up to; and each member's account agrees: what it saw is a beginning of the
  * history's calls, and the history's calls of its number are its own. The handles hold their members still, whose calls
  * answer CLOSED; give each up by callauction_board_leave. BAD_LENGTH where there is no handle; else NO_MEMBER where the
- * first holds none; else BAD_LENGTH where the history has room for fewer than max_calls entries, or the counts aren't as
- * many as the members; else BUSY, or CLOSED at a second close; else MISSING_MEMBER where the handles aren't as many as
- * the members; else the error of the first handle that has one: NO_MEMBER, MISSING_MEMBER where its member has another
- * number than its place, BEHIND where the account doesn't agree. */
+ * first holds none; else BAD_LENGTH where the history has room for fewer than max_calls entries, or the counts aren't
+ * as many as the members; else BUSY, or CLOSED at a second close; else MISSING_MEMBER where the handles aren't as many
+ * as the members; else the error of the first handle that has one: NO_MEMBER, MISSING_MEMBER where its member has
+ * another number than its place, BEHIND where the account doesn't agree. */
 CALLAUCTION_RESULT uint32_t callauction_board_close(callauction_member *members, size_t member_count,
                                                     callauction_entry *entries, size_t entry_count, uint32_t *counts,
                                                     size_t count_count, size_t *written);

@@ -605,7 +605,8 @@ public:
     }
 
     Board(Board &&other) noexcept
-        : count_(std::exchange(other.count_, 0)), handles_(std::move(other.handles_)), mutex_(std::move(other.mutex_)) {}
+        : count_(std::exchange(other.count_, 0)), handles_(std::move(other.handles_)),
+          mutex_(std::move(other.mutex_)) {}
     Board &operator=(Board &&other) noexcept {
         if (this != &other) {
             leave();

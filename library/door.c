@@ -195,7 +195,8 @@ const char *callauction_version(void) { return CALLAUCTION_VERSION; }
 const char *callauction_error_text(uint32_t error) {
     switch (error) {
     case CALLAUCTION_DONE: return "done";
-    case CALLAUCTION_ERROR_BAD_BOUNDS: return "the bounds aren't 1 <= low <= high <= 1,000,000, or have over 65,536 ticks";
+    case CALLAUCTION_ERROR_BAD_BOUNDS:
+        return "the bounds aren't 1 <= low <= high <= 1,000,000, or have over 65,536 ticks";
     case CALLAUCTION_ERROR_BAD_REFERENCE: return "the reference isn't a tick from low to high";
     case CALLAUCTION_ERROR_BAD_CAPACITY: return "max_open, max_calls or the number of members is out of its limits";
     case CALLAUCTION_ERROR_NO_MEMORY: return "memory was refused";

@@ -45,6 +45,7 @@ class Clerk:
         self.rows: Rows = [line.split(",") for line in written.splitlines()]
 
     def is_so(self, chance: float) -> bool:
+        """Whether it is so, with this chance."""
         return self.dice.random() < chance
 
     # ---- replies
@@ -67,6 +68,7 @@ class Clerk:
             row[-1] = self.other_reply(row[-1])
 
     def other_reply(self, reply: str) -> str:
+        """A text in place of this reply, which differs in a number, a word or a letter."""
         dice = self.dice
         place = dice.randint(0, len(reply))
         how = dice.choice(["number", "word", "cut", "longer", "longest", "letter", "other"])
@@ -87,6 +89,7 @@ class Clerk:
         return self.dice.choice(self.rows[1:])[-1]
 
     def other_number(self, reply: str) -> str:
+        """This reply with another number, or with one more."""
         found = list(re.finditer(r"\d+", reply))
         if not found:
             return f"{reply} 1"
@@ -197,6 +200,7 @@ def journal_of(kind: str, seed: int, options: Options, text: str) -> tuple[Optio
 
 
 def main() -> None:
+    """Prints the options and the journal of a kind and a seed."""
     kind, seed = sys.argv[1], int(sys.argv[2])
     options, text = journal_of(kind, seed, *orders.order_file(kind, seed))
     print(" ".join(orders.option_words(options)), flush=True)

@@ -86,6 +86,7 @@ class Author:
         ]
 
     def limit(self) -> str:
+        """A limit: a tick, mostly of a few, the market, or none that may be."""
         if self.dice.random() < self.market:
             return "market"
         roll = self.dice.random()
@@ -95,6 +96,7 @@ class Author:
         return str(self.dice.choice(self.levels) if roll < 0.9 else self.dice.randint(low, high))
 
     def quantity(self) -> str:
+        """A quantity: mostly of a few, at times as large as may be or larger."""
         roll = self.dice.random()
         most = MOST_QUANTITY
         if roll < 0.02 or self.large and roll < 0.4:
@@ -119,6 +121,7 @@ class Author:
         return member, self.dice.choice([0, MOST_NUMBER])
 
     def entry(self) -> list[str]:
+        """The fields of a new order, without the member."""
         fields = ["enter", self.dice.choice(["bid", "ask"]), self.quantity(), self.limit()]
         if self.dice.random() < 0.3:
             fields.append("" if self.dice.random() < 0.4 else str(self.dice.randint(0, 60)))
@@ -173,6 +176,7 @@ def option_words(options: Options) -> list[str]:
 
 
 def main() -> None:
+    """Prints the options and the order file of a kind and a seed."""
     options, text = order_file(sys.argv[1], int(sys.argv[2]))
     print(" ".join(option_words(options)))
     print(text, end="")

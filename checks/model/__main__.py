@@ -10,6 +10,7 @@ from checks.model.answers import DEFAULTS, FORMS, answer
 
 
 def main() -> int:
+    """Prints what a day of standard input has to print; answers the status."""
     parser = argparse.ArgumentParser(prog="python3 -m checks.model")
     for name, default in DEFAULTS.items():
         parser.add_argument("--" + name, type=int, default=default)

@@ -253,12 +253,14 @@ class Day:
     def enter(
         self, member: int, side: str, limit: int | None, quantity: int, peak: int | None, only: str
     ) -> str:
+        """Enters an order, which is allowed: the text of its reply."""
         order = Order(self.next_id, member, side, limit, quantity, peak, only)
         self.book[order.id] = order
         self.next_id += 1
         return f"entered {order.id}"
 
     def change(self, member: int, order: int, limit: int | None, quantity: int) -> str:
+        """Changes a member's open order: the text of its reply."""
         found = self.book[order]
         kept = found.limit == limit and quantity <= found.quantity
         if not kept:
@@ -267,23 +269,28 @@ class Day:
         return "changed kept" if kept else "changed moved"
 
     def delete(self, member: int, order: int) -> str:
+        """Takes an open order out: the text of its reply."""
         del self.book[order]
         return "deleted"
 
     def status(self, member: int, order: int) -> str:
+        """The text of what is open of an order."""
         found = self.book[order]
         limit = "market" if found.limit is None else f"at {found.limit}"
         visible = found.quantity if found.peak is None else min(found.peak, found.quantity)
         return f"order {found.side} {found.quantity} {limit} visible {visible}"
 
     def ask(self, member: int) -> str:
+        """The text of what is shown."""
         return self.display()
 
     def trade(self, member: int, place: int) -> str:
+        """The text of a trade of the day, by its number from 1 on."""
         found = self.tape[place - 1]
         return f"trade {found.bid} {found.ask} {found.quantity} at {found.tick}"
 
     def uncross(self, member: int) -> str:
+        """Determines the price and executes: the text of its reply."""
         kind, tick = self.kind(), self.price()
         may_interrupt = self.range is not None and not self.extended
         if tick is not None and may_interrupt and abs(tick - self.reference) > (self.range or 0):

@@ -20,12 +20,14 @@ TABLES: pytest.StashKey[Tables] = pytest.StashKey()
 
 
 def pytest_addoption(parser: pytest.Parser) -> None:
+    """Takes the options of these tests."""
     parser.addoption("--program", help="the built program")
     parser.addoption("--library", help="what library/build wrote")
     parser.addoption("--tests", action="append", default=[], help="built tests of a crate")
 
 
 def pytest_configure(config: pytest.Config) -> None:
+    """Prepares a run by its options."""
     config.pluginmanager.register(Counts())
     none: Tables = {}
     config.stash[TABLES] = none

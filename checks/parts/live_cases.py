@@ -57,6 +57,23 @@ NO_PRICE = "no price bid - ask -\n"
 
 def spelled_talks() -> Iterator[Talk]:
     """Records in other spellings, and in pieces."""
+    yield from marked_talks()
+    yield from quoted_talks()
+    yield from cut_talks()
+    yield Talk("no bytes", [], [])
+    yield Talk("line ends alone", [], [Turn(b"\n\r\n\r\r\n\n")])
+    yield Talk(
+        "two records at once, and a half",
+        [],
+        [
+            Turn(b"1,ask\n1,ask\n1,a", f"1: {NO_PRICE}2: {NO_PRICE}"),
+            Turn(b"sk\n", f"3: {NO_PRICE}"),
+        ],
+    )
+
+
+def marked_talks() -> Iterator[Talk]:
+    """Records with byte order marks, and with other ends of lines."""
     yield Talk("byte by byte", [], byte_by_byte(b"1,ask\n", f"1: {NO_PRICE}"))
     yield Talk("a byte order mark", [], byte_by_byte(b"\xef\xbb\xbf1,ask\n", f"1: {NO_PRICE}"))
     yield Talk(
@@ -77,6 +94,10 @@ def spelled_talks() -> Iterator[Talk]:
             Turn(b"\n\r\n\n"),
         ],
     )
+
+
+def quoted_talks() -> Iterator[Talk]:
+    """Records with quotes."""
     yield Talk(
         "quotes over lines",
         [],
@@ -88,6 +109,10 @@ def spelled_talks() -> Iterator[Talk]:
         status=1,
     )
     yield Talk("a quoted word", [], byte_by_byte(b'"1","ask"\n', f"1: {NO_PRICE}"))
+
+
+def cut_talks() -> Iterator[Talk]:
+    """Last lines without an end."""
     for cut in (b"2,ask", b'1,"ask', b"\xef\xbb", b"1,delete,1", b'"'):
         yield Talk(
             f"cut off, {cut!r}",
@@ -96,16 +121,6 @@ def spelled_talks() -> Iterator[Talk]:
             Turn(b"", bad(2, "cut off")),
             status=1,
         )
-    yield Talk("no bytes", [], [])
-    yield Talk("line ends alone", [], [Turn(b"\n\r\n\r\r\n\n")])
-    yield Talk(
-        "two records at once, and a half",
-        [],
-        [
-            Turn(b"1,ask\n1,ask\n1,a", f"1: {NO_PRICE}2: {NO_PRICE}"),
-            Turn(b"sk\n", f"3: {NO_PRICE}"),
-        ],
-    )
 
 
 def bad(number: int, fault: str, record: bytes = b"", options: Options = DEFAULTS) -> str:
@@ -147,6 +162,18 @@ def bad_talks() -> Iterator[Talk]:
             Turn(b"1,ask\n", f"2: {NO_PRICE}"),
         ]
         yield Talk(f"a bad record, {record!r}", [], turns, status=1)
+    yield from late_talks()
+    journal = (EXAMPLES / "forms/opening.journal.csv").read_bytes().splitlines(keepends=True)
+    yield Talk(
+        "a journal",
+        [],
+        [Turn(journal[0], bad(1, "bad member")), Turn(journal[1], bad(2, "bad field 6"))],
+        status=1,
+    )
+
+
+def late_talks() -> Iterator[Talk]:
+    """Commands behind the last that a member may have."""
     yield Talk(
         "commands behind the last that may come",
         ["--calls", "2", "--reserve", "0"],
@@ -169,13 +196,6 @@ def bad_talks() -> Iterator[Talk]:
             Turn(b"0,ask\n0,uncross\n", f"3: {NO_PRICE}4: opening no price\n"),
             Turn(b"2,enter,bid,1,1\n", bad(7, RESERVED)),
         ],
-        status=1,
-    )
-    journal = (EXAMPLES / "forms/opening.journal.csv").read_bytes().splitlines(keepends=True)
-    yield Talk(
-        "a journal",
-        [],
-        [Turn(journal[0], bad(1, "bad member")), Turn(journal[1], bad(2, "bad field 6"))],
         status=1,
     )
 

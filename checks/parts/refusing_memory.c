@@ -1,9 +1,9 @@
 /* A heap that refuses one request for memory, and counts.
  *
  * Loaded before the C library (LD_PRELOAD), it numbers the program's requests from 1 and refuses the one that the
- * environment's REFUSED names. At the end it writes to the descriptor TALLY how many requests there were, how many blocks
- * were taken and how many were given back. What the C library asks for itself is passed on uncounted. A program that may
- * start threads ends by _exit, with no destructor, so that the tally is written there.
+ * environment's REFUSED names. At the end it writes to the descriptor TALLY how many requests there were, how many
+ * blocks were taken and how many were given back. What the C library asks for itself is passed on uncounted. A program
+ * that may start threads ends by _exit, with no destructor, so that the tally is written there.
  */
 #define _GNU_SOURCE
 #include <link.h>

@@ -1,12 +1,12 @@
 """The repository's texts as a reader meets them: no rule of checks/texts finds a fault, and each
-rule of documents finds one that is planted.
+rule of documents finds one that is planted, as that for the clauses of wrong bodies does.
 """
 import pathlib
 from collections.abc import Callable, Iterator
 
 import pytest
 
-from checks import built
+from checks import built, edits
 from checks.texts import documents, sources
 from checks.texts.tree import Tree
 
@@ -39,6 +39,7 @@ def planted(folder: pathlib.Path, **texts: str) -> Tree:
 
 
 def faults_of(rule: Rule, tree: Tree) -> list[str]:
+    """What a rule finds in a repository."""
     return [*rule(tree)]
 
 
@@ -146,6 +147,17 @@ def test_a_long_line_of_python(tmp_path: pathlib.Path, name: str) -> None:
     assert faults_of(sources.long_lines, tree) == [f"{name}:3: 101 columns, 100 at most"]
 
 
+@pytest.mark.parametrize("name, head", [
+    ("library/door.c", "/* A door. */"),
+    ("library/callauction.hpp", "// A class."),
+    ("python/pages/texts.js", "// Words."),
+    ("library/build", "#!/usr/bin/env bash"),
+])
+def test_a_long_line_of_another_language(tmp_path: pathlib.Path, name: str, head: str) -> None:
+    tree = planted(tmp_path, **{name: f"{head}\n{'a' * 120}\n{'a' * 121}\n"})
+    assert faults_of(sources.long_lines, tree) == [f"{name}:3: 121 columns, 120 at most"]
+
+
 HEADS = [
     "use one.Thing",
     "-- Answers of `f` (src/lib.rt): what the prover left open.",
@@ -159,3 +171,21 @@ def test_a_walk_without_a_head(tmp_path: pathlib.Path, head: str) -> None:
     files = {"Answers": head + "\n", "Invariants": good}
     named = {f"crates/terms/proofs/f/{name}.antt": text for name, text in files.items()}
     assert len(faults_of(sources.walks_without_a_head, planted(tmp_path, **named))) == 1
+
+
+@pytest.mark.parametrize("cited, unknown", [
+    ("`run` (`text`, `IsRun`): `kept` of both", []),
+    ("`run` (`wrote`); `run` (`gone`, `text`)", ["gone"]),
+    ("`Day::run` (`IsGone`: `wrote`)", ["IsGone"]),
+    ("`other` (`gone`), `Day`'s `view` (`gone`)", []),
+])
+def test_a_clause_that_no_contract_has(
+    tmp_path: pathlib.Path, cited: str, unknown: list[str]
+) -> None:
+    source = "pub fn run()\n    ensures text { IsRun result }\n{}\n"
+    specs = "pub record IsRun (run : Run) : Type 0 where\n  pub wrote : Wrote run\n"
+    files = {"crates/terms/src/lib.rt": source, "crates/terms/specs/Run.antt": specs}
+    tree = planted(tmp_path, **files)
+    row = edits.Row("terms", "meanings.txt:1", "wrong", "it is wrong", cited)
+    faults = [f"meanings.txt:1: `run` has no clause `{name}`" for name in unknown]
+    assert [*edits.unknown_clauses([row], tree.top)] == faults

@@ -105,6 +105,7 @@ def heap(tmp_path_factory: pytest.TempPathFactory) -> str:
 
 @pytest.fixture
 def sweep(heap: str, tables: dict[str, list[str]]) -> Sweep:
+    """What runs a case with each request of memory refused in turn."""
     def sweep_of(
         name: str, words: list[str], data: bytes, is_right: Test, is_refusal: Test
     ) -> None:

@@ -113,6 +113,7 @@ def dead_words(tree: Tree, text: str) -> list[str]:
 
 
 def dead_names(tree: Tree) -> Iterator[str]:
+    """Names in backticks that the repository has nowhere."""
     made = [file for file in tree.files if tree.name(file) == "docs/WRONG_BODIES.md"]
     for file in [*tree.documents, *made]:
         for place, text in spans(tree, file):
@@ -124,6 +125,7 @@ def dead_names(tree: Tree) -> Iterator[str]:
 
 
 def forbidden_words(tree: Tree) -> Iterator[str]:
+    """Words of FORBIDDEN, and sentences that begin with That and have no second verb."""
     for file in tree.documents:
         for place, line in prose(tree, file):
             for pattern, better in FORBIDDEN.items():
@@ -135,6 +137,7 @@ def forbidden_words(tree: Tree) -> Iterator[str]:
 
 
 def sizes(tree: Tree) -> Iterator[str]:
+    """Documents that together have more than MOST_BYTES."""
     counts = {tree.name(file): file.stat().st_size for file in tree.documents}
     if sum(counts.values()) > MOST_BYTES:
         told = ", ".join(f"{name} {count}" for name, count in counts.items())
@@ -148,6 +151,7 @@ def kit() -> str:
 
 
 def kits(tree: Tree) -> Iterator[str]:
+    """Documents that name kits, and not that of rt version."""
     if shutil.which("rt") is None:
         yield "there is no rt: the kits that documents name can't be compared"
         return

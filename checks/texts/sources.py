@@ -1,8 +1,8 @@
 """Rules for the texts of crates and of Python: each gives its faults as `FILE:LINE: ..` or
 `FILE: ..`.
 
-- A line of crates/*/src, crates/*/specs or crates/*/proofs has at most 120 characters, one of
-  Python at most 100.
+- A line of crates/*/src, crates/*/specs or crates/*/proofs, of C, C++, JavaScript or a shell has at
+  most 120 characters, one of Python at most 100.
 - No name of a file is shared by specs or proofs of two crates, but for Lib, Answers, Invariants and
   Proof, and for the folders of proofs that are named as a module or a function.
 - No file is named `..Lemmas.antt`: we say Laws.
@@ -50,7 +50,8 @@ BLOCK = re.compile(MODIFIERS + r"(?P<word>module|record|data)\b")
 
 
 def long_lines(tree: Tree) -> Iterator[str]:
-    most = dict.fromkeys([*tree.sources, *tree.specs, *tree.proofs], MOST_COLUMNS)
+    """Lines with more columns than their file may have."""
+    most = dict.fromkeys([*tree.sources, *tree.specs, *tree.proofs, *tree.others], MOST_COLUMNS)
     most |= dict.fromkeys(tree.python, MOST_COLUMNS_OF_PYTHON)
     for file, columns in most.items():
         for place, line in enumerate(tree.lines(file), 1):
@@ -59,6 +60,7 @@ def long_lines(tree: Tree) -> Iterator[str]:
 
 
 def shared_names(tree: Tree) -> Iterator[str]:
+    """Names of files of specs or proofs that two crates have."""
     files: dict[str, list[pathlib.Path]] = collections.defaultdict(list)
     for file in [*tree.specs, *tree.proofs]:
         if file.stem not in SHARED and not tree.is_of_function(file):
@@ -69,6 +71,7 @@ def shared_names(tree: Tree) -> Iterator[str]:
 
 
 def walks_without_a_head(tree: Tree) -> Iterator[str]:
+    """Proofs of functions whose first line does not say what they belong to."""
     for file in filter(tree.is_of_function, tree.proofs):
         head = HEAD.fullmatch(tree.lines(file)[0])
         if head is None:
@@ -78,6 +81,7 @@ def walks_without_a_head(tree: Tree) -> Iterator[str]:
 
 
 def lemma_files(tree: Tree) -> Iterator[str]:
+    """Files that are named as lemmas."""
     for file in [*tree.specs, *tree.proofs]:
         if file.stem.endswith("Lemmas"):
             yield f"{tree.name(file)}: we say Laws, and not Lemmas"
@@ -100,6 +104,7 @@ def lemmas_of(lines: list[str]) -> Iterator[tuple[int, str]]:
 
 
 def near_names(tree: Tree) -> Iterator[str]:
+    """Lemmas whose names differ by hyphens and underscores alone."""
     places: dict[str, dict[str, str]] = collections.defaultdict(dict)
     for file in [*tree.specs, *tree.proofs]:
         if file.stem in SHARED:
@@ -114,6 +119,7 @@ def near_names(tree: Tree) -> Iterator[str]:
 
 
 def names_of_two_crates(tree: Tree) -> Iterator[str]:
+    """Types and definitions whose name two crates have."""
     places: dict[str, dict[str, str]] = collections.defaultdict(dict)
     for file in [*tree.sources, *tree.specs, *tree.proofs]:
         pattern = TYPE if file.suffix == ".rt" else DEFINED
@@ -130,6 +136,7 @@ def names_of_two_crates(tree: Tree) -> Iterator[str]:
 
 
 def names_of_before(tree: Tree) -> Iterator[str]:
+    """Names that banned.NAMES has."""
     for file in tree.code:
         text = tree.text(file)
         for found in banned.ANY.finditer(text):
@@ -155,6 +162,7 @@ def plain(line: str) -> str:
 
 
 def retyped_limits(tree: Tree) -> Iterator[str]:
+    """Numbers of LIMITS, and constants of them that are declared twice."""
     declared: dict[str, str] = {}
     for file in [*tree.sources, *tree.specs, *tree.proofs]:
         if is_test(tree, file):

@@ -4,6 +4,7 @@ import pathlib
 import subprocess
 
 CODE = {".rt", ".antt", ".edit", ".py", ".c", ".h"}
+OTHERS = {".c", ".h", ".cpp", ".hpp", ".js"}
 OWN = pathlib.PurePath("checks/texts")
 
 
@@ -47,6 +48,18 @@ class Tree:
             file
             for file in self.files
             if file.suffix == ".py" or not file.suffix and self.is_script(file, b"python")
+        ]
+
+    @functools.cached_property
+    def others(self) -> list[pathlib.Path]:
+        """The files of C, C++ and JavaScript, and scripts without a suffix for a shell, but for
+        those in folders that begin with a dot.
+        """
+        return [
+            file
+            for file in self.files
+            if (file.suffix in OTHERS or not file.suffix and self.is_script(file, b"sh"))
+            and not self.name(file).startswith(".")
         ]
 
     @functools.cached_property

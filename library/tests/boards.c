@@ -165,7 +165,8 @@ static void full(void) {
 static void looks_show_all(bool is_watched) {
     callauction_config config = {1, 1000, 200, 8, 8, 0, 0};
     callauction_member members[3] = {{0}};
-    callauction_command enter = {.tag = CALLAUCTION_COMMAND_ENTER, .side = CALLAUCTION_SIDE_BID, .quantity = 5, .has_limit = 1};
+    callauction_command enter = {.tag = CALLAUCTION_COMMAND_ENTER, .side = CALLAUCTION_SIDE_BID, .quantity = 5};
+    enter.has_limit = 1;
     callauction_entry entries[8];
     callauction_receipt receipt;
     callauction_shown shown;

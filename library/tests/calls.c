@@ -16,7 +16,8 @@ enum { LOW = 190, HIGH = 210, TICKS = HIGH - LOW + 1 };
 static const callauction_config usual = {LOW, HIGH, 200, 8, 20, 0, 0};
 
 static callauction_command order(uint8_t member, uint8_t side, uint32_t tick, uint64_t quantity) {
-    callauction_command command = {.member = member, .tag = CALLAUCTION_COMMAND_ENTER, .side = side, .quantity = quantity};
+    callauction_command command = {.member = member, .tag = CALLAUCTION_COMMAND_ENTER, .side = side};
+    command.quantity = quantity;
     command.has_limit = tick != 0;
     command.limit = tick;
     return command;
@@ -67,7 +68,8 @@ static void a_handle_of_zeros(void) {
     WANT(callauction_reset(&none) == CALLAUCTION_ERROR_NO_AUCTION);
     WANT(callauction_clone(&none, &second) == CALLAUCTION_ERROR_NO_AUCTION);
     WANT(callauction_calls(&second, &calls) == CALLAUCTION_ERROR_NO_AUCTION);
-    WANT(callauction_close(&none) == CALLAUCTION_ERROR_NO_AUCTION && callauction_close(&none) == CALLAUCTION_ERROR_NO_AUCTION);
+    WANT(callauction_close(&none) == CALLAUCTION_ERROR_NO_AUCTION &&
+         callauction_close(&none) == CALLAUCTION_ERROR_NO_AUCTION);
 }
 
 /* Each fault of an opening, at its edges, in the order in which they are looked for. */
@@ -104,7 +106,8 @@ static void openings(void) {
     WANT(callauction_open(&auction, &usual) == CALLAUCTION_ERROR_IN_USE);
     WANT(callauction_open(&auction, &bad) == CALLAUCTION_ERROR_IN_USE);
     WANT(callauction_config_of(&auction, &config) == CALLAUCTION_DONE && memcmp(&config, &usual, sizeof usual) == 0);
-    WANT(callauction_close(&auction) == CALLAUCTION_DONE && callauction_close(&auction) == CALLAUCTION_ERROR_NO_AUCTION);
+    WANT(callauction_close(&auction) == CALLAUCTION_DONE &&
+         callauction_close(&auction) == CALLAUCTION_ERROR_NO_AUCTION);
     opened(&auction);
     WANT(callauction_close(&auction) == CALLAUCTION_DONE);
 }
@@ -113,7 +116,11 @@ static void openings(void) {
 static void the_config(void) {
     callauction_handle auction = {0};
     callauction_config ranged = {LOW, HIGH, 200, 8, 20, 1, 3}, config;
-    const callauction_config bad[] = {{LOW, HIGH, 200, 8, 20, 7, 3}, {LOW, HIGH, 200, 8, 20, 0, 3}, {0, 0, 0, 0, 0, 2, 0}};
+    const callauction_config bad[] = {
+        {LOW, HIGH, 200, 8, 20, 7, 3},
+        {LOW, HIGH, 200, 8, 20, 0, 3},
+        {0, 0, 0, 0, 0, 2, 0},
+    };
     for (size_t i = 0; i < sizeof bad / sizeof *bad; i++)
         WANT(callauction_open(&auction, &bad[i]) == CALLAUCTION_ERROR_NO_CONFIG);
     WANT(callauction_open(&auction, &ranged) == CALLAUCTION_DONE);
@@ -144,7 +151,8 @@ static void no_commands(void) {
     for (size_t i = 0; i < sizeof bad / sizeof *bad; i++)
         WANT(callauction_apply(&auction, &bad[i], &reply) == CALLAUCTION_ERROR_NO_COMMAND);
     WANT(reply.tag == 99 && reply.id == 7 && calls_of(&auction) == 1);
-    callauction_command ask = {.tag = CALLAUCTION_COMMAND_INDICATE, .side = 9, .restriction = 9, .has_limit = 9, .has_peak = 9};
+    callauction_command ask = {.tag = CALLAUCTION_COMMAND_INDICATE, .side = 9, .restriction = 9};
+    ask.has_limit = ask.has_peak = 9;
     reply = applied(&auction, ask);
     WANT(reply.tag == CALLAUCTION_REPLY_UNPRICED);
     WANT(reply.has_best_bid == 1 && reply.best_bid == 200 && reply.has_best_ask == 0);
@@ -159,7 +167,8 @@ static void a_full_auction(void) {
     opened(&auction);
     for (uint32_t i = 0; i < usual.max_calls; i++) applied(&auction, ask);
     WANT(callauction_apply(&auction, &ask, &reply) == CALLAUCTION_ERROR_FULL && reply.tag == 99);
-    WANT(callauction_apply(&auction, &none, &reply) == CALLAUCTION_ERROR_NO_COMMAND && calls_of(&auction) == usual.max_calls);
+    WANT(callauction_apply(&auction, &none, &reply) == CALLAUCTION_ERROR_NO_COMMAND &&
+         calls_of(&auction) == usual.max_calls);
     WANT(callauction_display(&auction, &reply) == CALLAUCTION_DONE && reply.tag == CALLAUCTION_REPLY_UNPRICED);
     WANT(callauction_reset(&auction) == CALLAUCTION_DONE && calls_of(&auction) == 0);
     WANT(applied(&auction, ask).tag == CALLAUCTION_REPLY_UNPRICED && calls_of(&auction) == 1);
@@ -217,8 +226,12 @@ static void every_reply(void) {
 static void many(void) {
     callauction_handle auction = {0};
     callauction_command commands[6] = {
-        order(1, CALLAUCTION_SIDE_BID, 200, 5), order(2, CALLAUCTION_SIDE_ASK, 200, 5), other(1, CALLAUCTION_COMMAND_INDICATE, 0),
-        {.tag = 9},                             other(1, CALLAUCTION_COMMAND_DELETE, 1),        other(1, CALLAUCTION_COMMAND_INDICATE, 0),
+        order(1, CALLAUCTION_SIDE_BID, 200, 5),
+        order(2, CALLAUCTION_SIDE_ASK, 200, 5),
+        other(1, CALLAUCTION_COMMAND_INDICATE, 0),
+        {.tag = 9},
+        other(1, CALLAUCTION_COMMAND_DELETE, 1),
+        other(1, CALLAUCTION_COMMAND_INDICATE, 0),
     };
     callauction_reply replies[6];
     size_t done = 77;
@@ -229,10 +242,12 @@ static void many(void) {
     WANT(calls_of(&auction) == 0 && replies[0].tag == 0xAA);
     WANT(callauction_apply_many(&auction, NULL, 0, NULL, 0, &done) == CALLAUCTION_DONE && done == 0);
     WANT(callauction_apply_many(&auction, commands, 6, replies, 6, &done) == CALLAUCTION_ERROR_NO_COMMAND && done == 3);
-    WANT(replies[0].id == 1 && replies[1].id == 2 && replies[2].tag == CALLAUCTION_REPLY_PRICED && replies[3].tag == 0xAA);
+    WANT(replies[0].id == 1 && replies[1].id == 2 &&
+         replies[2].tag == CALLAUCTION_REPLY_PRICED && replies[3].tag == 0xAA);
     WANT(calls_of(&auction) == 3);
     WANT(callauction_apply_many(&auction, commands + 4, 2, replies + 4, 2, &done) == CALLAUCTION_DONE && done == 2);
-    WANT(replies[4].tag == CALLAUCTION_REPLY_DELETED && replies[5].tag == CALLAUCTION_REPLY_UNPRICED && calls_of(&auction) == 5);
+    WANT(replies[4].tag == CALLAUCTION_REPLY_DELETED &&
+         replies[5].tag == CALLAUCTION_REPLY_UNPRICED && calls_of(&auction) == 5);
     WANT(callauction_close(&auction) == CALLAUCTION_DONE);
 }
 
@@ -298,7 +313,8 @@ static void copies(void) {
     WANT(here.tag == CALLAUCTION_REPLY_PRICED && here.volume == 5);
     WANT(callauction_display(&copy, &there) == CALLAUCTION_DONE && there.tag == CALLAUCTION_REPLY_UNPRICED);
     WANT(calls_of(&auction) == 2 && calls_of(&copy) == 3);
-    WANT(callauction_clone(&third, &copy) == CALLAUCTION_ERROR_NO_AUCTION && callauction_reset(&auction) == CALLAUCTION_DONE);
+    WANT(callauction_clone(&third, &copy) == CALLAUCTION_ERROR_NO_AUCTION &&
+         callauction_reset(&auction) == CALLAUCTION_DONE);
     WANT(applied(&copy, other(1, CALLAUCTION_COMMAND_READ_TRADE, 1)).quantity == 5);
     WANT(callauction_close(&auction) == CALLAUCTION_DONE);
     WANT(applied(&copy, order(3, CALLAUCTION_SIDE_BID, 0, 1)).id == 3);
@@ -347,7 +363,8 @@ static void copies_over_another(void) {
 static void the_orders(void) {
     static const uint32_t all[] = {4, 3, 5, 1, 6, 2}, of_2[] = {6, 2}, left[] = {3, 5, 1};
     callauction_handle auction = {0};
-    callauction_command waiting = order(2, CALLAUCTION_SIDE_ASK, 195, 9), iceberg = order(1, CALLAUCTION_SIDE_BID, 200, 50);
+    callauction_command waiting = order(2, CALLAUCTION_SIDE_ASK, 195, 9);
+    callauction_command iceberg = order(1, CALLAUCTION_SIDE_BID, 200, 50);
     callauction_order orders[8], before[8];
     size_t copied = 77;
     waiting.restriction = CALLAUCTION_RESTRICTION_OPENING_ONLY;
@@ -370,7 +387,8 @@ static void the_orders(void) {
     memset(before, 0xAA, sizeof before);
     WANT(callauction_orders(&auction, 2, orders, 1, &copied) == CALLAUCTION_DONE && copied == 1);
     WANT(orders[0].id == of_2[0] && memcmp(&orders[1], &before[1], sizeof *orders) == 0);
-    WANT(callauction_orders(&auction, 2, orders, 8, &copied) == CALLAUCTION_DONE && copied == 2 && orders[1].id == of_2[1]);
+    WANT(callauction_orders(&auction, 2, orders, 8, &copied) == CALLAUCTION_DONE &&
+         copied == 2 && orders[1].id == of_2[1]);
     WANT(callauction_orders(&auction, 255, NULL, 0, &copied) == CALLAUCTION_DONE && copied == 0);
     WANT(callauction_orders(&auction, 257, orders, 8, &copied) == CALLAUCTION_ERROR_BAD_MEMBER && copied == 0);
     WANT(callauction_orders(&auction, UINT32_MAX, orders, 8, &copied) == CALLAUCTION_ERROR_BAD_MEMBER);

@@ -38,7 +38,8 @@ static bool plays(callauction_handle *auction) {
 static int opens(bool has_day) {
     callauction_handle auction = {0}, copy = {0}, none = {0};
     uint32_t answer = callauction_open(&auction, &config);
-    if (answer == CALLAUCTION_ERROR_NO_MEMORY) return memcmp(&auction, &none, sizeof none) ? leave("a handle changed") : 3;
+    if (answer == CALLAUCTION_ERROR_NO_MEMORY)
+        return memcmp(&auction, &none, sizeof none) ? leave("a handle changed") : 3;
     if (answer != CALLAUCTION_DONE) return leave("another answer of an opening");
     if (has_day && !plays(&auction)) return leave("the day went otherwise");
     answer = callauction_clone(&auction, &copy);
@@ -72,7 +73,8 @@ static int lists(void) {
     uint32_t answer = callauction_open(&auction, &config);
     if (answer != CALLAUCTION_DONE) return answer == CALLAUCTION_ERROR_NO_MEMORY ? 3 : leave("another answer");
     for (uint32_t i = 0; i < 6; i++) {
-        callauction_command command = {.tag = CALLAUCTION_COMMAND_ENTER, .side = (uint8_t)(1 + i % 2), .quantity = 1 + i};
+        callauction_command command = {.tag = CALLAUCTION_COMMAND_ENTER, .quantity = 1 + i};
+        command.side = (uint8_t)(1 + i % 2);
         command.restriction = i > 3 ? CALLAUCTION_RESTRICTION_OPENING_ONLY : CALLAUCTION_RESTRICTION_NONE;
         if (callauction_apply(&auction, &command, &reply) != CALLAUCTION_DONE) return leave("not entered");
     }

@@ -64,7 +64,8 @@ bool read_record(char *record, callauction_command *command) {
     if (strcmp(fields[1], "enter") == 0) return read_enter(count, fields, command);
     if (strcmp(fields[1], "change") == 0) return read_change(count, fields, command);
     if (strcmp(fields[1], "delete") == 0) return read_numbered(count, fields, CALLAUCTION_COMMAND_DELETE, command);
-    if (strcmp(fields[1], "status") == 0) return read_numbered(count, fields, CALLAUCTION_COMMAND_ORDER_STATUS, command);
+    if (strcmp(fields[1], "status") == 0)
+        return read_numbered(count, fields, CALLAUCTION_COMMAND_ORDER_STATUS, command);
     if (strcmp(fields[1], "trade") == 0) return read_numbered(count, fields, CALLAUCTION_COMMAND_READ_TRADE, command);
     command->tag = strcmp(fields[1], "ask") == 0 ? CALLAUCTION_COMMAND_INDICATE : CALLAUCTION_COMMAND_UNCROSS;
     return count == 2 && (command->tag == CALLAUCTION_COMMAND_INDICATE || strcmp(fields[1], "uncross") == 0);

@@ -8,7 +8,7 @@
         print(auction.indicate(1), auction.uncross())
 
 docs/LIBRARY.md has the calls, the errors, and what is proved; docs/MODEL.md has the rules. Tables,
-pictures, sentences and files from elsewhere: python/README.md.
+pictures, sentences, reports and extracts of other systems: python/README.md.
 """
 import importlib
 from typing import TYPE_CHECKING
@@ -27,7 +27,7 @@ if TYPE_CHECKING:
         NotAppliedError,
         RefusedError,
     )
-    from callauction.gains import Gains, surplus
+    from callauction.gains import Gains, gains_of
     from callauction.outcomes import Played
     from callauction.reading import reply_of
     from callauction.reasons import explain
@@ -36,7 +36,7 @@ if TYPE_CHECKING:
     from callauction.tables import audit, read_book, read_journal, read_trades
     from callauction.verdict import audit_auction, audit_events
     from callauction.words import (
-        Indicate,
+        AuctionKind,
         Change,
         Changed,
         Command,
@@ -46,29 +46,29 @@ if TYPE_CHECKING:
         Deleted,
         Enter,
         Entered,
-        Restriction,
+        Indicate,
         Interrupted,
-        AuctionKind,
-        Market,
+        MarketOrders,
         NoPrice,
+        OpenOrder,
+        OrderStatus,
         Price,
+        ReadTrade,
         Refusal,
         Refused,
         Reply,
         ReplyTag,
+        Restriction,
         Side,
-        OpenOrder,
-        OrderStatus,
-        ReadTrade,
         Traded,
         Uncross,
         Uncrossed,
     )
 
 __all__ = [
-    "Indicate",
     "Auction",
     "AuctionError",
+    "AuctionKind",
     "Board",
     "BusyError",
     "COMMAND",
@@ -83,20 +83,22 @@ __all__ = [
     "ENTRY",
     "Enter",
     "Entered",
-    "Restriction",
     "FullError",
     "Gains",
+    "Indicate",
     "Interrupted",
-    "AuctionKind",
-    "Market",
+    "MarketOrders",
     "Member",
     "NoCommandError",
     "NoPrice",
     "NotAppliedError",
     "ORDER",
+    "OpenOrder",
+    "OrderStatus",
     "Played",
     "Price",
     "REPLY",
+    "ReadTrade",
     "Receipt",
     "RecordedAuction",
     "Refusal",
@@ -104,12 +106,10 @@ __all__ = [
     "RefusedError",
     "Reply",
     "ReplyTag",
+    "Restriction",
     "Shown",
     "Side",
-    "OpenOrder",
-    "OrderStatus",
     "TRADE",
-    "ReadTrade",
     "Traded",
     "Uncross",
     "Uncrossed",
@@ -117,6 +117,7 @@ __all__ = [
     "audit_auction",
     "audit_events",
     "explain",
+    "gains_of",
     "journal",
     "plot",
     "read_book",
@@ -125,7 +126,6 @@ __all__ = [
     "refusals",
     "reply_of",
     "report",
-    "surplus",
     "verdict",
 ]
 
@@ -140,11 +140,11 @@ _LATER = {
     "audit_auction": "verdict",
     "audit_events": "verdict",
     "explain": "reasons",
+    "gains_of": "gains",
     "read_book": "tables",
     "read_journal": "tables",
     "read_trades": "tables",
     "refusals": "refused",
-    "surplus": "gains",
 }
 _PLACES = ("words", "arrays", "errors", "reading", "auction", "board")
 

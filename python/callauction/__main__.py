@@ -47,6 +47,7 @@ class Parser(argparse.ArgumentParser):
     """A parser whose errors are one line."""
 
     def error(self, message: str) -> NoReturn:
+        """Prints the fault on standard error, and ends with BAD_DAY."""
         self.exit(BAD_DAY, f"{self.prog}: {message}\n")
 
 
@@ -76,6 +77,7 @@ def _told(text: str, status: int) -> int:
 
 
 def _parser() -> argparse.ArgumentParser:
+    """What reads the command line: a command with its options."""
     parser = Parser(
         prog="callauction", description="Pictures, reports and audits of a day of call auctions."
     )
@@ -98,13 +100,8 @@ def _parser() -> argparse.ArgumentParser:
         made[name].set_defaults(run=run)
     for name in ("report", "plot", "convert"):
         made[name].add_argument("-o", "--output", required=True, help="the file to write")
-    _add_day(made["plot"], OPTIONS)
+    _add_pictures(made["plot"])
     _add_day(made["report"], [name for name in OPTIONS if name not in CONVERTED])
-    made["plot"].add_argument("--command", type=int, help="the uncross, by its number")
-    pictures = made["plot"].add_mutually_exclusive_group()
-    pictures.add_argument("--course", action="store_true", help="draw the course of the day")
-    pictures.add_argument("--allocation", action="store_true", help="draw who trades with whom")
-    made["plot"].add_argument("--tick-size", help="the step between two prices, for prices as axes")
     made["report"].add_argument(
         "--worth", help="of a day: a CSV file with the columns order and value, in ticks"
     )
@@ -120,6 +117,16 @@ def _parser() -> argparse.ArgumentParser:
 
 
 _AFTER = "docs/FORMATS.md has order files, journals and statuses; docs/AUDIT.md has extracts."
+
+
+def _add_pictures(parser: argparse.ArgumentParser) -> None:
+    """The options of a picture: of its day, and which one it is."""
+    _add_day(parser, OPTIONS)
+    parser.add_argument("--command", type=int, help="the uncross, by its number")
+    pictures = parser.add_mutually_exclusive_group()
+    pictures.add_argument("--course", action="store_true", help="draw the course of the day")
+    pictures.add_argument("--allocation", action="store_true", help="draw who trades with whom")
+    parser.add_argument("--tick-size", help="the step between two prices, for prices as axes")
 
 
 def _add_day(parser: argparse.ArgumentParser, names: Iterable[str]) -> None:

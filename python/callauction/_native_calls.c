@@ -33,7 +33,8 @@ static callauction_reply reply_to(python_auction *own, callauction_command comma
 
 int64_t python_enter(python_auction *own, uint8_t member, uint64_t quantity, uint32_t limit, uint64_t peak,
                      uint8_t side, uint8_t restriction, uint8_t has) {
-    callauction_command command = {.tag = CALLAUCTION_COMMAND_ENTER, .member = member, .quantity = quantity, .limit = limit};
+    callauction_command command = {.tag = CALLAUCTION_COMMAND_ENTER, .member = member, .quantity = quantity};
+    command.limit = limit;
     command.peak = peak;
     command.side = side;
     command.restriction = restriction;
@@ -57,15 +58,15 @@ callauction_reply python_delete(python_auction *own, uint8_t member, uint32_t id
     return reply_to(own, (callauction_command){.tag = CALLAUCTION_COMMAND_DELETE, .member = member, .id = id});
 }
 
-callauction_reply python_status(python_auction *own, uint8_t member, uint32_t id) {
+callauction_reply python_order_status(python_auction *own, uint8_t member, uint32_t id) {
     return reply_to(own, (callauction_command){.tag = CALLAUCTION_COMMAND_ORDER_STATUS, .member = member, .id = id});
 }
 
-callauction_reply python_ask(python_auction *own, uint8_t member) {
+callauction_reply python_indicate(python_auction *own, uint8_t member) {
     return reply_to(own, (callauction_command){.tag = CALLAUCTION_COMMAND_INDICATE, .member = member});
 }
 
-callauction_reply python_trade(python_auction *own, uint8_t member, uint32_t number) {
+callauction_reply python_read_trade(python_auction *own, uint8_t member, uint32_t number) {
     return reply_to(own, (callauction_command){.tag = CALLAUCTION_COMMAND_READ_TRADE, .member = member, .id = number});
 }
 

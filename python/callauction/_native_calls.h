@@ -32,9 +32,9 @@ int64_t python_enter(python_auction *own, uint8_t member, uint64_t quantity, uin
 callauction_reply python_change(python_auction *own, uint8_t member, uint32_t id, uint64_t quantity, uint32_t limit,
                                 uint8_t has);
 callauction_reply python_delete(python_auction *own, uint8_t member, uint32_t id);
-callauction_reply python_status(python_auction *own, uint8_t member, uint32_t id);
-callauction_reply python_ask(python_auction *own, uint8_t member);
-callauction_reply python_trade(python_auction *own, uint8_t member, uint32_t number);
+callauction_reply python_order_status(python_auction *own, uint8_t member, uint32_t id);
+callauction_reply python_indicate(python_auction *own, uint8_t member);
+callauction_reply python_read_trade(python_auction *own, uint8_t member, uint32_t number);
 callauction_reply python_uncross(python_auction *own, uint8_t member);
 
 /* ---- the others, as those of callauction.h, with PYTHON_BUSY ---- */

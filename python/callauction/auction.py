@@ -1,7 +1,7 @@
 """An auction in this process: see Auction."""
 import inspect
 from types import TracebackType
-from typing import Any, Self
+from typing import Any, Self, cast
 
 import numpy
 
@@ -20,7 +20,6 @@ from callauction.reading import (
     read,
 )
 from callauction.words import (
-    Indicate,
     Change,
     Changed,
     Command,
@@ -29,18 +28,19 @@ from callauction.words import (
     Deleted,
     Enter,
     Entered,
-    Restriction,
+    Indicate,
     Interrupted,
-    Market,
+    MarketOrders,
     NoPrice,
+    OpenOrder,
+    OrderStatus,
     Price,
+    ReadTrade,
     Refused,
     Reply,
     ReplyTag,
+    Restriction,
     Side,
-    OpenOrder,
-    OrderStatus,
-    ReadTrade,
     Traded,
     Uncross,
     Uncrossed,
@@ -54,7 +54,7 @@ _ID, _NUMBER, _MEMBER = ("member", "id"), ("member", "number"), ("member",)
 _BID, _ASK = Side.BID, Side.ASK
 _PRICED = int(ReplyTag.PRICED)
 _HAS_LIMIT, _HAS_PEAK = int(lib.PYTHON_HAS_LIMIT), int(lib.PYTHON_HAS_PEAK)
-_enter, _ask = lib.python_enter, lib.python_ask
+_enter, _indicate = lib.python_enter, lib.python_indicate
 _AT_ONCE = 1024
 """How many trades are copied by one call of the library."""
 _ALL_MEMBERS = int(lib.CALLAUCTION_ALL_MEMBERS)
@@ -208,31 +208,30 @@ class Auction:
         """
         tick, has = (0, 0) if limit is None else (limit, _HAS_LIMIT)
         given = (member, id, quantity, tick, has)
-        reply: Changed | Refused = self._applied(lib.python_change, _CHANGE, given, check)
-        return reply
+        reply = self._applied(lib.python_change, _CHANGE, given, check)
+        return cast("Changed | Refused", reply)
 
     def delete(self, member: int, id: int, *, check: bool = False) -> Deleted | Refused:
         """Takes the member's order with this id out."""
-        reply: Deleted | Refused = self._applied(lib.python_delete, _ID, (member, id), check)
-        return reply
+        reply = self._applied(lib.python_delete, _ID, (member, id), check)
+        return cast("Deleted | Refused", reply)
 
     def order_status(self, member: int, id: int, *, check: bool = False) -> OpenOrder | Refused:
         """What is open of the member's order with this id."""
-        reply: OpenOrder | Refused = self._applied(lib.python_status, _ID, (member, id), check)
-        return reply
+        reply = self._applied(lib.python_order_status, _ID, (member, id), check)
+        return cast("OpenOrder | Refused", reply)
 
     def indicate(self, member: int, *, check: bool = False) -> Price | NoPrice | Refused:
         """The indicative price, or the best bid and ask where there is none."""
         if type(member) is not int:
             (member,) = numbers(_MEMBER, (member,))
         try:
-            found = _ask(self._own, member)
+            found = _indicate(self._own, member)
         except OverflowError:
             raise fault_of(_MEMBER, (member,)) from None
         if found.tag == _PRICED:
             return price(found)
-        reply: NoPrice | Refused = read(found, check)
-        return reply
+        return cast("NoPrice | Refused", read(found, check))
 
     def uncross(
         self, member: int = 0, *, check: bool = False
@@ -240,14 +239,13 @@ class Auction:
         """Determines the price and executes. The next call phase follows at once; after the closing
         auction the day is over.
         """
-        reply: Uncrossed | Interrupted | Refused
         reply = self._applied(lib.python_uncross, _MEMBER, (member,), check)
-        return reply
+        return cast("Uncrossed | Interrupted | Refused", reply)
 
     def read_trade(self, member: int, number: int, *, check: bool = False) -> Traded | Refused:
         """The trade of the day with this number, from 1 on."""
-        reply: Traded | Refused = self._applied(lib.python_trade, _NUMBER, (member, number), check)
-        return reply
+        reply = self._applied(lib.python_read_trade, _NUMBER, (member, number), check)
+        return cast("Traded | Refused", reply)
 
     def apply(self, member: int, command: Command, *, check: bool = False) -> Reply:
         """Applies a command. Raises TypeError where it is none of Command."""
@@ -302,11 +300,10 @@ class Auction:
     # ---- what is shown
 
     def display(self) -> Price | NoPrice:
-        """What `ask` shows, without a member and not counted as a call; after the day too."""
+        """As `indicate`, but without a member and not counted as a call; after the day too."""
         shown = ffi.new("callauction_reply *")
         self._call(lib.python_display, shown)
-        found: Price | NoPrice = read(shown)
-        return found
+        return cast("Price | NoPrice", read(shown))
 
     def ladder(self) -> tuple[Shares, Shares]:
         """The shares bid and the shares offered by the orders that count, with a limit at each tick
@@ -315,7 +312,7 @@ class Auction:
         bids, asks, _ = self._ladder()
         return bids, asks
 
-    def market(self) -> Market:
+    def market_orders(self) -> MarketOrders:
         """The shares of the market orders that count."""
         _, _, market = self._ladder()
         return market
@@ -438,7 +435,7 @@ class Auction:
 
     def _applied(
         self, function: Any, names: tuple[str, ...], given: tuple[object, ...], check: bool
-    ) -> Any:
+    ) -> Reply:
         """The reply to the command that this call of the library applies, with the numbers given,
         which have these names.
         """
@@ -452,7 +449,7 @@ class Auction:
             raise fault_of(names, given) from None
         return read(reply, check)
 
-    def _ladder(self) -> tuple[Shares, Shares, Market]:
+    def _ladder(self) -> tuple[Shares, Shares, MarketOrders]:
         config = self.config
         ticks = config.high - config.low + 1
         bids, asks = numpy.zeros(ticks, numpy.uint64), numpy.zeros(ticks, numpy.uint64)
@@ -464,4 +461,4 @@ class Auction:
             ticks,
             market,
         )
-        return bids, asks, Market(market.bids, market.asks)
+        return bids, asks, MarketOrders(market.bids, market.asks)

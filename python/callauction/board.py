@@ -2,7 +2,7 @@
 import builtins
 import dataclasses
 from types import TracebackType
-from typing import TYPE_CHECKING, Any, Self
+from typing import TYPE_CHECKING, Any, Self, cast
 
 import numpy
 
@@ -19,7 +19,7 @@ from callauction.words import (
     Delete,
     Enter,
     Indicate,
-    Market,
+    MarketOrders,
     NoPrice,
     OrderStatus,
     Price,
@@ -141,9 +141,9 @@ class Member:
         """
         shown = ffi.new("callauction_shown *")
         self._call(lib.python_board_look, shown)
-        return Shown(int(shown.calls), read(shown.display))
+        return Shown(int(shown.calls), cast("Price | NoPrice", read(shown.display)))
 
-    def ladder(self) -> tuple[Shares, Shares, Market, int]:
+    def ladder(self) -> tuple[Shares, Shares, MarketOrders, int]:
         """The shares bid and offered by the orders that count, with a limit at each tick from low
         to high (two new arrays of uint64), those of the market orders, and after how many calls.
         """
@@ -153,7 +153,7 @@ class Member:
         market, calls = ffi.new("callauction_market *"), ffi.new("uint32_t *")
         given = [ffi.from_buffer("uint64_t[]", it, require_writable=True) for it in (bids, asks)]
         self._call(lib.python_board_ladder, *given, ticks, market, calls)
-        return bids, asks, Market(market.bids, market.asks), int(calls[0])
+        return bids, asks, MarketOrders(market.bids, market.asks), int(calls[0])
 
     def trades(self, seen: int = 0) -> Structs:
         """The trades of the day after the first `seen`: a new array of TRADE."""

@@ -11,7 +11,7 @@ import pandas
 from callauction.arrays import COMMAND, REPLY, Structs
 from callauction.program import Day
 from callauction.tables import journal_of
-from callauction.words import CommandTag, Restriction, AuctionKind, NoPrice, Price, ReplyTag, Side
+from callauction.words import AuctionKind, CommandTag, NoPrice, Price, ReplyTag, Restriction, Side
 
 if TYPE_CHECKING:
     from callauction.auction import Auction

@@ -1,4 +1,4 @@
-"""What the trades of a day brought those who made them: see surplus."""
+"""What the trades of a day brought those who made them: see gains_of."""
 import dataclasses
 import math
 from collections.abc import Iterator, Mapping
@@ -15,7 +15,7 @@ GAINED = ("member", "bought", "sold", "gain")
 
 @dataclasses.dataclass(frozen=True)
 class Gains:
-    """The traders' surplus of a day: a frame of orders (GAINS) and one of members (GAINED), the sum
+    """The gains of a day: a frame of orders (GAINS) and one of members (GAINED), the sum
     of the gains, and the greatest sum that any trades among the offered shares could have. All
     gains are ticks times shares.
     """
@@ -40,7 +40,7 @@ def shown(number: float) -> str:
     return f"{number:,.0f}" if number == int(number) else f"{number:,.2f}"
 
 
-def surplus(day: Playable, values: Mapping[int, float] | pandas.Series) -> Gains:
+def gains_of(day: Playable, values: Mapping[int, float] | pandas.Series) -> Gains:
     """What each order, each member and all of them gained by the trades of a day.
 
     `values` says by an order's id what a share is worth to its member, in ticks: what a buyer would

@@ -1,4 +1,4 @@
-"""A day's record from elsewhere as a journal: `from_frame`, and the way back to its own names.
+"""Another system's record of a day as a journal: `from_frame`, and the way back to its own names.
 
 The frame has a row for each event, in the order in which the board took them. Its columns are
 
@@ -48,19 +48,19 @@ from callauction.program import Day
 from callauction.tables import audit_of, book_at, books_of, journal_of, trades_of
 from callauction.verdict.columns import OTHER_NAMES, refuse_unknown
 from callauction.words import (
-    Indicate,
-    OpenOrder,
     Change,
     Command,
     Delete,
     Enter,
     Entered,
-    Restriction,
+    Indicate,
+    OpenOrder,
+    ReadTrade,
     Refusal,
     Refused,
     Reply,
+    Restriction,
     Side,
-    ReadTrade,
     Uncross,
 )
 from callauction.written import fields_of, text_of
@@ -431,12 +431,7 @@ def from_frame(
     span more than 65,536 ticks, there are more than 1,048,576 entries, times fall, or the board
     would refuse a new order; ValueError for the other arguments.
     """
-    frame = frame.rename(columns=OTHER_NAMES)
-    if not frame.columns.is_unique:
-        raise ValueError("frame has a column twice")
-    refuse_unknown(frame.columns, COLUMNS, ignore)
-    rows = [Row(*pair) for pair in zip(frame.index, frame.to_dict("records"))]
-    _look_at_times(frame)
+    rows = _rows_of(frame.rename(columns=OTHER_NAMES), ignore)
     size = tick_size_of(tick_size)
     first = _argument("reference", reference)
     lowest, highest = _bounds(rows, size, first, low, high)
@@ -451,6 +446,18 @@ def from_frame(
     head = ("day", *day, SHARED + 1, MOST_OPEN, MOST_CALLS, "" if span is None else span)
     text = "".join(f"{line}\n" for line in [",".join(map(str, head)), *made.lines])
     return Journal(text, grid, _orders(made), _entries(made))
+
+
+def _rows_of(frame: pandas.DataFrame, ignore: Collection[str]) -> list[Row]:
+    """The rows of a frame with our columns. Raises ValueError, ColumnError, and FrameError where
+    times fall.
+    """
+    if not frame.columns.is_unique:
+        raise ValueError("frame has a column twice")
+    refuse_unknown(frame.columns, COLUMNS, ignore)
+    rows = [Row(*pair) for pair in zip(frame.index, frame.to_dict("records"))]
+    _look_at_times(frame)
+    return rows
 
 
 def _orders(made: _Conversion) -> pandas.DataFrame:

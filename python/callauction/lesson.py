@@ -3,7 +3,7 @@ kept, and a slider. All prices and trades are the proved library's and program's
 """
 import dataclasses
 from collections.abc import Mapping, Sequence
-from typing import Any
+from typing import TYPE_CHECKING
 
 import pandas
 
@@ -12,6 +12,9 @@ from callauction.outcomes import queue_of
 from callauction.reasons import Explanation
 from callauction.recording import RecordedAuction
 from callauction.words import NoPrice, Price, Refused, Side
+
+if TYPE_CHECKING:
+    from matplotlib.figure import Figure
 
 BID, ASK = Side.BID, Side.ASK
 Order = tuple[Side, int, int | None]
@@ -99,11 +102,11 @@ class Exercise:
     def _price_faults(self, auction: RecordedAuction) -> list[str]:
         """What is wrong with the price and its rule."""
         book = auction.book()
-        found = book[book["price"] != ""]
+        found = book[book["rule"] != ""]
         if not len(found):
             wants = self.price is not None or self.rule is not None or self.is_off_limits
             return ["there is no price"] if wants else []
-        price, rule = int(found["limit"].iloc[0]), found["price"].iloc[0]
+        price, rule = int(found["limit"].iloc[0]), found["rule"].iloc[0]
         faults = []
         if self.price not in (None, price):
             faults.append(f"the price is {price}, and not {self.price}")
@@ -160,7 +163,9 @@ def _numbers(shown: Price | NoPrice) -> tuple[int | None, ...]:
     return shown.tick, shown.volume, shown.surplus
 
 
-def draw_moved(orders: Sequence[Order], place: int, limit: int, limits: Sequence[int]) -> Any:
+def draw_moved(
+    orders: Sequence[Order], place: int, limit: int, limits: Sequence[int]
+) -> "Figure":
     """Draws the book with this limit of an order, and beside it price, volume and surplus against
     that limit. Answers the figure.
     """

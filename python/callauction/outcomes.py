@@ -68,6 +68,7 @@ class HasDay(Protocol):
     """What has a record of its day, such as a RecordedAuction."""
 
     def day(self) -> Day:
+        """The day so far. Raises ProgramError."""
         ...
 
 

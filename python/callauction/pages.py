@@ -79,15 +79,16 @@ def caption_of(
 
 def near_price(book: pandas.DataFrame) -> pandas.DataFrame:
     """The market orders and the rows nearest to the price, or to where demand and supply part; with
-    words for what is missing.
+    words for what is missing. The rule's column is headed `price`, as the program heads it.
     """
     levels = book[1:]
-    priced = levels.index[levels["price"] != ""]
+    priced = levels.index[levels["rule"] != ""]
     centers = priced if len(priced) else levels.index[levels["demand"] >= levels["supply"]]
     center = centers[0] if len(centers) else 1
     first = max(1, min(center - MOST_ROWS // 2, len(book) - MOST_ROWS + 1))
     shown = pandas.concat([book[:1], book[first : first + MOST_ROWS - 1]])
-    shown = shown.drop(columns=["command", "auction"]).astype("object")
+    shown = shown.drop(columns=["command", "auction"]).rename(columns={"rule": "price"})
+    shown = shown.astype("object")
     shown["limit"] = shown["limit"].where(shown["limit"].notna(), "market")
     return shown
 
@@ -146,6 +147,7 @@ def _row(columns: Sequence[str], kinds: Sequence[str], row: Sequence[str]) -> st
 
 
 def new_figure() -> Figure:
+    """An empty picture of a page, of SIZE inches."""
     return Figure(figsize=SIZE, layout="constrained")
 
 

@@ -16,19 +16,19 @@ from callauction.errors import (
     RefusedError,
 )
 from callauction.words import (
+    AuctionKind,
     Changed,
     Deleted,
     Entered,
     Interrupted,
-    AuctionKind,
     NoPrice,
+    OpenOrder,
     Price,
     Refusal,
     Refused,
     Reply,
     ReplyTag,
     Side,
-    OpenOrder,
     Traded,
     Uncrossed,
 )
@@ -157,13 +157,14 @@ _READERS: tuple[Callable[[Any], Reply], ...] = (
 """By its tag, what reads a reply of the library."""
 
 
-def read(reply: Any, check: bool = False) -> Any:
-    """What a reply struct of the library says, a Reply. Raises what stands for the error of one
+def read(reply: Any, check: bool = False) -> Reply:
+    """What a reply struct of the library says. Raises what stands for the error of one
     that is no reply, and with `check` RefusedError for a refusal.
     """
     if check and reply.tag == _REFUSED:
         raise RefusedError(Refusal(reply.refusal))
-    return _READERS[reply.tag](reply)
+    reader: Callable[[Any], Reply] = _READERS[reply.tag]
+    return reader(reply)
 
 
 def not_entered(answer: int, check: bool) -> Refused:
@@ -192,8 +193,7 @@ def reply_of(record: numpy.void) -> Reply:
         is_reply &= 1 <= reply.refusal <= len(REFUSALS)
     if not is_reply:
         raise ValueError("record is no reply of an auction")
-    found: Reply = read(reply)
-    return found
+    return read(reply)
 
 
 # ---- the numbers of a command

@@ -1,6 +1,6 @@
 """Why a book has its price: the rules of docs/MODEL.md that decided, in sentences with its numbers.
 
-What decided is read from the columns `best` and `price` of a book that the program printed.
+What decided is read from the columns `best` and `rule` of a book that the program printed.
 """
 import dataclasses
 from collections.abc import Callable
@@ -11,7 +11,7 @@ from callauction.tables import book_at
 
 ON_SIDE = {"bid": "on the bid side", "ask": "on the ask side"}
 MARKET, HIGHEST, LOWEST, SINGLE = "market", "highest", "lowest", "single"
-"""Rules that decide, as the column `price` names them; the fifth is `reference`."""
+"""Rules that decide, as the column `rule` names them; the fifth is `reference`."""
 MOST_NAMED = 6
 """How many limits a sentence names one by one."""
 
@@ -30,7 +30,7 @@ class Explanation(tuple[str, ...]):
 class Book:
     """A book as its table has it: the market orders' row, those of limits, and what names ticks."""
 
-    market: "pandas.Series"
+    market_orders: "pandas.Series"
     levels: pandas.DataFrame
     named: Callable[[int], str]
 
@@ -47,7 +47,7 @@ class Book:
     @property
     def price(self) -> "pandas.Series | None":
         """The row of the auction price, if there is one."""
-        found = self.levels[self.levels["price"] != ""]
+        found = self.levels[self.levels["rule"] != ""]
         return found.iloc[0] if len(found) else None
 
     def names(self, rows: pandas.DataFrame) -> str:
@@ -77,16 +77,17 @@ def explain(
     price = book.price
     if price is None:
         return Explanation(_without_price(book))
-    if price["price"] == MARKET:
+    if price["rule"] == MARKET:
         return Explanation([_market_alone(book, price), *_executed(book, price)])
-    steps = [*_market(book), _candidates(book), *_best(book), *_decided(book, price, reference)]
+    steps = [*_market_orders(book), _candidates(book), *_best(book)]
+    steps += _decided(book, price, reference)
     return Explanation([*steps, *_executed(book, price)])
 
 
 def _without_price(book: Book) -> list[str]:
     """Why there is no price, and what is shown instead."""
     bids, asks = (book.levels[book.levels[side] > 0] for side in ("bid", "ask"))
-    bid, ask = book.market["bid"], book.market["ask"]
+    bid, ask = book.market_orders["bid"], book.market_orders["ask"]
     if not len(book.limits) and not bid and not ask:
         return ["No order counts in this auction, so there is no price."]
     if not len(book.limits):
@@ -98,7 +99,7 @@ def _without_price(book: Book) -> list[str]:
     highest = f"the highest bid limit, {book.named(bids['limit'].iloc[0])}" if len(bids) else ""
     lowest = f"the lowest ask limit, {book.named(asks['limit'].iloc[-1])}" if len(asks) else ""
     return [
-        *_market(book),
+        *_market_orders(book),
         "At no limit are there both demand and supply, so nothing can be executed and there is no "
         "price.",
         f"Shown in its place: {', and '.join(filter(None, [highest, lowest]))}.",
@@ -107,15 +108,16 @@ def _without_price(book: Book) -> list[str]:
 
 def _market_alone(book: Book, price: "pandas.Series") -> str:
     """That market orders alone are matched at the reference."""
+    bid, ask = book.market_orders["bid"], book.market_orders["ask"]
     return (
-        f"There are market orders alone, {book.market['bid']:,} bid and {book.market['ask']:,} "
-        f"offered, so the reference, {book.named(price['limit'])}, is the price."
+        f"There are market orders alone, {bid:,} bid and {ask:,} offered, so the reference, "
+        f"{book.named(price['limit'])}, is the price."
     )
 
 
-def _market(book: Book) -> list[str]:
+def _market_orders(book: Book) -> list[str]:
     """What market orders beside limits mean, where there are any."""
-    bid, ask = book.market["bid"], book.market["ask"]
+    bid, ask = book.market_orders["bid"], book.market_orders["ask"]
     if bid and ask:
         return [
             f"Market orders stand on both sides, {bid:,} bid and {ask:,} offered, and limit orders "
@@ -153,7 +155,7 @@ def _decided(book: Book, price: "pandas.Series", reference: int | None) -> list[
     """Which rule made one of the best limits, or the reference, the price. No more than two limits
     have one demand and one supply, as each limit changes one of them.
     """
-    name, rule = book.named(price["limit"]), price["price"]
+    name, rule = book.named(price["limit"]), price["rule"]
     if rule == SINGLE:
         return [f"It is the one best limit, so {name} is the price, whatever its surplus."]
     if rule in (HIGHEST, LOWEST):

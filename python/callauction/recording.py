@@ -2,7 +2,7 @@
 import operator
 import threading
 from types import TracebackType
-from typing import Any, Self
+from typing import Self, cast
 
 import numpy
 import pandas
@@ -15,7 +15,6 @@ from callauction.program import Day
 from callauction.reading import number, reply_of
 from callauction.tables import orders_frame
 from callauction.words import (
-    Indicate,
     Change,
     Changed,
     Command,
@@ -25,17 +24,18 @@ from callauction.words import (
     Deleted,
     Enter,
     Entered,
-    Restriction,
+    Indicate,
     Interrupted,
-    Market,
+    MarketOrders,
     NoPrice,
-    Price,
-    Refused,
-    Reply,
-    Side,
     OpenOrder,
     OrderStatus,
+    Price,
     ReadTrade,
+    Refused,
+    Reply,
+    Restriction,
+    Side,
     Traded,
     Uncross,
     Uncrossed,
@@ -100,48 +100,42 @@ class RecordedAuction(DayTables):
         check: bool = False,
     ) -> Entered | Refused:
         """As Auction.enter."""
-        reply: Entered | Refused
         reply = self._applied(member, Enter(side, quantity, limit, peak, restriction), check)
-        return reply
+        return cast("Entered | Refused", reply)
 
     def change(
         self, member: int, id: int, quantity: int, limit: int | None = None, *, check: bool = False
     ) -> Changed | Refused:
         """As Auction.change."""
-        reply: Changed | Refused = self._applied(member, Change(id, quantity, limit), check)
-        return reply
+        reply = self._applied(member, Change(id, quantity, limit), check)
+        return cast("Changed | Refused", reply)
 
     def delete(self, member: int, id: int, *, check: bool = False) -> Deleted | Refused:
         """As Auction.delete."""
-        reply: Deleted | Refused = self._applied(member, Delete(id), check)
-        return reply
+        return cast("Deleted | Refused", self._applied(member, Delete(id), check))
 
     def order_status(self, member: int, id: int, *, check: bool = False) -> OpenOrder | Refused:
-        """As Auction.status."""
-        reply: OpenOrder | Refused = self._applied(member, OrderStatus(id), check)
-        return reply
+        """As Auction.order_status."""
+        return cast("OpenOrder | Refused", self._applied(member, OrderStatus(id), check))
 
     def indicate(self, member: int, *, check: bool = False) -> Price | NoPrice | Refused:
-        """As Auction.ask."""
-        reply: Price | NoPrice | Refused = self._applied(member, Indicate(), check)
-        return reply
+        """As Auction.indicate."""
+        return cast("Price | NoPrice | Refused", self._applied(member, Indicate(), check))
 
     def read_trade(self, member: int, number: int, *, check: bool = False) -> Traded | Refused:
-        """As Auction.trade."""
-        reply: Traded | Refused = self._applied(member, ReadTrade(number), check)
-        return reply
+        """As Auction.read_trade."""
+        return cast("Traded | Refused", self._applied(member, ReadTrade(number), check))
 
     def uncross(
         self, member: int = 0, *, check: bool = False
     ) -> Uncrossed | Interrupted | Refused:
         """As Auction.uncross."""
-        reply: Uncrossed | Interrupted | Refused = self._applied(member, Uncross(), check)
-        return reply
+        reply = self._applied(member, Uncross(), check)
+        return cast("Uncrossed | Interrupted | Refused", reply)
 
     def apply(self, member: int, command: Command, *, check: bool = False) -> Reply:
         """As Auction.apply."""
-        reply: Reply = self._applied(member, command, check)
-        return reply
+        return self._applied(member, command, check)
 
     def apply_many(self, commands: Structs) -> Structs:
         """As Auction.apply_many: an array of REPLY. Raises ValueError where the array has a member
@@ -157,7 +151,7 @@ class RecordedAuction(DayTables):
             self._keep(commands, replies)
         return replies
 
-    def _applied(self, member: int, command: Command, check: bool) -> Any:
+    def _applied(self, member: int, command: Command, check: bool) -> Reply:
         """The reply to a command, which is kept with it."""
         _look_at(member, command)
         with self._lock:
@@ -187,10 +181,10 @@ class RecordedAuction(DayTables):
         with self._lock:
             return self._auction.ladder()
 
-    def market(self) -> Market:
-        """As Auction.market."""
+    def market_orders(self) -> MarketOrders:
+        """As Auction.market_orders."""
         with self._lock:
-            return self._auction.market()
+            return self._auction.market_orders()
 
     def orders(self, member: int | None = None) -> pandas.DataFrame:
         """The open orders of a member, or of all, in price-time priority (tables.ORDERS): the bids

@@ -12,7 +12,7 @@ from matplotlib.figure import Figure
 
 from callauction import plot
 from callauction.course import INTERRUPTED, Course, Watch, course_of, references_of
-from callauction.gains import Gains, shown, surplus
+from callauction.gains import Gains, gains_of, shown
 from callauction.outcomes import members_of, outcomes_of, played
 from callauction.pages import (
     BOOKED,
@@ -41,7 +41,7 @@ def html_of(
     tick_size: object = None,
 ) -> str:
     """The report of an order file or a journal. `watch` is given its steps, such as tqdm.tqdm.
-    With `values` it has what the members gained (gains.surplus), with a `tick_size` its pictures
+    With `values` it has what the members gained (gains.gains_of), with a `tick_size` its pictures
     have prices. Raises ProgramError, and ValueError for bad values or a bad tick size.
     """
     journal, books, trades = journal_of(day), books_of(day), trades_of(day)
@@ -57,7 +57,7 @@ def html_of(
         parts.append(_auction(book, reference, course, trades, figure))
     orders = outcomes_of(arrays)
     parts += [_members(orders), _orders(orders)]
-    parts += [] if values is None else [_gains(surplus(arrays, values))]
+    parts += [] if values is None else [_gains(gains_of(arrays, values))]
     return html_page(title, [*parts, _refused(journal), _config(journal)])
 
 

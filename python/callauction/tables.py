@@ -37,10 +37,11 @@ BOOK = {
     "surplus": "Int64",
     "side": "str",
     "best": "Int64",
-    "price": "str",
+    "rule": "str",
 }
 """The columns of the books of a day: for each a row of the market orders, with `<NA>` as limit, and
-then one for each limit and the price, from the highest down.
+then one for each limit and the price, from the highest down. `rule`, which the program heads
+`price`, is the name of the rule that decided, in the row of the price.
 """
 JOURNAL = {
     "entry": "int64",
@@ -115,10 +116,15 @@ def orders_frame(orders: Structs) -> pandas.DataFrame:
 
 
 def table_of(text: str, columns: dict[str, str]) -> pandas.DataFrame:
-    """The frame of a printed table with these columns."""
+    """The frame of a printed table with these columns, whatever they are called there."""
     empty = {name: ["", "market"] for name, kind in columns.items() if kind == "Int64"}
     return pandas.read_csv(
-        io.StringIO(text), dtype=columns, na_values=empty, keep_default_na=False
+        io.StringIO(text),
+        header=0,
+        names=list(columns),
+        dtype=columns,
+        na_values=empty,
+        keep_default_na=False,
     )
 
 

@@ -239,7 +239,7 @@ Reply = (
 
 
 @dataclasses.dataclass(frozen=True, slots=True)
-class Market:
+class MarketOrders:
     """The shares of the market orders that count."""
 
     bids: int

@@ -6,7 +6,7 @@ from typing import Any
 
 import numpy
 import pytest
-from callauction import Auction, ClosedError, Entered, Restriction, NoPrice, Side
+from callauction import Auction, ClosedError, Entered, NoPrice, Restriction, Side
 
 BID = Side.BID
 NO_INTEGERS = [

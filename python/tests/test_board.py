@@ -19,7 +19,7 @@ from callauction import (
     Entered,
     FullError,
     Indicate,
-    Market,
+    MarketOrders,
     Member,
     NoPrice,
     OpenOrder,
@@ -105,7 +105,7 @@ def test_what_a_member_sees() -> None:
         shown = second.look()
         assert (shown.calls, shown.display) == (3, Price(499, 5, 1, Side.ASK))
         bids, asks, market, calls = second.ladder()
-        assert (bids[499], asks[498], market, calls) == (5, 3, Market(0, 3), 3)
+        assert (bids[499], asks[498], market, calls) == (5, 3, MarketOrders(0, 3), 3)
         assert second.change(1, 6, 500).reply == Changed(False)
         assert second.order_status(1).reply == OpenOrder(Side.BID, 6, 500, 6)
         assert second.uncross() == Receipt(6, Refused(Refusal.NOT_OPERATOR))

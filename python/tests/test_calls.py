@@ -6,8 +6,8 @@ from collections.abc import Callable
 import numpy
 import pytest
 from callauction import (
-    Indicate,
     Auction,
+    AuctionKind,
     Change,
     Changed,
     Command,
@@ -16,20 +16,20 @@ from callauction import (
     Deleted,
     Enter,
     Entered,
-    Restriction,
     FullError,
+    Indicate,
     Interrupted,
-    AuctionKind,
-    Market,
+    MarketOrders,
     NoPrice,
+    OpenOrder,
+    OrderStatus,
     Price,
+    ReadTrade,
     Refusal,
     Refused,
     RefusedError,
+    Restriction,
     Side,
-    OpenOrder,
-    OrderStatus,
-    ReadTrade,
     Traded,
     Uncross,
     Uncrossed,
@@ -73,7 +73,7 @@ def test_a_market_order_and_an_iceberg_order() -> None:
         auction.enter(1, BID, 90, 5, peak=40)
         assert auction.order_status(1, 1) == OpenOrder(ASK, 70, None, 70)
         assert auction.order_status(1, 2) == OpenOrder(BID, 90, 5, 40)
-        assert auction.market() == Market(bids=0, asks=70)
+        assert auction.market_orders() == MarketOrders(bids=0, asks=70)
 
 
 def test_an_interruption() -> None:
@@ -206,7 +206,7 @@ def test_the_ladder() -> None:
         assert bids.dtype == asks.dtype == numpy.uint64
         assert bids.tolist() == [5, 0, 6, 0]
         assert asks.tolist() == [0, 0, 0, 7]
-        assert auction.market() == Market(0, 8)
+        assert auction.market_orders() == MarketOrders(0, 8)
 
 
 @pytest.mark.parametrize("count", [0, 1, 1023, 1024, 1025, 2048, 3000])

@@ -5,7 +5,7 @@ import callauction
 import pandas
 import pytest
 from callauction import RecordedAuction, Side
-from callauction.gains import GAINED, GAINS, most_possible, surplus
+from callauction.gains import GAINED, GAINS, gains_of, most_possible
 from days import EXAMPLES, day_of
 from hypothesis import given, strategies
 
@@ -18,7 +18,7 @@ def test_a_worked_auction() -> None:
         auction.enter(2, ASK, 100, 200)
         auction.enter(3, BID, 50, 203)
         auction.uncross()
-        found = surplus(auction, {1: 210, 2: 195})
+        found = gains_of(auction, {1: 210, 2: 195})
     # The price is 206: 100 shares and no surplus, while 200 and 203 leave 50.
     assert found.orders.columns.tolist() == [*GAINS]
     assert found.orders["value"].tolist() == [210, 195, 203]
@@ -35,7 +35,7 @@ def test_the_wrong_buyer_loses_what_was_possible() -> None:
         auction.enter(2, BID, 10, 205)
         auction.enter(3, ASK, 10, 200)
         auction.uncross()
-        found = surplus(auction, pandas.Series({1: 190.5, 2: 208}))
+        found = gains_of(auction, pandas.Series({1: 190.5, 2: 208}))
     # At 205 the market order buys: it is worth 14.5 less than what it pays, the seller gets 5 more.
     assert found.orders["gain"].tolist() == [-145, 0, 50]
     assert (found.total, found.possible, found.efficiency) == (-95, 80, -95 / 80)
@@ -45,7 +45,7 @@ def test_the_wrong_buyer_loses_what_was_possible() -> None:
 def test_shares_of_all_auctions_of_a_day_are_matched() -> None:
     # Order 3, at market, is worth 208 and order 4 204; all of these trade at 206.
     day = day_of(next(file for file in EXAMPLES if file.stem == "day"))
-    found = surplus(day, {3: 208, 4: 204})
+    found = gains_of(day, {3: 208, 4: 204})
     assert found.orders["gain"].tolist() == [400, 0, 40, 40]
     # Possible: 20 shares at 210 from 204, 80 at 210 from 206, 20 at 208 from 206.
     assert found.possible == 20 * 6 + 80 * 4 + 20 * 2 == found.total
@@ -55,22 +55,22 @@ def test_nothing_possible_has_no_efficiency() -> None:
     with RecordedAuction() as auction:
         auction.enter(1, BID, 10, 190)
         auction.enter(2, ASK, 10, 200)
-        assert surplus(auction, {}).possible == 0
+        assert gains_of(auction, {}).possible == 0
         auction.uncross()
-        found = surplus(auction, {})
+        found = gains_of(auction, {})
     assert (found.total, found.possible, found.efficiency) == (0, 0, None)
     assert str(found) == "gain 0 of 0 possible"
     with RecordedAuction() as empty:
-        assert surplus(empty, {}).total == 0
+        assert gains_of(empty, {}).total == 0
 
 
 def test_bad_values_are_named() -> None:
     with RecordedAuction() as auction:
         auction.enter(1, BID, 10)
         with pytest.raises(ValueError, match="values: market order 1 has none"):
-            callauction.surplus(auction, {2: 5})
+            callauction.gains_of(auction, {2: 5})
         with pytest.raises(ValueError, match="values: that of order 1, inf, is no finite number"):
-            callauction.surplus(auction, {1: float("inf")})
+            callauction.gains_of(auction, {1: float("inf")})
 
 
 def by_share(bids: list[tuple[int, int]], asks: list[tuple[int, int]]) -> int:

@@ -1,4 +1,4 @@
-"""Files from elsewhere as journals: exact prices, maps back, errors by row; and a fuzz."""
+"""Records of other systems as journals: exact prices, maps back, errors by row; and a fuzz."""
 import datetime
 import math
 from decimal import Decimal

@@ -110,7 +110,7 @@ def test_each_example_is_drawn_by_its_table(file: Path) -> None:
         if len(best):
             listed.add("best limits")
             assert points(axes, "best limits") == [*zip(best["limit"], best["volume"])]
-        for price in rising[rising["price"] != ""].itertuples():
+        for price in rising[rising["rule"] != ""].itertuples():
             listed.add(f"price {price.limit}")
             assert str(price.limit) in ticks(axes)
             assert points(axes, f"price {price.limit}") == [(price.limit, price.volume)]

@@ -15,17 +15,17 @@ import numpy
 import pytest
 from arrayed import array_of
 from callauction import (
-    Indicate,
     Auction,
+    AuctionKind,
     BusyError,
     ClosedError,
     Enter,
     Entered,
-    AuctionKind,
+    Indicate,
     NoPrice,
+    OpenOrder,
     Price,
     Side,
-    OpenOrder,
     Uncrossed,
 )
 from callauction.arrays import Structs
@@ -45,7 +45,7 @@ CALLS: list[Call] = [
     lambda auction: auction.apply_many(array_of([])),
     lambda auction: auction.display(),
     lambda auction: auction.ladder(),
-    lambda auction: auction.market(),
+    lambda auction: auction.market_orders(),
     lambda auction: auction.trades(),
     lambda auction: auction.calls,
     lambda auction: auction.is_full,

@@ -44,7 +44,7 @@ def test_each_book_of_an_example_is_explained(file: Path) -> None:
     assert list(books["command"].unique()) == list(wanted)
     for command, sentences in wanted.items():
         book = book_at(books, command)
-        priced = book[book["price"] != ""]
+        priced = book[book["rule"] != ""]
         last = executed(priced.iloc[0]) if len(priced) else []
         assert len(last) in (0, LAST)
         assert [*explain(books, command, references[command])] == [*sentences, *last]

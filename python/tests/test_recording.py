@@ -59,7 +59,7 @@ def test_calls_are_those_of_an_auction() -> None:
             lambda each: each.delete(1, 1),
             lambda each: each.apply(1, words.Enter(Side.BID, 7)),
             lambda each: each.display(),
-            lambda each: each.market(),
+            lambda each: each.market_orders(),
             lambda each: each.calls,
             lambda each: each.config,
             lambda each: each.is_closed,

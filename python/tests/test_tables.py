@@ -10,10 +10,13 @@ from days import AUDITS, EXAMPLES, day_of, form_of, options_of
 
 
 def csv_of(frame: pandas.DataFrame) -> str:
-    """A frame as the program prints it: the market orders' limit is a word again."""
+    """A frame as the program prints it: the market orders' limit is a word again, and the column
+    of the rule is headed `price`.
+    """
     written = frame.astype("object").where(frame.notna(), "")
     if "best" in written:
         written["limit"] = written["limit"].replace("", "market")
+        written = written.rename(columns={"rule": "price"})
     return str(written.to_csv(index=False))
 
 

@@ -72,6 +72,7 @@ def arguments() -> argparse.ArgumentParser:
 
 
 def main() -> int:
+    """Runs the command line of a market; answers the status."""
     asked = arguments().parse_args()
     logging.disable(logging.CRITICAL)  # Dask tells of lost workers there, and rows do here
     for stream in (sys.stdout, sys.stderr):

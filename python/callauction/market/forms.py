@@ -40,7 +40,8 @@ Blocks = Iterator[bytes]
 class Readable(Protocol):
     """Where output is read from: some bytes at a time, none at its end."""
 
-    def read(self, size: int, /) -> bytes: ...
+    def read(self, size: int, /) -> bytes:
+        """At most so many bytes, none at the end."""
 
 
 class OutputFault(Exception):

@@ -45,6 +45,13 @@ def forms_of(what: str | Sequence[str]) -> tuple[str, ...]:
     return names
 
 
+def _crew_of(client: "Client | None", workers: int | None) -> Workers:
+    """Who does the work: the workers of a client, or so many threads of this process."""
+    if client is None:
+        return Threads(workers)
+    return Cluster(client)
+
+
 def run(
     paths: Paths,
     what: str | Sequence[str],
@@ -76,11 +83,9 @@ def run(
     files, rows = compared_with(files_of(paths), expect)
     forms = forms_of(what)
     keep, path = (None if name is None else os.path.abspath(name) for name in (into, program))
-    crew: Workers = Threads(workers)
+    crew = _crew_of(client, workers)
     if client is None:
         path = path or finder.program()
-    else:
-        crew = Cluster(client)
     crew.digest(path)
     request = Request(forms, path, memory, seconds, keep)
     for some in crew.results(list(files.values()), request):

@@ -67,12 +67,14 @@ class Threads:
         self.count = count or len(os.sched_getaffinity(0))
 
     def digest(self, path: str | None) -> str:
+        """The digest of the program. Raises MarketError where there is none."""
         try:
             return finder.digest(path)
         except FileNotFoundError as fault:
             raise MarketError(f"there is no program: {fault}") from fault
 
     def results(self, files: list[str], request: Request) -> Iterator[list[Found]]:
+        """What was found of the files, one by one as they are done."""
         children = Children()
         pool = concurrent.futures.ThreadPoolExecutor(self.count)
         try:
@@ -108,6 +110,7 @@ class Cluster:
         self.client = client
 
     def digest(self, path: str | None) -> str:
+        """The digest of the program, which all workers have. Raises MarketError."""
         told = self.client.run(finder.digest, path, on_error="return")
         for worker, answer in sorted(told.items()):
             if isinstance(answer, Exception):

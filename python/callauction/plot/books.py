@@ -41,9 +41,11 @@ class HasBook(Protocol):
     """What has books, such as a RecordedAuction."""
 
     def books(self) -> pandas.DataFrame:
+        """All its books (tables.BOOK)."""
         ...
 
     def reference(self, command: int | None = None) -> int | None:
+        """The reference price before a command, in ticks; None where it isn't known."""
         ...
 
 
@@ -66,11 +68,7 @@ def book(
     gives a tick another name. Draws on `ax`, or on a new figure, and answers the axes. Raises
     ValueError where there is no such book, or for a bad tick size.
     """
-    if isinstance(auction, pandas.DataFrame):
-        table = auction
-    else:
-        table = auction.books()
-        reference = auction.reference(command) if reference is None else reference
+    table, reference = _books_of(auction, command, reference)
     name, unit = namer_of(named, tick_size), unit_of(named, tick_size)
     found = book_at(table, command)
     axes = ax if ax is not None else new_axes()
@@ -81,16 +79,25 @@ def book(
     _draw_curves(axes, found[found["limit"].isna()].iloc[0], levels, ends)
     _draw_volume(axes, levels)
     _draw_best(axes, levels, name)
+    label = "" if reference is None else f"reference {name(reference)}"
     if reference is not None and not far:
-        label = f"reference {name(reference)}"
-        top = axes.get_ylim()[1]
-        axes.vlines(reference, 0, top, color=REFERENCE, linestyle=":", label=label, zorder=1.5)
+        _draw_reference(axes, reference, label)
     _label(axes, found, levels, name, unit)
     begin = finish(axes, rows=1 if far else 0)
-    if far and reference is not None:
-        _draw_far(axes, far, f"reference {name(reference)}", begin)
+    if far:
+        _draw_far(axes, far, label, begin)
     mark_ticks(axes, _wanted(levels), name)
     return axes
+
+
+def _books_of(
+    auction: HasBook | pandas.DataFrame, command: int | None, reference: int | None
+) -> tuple[pandas.DataFrame, int | None]:
+    """A table of books, and the reference price before a command, in ticks."""
+    if isinstance(auction, pandas.DataFrame):
+        return auction, reference
+    books = auction.books()
+    return books, auction.reference(command) if reference is None else reference
 
 
 def _far(levels: pandas.DataFrame, reference: int | None) -> str:
@@ -196,7 +203,7 @@ def _draw_best(axes: Axes, levels: pandas.DataFrame, named: Namer) -> None:
             label="best limits",
             zorder=4,
         )
-    for _, price in levels[levels["price"] != ""].iterrows():
+    for _, price in levels[levels["rule"] != ""].iterrows():
         tick, volume, surplus = (int(price[name]) for name in ("limit", "volume", "surplus"))
         if surplus:
             axes.vlines(
@@ -207,6 +214,12 @@ def _draw_best(axes: Axes, levels: pandas.DataFrame, named: Namer) -> None:
             [tick], [volume], linestyle="", marker="o", markersize=5, color=PRICE, label=label,
             zorder=5,
         )  # fmt: skip
+
+
+def _draw_reference(axes: Axes, reference: int, label: str) -> None:
+    """A line at the reference, as high as the picture."""
+    top = axes.get_ylim()[1]
+    axes.vlines(reference, 0, top, color=REFERENCE, linestyle=":", label=label, zorder=1.5)
 
 
 def _draw_far(axes: Axes, side: str, text: str, begin: float) -> None:
@@ -229,7 +242,7 @@ def _draw_far(axes: Axes, side: str, text: str, begin: float) -> None:
 
 def _wanted(levels: pandas.DataFrame) -> list[int]:
     """The ticks whose labels matter: the price, and the ends of the best limits."""
-    price = numbers(levels["limit"][levels["price"] != ""])
+    price = numbers(levels["limit"][levels["rule"] != ""])
     best = numbers(levels["limit"][levels["best"] == 1])
     return [*map(int, price), *map(int, best[[0, -1]] if len(best) > 2 else best)]
 
@@ -248,7 +261,7 @@ def _label(
 
 def _told(levels: pandas.DataFrame, named: Namer) -> str:
     """The auction price of a book in words."""
-    for _, price in levels[levels["price"] != ""].iterrows():
+    for _, price in levels[levels["rule"] != ""].iterrows():
         side = "" if price["side"] == "none" else f" {price['side']}"
         name = named(int(price["limit"]))
         return f"price {name}, volume {price['volume']:,}, surplus {price['surplus']:,}{side}"

@@ -36,6 +36,7 @@ class HasCourse(Protocol):
     """What has a course, such as a RecordedAuction."""
 
     def course(self) -> Course:
+        """How its day went."""
         ...
 
 

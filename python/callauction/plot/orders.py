@@ -51,7 +51,6 @@ def queue(
     """
     named = namer_of(None, tick_size)
     found = queue_of(day, command)
-    color = COLORS[side.name.lower()]
     orders = found.orders[found.orders["side"] == side.name.lower()]
     if limit is not None:
         orders = found.at(side.name.lower(), None if limit == MARKET else int(limit))
@@ -59,14 +58,7 @@ def queue(
         raise ValueError(f"no {side.name.lower()} stands there before command {found.command}")
     shown = _around(orders)
     axes = ax if ax is not None else new_axes()
-    places = [-row for row in range(len(shown))]
-    axes.barh(places, shown["quantity"], color=PALE[color], label="open before")
-    axes.barh(places, shown["executed"], color=color, label="executed")
-    axes.set_yticks(places, [_named(order, named) for order in shown.itertuples()])
-    axes.set_ylim(0.5 - len(shown), 0.5)
-    whole_steps(axes.xaxis, thousands)
-    axes.set_xlabel("quantity (shares)")
-    axes.spines[["top", "right"]].set_visible(False)
+    _draw_bars(axes, shown, COLORS[side.name.lower()], named)
     at = "" if limit is None else " at market" if limit == MARKET else f" at {named(int(limit))}"
     more = f", {len(shown)} of {len(orders):,}" if len(shown) < len(orders) else ""
     executed, of_all = int(orders["executed"].sum()), int(orders["quantity"].sum())
@@ -77,6 +69,18 @@ def queue(
     )
     finish(axes)
     return axes
+
+
+def _draw_bars(axes: Axes, shown: pandas.DataFrame, color: str, named: Namer) -> None:
+    """A bar for each of these orders, from the top: its open shares, and the executed ones."""
+    places = [-row for row in range(len(shown))]
+    axes.barh(places, shown["quantity"], color=PALE[color], label="open before")
+    axes.barh(places, shown["executed"], color=color, label="executed")
+    axes.set_yticks(places, [_named(order, named) for order in shown.itertuples()])
+    axes.set_ylim(0.5 - len(shown), 0.5)
+    whole_steps(axes.xaxis, thousands)
+    axes.set_xlabel("quantity (shares)")
+    axes.spines[["top", "right"]].set_visible(False)
 
 
 def _around(orders: pandas.DataFrame) -> pandas.DataFrame:

@@ -29,6 +29,7 @@ Namer = Callable[[int], str]
 
 
 def new_axes() -> Axes:
+    """The axes of a new figure, of SIZE inches."""
     _, axes = pyplot.subplots(figsize=SIZE, layout="constrained")
     return axes
 
@@ -39,6 +40,7 @@ def numbers(column: "pandas.Series") -> Any:
 
 
 def thousands(number: int) -> str:
+    """A number of shares or calls, in which thousands are parted."""
     return f"{number:,.0f}"
 
 

@@ -64,6 +64,7 @@ async def run(asked: argparse.Namespace, address: Address, program: str) -> None
 
 
 def main() -> int:
+    """Runs a venue until it is ended; answers the status."""
     asked = arguments().parse_args()
     address = Address(
         asked.listen, asked.port, asked.tls_cert, asked.tls_key, asked.insecure, tuple(asked.name)

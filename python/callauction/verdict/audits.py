@@ -3,7 +3,7 @@ import dataclasses
 import os
 from collections.abc import Mapping, Sequence
 from decimal import Decimal
-from typing import Any, BinaryIO
+from typing import BinaryIO
 
 import pandas
 

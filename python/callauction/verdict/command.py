@@ -6,7 +6,6 @@ import io
 import re
 import sys
 from collections.abc import Iterator, Sequence
-from typing import Any
 
 import pandas
 

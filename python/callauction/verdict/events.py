@@ -171,6 +171,7 @@ class _Cells:
         return self.reading.values.get(column, {}).get(str(found), found)
 
     def needed(self, column: str) -> object:
+        """The cell of this column. Raises BadCellError where it is missing."""
         found = self.get(column)
         if found is None:
             raise BadCellError(f"{column} is missing")
@@ -186,11 +187,12 @@ class _Cells:
         return text.partition(".")[0] if is_float else text
 
     def needed_name(self, column: str) -> str:
+        """As name. Raises BadCellError where the cell is missing."""
         self.needed(column)
         return self.name(column)
 
     def word(self, column: str, words: Iterable[str]) -> str:
-        """One of these words, in small or capital letters."""
+        """One of these words, in small or capital letters. Raises BadCellError for another."""
         text = str(self.needed(column))
         if text.casefold() not in words:
             raise BadCellError(f"{column} {text!r} is none of {', '.join(words)}")
@@ -207,6 +209,7 @@ class _Cells:
         return text
 
     def whole(self, column: str) -> int | None:
+        """The whole number in this column, None where it is missing. Raises BadCellError."""
         found = self.number(column)
         try:
             return None if found is None else whole_of(found)
@@ -214,11 +217,12 @@ class _Cells:
             raise BadCellError(f"{column} {self.get(column)!r} {fault}") from None
 
     def needed_whole(self, column: str) -> int:
+        """As whole. Raises BadCellError where the cell is missing."""
         self.needed(column)
         return self.whole(column) or 0
 
     def price(self) -> Decimal | None:
-        """The price, None where it is missing."""
+        """The price, None where it is missing. Raises BadCellError."""
         found = self.number("price")
         try:
             return None if found is None else decimal_of(found)
@@ -226,7 +230,7 @@ class _Cells:
             raise BadCellError(f"price {self.get('price')!r} {fault}") from None
 
     def limit(self) -> Decimal | None:
-        """The limit of an order, None for a market order's."""
+        """The limit of an order, None for a market order's. Raises BadCellError."""
         found = self.get("price")
         if found is not None and self._is_market(found):
             return None

@@ -77,6 +77,7 @@ class Context:
 
     @property
     def result(self) -> Result:
+        """The lawful result of the auction."""
         assert self.judged.replayed is not None
         return self.judged.replayed.result
 

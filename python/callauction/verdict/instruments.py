@@ -2,8 +2,8 @@
 import concurrent.futures
 import dataclasses
 import os
-from collections.abc import Iterable, Mapping
-from typing import Any, BinaryIO
+from collections.abc import Iterable, Mapping, Sequence
+from typing import BinaryIO, TypedDict, cast
 
 import pandas
 
@@ -34,6 +34,17 @@ COLUMNS = (
 line of the first finding, in the extract's ids, times and prices; and why an instrument can't be
 judged.
 """
+
+
+class Terms(TypedDict):
+    """What a day was opened with, as the arguments of audit_events."""
+
+    reference: object
+    tick_size: object
+    range: object
+    low: object
+    high: object
+    auctions: Sequence[str]
 
 
 class TermsError(ValueError):
@@ -94,7 +105,7 @@ def days_of(
     }
 
 
-def terms_of(given: Mapping[str, object], name: str) -> dict[str, Any]:
+def terms_of(given: Mapping[str, object], name: str) -> Terms:
     """The arguments of an audit. Raises TermsError where one is missing."""
     missing = [f"--{it.replace('_', '-')}" for it in TERMS[:2] if given.get(it) is None]
     if missing:
@@ -102,11 +113,16 @@ def terms_of(given: Mapping[str, object], name: str) -> dict[str, Any]:
             f"{name or 'the file'} has order events: say {' and '.join(missing)} (the last price "
             "before the day is the reference; the tick size is none where it depends on the price)"
         )
-    terms: dict[str, Any] = {name: given.get(name) for name in TERMS}
-    terms["tick_size"] = None if terms["tick_size"] == NO_TICK_SIZE else terms["tick_size"]
-    auctions = terms["auctions"] or AUCTIONS
-    terms["auctions"] = auctions.split(",") if isinstance(auctions, str) else auctions
-    return terms
+    size, auctions = given["tick_size"], given.get("auctions") or AUCTIONS
+    names = auctions.split(",") if isinstance(auctions, str) else cast("Sequence[str]", auctions)
+    return {
+        "reference": given["reference"],
+        "tick_size": None if size == NO_TICK_SIZE else size,
+        "range": given.get("range"),
+        "low": given.get("low"),
+        "high": given.get("high"),
+        "auctions": names,
+    }
 
 
 def audit_instruments(

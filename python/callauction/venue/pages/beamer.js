@@ -32,7 +32,8 @@ function draw() {
     { number: shares(it.quantity) }, { number: price(it.price) }]));
   const found = said.efficiency[chosen];
   find("efficiency").textContent = found?.percent == null || !trades.length ? ""
-    : `${text("efficiency")}: ${found.percent} % ${text("of_most")} (${money(found.gain, term())} / ${money(found.most, term())})`;
+    : `${text("efficiency")}: ${found.percent} % ${text("of_most")} `
+      + `(${money(found.gain, term())} / ${money(found.most, term())})`;
 }
 
 function take(message) {

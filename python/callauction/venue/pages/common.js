@@ -187,7 +187,9 @@ function marks([least, most], unit) {
   let step = unit;
   for (let place = 0; (most - least) / step > MOST_MARKS; place++) step *= place % 3 === 1 ? 2.5 : 2;
   const found = [];
-  for (let count = Math.ceil(least / step - 1e-9); count * step <= most + 1e-9 * step; count++) found.push(count * step + 0);
+  for (let count = Math.ceil(least / step - 1e-9); count * step <= most + 1e-9 * step; count++) {
+    found.push(count * step + 0);
+  }
   return found;
 }
 

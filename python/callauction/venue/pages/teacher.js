@@ -41,13 +41,15 @@ function draw() {
 
 function drawTables() {
   fill(find("ladder"), (said.ladder[chosen]?.levels ?? []).map((it) => [{ number: it.bid ? shares(it.bid) : "" },
-    { number: it.price === null ? text("market_orders") : price(it.price) }, { number: it.ask ? shares(it.ask) : "" }]));
+    { number: it.price === null ? text("market_orders") : price(it.price) },
+    { number: it.ask ? shares(it.ask) : "" }]));
   fill(find("trades"), (said.trades[chosen]?.trades ?? []).map((it) => [{ number: it.trade }, it.buyer, it.seller,
     { number: shares(it.quantity) }, { number: price(it.price) }]).reverse());
   const found = said.efficiency[chosen];
   const hasTrades = Boolean(said.trades[chosen]?.trades.length);
   find("efficiency").textContent = found?.percent == null || !hasTrades ? ""
-    : `${text("efficiency")}: ${found.percent} % ${text("of_most")} (${money(found.gain, term())} / ${money(found.most, term())})`;
+    : `${text("efficiency")}: ${found.percent} % ${text("of_most")} `
+      + `(${money(found.gain, term())} / ${money(found.most, term())})`;
   fill(find("members"), members.map((it) => {
     const { value, gain } = it.values[chosen] ?? {};
     const button = make("button", codes[it.name] || text("new_code"), "small");
