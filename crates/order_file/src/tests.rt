@@ -49,12 +49,12 @@ const LINE: &[u8] = b"1,status,7,and more fields than there may be, so that line
 
 #[test]
 fn blocks_are_whole_lines(rt: HostRuntime) -> Result<(), Fail> {
-    let text = lines(rt.alloc(), LINE, 4000)?;
+    let text = lines(rt.alloc(), LINE, 2000)?;
     let most = text.len();
     let mut source = FromMemory {
         rest: text.as_slice(),
     };
-    assert!(rt; counted(rt.alloc(), &mut source, most, b"1") == Ok((2, 4000)));
+    assert!(rt; counted(rt.alloc(), &mut source, most, b"1") == Ok((2, 2000)));
     Ok(())
 }
 
@@ -94,7 +94,7 @@ fn a_line_may_be_longer_than_a_block(rt: HostRuntime) -> Result<(), Fail> {
 fn a_byte_order_mark_is_at_the_start_alone(rt: HostRuntime) -> Result<(), Fail> {
     let line =
         b"\xEF\xBB\xBFname of sixty-one characters, or rather of some fewer ones\n".as_slice();
-    let text = lines(rt.alloc(), line, 5000)?;
+    let text = lines(rt.alloc(), line, 2500)?;
     let mut source = FromMemory {
         rest: text.as_slice(),
     };
@@ -106,7 +106,7 @@ fn a_byte_order_mark_is_at_the_start_alone(rt: HostRuntime) -> Result<(), Fail> 
         &blocks,
         b"\xEF\xBB\xBFname of sixty-one characters",
     )?;
-    assert!(rt; rows > 500 && rows < 2000);
+    assert!(rt; rows > 250 && rows < 1000);
     assert!(rt; blocks.next(&mut source) == Ok(false));
     Ok(())
 }
