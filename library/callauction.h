@@ -75,14 +75,14 @@ typedef enum callauction_error {
 
 /* Begin with one of zeros: callauction_handle handle = {0}; */
 typedef struct callauction_handle {
-    void *held_;
+    void *boxed_;
     bool is_open_;
     uint8_t busy_;
 } callauction_handle;
 
 /* A member of a board. Begin with zeros: callauction_member members[8] = {{0}}; */
 typedef struct callauction_member {
-    void *held_;
+    void *boxed_;
     bool is_open_;
     uint8_t busy_;
 } callauction_member;
@@ -206,9 +206,9 @@ typedef struct callauction_order {
 enum { CALLAUCTION_ALL_MEMBERS = 256 };
 
 /* The shares of the market orders that count. */
-typedef struct callauction_market {
+typedef struct callauction_market_orders {
     uint64_t bids, asks;
-} callauction_market;
+} callauction_market_orders;
 
 /* What a recorded call is answered: its number in the board's history, from 1 on, and the auction's reply. */
 typedef struct callauction_receipt {
@@ -264,7 +264,7 @@ CALLAUCTION_RESULT uint32_t callauction_display(const callauction_handle *handle
 /* Copies the shares bid and offered by the orders that count, with a limit at each tick from low to high, and writes
  * those of the market orders. BAD_LENGTH where a count isn't high - low + 1. */
 CALLAUCTION_RESULT uint32_t callauction_ladder(const callauction_handle *handle, uint64_t *bids, size_t bid_count,
-                                               uint64_t *asks, size_t ask_count, callauction_market *market);
+                                               uint64_t *asks, size_t ask_count, callauction_market_orders *market);
 
 /* Copies the trades of the day after the first `seen`, as many as there are and as fit, and writes how many it
  * copied. */
@@ -330,8 +330,8 @@ CALLAUCTION_RESULT uint32_t callauction_board_look(callauction_member *member, c
  * then. They take the lock as a call does: BUSY or CLOSED; else BAD_LENGTH, of a ladder; else BEHIND where the member
  * has seen more calls than the history has. */
 CALLAUCTION_RESULT uint32_t callauction_board_ladder(callauction_member *member, uint64_t *bids, size_t bid_count,
-                                                     uint64_t *asks, size_t ask_count, callauction_market *market,
-                                                     uint32_t *calls);
+                                                     uint64_t *asks, size_t ask_count,
+                                                     callauction_market_orders *market, uint32_t *calls);
 CALLAUCTION_RESULT uint32_t callauction_board_trades(callauction_member *member, size_t seen,
                                                      callauction_trade *trades, size_t trade_count, size_t *copied,
                                                      uint32_t *calls);
@@ -400,11 +400,11 @@ static inline uint32_t callauction_board_call_waiting(pthread_mutex_t *mutex, ca
     CALLAUCTION_ASSERT(offsetof(callauction_##type, field) == (offset), #type "." #field)
 
 CALLAUCTION_SIZE(handle, 16);
-CALLAUCTION_AT(handle, held_, 0);
+CALLAUCTION_AT(handle, boxed_, 0);
 CALLAUCTION_AT(handle, is_open_, 8);
 CALLAUCTION_AT(handle, busy_, 9);
 CALLAUCTION_SIZE(member, 16);
-CALLAUCTION_AT(member, held_, 0);
+CALLAUCTION_AT(member, boxed_, 0);
 CALLAUCTION_AT(member, is_open_, 8);
 CALLAUCTION_AT(member, busy_, 9);
 CALLAUCTION_SIZE(config, 28);
@@ -460,9 +460,9 @@ CALLAUCTION_AT(order, member, 32);
 CALLAUCTION_AT(order, side, 33);
 CALLAUCTION_AT(order, restriction, 34);
 CALLAUCTION_AT(order, has_limit, 35);
-CALLAUCTION_SIZE(market, 16);
-CALLAUCTION_AT(market, bids, 0);
-CALLAUCTION_AT(market, asks, 8);
+CALLAUCTION_SIZE(market_orders, 16);
+CALLAUCTION_AT(market_orders, bids, 0);
+CALLAUCTION_AT(market_orders, asks, 8);
 CALLAUCTION_SIZE(receipt, 72);
 CALLAUCTION_AT(receipt, reply, 0);
 CALLAUCTION_AT(receipt, number, 64);

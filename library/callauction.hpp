@@ -341,7 +341,7 @@ inline Display display_of(const callauction_reply &from) {
 // market orders; after as many calls as `calls` says.
 struct Ladder {
     std::vector<std::uint64_t> bids, asks;
-    callauction_market market;
+    callauction_market_orders market;
     std::uint32_t calls;
 };
 

@@ -13,7 +13,8 @@ uint32_t proved_callauction_apply(callauction_handle *, const callauction_comman
 uint32_t proved_callauction_apply_many(callauction_handle *, const callauction_command *, size_t, callauction_reply *,
                                        size_t, size_t *);
 uint32_t proved_callauction_display(callauction_handle *, callauction_reply *);
-uint32_t proved_callauction_ladder(callauction_handle *, uint64_t *, size_t, uint64_t *, size_t, callauction_market *);
+uint32_t proved_callauction_ladder(callauction_handle *, uint64_t *, size_t, uint64_t *, size_t,
+                                   callauction_market_orders *);
 uint32_t proved_callauction_trades(callauction_handle *, size_t, callauction_trade *, size_t, size_t *);
 uint32_t proved_callauction_orders(callauction_handle *, uint32_t, callauction_order *, size_t, size_t *);
 uint32_t proved_callauction_expiring(callauction_handle *, callauction_order *, size_t, size_t *);
@@ -26,7 +27,7 @@ uint32_t proved_callauction_board_open(callauction_member *, size_t, const calla
 uint32_t proved_callauction_board_call(callauction_member *, const callauction_command *, callauction_receipt *);
 uint32_t proved_callauction_board_look(callauction_member *, callauction_shown *);
 uint32_t proved_callauction_board_ladder(callauction_member *, uint64_t *, size_t, uint64_t *, size_t,
-                                         callauction_market *, uint32_t *);
+                                         callauction_market_orders *, uint32_t *);
 uint32_t proved_callauction_board_trades(callauction_member *, size_t, callauction_trade *, size_t, size_t *,
                                          uint32_t *);
 uint32_t proved_callauction_board_history(callauction_member *, size_t, callauction_entry *, size_t, size_t *);
@@ -86,7 +87,7 @@ uint32_t callauction_display(const callauction_handle *handle, callauction_reply
 }
 
 uint32_t callauction_ladder(const callauction_handle *handle, uint64_t *bids, size_t bid_count, uint64_t *asks,
-                            size_t ask_count, callauction_market *market) {
+                            size_t ask_count, callauction_market_orders *market) {
     callauction_handle *own = (callauction_handle *)handle;
     THROUGH(own, proved_callauction_ladder(own, bids, bid_count, asks, ask_count, market));
 }
@@ -151,7 +152,7 @@ uint32_t callauction_board_look(callauction_member *member, callauction_shown *s
 }
 
 uint32_t callauction_board_ladder(callauction_member *member, uint64_t *bids, size_t bid_count, uint64_t *asks,
-                                  size_t ask_count, callauction_market *market, uint32_t *calls) {
+                                  size_t ask_count, callauction_market_orders *market, uint32_t *calls) {
     THROUGH(member, proved_callauction_board_ladder(member, bids, bid_count, asks, ask_count, market, calls));
 }
 

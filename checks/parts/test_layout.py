@@ -75,12 +75,13 @@ def test_a_type_with_a_second_meaning(tmp_path: pathlib.Path) -> None:
     ]
 
 
-def test_a_definition_with_a_second_meaning(tmp_path: pathlib.Path) -> None:
-    first = "pub record IsSound (line : Line) : Type 0 where\n"
-    second = "abbrev pub IsSound : Day → Type 0\n"
+@pytest.mark.parametrize("name", ["IsSound", "line_of"])
+def test_a_definition_with_a_second_meaning(tmp_path: pathlib.Path, name: str) -> None:
+    first = f"abbrev pub {name} : Line → Type 0\n"
+    second = f"unfoldable pub {name} : Day → Type 0\n"
     files = {"crates/other/specs/Day.antt": second, "crates/terms/specs/Line.antt": first}
     assert faults_of(sources.names_of_two_crates, planted(tmp_path, **files)) == [
-        "IsSound has two meanings: crates/other/specs/Day.antt:1, crates/terms/specs/Line.antt:1"
+        f"{name} has two meanings: crates/other/specs/Day.antt:1, crates/terms/specs/Line.antt:1"
     ]
 
 

@@ -23,6 +23,9 @@ NAMES = {
     r"\bIsAfterwards\b": "a noun, or IsX with what X is",
     r"\b(KeepsSaid|SaidOf)\b": "IsX or HasX with what X is",
     r"\bFor\.(ALL|OPENING|CLOSING)\b": "Restriction",
+    r"\bcallauction_market\b": "callauction_market_orders",
+    r"\bHeldMember\b": "MemberBox",
+    r"\bVerdict::(Legal|BadAt)\b": "AuditFinding",
 }
 ANY = re.compile("|".join(f"(?:{pattern})" for pattern in NAMES))
 

@@ -9,8 +9,9 @@
 - The first line of a file in a folder of proofs that is named as a function says what it belongs
   to, and that `rt` looks there.
 - No two lemmas have names that differ by hyphens and underscores alone.
-- No type, trait, record or definition with a capital letter has its name in two crates, but for the
-  types of the two boards (TWINS) and for a type and the record that it is in contracts (MODELS).
+- No type, trait, record or definition of specs/ has its name in two crates, nor one of proofs/ that
+  begins with a capital letter, but for those of the two boards (TWINS) and for a type and the
+  record that it is in contracts (MODELS).
 - A limit of the market or of memory (LIMITS) isn't written as a number, where it isn't the value of
   a constant: in sources, definitions and proofs, but for tests, examples, comments and texts.
 - No name of before comes back (checks/texts/banned.py).
@@ -37,9 +38,12 @@ LIMITS = {
 SHARED = {"Lib", "Answers", "Invariants", "Proof"}
 TWINS, MODELS = {"member_board", "shared_board"}, {"Leaders"}
 TYPE = re.compile(r"(?:pub(?:\([a-z]+\))? )?(?:struct|enum|trait|union) (?P<name>\w+)")
-DEFINED = re.compile(
-    r"(?:(?:pub|abbrev|unfoldable|opaque|record|data) +)+(?P<name>[A-Z]\w*)(?= *[:({])"
-)
+DEFINED = r"(?:(?:pub|abbrev|unfoldable|opaque|record|data) +)+(?P<name>[{}]\w*)(?= *[:({{])"
+NAMES_IN = {
+    ".rt": TYPE,
+    "specs": re.compile(DEFINED.format("A-Za-z_")),
+    "proofs": re.compile(DEFINED.format("A-Z")),
+}
 NUMBER = re.compile(r"(?<![\w.\"])[0-9][0-9_]*(?!\w)")
 CONSTANT = re.compile(r"(pub(\([a-z]+\))? )?(const|static) (?P<name>[A-Z][A-Z0-9_]*) *:")
 TEXT = re.compile(r'"(?:[^"\\]|\\.)*"')
@@ -122,11 +126,11 @@ def names_of_two_crates(tree: Tree) -> Iterator[str]:
     """Types and definitions whose name two crates have."""
     places: dict[str, dict[str, str]] = collections.defaultdict(dict)
     for file in [*tree.sources, *tree.specs, *tree.proofs]:
-        pattern = TYPE if file.suffix == ".rt" else DEFINED
+        kind = file.suffix if file.suffix == ".rt" else file.relative_to(tree.top).parts[2]
         if is_test(tree, file):
             continue
         for place, line in enumerate(tree.lines(file), 1):
-            found = pattern.match(line)
+            found = NAMES_IN[kind].match(line)
             if found:
                 where = f"{tree.name(file)}:{place}"
                 places[found["name"]].setdefault(tree.crate(file), where)

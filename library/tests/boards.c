@@ -191,7 +191,7 @@ static void looks_show_all(bool is_watched) {
 /* The ladder and the trades that a member is shown are those of the replay. */
 static void shows_alike(callauction_member *member, const callauction_handle *plain, size_t length) {
     uint64_t bids[1000], asks[1000], bids_too[1000], asks_too[1000];
-    callauction_market market, market_too;
+    callauction_market_orders market, market_too;
     callauction_trade trades[8], trades_too[8];
     size_t copied, copied_too;
     uint32_t calls;

@@ -49,7 +49,7 @@ static void a_handle_of_zeros(void) {
     callauction_command ask = other(1, CALLAUCTION_COMMAND_INDICATE, 0);
     callauction_reply reply = {.tag = 99}, shown = {.tag = 98};
     callauction_config config = {.low = 97};
-    callauction_market market = {96, 95};
+    callauction_market_orders market = {96, 95};
     callauction_trade trade = {.bid = 94};
     uint64_t bids[TICKS] = {93}, asks[TICKS] = {92};
     uint32_t calls = 91;
@@ -255,7 +255,7 @@ static void many(void) {
 static void the_ladder(void) {
     callauction_handle auction = {0};
     callauction_command waiting = order(1, CALLAUCTION_SIDE_BID, 195, 1000);
-    callauction_market market = {77, 78};
+    callauction_market_orders market = {77, 78};
     uint64_t bids[TICKS + 1] = {79}, asks[TICKS + 1] = {80};
     opened(&auction);
     waiting.restriction = CALLAUCTION_RESTRICTION_CLOSING_ONLY;

@@ -55,7 +55,7 @@ uint32_t python_board_look(python_board *own, size_t number, callauction_shown *
 }
 
 uint32_t python_board_ladder(python_board *own, size_t number, uint64_t *bids, uint64_t *asks, size_t ticks,
-                             callauction_market *market, uint32_t *calls) {
+                             callauction_market_orders *market, uint32_t *calls) {
     ANSWER_OF_MEMBER(own, number,
                      callauction_board_ladder(&own->members_[number], bids, ticks, asks, ticks, market, calls));
 }

@@ -15,7 +15,7 @@ uint32_t python_board_call(python_board *own, size_t number, const callauction_c
                            callauction_receipt *receipt);
 uint32_t python_board_look(python_board *own, size_t number, callauction_shown *shown);
 uint32_t python_board_ladder(python_board *own, size_t number, uint64_t *bids, uint64_t *asks, size_t ticks,
-                             callauction_market *market, uint32_t *calls);
+                             callauction_market_orders *market, uint32_t *calls);
 uint32_t python_board_trades(python_board *own, size_t number, size_t seen, callauction_trade *trades, size_t count,
                              size_t *copied, uint32_t *calls);
 uint32_t python_board_history(python_board *own, size_t number, size_t seen, callauction_entry *entries, size_t count,

@@ -95,7 +95,8 @@ uint32_t python_display(python_auction *own, callauction_reply *shown) {
     ANSWER_TAKEN(own, callauction_display(&own->handle_, shown));
 }
 
-uint32_t python_ladder(python_auction *own, uint64_t *bids, uint64_t *asks, size_t ticks, callauction_market *market) {
+uint32_t python_ladder(python_auction *own, uint64_t *bids, uint64_t *asks, size_t ticks,
+                       callauction_market_orders *market) {
     ANSWER_TAKEN(own, callauction_ladder(&own->handle_, bids, ticks, asks, ticks, market));
 }
 

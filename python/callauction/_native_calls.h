@@ -46,7 +46,8 @@ uint32_t python_apply_many(python_auction *own, const callauction_command *comma
                            size_t count, size_t *applied);
 
 uint32_t python_display(python_auction *own, callauction_reply *shown);
-uint32_t python_ladder(python_auction *own, uint64_t *bids, uint64_t *asks, size_t ticks, callauction_market *market);
+uint32_t python_ladder(python_auction *own, uint64_t *bids, uint64_t *asks, size_t ticks,
+                       callauction_market_orders *market);
 uint32_t python_trades(python_auction *own, size_t seen, callauction_trade *trades, size_t count, size_t *copied);
 
 /* Orders of the member, or of all by CALLAUCTION_ALL_MEMBERS. */

@@ -453,7 +453,7 @@ class Auction:
         config = self.config
         ticks = config.high - config.low + 1
         bids, asks = numpy.zeros(ticks, numpy.uint64), numpy.zeros(ticks, numpy.uint64)
-        market = ffi.new("callauction_market *")
+        market = ffi.new("callauction_market_orders *")
         self._call(
             lib.python_ladder,
             ffi.from_buffer("uint64_t[]", bids, require_writable=True),

@@ -150,7 +150,7 @@ class Member:
         config = self._board.config
         ticks = config.high - config.low + 1
         bids, asks = numpy.zeros(ticks, numpy.uint64), numpy.zeros(ticks, numpy.uint64)
-        market, calls = ffi.new("callauction_market *"), ffi.new("uint32_t *")
+        market, calls = ffi.new("callauction_market_orders *"), ffi.new("uint32_t *")
         given = [ffi.from_buffer("uint64_t[]", it, require_writable=True) for it in (bids, asks)]
         self._call(lib.python_board_ladder, *given, ticks, market, calls)
         return bids, asks, MarketOrders(market.bids, market.asks), int(calls[0])

@@ -3,8 +3,8 @@ use Rattle.std.specs.Prelude.{ℕ, ◌+◌, ◌<◌, List, length, take}
 use Rattle.auction_terms.specs.declared.Config.{Config}
 use Rattle.auction_terms.specs.declared.Entry.{Entry}
 use Rattle.auction_terms.specs.Day.{IsLegal}
-use Rattle.auction.specs.declared.Verdict.{Verdict}
-use Rattle.auction.specs.declared.Verdict.TheVariants.{Legal, BadAt}
+use Rattle.auction.specs.declared.AuditFinding.{AuditFinding}
+use Rattle.auction.specs.declared.AuditFinding.TheVariants.{Legal, BadAt}
 
 -- the entries before the place are a legal history, and with the one at the place they are not
 pub record IsFirstBad (config : Config) (entries : List Entry) (place : ℕ) : Type 0 where
@@ -13,6 +13,6 @@ pub record IsFirstBad (config : Config) (entries : List Entry) (place : ℕ) : T
   pub broken : IsLegal config (take (place + 1) entries) → ⊥
 
 -- Legal for a legal history, else the first place that breaks it
-abbrev pub IsVerdictOf : Config → List Entry → Verdict → Type 0
-IsVerdictOf config entries Legal = IsLegal config entries
-IsVerdictOf config entries (BadAt place) = IsFirstBad config entries place
+abbrev pub IsFindingOf : Config → List Entry → AuditFinding → Type 0
+IsFindingOf config entries Legal = IsLegal config entries
+IsFindingOf config entries (BadAt place) = IsFirstBad config entries place

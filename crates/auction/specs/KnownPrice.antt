@@ -33,15 +33,15 @@ still_known (Some known) kind order =
     if participates_in kind order && not (is_beyond known order.side order.limit) then None else Some known
 
 -- what is shown: the price, or the best limits where there is none
-abbrev pub shown : Option Price → Option ℕ → Option ℕ → Display
-shown (Some price) best_bid best_ask = Priced price
-shown None best_bid best_ask = Unpriced best_bid best_ask
+abbrev pub display_known : Option Price → Option ℕ → Option ℕ → Display
+display_known (Some price) best_bid best_ask = Priced price
+display_known None best_bid best_ask = Unpriced best_bid best_ask
 
 -- it is the price of the book at the reference, and the book is displayed so
 pub record IsPriceAt (reference : ℕ) (book : List Order) (known : KnownPrice) : Type 0 where
   pub of : known.reference ≡ reference
   pub found : price book reference ≡ known.price
-  pub displayed : display_of book known.price ≡ shown known.price known.best_bid known.best_ask
+  pub displayed : display_of book known.price ≡ display_known known.price known.best_bid known.best_ask
 
 -- so is each book over the n ticks from low on that is the same where it decides
 abbrev pub IsKnown : ℕ → ℕ → List Order → KnownPrice → Type 0

@@ -47,7 +47,7 @@ pub enum OpenFault {
 
 /// What an audit says of a history.
 #[derive(Clone, Copy, Debug, PartialEq, Eq)]
-pub enum Verdict {
+pub enum AuditFinding {
     /// Each reply is the auction's own.
     Legal,
     /// The first place, from 0, of an entry that the auction doesn't answer so, or has no room for.

@@ -7,7 +7,7 @@ use Rattle.shared_board.specs.BoardViews.{BoardMember, FloorView, IsClosingOf, O
 use Rattle.auction_c.specs.declared.member_handle.AuctionMember.{AuctionMember}
 use Rattle.auction_c.specs.declared.structs.AuctionEntry.{AuctionEntry}
 use Rattle.auction_c.specs.Entries.{AreEntries}
-use Rattle.auction_c.specs.BoardCalls.{HoldAccounts, IsAccountsError, IsCloseError, WritesClosing, first_held}
+use Rattle.auction_c.specs.BoardCalls.{HoldAccounts, IsAccountsError, IsCloseError, WritesClosing, first_boxed}
 use Rattle.auction_c.specs.BoardCalls.{lacks_room}
 
 pub writes_closing : (f : FloorView) (handles : List AuctionMember) (entries : List AuctionEntry) (counts : List ℕ)
@@ -26,12 +26,12 @@ writes_closing f handles entries counts written accounts c = record {
 }
 
 -- what is held is a member of the floor's board, for whose closing there is room, and the handles have an error
-held_close_error : (f : FloorView) (handles : List AuctionMember) (entries counts error : ℕ) (o : Option BoardMember)
+boxed_close_error : (f : FloorView) (handles : List AuctionMember) (entries counts error : ℕ) (o : Option BoardMember)
     → IsSomeAnd o (λ (m : BoardMember). f.board ≡ m.board) → IsAccountsError f handles error
     → IfSome o
     (λ (m : BoardMember). lacks_room m.board entries counts ≡ false → 0 < error → IsCloseError m.board handles error)
-held_close_error f handles entries counts error None is accounts = tt
-held_close_error f handles entries counts error (Some m) is accounts =
+boxed_close_error f handles entries counts error None is accounts = tt
+boxed_close_error f handles entries counts error (Some m) is accounts =
     λ room some. inr (
       f.history,
       subst (λ (b : OpenedBoard). IsAccountsError (floor_view b f.history) handles error) is accounts,
@@ -39,10 +39,10 @@ held_close_error f handles entries counts error (Some m) is accounts =
 
 pub close_error : (f : FloorView) (handles : List AuctionMember) (first : AuctionMember) (entries counts error : ℕ)
     → (length handles == 0) ≡ false → first ≡ get_or handles 0 first
-    → IsSomeAnd first.held.value (λ (m : BoardMember). f.board ≡ m.board) → IsAccountsError f handles error
-    → IfSome (first_held handles)
+    → IsSomeAnd first.boxed.value (λ (m : BoardMember). f.board ≡ m.board) → IsAccountsError f handles error
+    → IfSome (first_boxed handles)
     (λ (m : BoardMember). lacks_room m.board entries counts ≡ false → 0 < error → IsCloseError m.board handles error)
 close_error f [] first entries counts error some at is accounts = absurd (cc (some))
 close_error f (h ∷ hs) first entries counts error some at is accounts =
-    held_close_error f (h ∷ hs) entries counts error h.held.value
-    (subst (λ (a : AuctionMember). IsSomeAnd a.held.value (λ (m : BoardMember). f.board ≡ m.board)) at is) accounts
+    boxed_close_error f (h ∷ hs) entries counts error h.boxed.value
+    (subst (λ (a : AuctionMember). IsSomeAnd a.boxed.value (λ (m : BoardMember). f.board ≡ m.board)) at is) accounts

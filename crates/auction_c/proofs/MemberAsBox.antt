@@ -11,8 +11,8 @@ use Rattle.std_heap.specs.contracts.GlobalAllocator.TheImpl.{ghosts, dict}
 use Rattle.std_heap.proofs.Global.TheLaws as heap
 use Rattle.shared_board.specs.contracts.member.SharedMember as Auction
 use Rattle.shared_board.proofs.member.SharedMember.TheLaws as auction
-use Rattle.auction_c.specs.contracts.held.parts.Parts as Parts
-use Rattle.auction_c.specs.contracts.member_held.HeldMember as Held
+use Rattle.auction_c.specs.contracts.boxed.parts.Parts as Parts
+use Rattle.auction_c.specs.contracts.member_box.MemberBox as AuctionBox
 
 abbrev pub E : Bx
 E = record {
@@ -26,10 +26,10 @@ abbrev pub FromParts : Slot 0
 FromParts = plain (λ _. Parts.the_row Auction.the_row Heap.the_row ghosts)
 
 abbrev pub HB : RattleType
-HB = Held.the_row
+HB = AuctionBox.the_row
 
-abbrev pub FromHeld : Slot 0
-FromHeld = plain (λ _. HB)
+abbrev pub FromBox : Slot 0
+FromBox = plain (λ _. HB)
 
 abbrev pub CR : RattleType
 CR = Auction.the_row

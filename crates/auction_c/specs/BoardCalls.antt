@@ -18,7 +18,7 @@ use Rattle.shared_board.specs.BoardViews.{SeesStory, floor_view}
 use Rattle.shared_board.specs.BoardViews.{new_board_members, opened_board, ladder_after, tape_after}
 use Rattle.auction_c.specs.declared.member_handle.AuctionMember.{AuctionMember}
 use Rattle.auction_c.specs.declared.structs.AuctionEntry.{AuctionEntry}
-use Rattle.auction_c.specs.declared.structs.AuctionMarket.{AuctionMarket}
+use Rattle.auction_c.specs.declared.structs.AuctionMarketOrders.{AuctionMarketOrders}
 use Rattle.auction_c.specs.declared.structs.AuctionReceipt.{AuctionReceipt}
 use Rattle.auction_c.specs.declared.structs.AuctionShown.{AuctionShown}
 use Rattle.auction_c.specs.declared.structs.AuctionTrade.{AuctionTrade}
@@ -54,7 +54,7 @@ pub record ShowsDisplay (out : AuctionShown) (old new : BoardMember) : Type 0 wh
 pub record HoldsAfter (Done : BoardMember → BoardMember → Type 0) (old new : Option BoardMember) : Type 0 where
   pub before : BoardMember
   pub after : BoardMember
-  pub held : old ≡ Some before
+  pub boxed : old ≡ Some before
   pub holds : new ≡ Some after
   pub done : Done before after
 
@@ -98,7 +98,7 @@ pub record SeesHistory (old new : BoardMember) (history : List Entry) : Type 0 w
   pub story : SeesStory (calls_of history) old.view new.view
 
 -- the quantities of the orders that count after all calls that the member has seen now
-pub record ShowsLadder (bids asks : List ℕ) (market : AuctionMarket) (calls : ℕ) (old new : BoardMember)
+pub record ShowsLadder (bids asks : List ℕ) (market : AuctionMarketOrders) (calls : ℕ) (old new : BoardMember)
     : Type 0 where
   pub history : List Entry
   pub sees : SeesHistory old new history
@@ -133,7 +133,7 @@ HoldsAccount f number h = IsSomeAnd h
 -- all members of the board, in the order of their numbers, are held, and their accounts are of this history
 pub record HoldAccounts (f : FloorView) (handles : List AuctionMember) : Type 0 where
   pub all : length handles ≡ f.board.members
-  pub each : (k : ℕ) (d : AuctionMember) → k < length handles → HoldsAccount f k (get_or handles k d).held.value
+  pub each : (k : ℕ) (d : AuctionMember) → k < length handles → HoldsAccount f k (get_or handles k d).boxed.value
 
 -- what is wrong with the member at this place: another number, or an account that isn't one of this legal history
 abbrev pub IsAccountError : FloorView → ℕ → BoardMember → ℕ → Type 0
@@ -152,8 +152,8 @@ pub record IsFirstError (f : FloorView) (handles : List AuctionMember) (error : 
   pub all : length handles ≡ f.board.members
   pub place : ℕ
   pub within : place < length handles
-  pub before : (k : ℕ) (d : AuctionMember) → k < place → HoldsAccount f k (get_or handles k d).held.value
-  pub here : (d : AuctionMember) → IsHandleError f place (get_or handles place d).held.value error
+  pub before : (k : ℕ) (d : AuctionMember) → k < place → HoldsAccount f k (get_or handles k d).boxed.value
+  pub here : (d : AuctionMember) → IsHandleError f place (get_or handles place d).boxed.value error
 
 -- why these handles don't bring the accounts of all members
 abbrev pub IsAccountsError : FloorView → List AuctionMember → ℕ → Type 0
@@ -165,9 +165,9 @@ abbrev pub lacks_room : OpenedBoard → ℕ → ℕ → Bool
 lacks_room board entries counts = nat_lt entries board.config.max_calls || not (nat_eq counts board.members)
 
 -- what the first handle holds
-abbrev pub first_held : List AuctionMember → Option BoardMember
-first_held [] = None
-first_held (h ∷ hs) = h.held.value
+abbrev pub first_boxed : List AuctionMember → Option BoardMember
+first_boxed [] = None
+first_boxed (h ∷ hs) = h.boxed.value
 
 -- why a board, for whose closing there is room, wasn't closed
 abbrev pub IsCloseError : OpenedBoard → List AuctionMember → ℕ → Type 0
@@ -187,10 +187,10 @@ pub record WritesClosing (board : OpenedBoard) (handles : List AuctionMember) (e
 
 -- a handle holds a member
 abbrev pub is_in_use : List AuctionMember → Bool
-is_in_use handles = list_any (λ (h : AuctionMember). is_some h.held.value) handles
+is_in_use handles = list_any (λ (h : AuctionMember). is_some h.boxed.value) handles
 
 -- each handle holds the member with its place's number, all of one new board of this config
 pub record HoldsNewMembers (config : Config) (handles : List AuctionMember) : Type 0 where
   pub book : Book
-  pub held : map (λ (h : AuctionMember). h.held.value) handles
+  pub boxed : map (λ (h : AuctionMember). h.boxed.value) handles
       ≡ map Some (new_board_members (opened_board config (length handles) book) (length handles))

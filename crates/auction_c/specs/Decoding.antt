@@ -36,16 +36,16 @@ config_in c = option_map (config_with c) (flagged_in c.has_range c.range)
 abbrev pub side_in : ℕ → Option Side
 side_in n = if n == 1 then Some Bid else if n == 2 then Some Ask else None
 
-abbrev pub restriction_in : ℕ → Option Restriction
-restriction_in n =
+abbrev pub decoded_restriction : ℕ → Option Restriction
+decoded_restriction n =
     if n == 0 then Some Unrestricted else if n == 1 then Some OpeningOnly else if n == 2 then Some ClosingOnly else None
 
-abbrev pub limit_of : Option ℕ → Limit
-limit_of None = Market
-limit_of (Some tick) = At tick
+abbrev pub decoded_limit : Option ℕ → Limit
+decoded_limit None = Market
+decoded_limit (Some tick) = At tick
 
 abbrev pub limit_in : ℕ → ℕ → Option Limit
-limit_in flag tick = option_map limit_of (flagged_in flag tick)
+limit_in flag tick = option_map decoded_limit (flagged_in flag tick)
 
 abbrev pub enter_in : AuctionCommand → Option Command
 enter_in c =
@@ -55,7 +55,7 @@ enter_in c =
     option_and_then (λ peak. Some (Enter side restriction limit c.quantity peak))
     (flagged_in c.has_peak c.peak))
     (limit_in c.has_limit c.limit))
-    (restriction_in c.restriction))
+    (decoded_restriction c.restriction))
     (side_in c.side)
 
 abbrev pub change_in : AuctionCommand → Option Command
@@ -74,6 +74,6 @@ command_in c =
     else None
 
 -- whose orders a number stands for: a member's, or all
-abbrev pub member_in : ℕ → Option (Option ℕ)
-member_in member =
+abbrev pub decoded_member : ℕ → Option (Option ℕ)
+decoded_member member =
     if nat_lt member ALL_MEMBERS then Some (Some member) else if member == ALL_MEMBERS then Some None else None

@@ -22,7 +22,7 @@ use Rattle.auction_terms.specs.Ladder.{LadderView}
 use Rattle.auction_terms.specs.Refusals.{refusal_number}
 use Rattle.auction_c.specs.declared.structs.AuctionCommand.{AuctionCommand}
 use Rattle.auction_c.specs.declared.structs.AuctionConfig.{AuctionConfig}
-use Rattle.auction_c.specs.declared.structs.AuctionMarket.{AuctionMarket}
+use Rattle.auction_c.specs.declared.structs.AuctionMarketOrders.{AuctionMarketOrders}
 use Rattle.auction_c.specs.declared.structs.AuctionOrder.{AuctionOrder}
 use Rattle.auction_c.specs.declared.structs.AuctionReply.{AuctionReply}
 use Rattle.auction_c.specs.declared.structs.AuctionTrade.{AuctionTrade}
@@ -127,7 +127,7 @@ abbrev pub trade_out : Trade → AuctionTrade
 trade_out t = record { quantity = t.quantity; bid = t.bid; ask = t.ask; tick = t.tick }
 
 -- the quantities of the market orders
-abbrev pub market_out : LadderView → AuctionMarket
+abbrev pub market_out : LadderView → AuctionMarketOrders
 market_out ladder = record { bids = ladder.market_bids; asks = ladder.market_asks }
 
 abbrev pub config_out : Config → AuctionConfig

@@ -3,13 +3,13 @@ use Rattle.std.specs.Borrow.{Lends, MutBor, Fml}
 use Rattle.std.specs.Prelude.{Some}
 use Rattle.auction_terms.specs.Auxiliary.RunningAuction.{RunningAuction}
 use Rattle.auction.specs.contracts.Auction.{the_row as auction_row}
-use Rattle.auction_c.specs.declared.held.Held.{Held}
-use Rattle.auction_c.specs.contracts.held.Held.{the_row}
+use Rattle.auction_c.specs.declared.boxed.AuctionBox.{AuctionBox}
+use Rattle.auction_c.specs.contracts.boxed.AuctionBox.{the_row}
 
 -- h with the auction w
-abbrev pub with_auction : Held → RunningAuction → Held
+abbrev pub with_auction : AuctionBox → RunningAuction → AuctionBox
 with_auction h w = record { at = h.at; alloc = h.alloc; value = Some w }
 
 -- h ends with the last auction behind r
-abbrev pub HeldLends : MutBor Held → MutBor RunningAuction → Fml
-HeldLends h r = Lends the_row auction_row h r (with_auction h.now)
+abbrev pub BoxLends : MutBor AuctionBox → MutBor RunningAuction → Fml
+BoxLends h r = Lends the_row auction_row h r (with_auction h.now)

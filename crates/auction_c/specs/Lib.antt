@@ -1,6 +1,6 @@
 pub mod Calling
-pub mod Held
-pub mod HeldMember
+pub mod AuctionBox
+pub mod MemberBox
 pub mod Decoding
 pub mod Lending
 pub mod MemberLending

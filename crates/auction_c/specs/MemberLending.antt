@@ -3,13 +3,13 @@ use Rattle.std.specs.Borrow.{Lends, MutBor, Fml}
 use Rattle.std.specs.Prelude.{Some}
 use Rattle.shared_board.specs.BoardViews.{BoardMember}
 use Rattle.shared_board.specs.contracts.member.SharedMember.{the_row as member_row}
-use Rattle.auction_c.specs.declared.member_held.HeldMember.{HeldMember}
-use Rattle.auction_c.specs.contracts.member_held.HeldMember.{the_row}
+use Rattle.auction_c.specs.declared.member_box.MemberBox.{MemberBox}
+use Rattle.auction_c.specs.contracts.member_box.MemberBox.{the_row}
 
 -- h with the member w
-abbrev pub holding_this : HeldMember → BoardMember → HeldMember
+abbrev pub holding_this : MemberBox → BoardMember → MemberBox
 holding_this h w = record { at = h.at; alloc = h.alloc; value = Some w }
 
 -- h ends with the last member behind r
-abbrev pub HeldLends : MutBor HeldMember → MutBor BoardMember → Fml
-HeldLends h r = Lends the_row member_row h r (holding_this h.now)
+abbrev pub BoxLends : MutBor MemberBox → MutBor BoardMember → Fml
+BoxLends h r = Lends the_row member_row h r (holding_this h.now)

@@ -2,7 +2,7 @@
 ghost use Rattle.std.specs.Prelude.{◌≡◌, ◌≢◌, ◌<◌, ◌≤◌, true, false, length};
 ghost use Rattle.std.specs.Prelude.{All, None, IfNone, IfSome, IsNone, IsSomeAnd};
 ghost use Rattle.auction_c.specs.BoardCalls.{HoldsAfter, HoldsNewMembers, RecordsCall, ShowsDisplay, is_in_use};
-ghost use Rattle.auction_c.specs.BoardCalls.{ShowsEntries, ShowsLadder, ShowsTrades, WritesClosing, first_held};
+ghost use Rattle.auction_c.specs.BoardCalls.{ShowsEntries, ShowsLadder, ShowsTrades, WritesClosing, first_boxed};
 ghost use Rattle.auction_c.specs.BoardCalls.{IsCloseError, lacks_room};
 ghost use Rattle.auction_c.specs.BoardCalls.{FindsFull, IsBehindBoard, IsCallError, IsLadderError, IsShowError};
 ghost use Rattle.auction_c.specs.Calling.{fault_number, ladder_error, ticks_of};
@@ -23,7 +23,7 @@ use crate::errors::{
 };
 use crate::member_handle::AuctionMember;
 use crate::structs::{
-    AuctionCommand, AuctionConfig, AuctionEntry, AuctionMarket, AuctionReceipt, AuctionShown,
+    AuctionCommand, AuctionConfig, AuctionEntry, AuctionMarketOrders, AuctionReceipt, AuctionShown,
     AuctionTrade,
 };
 use std::alloc::Global;
@@ -73,16 +73,16 @@ pub extern "C" fn callauction_board_call(
     receipt: &mut AuctionReceipt,
 ) -> u32
     ensures done { result ≡ 0 → IsSomeAnd (decoded_as.command_in command.now) (λ c.
-        HoldsAfter (RecordsCall c receipt.new) member.old.held.value member.new.held.value) }
+        HoldsAfter (RecordsCall c receipt.new) member.old.boxed.value member.new.boxed.value) }
     ensures fault { 0 < result → receipt.new ≡ receipt.old }
-    ensures member { 0 < result → result ≢ FULL → member.new.held.value ≡ member.old.held.value }
-    ensures missing { IfNone member.old.held.value (result ≡ NO_MEMBER) }
-    ensures none { IfSome member.old.held.value (λ m.
+    ensures member { 0 < result → result ≢ FULL → member.new.boxed.value ≡ member.old.boxed.value }
+    ensures missing { IfNone member.old.boxed.value (result ≡ NO_MEMBER) }
+    ensures none { IfSome member.old.boxed.value (λ m.
         IfNone (decoded_as.command_in command.now) (result ≡ NO_COMMAND)) }
-    ensures error { IfSome member.old.held.value (λ m. IfSome (decoded_as.command_in command.now) (λ c.
+    ensures error { IfSome member.old.boxed.value (λ m. IfSome (decoded_as.command_in command.now) (λ c.
         0 < result → IsCallError result)) }
-    ensures full { result ≡ FULL → HoldsAfter FindsFull member.old.held.value member.new.held.value }
-    ensures behind { result ≡ BEHIND → IsSomeAnd member.old.held.value IsBehindBoard }
+    ensures full { result ≡ FULL → HoldsAfter FindsFull member.old.boxed.value member.new.boxed.value }
+    ensures behind { result ≡ BEHIND → IsSomeAnd member.old.boxed.value IsBehindBoard }
 {
     if !member.is_open {
         return NO_MEMBER;
@@ -90,7 +90,7 @@ pub extern "C" fn callauction_board_call(
     let Some(decoded) = command_in(command) else {
         return NO_COMMAND;
     };
-    call_one(member.held.get_mut(), decoded, receipt)
+    call_one(member.boxed.get_mut(), decoded, receipt)
 }
 
 /// Shows the handle's member how many calls there were, and the display after them. It takes no lock.
@@ -99,14 +99,14 @@ pub extern "C" fn callauction_board_look(
     member: &mut AuctionMember,
     shown: &mut AuctionShown,
 ) -> u32
-    ensures done { result ≡ 0 → HoldsAfter (ShowsDisplay shown.new) member.old.held.value member.new.held.value }
-    ensures none { 0 < result → (member.old.held.value ≡ None) × (result ≡ NO_MEMBER) }
-    ensures fault { 0 < result → (member.new.held.value ≡ member.old.held.value) × (shown.new ≡ shown.old) }
+    ensures done { result ≡ 0 → HoldsAfter (ShowsDisplay shown.new) member.old.boxed.value member.new.boxed.value }
+    ensures none { 0 < result → (member.old.boxed.value ≡ None) × (result ≡ NO_MEMBER) }
+    ensures fault { 0 < result → (member.new.boxed.value ≡ member.old.boxed.value) × (shown.new ≡ shown.old) }
 {
     if !member.is_open {
         return NO_MEMBER;
     }
-    look_one(member.held.get_mut(), shown);
+    look_one(member.boxed.get_mut(), shown);
     DONE
 }
 
@@ -117,16 +117,16 @@ pub extern "C" fn callauction_board_ladder(
     member: &mut AuctionMember,
     bids: &mut [u64],
     asks: &mut [u64],
-    market: &mut AuctionMarket,
+    market: &mut AuctionMarketOrders,
     calls: &mut u32,
 ) -> u32
     ensures done { result ≡ 0 → HoldsAfter (ShowsLadder bids.new asks.new market.new calls.new)
-        member.old.held.value member.new.held.value }
-    ensures fault { 0 < result → member.new.held.value ≡ member.old.held.value }
-    ensures missing { IfNone member.old.held.value (result ≡ NO_MEMBER) }
-    ensures error { IfSome member.old.held.value (λ m. 0 < result →
+        member.old.boxed.value member.new.boxed.value }
+    ensures fault { 0 < result → member.new.boxed.value ≡ member.old.boxed.value }
+    ensures missing { IfNone member.old.boxed.value (result ≡ NO_MEMBER) }
+    ensures error { IfSome member.old.boxed.value (λ m. 0 < result →
         IsLadderError m (length bids.old) (length asks.old) result) }
-    ensures length { IfSome member.old.held.value (λ m. result ≡ 0 →
+    ensures length { IfSome member.old.boxed.value (λ m. result ≡ 0 →
         ladder_error (ticks_of m.board.config) (length bids.old) (length asks.old) ≡ 0) }
     ensures arrays { 0 < result → (bids.new ≡ bids.old) × (asks.new ≡ asks.old) }
     ensures numbers { 0 < result → (market.new ≡ market.old) × (calls.new ≡ calls.old) }
@@ -134,7 +134,7 @@ pub extern "C" fn callauction_board_ladder(
     if !member.is_open {
         return NO_MEMBER;
     }
-    show_ladder(member.held.get_mut(), bids, asks, market, calls)
+    show_ladder(member.boxed.get_mut(), bids, asks, market, calls)
 }
 
 /// Copies the trades of the day after the first `seen` of them, as many as there is room for, after as many calls as it
@@ -148,16 +148,16 @@ pub extern "C" fn callauction_board_trades(
     calls: &mut u32,
 ) -> u32
     ensures done { result ≡ 0 → HoldsAfter (ShowsTrades seen trades.old trades.new copied.new calls.new)
-        member.old.held.value member.new.held.value }
-    ensures fault { 0 < result → member.new.held.value ≡ member.old.held.value }
-    ensures missing { IfNone member.old.held.value (result ≡ NO_MEMBER) }
-    ensures error { IfSome member.old.held.value (λ m. 0 < result → IsShowError m result) }
+        member.old.boxed.value member.new.boxed.value }
+    ensures fault { 0 < result → member.new.boxed.value ≡ member.old.boxed.value }
+    ensures missing { IfNone member.old.boxed.value (result ≡ NO_MEMBER) }
+    ensures error { IfSome member.old.boxed.value (λ m. 0 < result → IsShowError m result) }
     ensures same { 0 < result → (trades.new ≡ trades.old) × (copied.new ≡ copied.old) × (calls.new ≡ calls.old) }
 {
     if !member.is_open {
         return NO_MEMBER;
     }
-    show_trades(member.held.get_mut(), seen, trades, copied, calls)
+    show_trades(member.boxed.get_mut(), seen, trades, copied, calls)
 }
 
 /// Copies the entries of the board's history after the first `seen` of them, as many as there is room for. The member
@@ -170,29 +170,29 @@ pub extern "C" fn callauction_board_history(
     copied: &mut usize,
 ) -> u32
     ensures done { result ≡ 0 → HoldsAfter (ShowsEntries seen entries.old entries.new copied.new)
-        member.old.held.value member.new.held.value }
-    ensures fault { 0 < result → member.new.held.value ≡ member.old.held.value }
-    ensures missing { IfNone member.old.held.value (result ≡ NO_MEMBER) }
-    ensures error { IfSome member.old.held.value (λ m. 0 < result → IsShowError m result) }
+        member.old.boxed.value member.new.boxed.value }
+    ensures fault { 0 < result → member.new.boxed.value ≡ member.old.boxed.value }
+    ensures missing { IfNone member.old.boxed.value (result ≡ NO_MEMBER) }
+    ensures error { IfSome member.old.boxed.value (λ m. 0 < result → IsShowError m result) }
     ensures same { 0 < result → (entries.new ≡ entries.old) × (copied.new ≡ copied.old) }
 {
     if !member.is_open {
         return NO_MEMBER;
     }
-    show_entries(member.held.get_mut(), seen, entries, copied)
+    show_entries(member.boxed.get_mut(), seen, entries, copied)
 }
 
 /// Writes how many calls of the handle's member were recorded.
 #[unsafe(no_mangle)]
 pub extern "C" fn callauction_board_calls(member: &mut AuctionMember, calls: &mut u32) -> u32
-    ensures done { result ≡ 0 → IsSomeAnd member.old.held.value (λ m. calls.new ≡ m.view.calls) }
-    ensures none { 0 < result → (member.old.held.value ≡ None) × (result ≡ NO_MEMBER) × (calls.new ≡ calls.old) }
-    ensures member { member.new.held.value ≡ member.old.held.value }
+    ensures done { result ≡ 0 → IsSomeAnd member.old.boxed.value (λ m. calls.new ≡ m.view.calls) }
+    ensures none { 0 < result → (member.old.boxed.value ≡ None) × (result ≡ NO_MEMBER) × (calls.new ≡ calls.old) }
+    ensures member { member.new.boxed.value ≡ member.old.boxed.value }
 {
     if !member.is_open {
         return NO_MEMBER;
     }
-    *calls = member.held.get_mut().calls();
+    *calls = member.boxed.get_mut().calls();
     DONE
 }
 
@@ -203,14 +203,14 @@ pub extern "C" fn callauction_board_config_of(
     config: &mut AuctionConfig,
 ) -> u32
     ensures done { result ≡ 0 →
-        IsSomeAnd member.old.held.value (λ m. config.new ≡ encoded_as.config_out m.board.config) }
-    ensures none { 0 < result → (member.old.held.value ≡ None) × (result ≡ NO_MEMBER) × (config.new ≡ config.old) }
-    ensures member { member.new.held.value ≡ member.old.held.value }
+        IsSomeAnd member.old.boxed.value (λ m. config.new ≡ encoded_as.config_out m.board.config) }
+    ensures none { 0 < result → (member.old.boxed.value ≡ None) × (result ≡ NO_MEMBER) × (config.new ≡ config.old) }
+    ensures member { member.new.boxed.value ≡ member.old.boxed.value }
 {
     if !member.is_open {
         return NO_MEMBER;
     }
-    *config = config_out(member.held.get_mut().config());
+    *config = config_out(member.boxed.get_mut().config());
     DONE
 }
 
@@ -230,17 +230,17 @@ pub extern "C" fn callauction_board_close(
     counts: &mut [u32],
     written: &mut usize,
 ) -> u32
-    requires one_board { (board : OpenedBoard) × All (λ h. IfSome h.held.value (λ m. m.board ≡ board)) members.old }
+    requires one_board { (board : OpenedBoard) × All (λ h. IfSome h.boxed.value (λ m. m.board ≡ board)) members.old }
     ensures same { members.new ≡ members.old }
     ensures done { result ≡ 0 →
         (board : OpenedBoard) × WritesClosing board members.old entries.new counts.new written.new }
     ensures fault { 0 < result →
         (entries.new ≡ entries.old) × (counts.new ≡ counts.old) × (written.new ≡ written.old) }
     ensures empty { length members.old ≡ 0 → result ≡ BAD_LENGTH }
-    ensures missing { 0 < length members.old → IfNone (first_held members.old) (result ≡ NO_MEMBER) }
-    ensures length { IfSome (first_held members.old) (λ m.
+    ensures missing { 0 < length members.old → IfNone (first_boxed members.old) (result ≡ NO_MEMBER) }
+    ensures length { IfSome (first_boxed members.old) (λ m.
         lacks_room m.board (length entries.old) (length counts.old) ≡ true → result ≡ BAD_LENGTH) }
-    ensures error { IfSome (first_held members.old) (λ m.
+    ensures error { IfSome (first_boxed members.old) (λ m.
         lacks_room m.board (length entries.old) (length counts.old) ≡ false → 0 < result →
         IsCloseError m.board members.old result) }
 {
@@ -250,9 +250,9 @@ pub extern "C" fn callauction_board_close(
 /// Gives up the handle's member, and the board with the last of its members.
 #[unsafe(no_mangle)]
 pub extern "C" fn callauction_board_leave(alloc: Global, member: &mut AuctionMember) -> u32
-    ensures member { member.new.held.value ≡ None }
-    ensures none { IfNone member.old.held.value (result ≡ NO_MEMBER) }
-    ensures done { IfSome member.old.held.value (λ m. result ≡ DONE) }
+    ensures member { member.new.boxed.value ≡ None }
+    ensures none { IfNone member.old.boxed.value (result ≡ NO_MEMBER) }
+    ensures done { IfSome member.old.boxed.value (λ m. result ≡ DONE) }
 {
     match member.take(alloc) {
         Some(_member) => DONE,

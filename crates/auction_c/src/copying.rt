@@ -7,7 +7,7 @@ ghost use Rattle.auction_c.specs.declared.errors.TheConstants.{DONE, IN_USE};
 
 use crate::encoding::{order_out, trade_out};
 use crate::errors::{BAD_LENGTH, DONE, IN_USE};
-use crate::structs::{AuctionMarket, AuctionOrder, AuctionTrade};
+use crate::structs::{AuctionMarketOrders, AuctionOrder, AuctionTrade};
 use auction::Auction;
 use auction_terms::{OpenOrder, Side, Trade};
 use tick_ladder::Ladder;
@@ -57,7 +57,7 @@ pub(crate) fn copy_ladder(
     ladder: &Ladder,
     bids: &mut [u64],
     asks: &mut [u64],
-    market: &mut AuctionMarket,
+    market: &mut AuctionMarketOrders,
 ) -> u32
     ensures error { result ≡ ladder_error (length ladder.now.bids) (length bids.old) (length asks.old) }
     ensures bids { result ≡ 0 → bids.new ≡ ladder.now.bids }
@@ -71,7 +71,7 @@ pub(crate) fn copy_ladder(
     }
     bids.copy_from_slice(ladder.bids());
     asks.copy_from_slice(ladder.asks());
-    *market = AuctionMarket {
+    *market = AuctionMarketOrders {
         bids: ladder.market(Side::Bid),
         asks: ladder.market(Side::Ask),
     };

@@ -44,8 +44,8 @@ fn side_in(side: u8) -> Option<Side>
     }
 }
 
-fn restriction_in(restriction: u8) -> Option<Restriction>
-    ensures { result ≡ decoded_as.restriction_in restriction }
+fn decoded_restriction(restriction: u8) -> Option<Restriction>
+    ensures { result ≡ decoded_as.decoded_restriction restriction }
 {
     match restriction {
         0 => Some(Restriction::Unrestricted),
@@ -80,8 +80,8 @@ fn peak_in(flag: u8, peak: u64) -> Option<Option<u64>>
 }
 
 /// Whose orders a number stands for: those of a member, or of all.
-pub(crate) fn member_in(member: u32) -> Option<Option<u8>>
-    ensures { result ≡ decoded_as.member_in member }
+pub(crate) fn decoded_member(member: u32) -> Option<Option<u8>>
+    ensures { result ≡ decoded_as.decoded_member member }
 {
     if member < ALL_MEMBERS {
         Some(Some(member as u8))
@@ -99,7 +99,7 @@ pub(crate) fn command_in(command: &AuctionCommand) -> Option<Command>
     match command.tag {
         1 => Some(Command::Enter {
             side: side_in(command.side)?,
-            restriction: restriction_in(command.restriction)?,
+            restriction: decoded_restriction(command.restriction)?,
             limit: limit_in(command.has_limit, command.limit)?,
             quantity: command.quantity,
             peak: peak_in(command.has_peak, command.peak)?,

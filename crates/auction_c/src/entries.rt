@@ -18,7 +18,7 @@ fn limit_out(limit: Limit) -> (u8, u32)
 }
 
 fn restriction_out(restriction: Restriction) -> u8
-    ensures { decoded_as.restriction_in result ≡ Some restriction }
+    ensures { decoded_as.decoded_restriction result ≡ Some restriction }
 {
     match restriction {
         Restriction::Unrestricted => 0,

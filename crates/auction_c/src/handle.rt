@@ -2,8 +2,8 @@
 ghost use Rattle.std.specs.Prelude.{◌≡◌, ◌<◌, is_some, None, Some};
 ghost use Rattle.auction_c.specs.declared.errors.TheConstants.{DONE, NO_MEMORY};
 
+use crate::auction_box::AuctionBox;
 use crate::errors::{DONE, NO_MEMORY};
-use crate::held::Held;
 use auction::Auction;
 use std::alloc::Global;
 
@@ -11,24 +11,24 @@ use std::alloc::Global;
 #[repr(C)]
 #[derive(Drop)]
 pub struct AuctionHandle {
-    pub(crate) held: Held,
+    pub(crate) boxed: AuctionBox,
     pub(crate) is_open: bool,
-    ghost marked: { is_some held.value ≡ is_open },
+    ghost marked: { is_some boxed.value ≡ is_open },
 }
 
 impl AuctionHandle {
     /// Holds the auction, and answers `DONE`; answers `NO_MEMORY` where there is none for it, and then it holds what it
     /// held.
     pub(crate) fn hold(&mut self, alloc: Global, auction: Auction) -> u32
-        ensures done { result ≡ DONE → self.new.held.value ≡ Some auction }
-        ensures refused { 0 < result → self.new.held.value ≡ self.old.held.value }
+        ensures done { result ≡ DONE → self.new.boxed.value ≡ Some auction }
+        ensures refused { 0 < result → self.new.boxed.value ≡ self.old.boxed.value }
         ensures memory { 0 < result → result ≡ NO_MEMORY }
     {
         let Ok(made) = Box::new(alloc, auction) else {
             return NO_MEMORY;
         };
         *self = AuctionHandle {
-            held: Held::of(made),
+            boxed: AuctionBox::of(made),
             is_open: true,
         };
         DONE

@@ -18,6 +18,7 @@ ghost use Rattle.auction_c.specs.Decoding as decoded_as;
 ghost use Rattle.auction_c.specs.Encoding as encoded_as;
 
 mod applying;
+mod auction_box;
 mod board;
 mod board_calls;
 mod copying;
@@ -26,9 +27,8 @@ mod encoding;
 mod entries;
 mod errors;
 mod handle;
-mod held;
+mod member_box;
 mod member_handle;
-mod member_held;
 mod order_calls;
 mod structs;
 
@@ -48,7 +48,7 @@ pub use handle::AuctionHandle;
 pub use member_handle::AuctionMember;
 use std::alloc::Global;
 pub use structs::{
-    AuctionCommand, AuctionConfig, AuctionEntry, AuctionMarket, AuctionOrder, AuctionReceipt,
+    AuctionCommand, AuctionConfig, AuctionEntry, AuctionMarketOrders, AuctionOrder, AuctionReceipt,
     AuctionReply, AuctionShown, AuctionTrade,
 };
 
@@ -63,14 +63,14 @@ pub extern "C" fn callauction_open(
     handle: &mut AuctionHandle,
     config: &AuctionConfig,
 ) -> u32
-    ensures opened_auction { result ≡ 0 → handle.new.held.value ≡
+    ensures opened_auction { result ≡ 0 → handle.new.boxed.value ≡
         option_map opened_auction (decoded_as.config_in config.now) }
-    ensures refused { 0 < result → handle.new.held.value ≡ handle.old.held.value }
-    ensures busy { IsSome handle.old.held.value → result ≡ IN_USE }
-    ensures none { IsNone handle.old.held.value → IsNone (decoded_as.config_in config.now) → result ≡ NO_CONFIG }
-    ensures fault { IsNone handle.old.held.value → IfSome (decoded_as.config_in config.now) (λ c.
+    ensures refused { 0 < result → handle.new.boxed.value ≡ handle.old.boxed.value }
+    ensures busy { IsSome handle.old.boxed.value → result ≡ IN_USE }
+    ensures none { IsNone handle.old.boxed.value → IsNone (decoded_as.config_in config.now) → result ≡ NO_CONFIG }
+    ensures fault { IsNone handle.old.boxed.value → IfSome (decoded_as.config_in config.now) (λ c.
         IfSome (open_fault c) (λ fault. result ≡ fault_number fault)) }
-    ensures memory { IsNone handle.old.held.value → IfSome (decoded_as.config_in config.now) (λ c.
+    ensures memory { IsNone handle.old.boxed.value → IfSome (decoded_as.config_in config.now) (λ c.
         open_fault c ≡ None → 0 < result → result ≡ NO_MEMORY) }
 {
     if handle.is_open {
@@ -96,16 +96,16 @@ pub extern "C" fn callauction_apply(
     reply: &mut AuctionReply,
 ) -> u32
     ensures error { result ≡
-        option_map_or (λ a. (apply_struct a command.now reply.old).error) handle.old.held.value NO_AUCTION }
-    ensures auction { handle.new.held.value ≡
-        option_map (λ a. (apply_struct a command.now reply.old).auction) handle.old.held.value }
+        option_map_or (λ a. (apply_struct a command.now reply.old).error) handle.old.boxed.value NO_AUCTION }
+    ensures auction { handle.new.boxed.value ≡
+        option_map (λ a. (apply_struct a command.now reply.old).auction) handle.old.boxed.value }
     ensures reply { reply.new ≡
-        option_map_or (λ a. (apply_struct a command.now reply.old).reply) handle.old.held.value reply.old }
+        option_map_or (λ a. (apply_struct a command.now reply.old).reply) handle.old.boxed.value reply.old }
 {
     if !handle.is_open {
         return NO_AUCTION;
     }
-    apply_one(handle.held.get_mut(), command, reply)
+    apply_one(handle.boxed.get_mut(), command, reply)
 }
 
 /// Applies commands one after another, each as `callauction_apply`, up to the first error, which it answers. It writes
@@ -120,13 +120,13 @@ pub extern "C" fn callauction_apply_many(
     applied: &mut usize,
 ) -> u32
     ensures error { result ≡
-        option_map_or (λ a. (apply_all a commands.now replies.old).error) handle.old.held.value NO_AUCTION }
+        option_map_or (λ a. (apply_all a commands.now replies.old).error) handle.old.boxed.value NO_AUCTION }
     ensures applied { applied.new ≡
-        option_map_or (λ a. (apply_all a commands.now replies.old).applied) handle.old.held.value 0 }
-    ensures auction { handle.new.held.value ≡
-        option_map (λ a. (apply_all a commands.now replies.old).auction) handle.old.held.value }
+        option_map_or (λ a. (apply_all a commands.now replies.old).applied) handle.old.boxed.value 0 }
+    ensures auction { handle.new.boxed.value ≡
+        option_map (λ a. (apply_all a commands.now replies.old).auction) handle.old.boxed.value }
     ensures replies { replies.new ≡
-        option_map_or (λ a. (apply_all a commands.now replies.old).replies) handle.old.held.value replies.old }
+        option_map_or (λ a. (apply_all a commands.now replies.old).replies) handle.old.boxed.value replies.old }
 {
     *applied = 0;
     if !handle.is_open {
@@ -135,21 +135,21 @@ pub extern "C" fn callauction_apply_many(
     if replies.len() != commands.len() {
         return BAD_LENGTH;
     }
-    apply_each(handle.held.get_mut(), commands, replies, applied)
+    apply_each(handle.boxed.get_mut(), commands, replies, applied)
 }
 
 /// Writes what is shown, as a reply with tag 5 or 6. It is no call of a member: it isn't counted.
 #[unsafe(no_mangle)]
 pub extern "C" fn callauction_display(handle: &mut AuctionHandle, shown: &mut AuctionReply) -> u32
-    ensures error { result ≡ option_map_or (λ a. DONE) handle.old.held.value NO_AUCTION }
-    ensures auction { handle.new.held.value ≡ handle.old.held.value }
+    ensures error { result ≡ option_map_or (λ a. DONE) handle.old.boxed.value NO_AUCTION }
+    ensures auction { handle.new.boxed.value ≡ handle.old.boxed.value }
     ensures shown { shown.new ≡
-        option_map_or (λ a. encoded_as.display_out (display a.state)) handle.old.held.value shown.old }
+        option_map_or (λ a. encoded_as.display_out (display a.state)) handle.old.boxed.value shown.old }
 {
     if !handle.is_open {
         return NO_AUCTION;
     }
-    *shown = display_out(handle.held.get_mut().show());
+    *shown = display_out(handle.boxed.get_mut().show());
     DONE
 }
 
@@ -163,21 +163,21 @@ pub extern "C" fn callauction_ladder(
     handle: &mut AuctionHandle,
     bids: &mut [u64],
     asks: &mut [u64],
-    market: &mut AuctionMarket,
+    market: &mut AuctionMarketOrders,
 ) -> u32
     ensures error { result ≡ option_map_or
-        (λ a. ladder_error (ticks_of a.config) (length bids.old) (length asks.old)) handle.old.held.value NO_AUCTION }
-    ensures auction { handle.new.held.value ≡ handle.old.held.value }
-    ensures bids { result ≡ 0 → IfSome handle.old.held.value (λ a. bids.new ≡ (ladder_now a).bids) }
-    ensures asks { result ≡ 0 → IfSome handle.old.held.value (λ a. asks.new ≡ (ladder_now a).asks) }
-    ensures market { result ≡ 0 → IfSome handle.old.held.value (λ a. market.new ≡
+        (λ a. ladder_error (ticks_of a.config) (length bids.old) (length asks.old)) handle.old.boxed.value NO_AUCTION }
+    ensures auction { handle.new.boxed.value ≡ handle.old.boxed.value }
+    ensures bids { result ≡ 0 → IfSome handle.old.boxed.value (λ a. bids.new ≡ (ladder_now a).bids) }
+    ensures asks { result ≡ 0 → IfSome handle.old.boxed.value (λ a. asks.new ≡ (ladder_now a).asks) }
+    ensures market { result ≡ 0 → IfSome handle.old.boxed.value (λ a. market.new ≡
         encoded_as.market_out (ladder_now a)) }
     ensures unchanged { 0 < result → (bids.new ≡ bids.old) × (asks.new ≡ asks.old) × (market.new ≡ market.old) }
 {
     if !handle.is_open {
         return NO_AUCTION;
     }
-    copy_ladder(handle.held.get_mut().ladder(), bids, asks, market)
+    copy_ladder(handle.boxed.get_mut().ladder(), bids, asks, market)
 }
 
 /// Copies the trades of the day that come after the first `seen` of them, as many as there is room for, and writes how
@@ -189,18 +189,18 @@ pub extern "C" fn callauction_trades(
     trades: &mut [AuctionTrade],
     copied: &mut usize,
 ) -> u32
-    ensures error { result ≡ option_map_or (λ a. DONE) handle.old.held.value NO_AUCTION }
-    ensures auction { handle.new.held.value ≡ handle.old.held.value }
-    ensures copied { copied.new ≡ min (length (unseen_trades seen handle.old.held.value)) (length trades.old) }
+    ensures error { result ≡ option_map_or (λ a. DONE) handle.old.boxed.value NO_AUCTION }
+    ensures auction { handle.new.boxed.value ≡ handle.old.boxed.value }
+    ensures copied { copied.new ≡ min (length (unseen_trades seen handle.old.boxed.value)) (length trades.old) }
     ensures trades { trades.new ≡
-        map encoded_as.trade_out (take copied.new (unseen_trades seen handle.old.held.value))
+        map encoded_as.trade_out (take copied.new (unseen_trades seen handle.old.boxed.value))
         ++ drop copied.new trades.old }
 {
     *copied = 0;
     if !handle.is_open {
         return NO_AUCTION;
     }
-    let tape = handle.held.get_mut().tape();
+    let tape = handle.boxed.get_mut().tape();
     if seen > tape.len() {
         return DONE;
     }
@@ -211,14 +211,14 @@ pub extern "C" fn callauction_trades(
 /// Writes how many commands were applied, those among them that the auction refused.
 #[unsafe(no_mangle)]
 pub extern "C" fn callauction_calls(handle: &mut AuctionHandle, calls: &mut u32) -> u32
-    ensures error { result ≡ option_map_or (λ a. DONE) handle.old.held.value NO_AUCTION }
-    ensures auction { handle.new.held.value ≡ handle.old.held.value }
-    ensures calls { calls.new ≡ option_map_or (λ a. a.calls) handle.old.held.value calls.old }
+    ensures error { result ≡ option_map_or (λ a. DONE) handle.old.boxed.value NO_AUCTION }
+    ensures auction { handle.new.boxed.value ≡ handle.old.boxed.value }
+    ensures calls { calls.new ≡ option_map_or (λ a. a.calls) handle.old.boxed.value calls.old }
 {
     if !handle.is_open {
         return NO_AUCTION;
     }
-    *calls = handle.held.get_mut().calls();
+    *calls = handle.boxed.get_mut().calls();
     DONE
 }
 
@@ -228,28 +228,28 @@ pub extern "C" fn callauction_config_of(
     handle: &mut AuctionHandle,
     config: &mut AuctionConfig,
 ) -> u32
-    ensures error { result ≡ option_map_or (λ a. DONE) handle.old.held.value NO_AUCTION }
-    ensures auction { handle.new.held.value ≡ handle.old.held.value }
+    ensures error { result ≡ option_map_or (λ a. DONE) handle.old.boxed.value NO_AUCTION }
+    ensures auction { handle.new.boxed.value ≡ handle.old.boxed.value }
     ensures config { config.new ≡
-        option_map_or (λ a. encoded_as.config_out a.config) handle.old.held.value config.old }
+        option_map_or (λ a. encoded_as.config_out a.config) handle.old.boxed.value config.old }
 {
     if !handle.is_open {
         return NO_AUCTION;
     }
-    *config = config_out(handle.held.get_mut().config());
+    *config = config_out(handle.boxed.get_mut().config());
     DONE
 }
 
 /// Goes back to the opening, as if the auction had just been opened. It takes no memory.
 #[unsafe(no_mangle)]
 pub extern "C" fn callauction_reset(handle: &mut AuctionHandle) -> u32
-    ensures error { result ≡ option_map_or (λ a. DONE) handle.old.held.value NO_AUCTION }
-    ensures auction { handle.new.held.value ≡ option_map (λ a. opened_auction a.config) handle.old.held.value }
+    ensures error { result ≡ option_map_or (λ a. DONE) handle.old.boxed.value NO_AUCTION }
+    ensures auction { handle.new.boxed.value ≡ option_map (λ a. opened_auction a.config) handle.old.boxed.value }
 {
     if !handle.is_open {
         return NO_AUCTION;
     }
-    handle.held.get_mut().reset();
+    handle.boxed.get_mut().reset();
     DONE
 }
 
@@ -264,24 +264,24 @@ pub extern "C" fn callauction_clone(
     handle: &mut AuctionHandle,
     other: &mut AuctionHandle,
 ) -> u32
-    ensures auction { handle.new.held.value ≡ handle.old.held.value }
-    ensures copied { result ≡ 0 → other.new.held.value ≡ handle.old.held.value }
-    ensures refused { 0 < result → other.new.held.value ≡ other.old.held.value }
-    ensures missing { IsNone handle.old.held.value → result ≡ NO_AUCTION }
-    ensures busy { IfSome handle.old.held.value (λ a. IfSome other.old.held.value (λ b.
+    ensures auction { handle.new.boxed.value ≡ handle.old.boxed.value }
+    ensures copied { result ≡ 0 → other.new.boxed.value ≡ handle.old.boxed.value }
+    ensures refused { 0 < result → other.new.boxed.value ≡ other.old.boxed.value }
+    ensures missing { IsNone handle.old.boxed.value → result ≡ NO_AUCTION }
+    ensures busy { IfSome handle.old.boxed.value (λ a. IfSome other.old.boxed.value (λ b.
         has_same_limits a.config b.config ≡ false → result ≡ IN_USE)) }
-    ensures reused { IfSome handle.old.held.value (λ a. IfSome other.old.held.value (λ b.
+    ensures reused { IfSome handle.old.boxed.value (λ a. IfSome other.old.boxed.value (λ b.
         has_same_limits a.config b.config ≡ true → result ≡ DONE)) }
-    ensures memory { IsSome handle.old.held.value → IsNone other.old.held.value →
+    ensures memory { IsSome handle.old.boxed.value → IsNone other.old.boxed.value →
         0 < result → result ≡ NO_MEMORY }
 {
     if !handle.is_open {
         return NO_AUCTION;
     }
     if other.is_open {
-        return copy_over(handle.held.get_mut(), other.held.get_mut());
+        return copy_over(handle.boxed.get_mut(), other.boxed.get_mut());
     }
-    match handle.held.get_mut().copied(alloc) {
+    match handle.boxed.get_mut().copied(alloc) {
         Ok(copy) => other.hold(alloc, copy),
         Err(_) => NO_MEMORY,
     }
@@ -290,14 +290,14 @@ pub extern "C" fn callauction_clone(
 /// Gives up the auction and its memory. The handle then holds none.
 #[unsafe(no_mangle)]
 pub extern "C" fn callauction_close(alloc: Global, handle: &mut AuctionHandle) -> u32
-    ensures error { result ≡ option_map_or (λ a. DONE) handle.old.held.value NO_AUCTION }
-    ensures auction { handle.new.held.value ≡ None }
+    ensures error { result ≡ option_map_or (λ a. DONE) handle.old.boxed.value NO_AUCTION }
+    ensures auction { handle.new.boxed.value ≡ None }
 {
     if !handle.is_open {
         return NO_AUCTION;
     }
-    let held = handle.held.take(alloc);
+    let boxed = handle.boxed.take(alloc);
     handle.is_open = false;
-    drop(held.into_box());
+    drop(boxed.into_box());
     DONE
 }

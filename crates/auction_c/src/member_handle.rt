@@ -1,7 +1,7 @@
 //! What C keeps of a member of a board.
 ghost use Rattle.std.specs.Prelude.{◌≡◌, is_some, None, Some, option_map};
 
-use crate::member_held::HeldMember;
+use crate::member_box::MemberBox;
 use shared_board::SharedMember;
 use std::alloc::Global;
 
@@ -10,31 +10,31 @@ use std::alloc::Global;
 #[repr(C)]
 #[derive(Drop)]
 pub struct AuctionMember {
-    pub(crate) held: HeldMember,
+    pub(crate) boxed: MemberBox,
     pub(crate) is_open: bool,
-    ghost marked: { is_some held.value ≡ is_open },
+    ghost marked: { is_some boxed.value ≡ is_open },
 }
 
 impl AuctionMember {
     pub(crate) fn of(member: Box<SharedMember>) -> AuctionMember
-        ensures { result.held.value ≡ Some member.value }
+        ensures { result.boxed.value ≡ Some member.value }
     {
         AuctionMember {
-            held: HeldMember::of(member),
+            boxed: MemberBox::of(member),
             is_open: true,
         }
     }
 
     /// What it holds; then it holds none.
     pub(crate) fn take(&mut self, alloc: Global) -> Option<Box<SharedMember>>
-        ensures left { self.new.held.value ≡ None }
-        ensures taken { option_map (λ b. b.value) result ≡ self.old.held.value }
+        ensures left { self.new.boxed.value ≡ None }
+        ensures taken { option_map (λ b. b.value) result ≡ self.old.boxed.value }
     {
         if !self.is_open {
             return None;
         }
-        let held = self.held.take(alloc);
+        let boxed = self.boxed.take(alloc);
         self.is_open = false;
-        Some(held.into_box())
+        Some(boxed.into_box())
     }
 }

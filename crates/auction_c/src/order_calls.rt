@@ -6,7 +6,7 @@ ghost use Rattle.auction_c.specs.Encoding as encoded_as;
 ghost use Rattle.auction_c.specs.declared.errors.TheConstants.{BAD_MEMBER, NO_AUCTION, NO_MEMORY};
 
 use crate::copying::copy_orders;
-use crate::decoding::member_in;
+use crate::decoding::decoded_member;
 use crate::errors::{BAD_MEMBER, DONE, NO_AUCTION, NO_MEMORY};
 use crate::handle::AuctionHandle;
 use crate::structs::AuctionOrder;
@@ -24,14 +24,14 @@ pub extern "C" fn callauction_orders(
     orders: &mut [AuctionOrder],
     copied: &mut usize,
 ) -> u32
-    ensures auction { handle.new.held.value ≡ handle.old.held.value }
-    ensures missing { IsNone handle.old.held.value → result ≡ NO_AUCTION }
-    ensures member { IsSome handle.old.held.value → IsNone (decoded_as.member_in member) → result ≡ BAD_MEMBER }
-    ensures memory { IsSome handle.old.held.value → IsSome (decoded_as.member_in member) → 0 < result →
+    ensures auction { handle.new.boxed.value ≡ handle.old.boxed.value }
+    ensures missing { IsNone handle.old.boxed.value → result ≡ NO_AUCTION }
+    ensures member { IsSome handle.old.boxed.value → IsNone (decoded_as.decoded_member member) → result ≡ BAD_MEMBER }
+    ensures memory { IsSome handle.old.boxed.value → IsSome (decoded_as.decoded_member member) → 0 < result →
         result ≡ NO_MEMORY }
-    ensures copied { result ≡ 0 → IfSome handle.old.held.value (λ a. IfSome (decoded_as.member_in member) (λ m.
+    ensures copied { result ≡ 0 → IfSome handle.old.boxed.value (λ a. IfSome (decoded_as.decoded_member member) (λ m.
         copied.new ≡ min (length (orders_in_priority m a.state)) (length orders.old))) }
-    ensures orders { result ≡ 0 → IfSome handle.old.held.value (λ a. IfSome (decoded_as.member_in member) (λ m.
+    ensures orders { result ≡ 0 → IfSome handle.old.boxed.value (λ a. IfSome (decoded_as.decoded_member member) (λ m.
         orders.new ≡ map encoded_as.order_out (take copied.new (orders_in_priority m a.state))
         ++ drop copied.new orders.old)) }
     ensures unchanged { 0 < result → (copied.new ≡ 0) × (orders.new ≡ orders.old) }
@@ -40,10 +40,10 @@ pub extern "C" fn callauction_orders(
     if !handle.is_open {
         return NO_AUCTION;
     }
-    let Some(of) = member_in(member) else {
+    let Some(of) = decoded_member(member) else {
         return BAD_MEMBER;
     };
-    match handle.held.get_mut().open_orders(alloc, of) {
+    match handle.boxed.get_mut().open_orders(alloc, of) {
         Ok(listed) => {
             *copied = copy_orders(&listed, orders);
             DONE
@@ -63,12 +63,12 @@ pub extern "C" fn callauction_expiring(
     orders: &mut [AuctionOrder],
     copied: &mut usize,
 ) -> u32
-    ensures auction { handle.new.held.value ≡ handle.old.held.value }
-    ensures missing { IsNone handle.old.held.value → result ≡ NO_AUCTION }
-    ensures memory { IsSome handle.old.held.value → 0 < result → result ≡ NO_MEMORY }
-    ensures copied { result ≡ 0 → IfSome handle.old.held.value (λ a.
+    ensures auction { handle.new.boxed.value ≡ handle.old.boxed.value }
+    ensures missing { IsNone handle.old.boxed.value → result ≡ NO_AUCTION }
+    ensures memory { IsSome handle.old.boxed.value → 0 < result → result ≡ NO_MEMORY }
+    ensures copied { result ≡ 0 → IfSome handle.old.boxed.value (λ a.
         copied.new ≡ min (length (orders_expiring a.config a.state)) (length orders.old)) }
-    ensures orders { result ≡ 0 → IfSome handle.old.held.value (λ a.
+    ensures orders { result ≡ 0 → IfSome handle.old.boxed.value (λ a.
         orders.new ≡ map encoded_as.order_out (take copied.new (orders_expiring a.config a.state))
         ++ drop copied.new orders.old) }
     ensures unchanged { 0 < result → (copied.new ≡ 0) × (orders.new ≡ orders.old) }
@@ -77,7 +77,7 @@ pub extern "C" fn callauction_expiring(
     if !handle.is_open {
         return NO_AUCTION;
     }
-    match handle.held.get_mut().expiring_orders(alloc) {
+    match handle.boxed.get_mut().expiring_orders(alloc) {
         Ok(listed) => {
             *copied = copy_orders(&listed, orders);
             DONE

@@ -117,7 +117,7 @@ pub struct AuctionOrder {
 /// The shares of the market orders that count.
 #[repr(C)]
 #[derive(Clone, Copy, Debug, PartialEq, Eq)]
-pub struct AuctionMarket {
+pub struct AuctionMarketOrders {
     pub bids: u64,
     pub asks: u64,
 }

@@ -7,32 +7,28 @@ use Rattle.auction_terms.specs.declared.Limit.TheVariants.{Market, At}
 use Rattle.auction_terms.specs.declared.Order.{Order}
 use Rattle.auction_terms.specs.declared.Side.TheVariants.{Bid, Ask}
 use Rattle.auction_terms.specs.Ladder.{LadderView, is_at, market_quantity, quantity_at}
+use Rattle.tick_ladder.specs.FallingTicks.{falling_ticks}
 use Rattle.auction_views.specs.declared.row.LadderRow.{LadderRow}
 
 -- the shares of the market orders
-abbrev pub market_row : List Order → LadderRow
-market_row book = record { limit = Market; bid = market_quantity Bid book; ask = market_quantity Ask book }
+abbrev pub market_ladder_row : List Order → LadderRow
+market_ladder_row book = record { limit = Market; bid = market_quantity Bid book; ask = market_quantity Ask book }
 
 -- the shares with their limit at a tick
 abbrev pub limit_row : List Order → ℕ → LadderRow
 limit_row book tick = record { limit = At tick; bid = quantity_at Bid book tick; ask = quantity_at Ask book tick }
 
 -- an order has its limit at a tick
-abbrev pub has_limit : List Order → ℕ → Bool
-has_limit book tick = list_any (λ order. is_at tick order.limit) book
-
--- n ticks from low on, the highest first
-abbrev pub falling_ticks : ℕ → ℕ → List ℕ
-falling_ticks low zero = []
-falling_ticks low (suc n) = (low + n) ∷ falling_ticks low n
+abbrev pub has_orders_at : List Order → ℕ → Bool
+has_orders_at book tick = list_any (λ order. is_at tick order.limit) book
 
 abbrev pub market_rows : List Order → List LadderRow
 market_rows book =
-    if (market_quantity Bid book == 0) && (market_quantity Ask book == 0) then [] else market_row book ∷ []
+    if (market_quantity Bid book == 0) && (market_quantity Ask book == 0) then [] else market_ladder_row book ∷ []
 
 -- the limits of the orders among n ticks from low on, the highest first
 abbrev pub limit_rows : List Order → ℕ → ℕ → List LadderRow
-limit_rows book low n = map (limit_row book) (filter (has_limit book) (falling_ticks low n))
+limit_rows book low n = map (limit_row book) (filter (has_orders_at book) (falling_ticks low n))
 
 -- the market orders first, if there are any, and then each limit from the highest tick down
 unfoldable pub ladder_rows : Config → List Order → List LadderRow
@@ -56,6 +52,6 @@ rows_at view place =
     } ∷ []
 
 -- the rows of the places below one, the highest first
-unfoldable pub rows_below : LadderView → ℕ → List LadderRow
-rows_below view zero = []
-rows_below view (suc place) = rows_at view place ++ rows_below view place
+unfoldable pub ladder_rows_below : LadderView → ℕ → List LadderRow
+ladder_rows_below view zero = []
+ladder_rows_below view (suc place) = rows_at view place ++ ladder_rows_below view place

@@ -49,17 +49,17 @@ abbrev pub below : ℕ → ℕ → Option ℕ
 below members member = if nat_lt member members then Some member else None
 
 -- a member is a number below the count of members
-unfoldable pub member_in : ℕ → List ℕ → Option ℕ
-member_in members field = option_and_then (below members) (number_of field)
+unfoldable pub asked_member : ℕ → List ℕ → Option ℕ
+asked_member members field = option_and_then (below members) (number_of field)
 
 abbrev pub named_member : ℕ → Option (List ℕ) → Result (Option ℕ) RecordFault
 named_member members None = Ok None
 named_member members (Some field) =
-    option_map_or (λ member. Ok (Some member)) (member_in members field) (Err (BadField 3))
+    option_map_or (λ member. Ok (Some member)) (asked_member members field) (Err (BadField 3))
 
 -- the third field, which may be left out
-unfoldable pub member_at : ℕ → List (List ℕ) → Result (Option ℕ) RecordFault
-member_at members fields = named_member members (field_at fields 2)
+unfoldable pub asked_member_at : ℕ → List (List ℕ) → Result (Option ℕ) RecordFault
+asked_member_at members fields = named_member members (field_at fields 2)
 
 unfoldable pub view_about : ℕ → Subject → List (List ℕ) → Result View RecordFault
 view_about members subject.Display fields = Ok view.Display
@@ -71,7 +71,7 @@ view_about members subject.Trades fields = do
   Ok (view.Trades before)
 view_about members subject.Orders fields = do
   _ ← count_within 2 3 fields
-  member ← member_at members fields
+  member ← asked_member_at members fields
   Ok (view.Orders member)
 
 unfoldable pub view_of : ℕ → List (List ℕ) → Result View RecordFault

@@ -27,14 +27,14 @@ calls_words auction =
     ++ (codes " left " ++ decimal (auction.config.max_calls - auction.calls)))
 
 -- the current auction, the reference price and the calls
-unfoldable pub day_line : RunningAuction → List ℕ
-day_line auction =
+unfoldable pub day_view_line : RunningAuction → List ℕ
+day_view_line auction =
     codes "show day " ++ (auction_word auction.state.auction
     ++ (codes " reference " ++ (decimal auction.state.reference ++ (calls_words auction ++ codes "\n"))))
 
 unfoldable pub view_text : RunningAuction → View → List ℕ
 view_text auction view.Display = display_line auction.state
-view_text auction view.Day = day_line auction
+view_text auction view.Day = day_view_line auction
 view_text auction view.Ladder =
     table_text (codes "ladder") (map ladder_line (ladder_rows auction.config (current_orders auction.state)))
 view_text auction (view.Trades before) =

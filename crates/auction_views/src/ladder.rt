@@ -2,7 +2,7 @@
 
 ghost use Rattle.std.specs.Prelude.{◌≡◌, ◌<◌, ◌++◌, length, IfOk, OnOk};
 ghost use Rattle.auction.specs.AuctionState.{current_orders};
-ghost use Rattle.auction_views.specs.LadderRows.{ladder_rows, market_rows_in, rows_at, rows_below};
+ghost use Rattle.auction_views.specs.LadderRows.{ladder_rows, market_rows_in, rows_at, ladder_rows_below};
 
 use crate::row::LadderRow;
 use auction::Auction;
@@ -45,7 +45,7 @@ fn add_place(rows: &mut Vec<LadderRow>, ladder: &Ladder, place: usize) -> Result
 
 /// Adds the rows of all places, the highest first.
 fn add_places(rows: &mut Vec<LadderRow>, ladder: &Ladder) -> Result<(), AllocError>
-    ensures { OnOk result (rows.new.items ≡ rows.old.items ++ rows_below ladder.now (length ladder.now.bids)) }
+    ensures { OnOk result (rows.new.items ≡ rows.old.items ++ ladder_rows_below ladder.now (length ladder.now.bids)) }
 {
     let mut place = ladder.bids().len();
     'places: while place > 0 {

@@ -1,7 +1,7 @@
 //! Tables: how many lines there are, and they.
 
 ghost use Rattle.std.specs.Prelude.{◌≡◌, ◌≤◌, ◌++◌, codes, drop, length, map, OnOk};
-ghost use Rattle.printed_lines.specs.KeptText.{text_of};
+ghost use Rattle.printed_lines.specs.KeptText.{kept_text};
 ghost use Rattle.printed_lines.specs.ReplyWords.{words_text};
 ghost use Rattle.auction_views.specs.TableLines.{heading, ladder_line, order_line, table_text, trade_line, trade_lines};
 
@@ -14,7 +14,7 @@ use std::alloc::AllocError;
 #[tactic(auto, unfolding(crate::specs::TableLines::heading))]
 fn put_heading(text: &mut KeptText, name: &str, lines: usize) -> Result<(), AllocError>
     requires { length name.now ≤ 10 }
-    ensures { OnOk result (text_of text.new ≡ text_of text.old ++ heading name.now lines) }
+    ensures { OnOk result (kept_text text.new ≡ kept_text text.old ++ heading name.now lines) }
 {
     text.make_room()?;
     let page = &mut text.page;
@@ -28,7 +28,7 @@ fn put_heading(text: &mut KeptText, name: &str, lines: usize) -> Result<(), Allo
 
 /// Puts the line of a limit behind a text.
 fn put_row(text: &mut KeptText, row: LadderRow) -> Result<(), AllocError>
-    ensures { OnOk result (text_of text.new ≡ text_of text.old ++ ladder_line row) }
+    ensures { OnOk result (kept_text text.new ≡ kept_text text.old ++ ladder_line row) }
 {
     text.make_room()?;
     put_ladder_line(&mut text.page, row);
@@ -36,7 +36,7 @@ fn put_row(text: &mut KeptText, row: LadderRow) -> Result<(), AllocError>
 }
 
 fn put_rows(text: &mut KeptText, rows: &[LadderRow]) -> Result<(), AllocError>
-    ensures { OnOk result (text_of text.new ≡ text_of text.old ++ words_text (map ladder_line rows.now)) }
+    ensures { OnOk result (kept_text text.new ≡ kept_text text.old ++ words_text (map ladder_line rows.now)) }
 {
     for row in rows {
         put_row(text, *row)?;
@@ -46,15 +46,15 @@ fn put_rows(text: &mut KeptText, rows: &[LadderRow]) -> Result<(), AllocError>
 
 /// Puts the table of a ladder behind a text.
 pub(crate) fn put_ladder(text: &mut KeptText, rows: &[LadderRow]) -> Result<(), AllocError>
-    ensures { OnOk result (text_of text.new
-        ≡ text_of text.old ++ table_text (codes "ladder") (map ladder_line rows.now)) }
+    ensures { OnOk result (kept_text text.new
+        ≡ kept_text text.old ++ table_text (codes "ladder") (map ladder_line rows.now)) }
 {
     put_heading(text, "ladder", rows.len())?;
     put_rows(text, rows)
 }
 
 fn put_trade(text: &mut KeptText, number: u64, trade: Trade) -> Result<(), AllocError>
-    ensures { OnOk result (text_of text.new ≡ text_of text.old ++ trade_line number trade) }
+    ensures { OnOk result (kept_text text.new ≡ kept_text text.old ++ trade_line number trade) }
 {
     text.make_room()?;
     put_trade_line(&mut text.page, number, trade);
@@ -63,7 +63,8 @@ fn put_trade(text: &mut KeptText, number: u64, trade: Trade) -> Result<(), Alloc
 
 /// Puts the lines of the trades from a place on.
 fn put_trade_lines(text: &mut KeptText, tape: &[Trade], from: usize) -> Result<(), AllocError>
-    ensures { OnOk result (text_of text.new ≡ text_of text.old ++ words_text (trade_lines from (drop from tape.now))) }
+    ensures { OnOk result
+        (kept_text text.new ≡ kept_text text.old ++ words_text (trade_lines from (drop from tape.now))) }
 {
     for place in from..tape.len() {
         put_trade(text, place as u64 + 1, tape[place])?;
@@ -73,8 +74,8 @@ fn put_trade_lines(text: &mut KeptText, tape: &[Trade], from: usize) -> Result<(
 
 /// Puts the table of the trades behind so many of the first ones behind a text.
 pub(crate) fn put_trades(text: &mut KeptText, tape: &[Trade], before: u32) -> Result<(), AllocError>
-    ensures { OnOk result (text_of text.new
-        ≡ text_of text.old ++ table_text (codes "trades") (trade_lines before (drop before tape.now))) }
+    ensures { OnOk result (kept_text text.new
+        ≡ kept_text text.old ++ table_text (codes "trades") (trade_lines before (drop before tape.now))) }
 {
     let lines = tape.len().saturating_sub(before as usize);
     put_heading(text, "trades", lines)?;
@@ -82,7 +83,7 @@ pub(crate) fn put_trades(text: &mut KeptText, tape: &[Trade], before: u32) -> Re
 }
 
 fn put_order(text: &mut KeptText, listed: OpenOrder) -> Result<(), AllocError>
-    ensures { OnOk result (text_of text.new ≡ text_of text.old ++ order_line listed) }
+    ensures { OnOk result (kept_text text.new ≡ kept_text text.old ++ order_line listed) }
 {
     text.make_room()?;
     put_order_line(&mut text.page, listed);
@@ -90,7 +91,7 @@ fn put_order(text: &mut KeptText, listed: OpenOrder) -> Result<(), AllocError>
 }
 
 fn put_order_lines(text: &mut KeptText, listed: &[OpenOrder]) -> Result<(), AllocError>
-    ensures { OnOk result (text_of text.new ≡ text_of text.old ++ words_text (map order_line listed.now)) }
+    ensures { OnOk result (kept_text text.new ≡ kept_text text.old ++ words_text (map order_line listed.now)) }
 {
     for order in listed {
         put_order(text, *order)?;
@@ -100,8 +101,8 @@ fn put_order_lines(text: &mut KeptText, listed: &[OpenOrder]) -> Result<(), Allo
 
 /// Puts the table of open orders behind a text.
 pub(crate) fn put_orders(text: &mut KeptText, listed: &[OpenOrder]) -> Result<(), AllocError>
-    ensures { OnOk result (text_of text.new
-        ≡ text_of text.old ++ table_text (codes "orders") (map order_line listed.now)) }
+    ensures { OnOk result (kept_text text.new
+        ≡ kept_text text.old ++ table_text (codes "orders") (map order_line listed.now)) }
 {
     put_heading(text, "orders", listed.len())?;
     put_order_lines(text, listed)

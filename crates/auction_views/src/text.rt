@@ -2,9 +2,9 @@
 
 ghost use Rattle.std.specs.Prelude.{◌≡◌, ◌≤◌, ◌+◌, ◌++◌, length, OnOk};
 ghost use Rattle.auction_terms.specs.Day.{display};
-ghost use Rattle.printed_lines.specs.KeptText.{text_of};
+ghost use Rattle.printed_lines.specs.KeptText.{kept_text};
 ghost use Rattle.printed_lines.specs.declared.page.TheConstants.{LONGEST_LINE, ROOM};
-ghost use Rattle.auction_views.specs.ViewText.{auction_word, calls_words, day_line, display_line, view_text};
+ghost use Rattle.auction_views.specs.ViewText.{auction_word, calls_words, day_view_line, display_line, view_text};
 
 use crate::ladder::ladder_rows;
 use crate::table::{put_ladder, put_orders, put_trades};
@@ -29,7 +29,7 @@ fn auction_word(kind: Option<AuctionKind>) -> &'static str
 #[tactic(auto, unfolding(crate::specs::ViewText::display_line))]
 fn put_display(text: &mut KeptText, auction: &mut Auction) -> Result<(), AllocError>
     ensures auction { auction.new ≡ auction.old }
-    ensures text { OnOk result (text_of text.new ≡ text_of text.old ++ display_line auction.old.state) }
+    ensures text { OnOk result (kept_text text.new ≡ kept_text text.old ++ display_line auction.old.state) }
 {
     text.make_room()?;
     let display = auction.show();
@@ -54,10 +54,10 @@ fn put_calls(page: &mut Page, auction: &Auction)
 }
 
 /// Puts the line of the day on the page.
-#[tactic(auto, unfolding(crate::specs::ViewText::day_line))]
+#[tactic(auto, unfolding(crate::specs::ViewText::day_view_line))]
 fn put_day_line(page: &mut Page, auction: &Auction)
     requires { length page.old + LONGEST_LINE ≤ ROOM }
-    ensures { page.new ≡ page.old ++ day_line auction.now }
+    ensures { page.new ≡ page.old ++ day_view_line auction.now }
 {
     page.put("show day ");
     page.put(auction_word(auction.current()));
@@ -68,7 +68,7 @@ fn put_day_line(page: &mut Page, auction: &Auction)
 }
 
 fn put_day(text: &mut KeptText, auction: &Auction) -> Result<(), AllocError>
-    ensures { OnOk result (text_of text.new ≡ text_of text.old ++ day_line auction.now) }
+    ensures { OnOk result (kept_text text.new ≡ kept_text text.old ++ day_view_line auction.now) }
 {
     text.make_room()?;
     put_day_line(&mut text.page, auction);
@@ -95,7 +95,7 @@ pub fn put_view(
     view: View,
 ) -> Result<(), AllocError>
     ensures auction { auction.new ≡ auction.old }
-    ensures text { OnOk result (text_of text.new ≡ text_of text.old ++ view_text auction.old view) }
+    ensures text { OnOk result (kept_text text.new ≡ kept_text text.old ++ view_text auction.old view) }
 {
     match view {
         View::Display => put_display(text, auction),

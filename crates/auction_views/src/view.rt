@@ -3,7 +3,7 @@
 ghost use Rattle.std.specs.Prelude.{◌≡◌, Some, None, if◌then◌else◌};
 ghost use Rattle.std.specs.Str.{bytes_eq};
 ghost use Rattle.csv.specs.Records.{fields_of};
-ghost use Rattle.auction_views.specs.View.{is_view, member_at, member_in, subject_at, subject_of, trades_at};
+ghost use Rattle.auction_views.specs.View.{is_view, asked_member_at, asked_member, subject_at, subject_of, trades_at};
 ghost use Rattle.auction_views.specs.View.{trades_before, view_about, view_of};
 
 use csv::ByteRecord;
@@ -94,9 +94,9 @@ fn trades_at(fields: &ByteRecord) -> Result<u32, RecordFault>
 }
 
 /// A member's number, below the count of members.
-#[tactic(auto, unfolding(crate::specs::View::member_in))]
-fn member_in(members: u8, field: &[u8]) -> Option<u8>
-    ensures { result ≡ member_in members field.now }
+#[tactic(auto, unfolding(crate::specs::View::asked_member))]
+fn asked_member(members: u8, field: &[u8]) -> Option<u8>
+    ensures { result ≡ asked_member members field.now }
 {
     let member = number_of(field)?;
     if member >= u32::from(members) {
@@ -106,13 +106,13 @@ fn member_in(members: u8, field: &[u8]) -> Option<u8>
 }
 
 /// The member that is named, if one is.
-#[tactic(auto, unfolding(crate::specs::View::member_at))]
-fn member_at(members: u8, fields: &ByteRecord) -> Result<Option<u8>, RecordFault>
-    ensures { result ≡ member_at members (fields_of fields.now) }
+#[tactic(auto, unfolding(crate::specs::View::asked_member_at))]
+fn asked_member_at(members: u8, fields: &ByteRecord) -> Result<Option<u8>, RecordFault>
+    ensures { result ≡ asked_member_at members (fields_of fields.now) }
 {
     match fields.get(2) {
         None => Ok(None),
-        Some(field) => match member_in(members, field) {
+        Some(field) => match asked_member(members, field) {
             None => Err(RecordFault::BadField { field: 3 }),
             Some(member) => Ok(Some(member)),
         },
@@ -141,7 +141,7 @@ fn view_about(subject: Subject, fields: &ByteRecord, members: u8) -> Result<View
         }
         Subject::Orders => {
             count_within(fields, 2, 3)?;
-            let member = member_at(members, fields)?;
+            let member = asked_member_at(members, fields)?;
             Ok(View::Orders { member })
         }
     }

@@ -7,8 +7,8 @@ use Rattle.auction_terms.specs.declared.Call.{Call}
 abbrev pub IsStory : List Cell → List Call → Type 0
 IsStory cells log = cells ≡ (length log, true) ∷ (0, true) ∷ []
 
-abbrev pub head_of : Book → Named
-head_of b = record { tracked = true; key = 0; book = b }
+abbrev pub newest_name : Book → Named
+newest_name b = record { tracked = true; key = 0; book = b }
 
 -- the call was added to all that had been seen; or the story was longer, and was seen
 abbrev pub AddsCall : Step Call → View Call ℕ → ℕ → View Call ℕ → Type 0

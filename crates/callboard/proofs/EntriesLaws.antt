@@ -3,11 +3,11 @@ use Rattle.std.proofs.Common.{◌≡◌, ◌≤◌, List, [], ◌∷◌, length,
 use Rattle.auction_terms.specs.declared.Call.{Call}
 use Rattle.auction_terms.specs.declared.Config.{Config}
 use Rattle.auction_terms.specs.Day.{IsLegal, State, calls_of, opening_state, replay, replies_from, step}
-use Rattle.callboard.specs.Printed.{entries_from, history_of, reply_of}
+use Rattle.callboard.specs.Printed.{entries_from, history_of, reply_in}
 
 -- its replies are those of the replay
 pub history-replies : (config : Config) (state : State) (calls : List Call)
-    → map reply_of (entries_from config state calls) ≡ replies_from config state calls
+    → map reply_in (entries_from config state calls) ≡ replies_from config state calls
 history-replies config state [] = refl
 history-replies config state (call ∷ calls) =
     λ i. (step config state call).1 ∷ history-replies config (step config state call).0 calls i

@@ -16,7 +16,7 @@ use Rattle.journal.specs.JournalFile.{journal_of, journal_of_rows}
 use Rattle.journal.specs.declared.day.DayHeader.{DayHeader}
 use Rattle.journal.specs.declared.reading.TheConstants.{MAX_JOURNAL_BYTES}
 use Rattle.order_file.specs.Blocks.{BlockState, block_rows, rows_to_come}
-use Rattle.order_file.specs.File.{FailsAsWanted, IsOfRecord, calls_after, calls_of, file, within_limit}
+use Rattle.order_file.specs.File.{FailsAsWanted, IsOfRecord, calls_after, calls_of_file, file, within_limit}
 use Rattle.order_file.specs.declared.fault.FileFault.{FileFault}
 use Rattle.order_file.specs.declared.fault.FileFault.TheVariants as faults
 use Rattle.order_file.specs.declared.reading.TheConstants.{MAX_BYTES}
@@ -31,7 +31,7 @@ use Rattle.callboard.specs.declared.kept_day.KeptDay.{KeptDay}
 use Rattle.callboard.specs.AuctionRun.{auction_job}
 use Rattle.callboard.specs.FileRun.{Ends, IsRunOf}
 use Rattle.callboard.specs.KeptEntries.{KeepsCalls, KeepsEntries, IsClosedDay, KeepsDay, KeepsDayOfText, after_calls}
-use Rattle.callboard.specs.KeptEntries.{calls_for, form_of}
+use Rattle.callboard.specs.KeptEntries.{calls_for, form_kept}
 use Rattle.callboard.specs.Printed.{history_of}
 use Rattle.callboard.proofs.BlockRunLaws.{block-after, block-calls, block-follows, fails-then}
 use Rattle.callboard.proofs.KeptLaws.{input-refused, kept_refused, orders-long, refused-records, said_closed}
@@ -48,7 +48,7 @@ orders-known day wanted (Some bytes) h = ap (calls_for day) (sym h)
 -- all of its calls came to an auction, and are kept
 pub file-kept : (form : Form) (day : DayHeader) (kept : Kept) (auction : RunningAuction) (calls : List Call)
     (text : Option (List ℕ)) (r : Result KeptDay Fault) → auction ≡ after_calls (opened_auction day.config) calls
-    → form_of kept ≡ form → open_fault day.config ≡ None → auction.calls ≤ day.config.max_calls
+    → form_kept kept ≡ form → open_fault day.config ≡ None → auction.calls ≤ day.config.max_calls
     → IfSome text (λ bytes. file bytes day.members day.config.max_calls ≡ Ok calls)
     → KeepsEntries kept auction (history_of day.config calls)
     → ((entries : List Entry) → KeepsEntries kept auction entries → IsClosedDay day kept auction.config entries r)
@@ -83,7 +83,7 @@ file-stops form day text (Err x) f is h =
 -- the file was read whole
 pub file-read : (form : Form) (day : DayHeader) (text : Option (List ℕ)) (bytes : List ℕ) (r : Result KeptDay Fault)
     → IfSome text (λ t. within_limit MAX_BYTES t ≡ Ok bytes)
-    → KeepsDay form (calls_for day (calls_of day.members day.config.max_calls bytes)) r
+    → KeepsDay form (calls_for day (calls_of_file day.members day.config.max_calls bytes)) r
     → KeepsDayOfText form r text (orders_for day)
 unfolding orders_for file
 file-read form day None bytes r read keeps = (_, keeps, tt)
@@ -98,7 +98,7 @@ file-unread form day None f h = (Err f, fails-at f (Err f) refl, tt)
 file-unread form day (Some t) f h = (
   orders_for day t,
   fails-then f _ (λ calls. Ok (record { day = day; calls = calls }))
-      (fails-then f (within_limit MAX_BYTES t) (calls_of day.members day.config.max_calls) h),
+      (fails-then f (within_limit MAX_BYTES t) (calls_of_file day.members day.config.max_calls) h),
   refl,
 )
 
@@ -233,7 +233,7 @@ pub file-closed : (form : Form) (day : DayHeader) (kept : Kept) (now new : Runni
     → IfSome left (λ bytes. rows_to_come held bytes ≡ Ok (block_rows held))
     → KeepsCalls (KeepsEntries kept new) (history_of day.config front) now new (Ok tt)
     (calls_after day.members now.config.max_calls now.calls (block_rows held))
-    → open_fault day.config ≡ None → form_of kept ≡ form → new.calls ≤ now.config.max_calls
+    → open_fault day.config ≡ None → form_kept kept ≡ form → new.calls ≤ now.config.max_calls
     → ((entries : List Entry) → KeepsEntries kept new entries → IsClosedDay day kept new.config entries r)
     → KeepsDayOfText form r text (orders_for day)
 file-closed form day kept now new front text left held r is carries last keeps opens for room closes =

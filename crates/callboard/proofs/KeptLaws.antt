@@ -17,7 +17,7 @@ use Rattle.auction.specs.ConfigFault.{open_fault}
 use Rattle.auction.specs.declared.OpenFault.{OpenFault}
 use Rattle.auction.specs.declared.OpenFault.TheVariants.{NoMemory}
 use Rattle.journal.specs.declared.day.DayHeader.{DayHeader}
-use Rattle.order_file.specs.File.{FailsAsWanted, IsOfRecord, calls_of, file, within_limit}
+use Rattle.order_file.specs.File.{FailsAsWanted, IsOfRecord, calls_of_file, file, within_limit}
 use Rattle.order_file.specs.declared.reading.TheConstants.{MAX_BYTES}
 use Rattle.order_file.proofs.CallLaws.{fails-at}
 use Rattle.journal.specs.DayWithCalls.{DayWithCalls, run_input, run_input_of, or_orders, orders_for}
@@ -32,7 +32,7 @@ use Rattle.callboard.specs.declared.fault.Fault.TheVariants as fault
 use Rattle.callboard.specs.declared.kept.Kept.{Kept}
 use Rattle.callboard.specs.KeptEntries.{KeepsEntries, IsClosedDay, KeepsCalls, KeepsDay, KeepsDayOfText, after_calls}
 use Rattle.callboard.specs.KeptEntries.{KeepsUpToCall, entry_in}
-use Rattle.callboard.specs.KeptEntries.{calls_for, form_of}
+use Rattle.callboard.specs.KeptEntries.{calls_for, form_kept}
 use Rattle.callboard.specs.AuctionRun.{IsOfAuction, auction_job, run_text}
 use Rattle.callboard.specs.FileRun.{Ends, IsRunOf, WritesText}
 use Rattle.callboard.specs.Printed.{IsOfListing, IsOfPrinting, IsWideForm, IsWideIfBegun, entries_from, entry_of_call}
@@ -135,7 +135,7 @@ unfolding orders_for file within_limit
 orders-long day bytes h = let long : nat_lt MAX_BYTES (length bytes) ≡ true = search rules in rw long refl
 
 pub orders-short : (day : DayHeader) (bytes : List ℕ) → length bytes ≤ MAX_BYTES
-    → orders_for day bytes ≡ calls_for day (calls_of day.members day.config.max_calls bytes)
+    → orders_for day bytes ≡ calls_for day (calls_of_file day.members day.config.max_calls bytes)
 unfolding orders_for file within_limit
 orders-short day bytes h = let short : nat_lt MAX_BYTES (length bytes) ≡ false = search rules in rw short refl
 
@@ -146,7 +146,7 @@ opened_so auction config is =
     is ∙ ap (λ (c : Config). opened_auction c) (sym (ap (λ (a : RunningAuction). a.config) is))
 
 -- what is kept of a day whose calls have all come
-kept-closed : (form : Form) (day : DayHeader) (calls : List Call) (old : Kept) (closed : KeptDay) → form_of old ≡ form
+kept-closed : (form : Form) (day : DayHeader) (calls : List Call) (old : Kept) (closed : KeptDay) → form_kept old ≡ form
     → open_fault day.config ≡ None
     → length calls ≤ day.config.max_calls → IsClosedDay day old day.config (history_of day.config calls) (Ok closed)
     → KeepsDay form (Ok (record { day = day; calls = calls })) (Ok closed)
@@ -162,7 +162,7 @@ refused-closed : (form : Form) (day : DayHeader) (old : Kept) (config : Config) 
 refused-closed form day old config entries f said is = subst (λ (x : Fault). KeepsDay form said (Err x)) (sym is) tt
 
 pub said_closed : (form : Form) (day : DayHeader) (calls : List Call) (old : Kept) (r : Result KeptDay Fault)
-    → form_of old ≡ form → open_fault day.config ≡ None
+    → form_kept old ≡ form → open_fault day.config ≡ None
     → length calls ≤ day.config.max_calls → IsClosedDay day old day.config (history_of day.config calls) r
     → KeepsDay form (Ok (record { day = day; calls = calls })) r
 said_closed form day calls old (Ok closed) for opens few is = kept-closed form day calls old closed for opens few is
@@ -171,7 +171,7 @@ said_closed form day calls old (Err f) for opens few is =
 
 -- it is kept
 pub calls-kept : (form : Form) (day : DayHeader) (kept : Kept) (old new : RunningAuction) (calls : List Call)
-    (r : Result KeptDay Fault) → old ≡ opened_auction day.config → form_of kept ≡ form
+    (r : Result KeptDay Fault) → old ≡ opened_auction day.config → form_kept kept ≡ form
     → open_fault day.config ≡ None → length calls ≤ day.config.max_calls
     → KeepsCalls (KeepsEntries kept new) [] old new (Ok tt) (Ok calls)
     → ((entries : List Entry) → KeepsEntries kept new entries → IsClosedDay day kept new.config entries r)
@@ -186,7 +186,7 @@ calls-kept form day kept old new calls r fresh for opens few keeps closes =
 
 -- an order file that isn't too long says what its records do
 pub orders-said : (form : Form) (day : DayHeader) (bytes : List ℕ) (calls : List Call) (r : Result KeptDay Fault)
-    → length bytes ≤ MAX_BYTES → calls_of day.members day.config.max_calls bytes ≡ Ok calls
+    → length bytes ≤ MAX_BYTES → calls_of_file day.members day.config.max_calls bytes ≡ Ok calls
     → KeepsDay form (calls_for day (Ok calls)) r → KeepsDay form (orders_for day bytes) r
 orders-said form day bytes calls r short wanted keeps =
     subst (λ said. KeepsDay form said r) (sym (orders-short day bytes short ∙ ap (calls_for day) wanted)) keeps
@@ -194,12 +194,12 @@ orders-said form day bytes calls r short wanted keeps =
 -- it has a fault, which a `?` handed on
 pub orders-stopped : (form : Form) (day : DayHeader) (bytes : List ℕ) (r : Result KeptDay Fault) (f : FileFault)
     → IsErrAnd r (λ x. x ≡ fault.File f) → length bytes ≤ MAX_BYTES
-    → FailsAsWanted f (calls_of day.members day.config.max_calls bytes) → KeepsDay form (orders_for day bytes) r
+    → FailsAsWanted f (calls_of_file day.members day.config.max_calls bytes) → KeepsDay form (orders_for day bytes) r
 orders-stopped form day bytes (Ok kept) f is short fails = absurd is
 orders-stopped form day bytes (Err x) f is short fails =
     subst (λ (e : Fault). KeepsDay form (orders_for day bytes) (Err e)) (sym is)
     (rw (orders-short day bytes short)
-    (refused-records form day f (calls_of day.members day.config.max_calls bytes) fails))
+    (refused-records form day f (calls_of_file day.members day.config.max_calls bytes) fails))
 
 -- ---- an input
 

@@ -26,7 +26,7 @@ use Rattle.member_floor.specs.PlaysScript.{AllPlayScripts, FitsMembers, PlayedSc
 use Rattle.member_floor.specs.PlaysScript.{recorded_calls}
 use Rattle.callboard.specs.declared.fault.Fault.{Fault}
 use Rattle.callboard.specs.declared.fault.Fault.TheVariants as fault
-use Rattle.callboard.specs.BoardRun.{IsDayOf, IsSplit, commands_of, counts_of}
+use Rattle.callboard.specs.BoardRun.{IsDayOf, IsSplit, commands_of, calls_of_members}
 use Rattle.callboard.specs.PlayedDay.{IsPlayedOut, fault_after, is_kept_open, is_refused_memory, lacks_thread}
 use Rattle.callboard.proofs.SplitLaws.{IsNewMember, all_new, at_each}
 use Rattle.callboard.proofs.SplitLaws.{calls_of_from, none_beyond, none_from, own_commands}
@@ -166,9 +166,9 @@ count_in calls k = length (commands_of k calls)
 
 -- the same commands of each member are as many
 same_counts : (n : ℕ) (xs ys : List Call) → ((k : ℕ) → k < n → commands_of k ys ≡ commands_of k xs)
-    → counts_of n ys ≡ counts_of n xs
+    → calls_of_members n ys ≡ calls_of_members n xs
 same_counts n xs ys same =
-    fill_by_all (count_in xs) (counts_of n ys) n 0 (length-map-range_with_len (count_in ys) 0 n)
+    fill_by_all (count_in xs) (calls_of_members n ys) n 0 (length-map-range_with_len (count_in ys) 0 n)
     (λ k lt. get_or-map-range_with_len (count_in ys) 0 n k k 0 lt (omega arith) ∙ ap length (same k lt))
 
 same_commands : (n k : ℕ) (xs ys : List Call) → ((j : ℕ) → j < n → commands_of j ys ≡ commands_of j xs)
@@ -177,9 +177,9 @@ same_commands : (n k : ℕ) (xs ys : List Call) → ((j : ℕ) → j < n → com
 same_commands n k xs ys same none_x none_y (inl lt) = same k lt
 same_commands n k xs ys same none_x none_y (inr le) = none_beyond n k ys le none_y ∙ sym (none_beyond n k xs le none_x)
 
-day_of : (c : Config) (n : ℕ) (calls : List Call) (ss : List Script) (closing : Closing) → IsSplit n calls ss
+day_of_settings : (c : Config) (n : ℕ) (calls : List Call) (ss : List Script) (closing : Closing) → IsSplit n calls ss
     → All (IsBelow n) calls → IsPlayedOut c n ss closing → IsDayOf c n calls closing
-day_of c n calls ss closing split below out =
+day_of_settings c n calls ss closing split below out =
     let counts : List ℕ = closing.calls.items in
     let entries : List Entry = closing.history.items in
     let story : List Call = calls_of entries in
@@ -189,7 +189,7 @@ day_of c n calls ss closing split below out =
     let same : (k : ℕ) → k < n → commands_of k story ≡ commands_of k calls =
     at_each (λ k. commands_of k story ≡ commands_of k calls) n ss split.numbers (λ j d lt. out.commands j d lt
     ∙ split.commands j d lt) in
-    let is_counts : counts ≡ counts_of n calls = fill_by_all (count_in calls) counts n 0 out.wide count in
+    let is_counts : counts ≡ calls_of_members n calls = fill_by_all (count_in calls) counts n 0 out.wide count in
     let none : length (calls_of_from n calls) ≡ 0 = none_from n calls below in
     let all : sum counts ≡ length calls = omega (arith, ap sum is_counts, sum_counts n calls, none) in
     let told : length story ≡ length entries = length-map {B = Call} entries call_of in
@@ -207,7 +207,7 @@ day_of c n calls ss closing split below out =
 pub days_of : (c c' : Config) (n n' : ℕ) (calls : List Call) (ss : List Script) (r : Result Closing Fault) → c' ≡ c
     → n' ≡ n → IsSplit n calls ss → All (IsBelow n) calls → IfOk r (IsPlayedOut c' n' ss) → IfOk r (IsDayOf c n calls)
 days_of c c' n n' calls ss (Ok closing) same many split below out =
-    day_of c n calls ss closing split below
+    day_of_settings c n calls ss closing split below
     (subst (λ (m : ℕ). IsPlayedOut c m ss closing) many (subst (λ (d : Config). IsPlayedOut d n' ss closing) same out))
 days_of c c' n n' calls ss (Err f) same many split below out = tt
 

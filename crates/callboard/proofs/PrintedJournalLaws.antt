@@ -7,7 +7,7 @@ use Rattle.auction_terms.specs.declared.Command.{Command}
 use Rattle.auction_terms.specs.declared.Entry.{Entry}
 use Rattle.auction_terms.specs.Day.{IsLegal, calls_of}
 use Rattle.day_audit.specs.Answers.{answers_in}
-use Rattle.day_audit.specs.AuditCounts.{counts_of}
+use Rattle.day_audit.specs.AuditCounts.{calls_of_members}
 use Rattle.day_audit.specs.ResultsText.{printed_text}
 use Rattle.day_audit.specs.AuditPromises.{IsAuditedLegal}
 use Rattle.day_audit.proofs.LegalAuditLaws.{printed-legal}
@@ -104,7 +104,8 @@ audited day entries text fits opens legal all is =
   where
     found : IsAuditedLegal (answers_in (recorded_day day (map recorded_call_by entries)))
         → (finish : Finish) (report : List ℕ)
-        → (finish ≡ finish_of (counts_of (answers_in (recorded_day day (map recorded_call_by entries)))).first_unlawful)
+        → (finish ≡ finish_of (calls_of_members (answers_in (recorded_day day (map recorded_call_by
+        entries)))).first_unlawful)
         × (report ≡ printed_text false (recorded_day day (map recorded_call_by entries))) → finish ≡ Lawful
     found none finish report is = rw none at is.0
 
@@ -121,10 +122,10 @@ auction-passes day bytes text g finish fits says opens (done, (is, wide)) =
     (entries-fit g.day.members (history_of g.day.config g.calls) calls wide) is
 
 pub board-passes : BoardJournalsAreLawful
-board-passes day bytes text g finish fits says opens (done, (entries, day_of, is, wide)) =
+board-passes day bytes text g finish fits says opens (done, (entries, day_of_settings, is, wide)) =
     let run_input_fits = run_input-fits day bytes g fits says in
-    let calls = same-fit g.day.members g.calls (calls_of entries) day_of.commands run_input_fits.calls in
-    audited g.day entries text run_input_fits.day (opens_auction g.day.config g.day.members opens) day_of.legal
+    let calls = same-fit g.day.members g.calls (calls_of entries) day_of_settings.commands run_input_fits.calls in
+    audited g.day entries text run_input_fits.day (opens_auction g.day.config g.day.members opens) day_of_settings.legal
     (entries-fit g.day.members entries calls wide) is
 
 pub settings-fit : SettingsFitDay

@@ -26,7 +26,8 @@ use Rattle.callboard.specs.BoardRun.{board_job}
 use Rattle.callboard.specs.FileRun.{Ends, IsRunOf, Job}
 use Rattle.callboard.specs.KeptLive.{JournalFiles, RunsKeptSession}
 use Rattle.callboard.specs.LiveRun.{RunsLive, SessionResult, session_status}
-use Rattle.callboard.specs.Served.{AnswersFault, DoesTask, RefusesMix, RunsSession, ServesWords, ServesSettings, day_of}
+use Rattle.callboard.specs.Served.{AnswersFault, DoesTask, RefusesMix, RunsSession, ServesWords, ServesSettings}
+use Rattle.callboard.specs.Served.{day_of_settings}
 use Rattle.callboard.specs.Served.{is_session, words_status}
 use Rattle.callboard.specs.Status.{RunResult, file_status, open_status, run_status}
 use Rattle.callboard.specs.declared.fault.Fault.TheVariants as fault
@@ -174,18 +175,18 @@ does-live files day journal reserve ends status is h = rw is h
 -- settings that were served
 pub serves-settings : {D : Type 0} (files : JournalFiles D) (words : List Text) (s : Settings) (task : Task)
     (ends : Ends) (status : ℕ)
-    → AcceptsWords words s → IsInRange s → s.task ≡ task → DoesTask files (day_of s) s.journal task ends status
+    → AcceptsWords words s → IsInRange s → s.task ≡ task → DoesTask files (day_of_settings s) s.journal task ends status
     → ServesWords files words ends status
 serves-settings files words s task ends status accepts ranges is h =
     let does : ServesSettings files s ends status =
-    subst (λ (t : Task). DoesTask files (day_of s) s.journal t ends status) (sym is) h in
+    subst (λ (t : Task). DoesTask files (day_of_settings s) s.journal t ends status) (sym is) h in
     record {
       answer = inl (s, accepts, ranges, does);
-      quiet = λ q. does-quiet files (day_of s) s.journal s.task ends status does
+      quiet = λ q. does-quiet files (day_of_settings s) s.journal s.task ends status does
           (as-task _ s.task status accepts.1.task q);
-      read_failed = does-read files (day_of s) s.journal s.task ends status does;
-      write_failed = does-write files (day_of s) s.journal s.task ends status does;
-      few = does-small files (day_of s) s.journal s.task ends status does;
+      read_failed = does-read files (day_of_settings s) s.journal s.task ends status does;
+      write_failed = does-write files (day_of_settings s) s.journal s.task ends status does;
+      few = does-small files (day_of_settings s) s.journal s.task ends status does;
     }
 
 -- a status that isn't that of help

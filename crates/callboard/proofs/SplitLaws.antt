@@ -16,7 +16,7 @@ use Rattle.board_terms.specs.MemberView.{PlacedCall, MemberView, placed_calls_fr
 use Rattle.board_terms.specs.declared.calls.Receipt.{Receipt}
 use Rattle.member_floor.specs.declared.script.Script.{Script}
 use Rattle.member_floor.specs.PlaysScript.{FitsMembers, HaveSameNumbers, recorded_calls}
-use Rattle.callboard.specs.BoardRun.{IsSplit, commands_of, counts_of}
+use Rattle.callboard.specs.BoardRun.{IsSplit, commands_of, calls_of_members}
 
 -- ---- the calls of numbers from some number on
 
@@ -56,15 +56,15 @@ from_none [] = refl
 from_none (x ∷ xs) = all_by x (calls_of_from 0 xs) xs (nat_le 0 x.member) refl (from_none xs)
 
 -- all calls are of one of so many numbers, or of one from there on
-pub sum_counts : (n : ℕ) (xs : List Call) → sum (counts_of n xs) + length (calls_of_from n xs) ≡ length xs
+pub sum_counts : (n : ℕ) (xs : List Call) → sum (calls_of_members n xs) + length (calls_of_from n xs) ≡ length xs
 sum_counts zero xs = omega (arith, from_none xs)
 sum_counts (suc n) xs =
     let count : ℕ → ℕ = λ member. length (commands_of member xs) in
-    let more : sum (counts_of (n + 1) xs) ≡ sum (counts_of n xs) + count n =
+    let more : sum (calls_of_members (n + 1) xs) ≡ sum (calls_of_members n xs) + count n =
     sum_by-map-range_with_len_more (λ (y : ℕ). y) count 0 n n (omega arith) in
     let these : count n ≡ length (calls_of_one n xs) =
     length-map {B = Command} (calls_of_one n xs) (λ (call : Call). call.command) in
-    ap (λ k. sum (counts_of k xs) + length (calls_of_from k xs)) (sym (add-one n))
+    ap (λ k. sum (calls_of_members k xs) + length (calls_of_from k xs)) (sym (add-one n))
     ∙ omega (arith, more, these, from_next n xs, sum_counts n xs)
 
 -- no call is of a number from there on

@@ -28,8 +28,8 @@ abbrev pub commands_of : ℕ → List Call → List Command
 commands_of member calls = map (λ (call : Call). call.command) (filter (λ (call : Call). call.member == member) calls)
 
 -- how many of these calls are each member's, from member 0 on
-abbrev pub counts_of : ℕ → List Call → List ℕ
-counts_of members calls = map (λ member. length (commands_of member calls)) (range_with_len 0 members)
+abbrev pub calls_of_members : ℕ → List Call → List ℕ
+calls_of_members members calls = map (λ member. length (commands_of member calls)) (range_with_len 0 members)
 
 -- a script for each member, by rising numbers, with its commands among these calls
 pub record IsSplit (members : ℕ) (calls : List Call) (scripts : List Script) : Type 0 where
@@ -45,7 +45,7 @@ pub record IsHistoryOf (config : Config) (calls : List Call) (entries : List Ent
 pub record IsDayOf (config : Config) (members : ℕ) (calls : List Call) (closing : Closing) : Type 0 where
   pub history : IsHistoryOf config calls closing.history.items
   pub entries : length closing.history.items ≡ length calls
-  pub counts : closing.calls.items ≡ counts_of members calls
+  pub counts : closing.calls.items ≡ calls_of_members members calls
 
 -- what the audit found in a history: the place of the first entry that breaks the rules, if there is one
 abbrev pub IsAuditFinding : Config → List Entry → Option ℕ → Type 0
@@ -69,7 +69,7 @@ closed_text (floor.Listing listing) day closing = listing_text listing day closi
 
 -- how many calls there are, how many of each member, and that the history is legal
 abbrev pub day_tally : DayWithCalls → List ℕ
-day_tally run_input = tally (length run_input.calls) (counts_of run_input.day.members run_input.calls) None
+day_tally run_input = tally (length run_input.calls) (calls_of_members run_input.day.members run_input.calls) None
 
 -- the tally of a day of a legal history, which the history may follow; or in place of all that a listing of the day
 abbrev pub floor_text : FloorForm → DayWithCalls → List Entry → List ℕ

@@ -10,7 +10,7 @@ use Rattle.auction.specs.ConfigFault.{open_fault}
 use Rattle.auction.specs.declared.OpenFault.TheVariants.{NoMemory}
 use Rattle.auction_terms.specs.Results.{◌>>=◌}
 use Rattle.day_tables.specs.KeptBook.{HasTablesSoFar, HasAllTables}
-use Rattle.printed_lines.specs.KeptText.{text_of}
+use Rattle.printed_lines.specs.KeptText.{kept_text}
 use Rattle.journal.specs.DayWithCalls.{DayWithCalls}
 use Rattle.journal.specs.KeptLines.{HasEntryLines}
 use Rattle.journal.specs.declared.day.DayHeader.{DayHeader}
@@ -25,24 +25,24 @@ use Rattle.callboard.specs.declared.fault.Fault.TheVariants as fault
 use Rattle.callboard.specs.declared.kept.Kept.{Kept}
 use Rattle.callboard.specs.declared.kept.Kept.TheVariants.{Lines, Journal, Trades, Book}
 use Rattle.callboard.specs.declared.kept_day.KeptDay.{KeptDay}
-use Rattle.callboard.specs.Printed.{entries_from, entry_of_call, history_of, reply_of}
+use Rattle.callboard.specs.Printed.{entries_from, entry_of_call, history_of, reply_in}
 
 -- the entry of the auction's next call
 abbrev pub entry_in : RunningAuction → Call → Entry
 entry_in auction call = entry_of_call call (step auction.config auction.state call).1
 
 -- the form that it is kept for
-abbrev pub form_of : Kept → Form
-form_of (Lines replies) = forms.Lines
-form_of (Journal lines) = forms.Listing listing.Journal
-form_of (Trades entries) = forms.Listing listing.Trades
-form_of (Book book) = forms.Listing listing.Book
+abbrev pub form_kept : Kept → Form
+form_kept (Lines replies) = forms.Lines
+form_kept (Journal lines) = forms.Listing listing.Journal
+form_kept (Trades entries) = forms.Listing listing.Trades
+form_kept (Book book) = forms.Listing listing.Book
 
 -- What is kept is of these entries, after which the auction stands: their replies, their lines in the journal, all of
 -- them, or the tables before the uncrosses among them.
 abbrev pub KeepsEntries : Kept → RunningAuction → List Entry → Type 0
-KeepsEntries (Lines replies) auction entries = replies ≡ map reply_of entries
-KeepsEntries (Journal lines) auction entries = HasEntryLines (text_of lines) entries
+KeepsEntries (Lines replies) auction entries = replies ≡ map reply_in entries
+KeepsEntries (Journal lines) auction entries = HasEntryLines (kept_text lines) entries
 KeepsEntries (Trades kept) auction entries = kept.items ≡ entries
 KeepsEntries (Book book) auction entries = HasTablesSoFar book auction entries
 
@@ -55,8 +55,8 @@ KeepsUpToCall kept auction entries call = KeepsEntries kept auction entries
 
 -- the same of all entries of a day, and the tables are all
 abbrev pub KeepsWholeDay : Kept → Config → List Entry → Type 0
-KeepsWholeDay (Lines replies) config entries = replies ≡ map reply_of entries
-KeepsWholeDay (Journal lines) config entries = HasEntryLines (text_of lines) entries
+KeepsWholeDay (Lines replies) config entries = replies ≡ map reply_in entries
+KeepsWholeDay (Journal lines) config entries = HasEntryLines (kept_text lines) entries
 KeepsWholeDay (Trades kept) config entries = kept.items ≡ entries
 KeepsWholeDay (Book book) config entries = HasAllTables book config entries
 
@@ -84,7 +84,7 @@ calls_for day r = r >>= λ calls. Ok (record { day = day; calls = calls })
 -- The day of these calls could be opened, takes as many, and is kept for this form.
 abbrev pub IsKeptDay : Form → KeptDay → List Call → Type 0
 IsKeptDay form kept calls =
-    (form_of kept.kept ≡ form) × (open_fault kept.day.config ≡ None) × (length calls ≤ kept.day.config.max_calls)
+    (form_kept kept.kept ≡ form) × (open_fault kept.day.config ≡ None) × (length calls ≤ kept.day.config.max_calls)
     × KeepsWholeDay kept.kept kept.day.config (history_of kept.day.config calls)
 
 -- What was said is kept, or is at fault, or couldn't be opened.
@@ -105,5 +105,5 @@ KeepsDayOfText form result text says =
 -- Of a day whose calls have all come what is kept is of these entries, or memory was refused.
 abbrev pub IsClosedDay : DayHeader → Kept → Config → List Entry → Result KeptDay Fault → Type 0
 IsClosedDay day old config entries (Ok closed) =
-    (closed.day ≡ day) × (form_of closed.kept ≡ form_of old) × KeepsWholeDay closed.kept config entries
+    (closed.day ≡ day) × (form_kept closed.kept ≡ form_kept old) × KeepsWholeDay closed.kept config entries
 IsClosedDay day old config entries (Err f) = f ≡ fault.File file_fault.NoMemory

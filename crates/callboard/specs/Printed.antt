@@ -37,8 +37,8 @@ entries_from config state (call ∷ calls) =
 abbrev pub history_of : Config → List Call → List Entry
 history_of config calls = entries_from config (opening_state config) calls
 
-abbrev pub reply_of : Entry → Reply
-reply_of entry = entry.reply
+abbrev pub reply_in : Entry → Reply
+reply_in entry = entry.reply
 
 -- ---- their text
 
@@ -49,7 +49,7 @@ listing_text Book day entries = book_text day.config entries
 
 -- the lines of the replies, or a listing of the day
 abbrev pub printed : Form → DayHeader → List Entry → List ℕ
-printed forms.Lines day entries = lines (map reply_of entries)
+printed forms.Lines day entries = lines (map reply_in entries)
 printed (forms.Listing listing) day entries = listing_text listing day entries
 
 -- ---- the replies of a journal

@@ -12,13 +12,13 @@ use Rattle.settings.specs.Ranges.{IsInRange}
 use Rattle.callboard.specs.AuctionRun.{auction_job}
 use Rattle.callboard.specs.AuditRun.{audit_job}
 use Rattle.callboard.specs.BoardRun.{board_job}
-use Rattle.callboard.specs.Served.{day_of}
+use Rattle.callboard.specs.Served.{day_of_settings}
 use Rattle.callboard.specs.declared.fault.Finish.{Finish}
 use Rattle.callboard.specs.declared.fault.Finish.TheVariants.{Lawful}
 
 -- settings in their ranges say a day that a journal's first record can hold
 abbrev pub SettingsFitDay : Type 0
-SettingsFitDay = (s : Settings) → IsInRange s → FitsDay (day_of s)
+SettingsFitDay = (s : Settings) → IsInRange s → FitsDay (day_of_settings s)
 
 -- an audit reads a text, its day can be opened, and whatever it writes of it, it finds the day lawful
 abbrev pub IsAuditedLawful : List ℕ → Type 0

@@ -45,12 +45,12 @@ DoesTask files day None (Live reserve) = RunsSession day reserve
 DoesTask files day (Some file) (Live reserve) = RunsKeptSession files file day reserve
 
 -- the day that the settings say
-abbrev pub day_of : Settings → DayHeader
-day_of s = record { config = s.config; members = s.members }
+abbrev pub day_of_settings : Settings → DayHeader
+day_of_settings s = record { config = s.config; members = s.members }
 
 -- with the input was done what the settings say
 abbrev pub ServesSettings : {D : Type 0} → JournalFiles D → Settings → Ends → ℕ → Type 0
-ServesSettings files s = DoesTask files (day_of s) s.journal s.task
+ServesSettings files s = DoesTask files (day_of_settings s) s.journal s.task
 
 -- 0 where the words ask for help, 3 for want of memory, and 2 where the words are wrong
 abbrev pub words_status : ErrorKind → ℕ

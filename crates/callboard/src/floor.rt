@@ -14,7 +14,7 @@ use crate::day::closing_of_day;
 use crate::fault::{Fault, Finish};
 use crate::printing::{ClosingForm, write_closing, write_listing};
 use crate::scripts::split;
-use auction::{Verdict, audit};
+use auction::{AuditFinding, audit};
 use auction_terms::{Call, Config, Entry};
 use byte_streams::{Sink, Source};
 use journal::{DayHeader, read_run_input};
@@ -57,8 +57,8 @@ fn first_bad(alloc: Global, config: Config, history: &[Entry]) -> Result<Option<
     ensures fault { IfErr result (λ f. f ≡ Fault.NoMemory) }
 {
     match audit(alloc, config, history) {
-        Ok(Verdict::Legal) => Ok(None),
-        Ok(Verdict::BadAt(place)) => Ok(Some(place as u64)),
+        Ok(AuditFinding::Legal) => Ok(None),
+        Ok(AuditFinding::BadAt(place)) => Ok(Some(place as u64)),
         Err(_) => Err(Fault::NoMemory),
     }
 }

@@ -3,7 +3,7 @@
 ghost use Rattle.std.specs.Prelude.{◌≡◌, ◌≢◌, ◌≤◌, ◌+◌, List, length, Ok, Err, IfErr};
 ghost use Rattle.auction_terms.specs.declared.Entry.{Entry};
 ghost use Rattle.journal.specs.DayWithCalls.{run_input_of, or_orders, orders_for};
-ghost use Rattle.callboard.specs.KeptEntries.{KeepsEntries, KeepsCalls, KeepsDay, calls_for, form_of};
+ghost use Rattle.callboard.specs.KeptEntries.{KeepsEntries, KeepsCalls, KeepsDay, calls_for, form_kept};
 
 use crate::fault::Fault;
 use crate::kept::Kept;
@@ -11,7 +11,7 @@ use crate::kept_day::{KeptDay, close_day};
 use auction::Auction;
 use auction_terms::{Call, Reply};
 use journal::{DayHeader, journal_of};
-use order_file::{FileFault, MAX_BYTES, calls_of};
+use order_file::{FileFault, MAX_BYTES, calls_of_file};
 use settings::Form;
 use std::alloc::Global;
 
@@ -24,7 +24,7 @@ fn keep_all(
     calls: &[Call],
 ) -> Result<(), FileFault>
     requires { auction.old.calls + length calls.now ≤ auction.old.config.max_calls }
-    ensures form { form_of kept.new ≡ form_of kept.old }
+    ensures form { form_kept kept.new ≡ form_kept kept.old }
     ensures kept { (entries : List Entry) → KeepsEntries kept.old auction.old entries
         → KeepsCalls (KeepsEntries kept.new auction.new) entries auction.old auction.new result (Ok calls.now) }
     ensures memory { IfErr result (λ e. e ≡ FileFault.NoMemory) }
@@ -69,7 +69,7 @@ fn keep_orders(alloc: Global, bytes: Vec<u8>, day: DayHeader, form: Form) -> Res
     if bytes.len() > MAX_BYTES {
         return Err(Fault::File(FileFault::TooLong));
     }
-    let calls = calls_of(alloc, bytes.as_slice(), day.members, day.config.max_calls)?;
+    let calls = calls_of_file(alloc, bytes.as_slice(), day.members, day.config.max_calls)?;
     // The calls have all of it that is needed.
     drop(bytes);
     keep_calls(alloc, day, calls.as_slice(), form)

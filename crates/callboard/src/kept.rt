@@ -4,7 +4,7 @@ ghost use Rattle.std.specs.Prelude.{◌≡◌, ◌++◌, ◌∷◌, [], List, If
 ghost use Rattle.auction_terms.specs.declared.Entry.{Entry};
 ghost use Rattle.auction_terms.specs.Day.{step};
 ghost use Rattle.auction_terms.specs.Auxiliary.RunningAuction.{RunningAuction, auction_after_call, opened_auction};
-ghost use Rattle.callboard.specs.KeptEntries.{KeepsEntries, KeepsUpToCall, KeepsWholeDay, entry_in, form_of};
+ghost use Rattle.callboard.specs.KeptEntries.{KeepsEntries, KeepsUpToCall, KeepsWholeDay, entry_in, form_kept};
 ghost use Rattle.callboard.specs.Printed.{entry_of_call};
 
 use auction::Auction;
@@ -49,7 +49,7 @@ fn keep_whole(entries: &mut Vec<Entry>, entry: Entry) -> Result<(), AllocError>
 impl Kept {
     /// No entries of a day that was just opened, kept for this form. The error is that memory is refused.
     pub fn open(alloc: Global, form: Form, auction: &Auction) -> Result<Kept, AllocError>
-        ensures form { IfOk result (λ kept. form_of kept ≡ form) }
+        ensures form { IfOk result (λ kept. form_kept kept ≡ form) }
         ensures none { auction.now ≡ opened_auction auction.now.config
             → IfOk result (λ kept. KeepsEntries kept auction.now []) }
     {
@@ -71,7 +71,7 @@ impl Kept {
         call: &Call,
     ) -> Result<(), AllocError>
         ensures auction { auction.new ≡ auction.old }
-        ensures form { form_of self.new ≡ form_of self.old }
+        ensures form { form_kept self.new ≡ form_kept self.old }
         ensures kept { (entries : List Entry) → KeepsEntries self.old auction.old entries
             → OnOk result (KeepsUpToCall self.new auction.old entries call.now) }
     {
@@ -85,7 +85,7 @@ impl Kept {
     /// error is that memory is refused.
     #[inline]
     pub fn keep_reply(&mut self, call: &Call, reply: &Reply) -> Result<(), AllocError>
-        ensures form { form_of self.new ≡ form_of self.old }
+        ensures form { form_kept self.new ≡ form_kept self.old }
         ensures kept { (auction : RunningAuction) (entries : List Entry)
             → reply.now ≡ (step auction.config auction.state call.now).1
             → KeepsUpToCall self.old auction entries call.now → OnOk result (KeepsEntries self.new
@@ -101,7 +101,7 @@ impl Kept {
 
     /// Keeps what stands at the end of the input, as all its calls have come. The error is that memory is refused.
     pub fn close(&mut self, alloc: Global, auction: &mut Auction) -> Result<(), AllocError>
-        ensures form { form_of self.new ≡ form_of self.old }
+        ensures form { form_kept self.new ≡ form_kept self.old }
         ensures kept { (entries : List Entry) → KeepsEntries self.old auction.old entries
             → OnOk result (KeepsWholeDay self.new auction.old.config entries) }
     {

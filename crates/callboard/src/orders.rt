@@ -8,9 +8,9 @@ ghost use Rattle.auction_terms.specs.Auxiliary.RunningAuction.{opened_auction};
 ghost use Rattle.auction.specs.ConfigFault.{open_fault};
 ghost use Rattle.journal.specs.DayWithCalls.{orders_for};
 ghost use Rattle.order_file.specs.Blocks.{OpensBlock, block_rows};
-ghost use Rattle.order_file.specs.File.{IsOfRecord, calls_after, calls_of};
+ghost use Rattle.order_file.specs.File.{IsOfRecord, calls_after, calls_of_file};
 ghost use Rattle.callboard.specs.KeptEntries.{KeepsEntries, KeepsCalls, KeepsDay, KeepsDayOfText, calls_for};
-ghost use Rattle.callboard.specs.KeptEntries.{form_of};
+ghost use Rattle.callboard.specs.KeptEntries.{form_kept};
 
 use crate::fault::Fault;
 use crate::kept::Kept;
@@ -18,7 +18,7 @@ use auction::{Auction, OpenFault};
 use auction_terms::Reply;
 use byte_streams::Source;
 use journal::DayHeader;
-use order_file::{Blocks, FileFault, MAX_BYTES, bytes_after, calls_of};
+use order_file::{Blocks, FileFault, MAX_BYTES, bytes_after, calls_of_file};
 use settings::Form;
 use std::alloc::Global;
 
@@ -41,7 +41,7 @@ pub fn keep_block(
     members: u8,
 ) -> Result<(), FileFault>
     requires { auction.old.calls ≤ auction.old.config.max_calls }
-    ensures form { form_of kept.new ≡ form_of kept.old }
+    ensures form { form_kept kept.new ≡ form_kept kept.old }
     ensures kept { (entries : List Entry) → KeepsEntries kept.old auction.old entries
         → KeepsCalls (KeepsEntries kept.new auction.new) entries auction.old auction.new result
         (calls_after members auction.old.config.max_calls auction.old.calls (block_rows blocks.now)) }
@@ -67,10 +67,10 @@ pub fn keep_block(
 fn refused_orders(alloc: Global, bytes: &[u8], day: DayHeader, fault: OpenFault) -> Fault
     requires { fault ≡ unwrap_or (open_fault day.config) OpenFault.NoMemory }
     ensures kept { (form : Form)
-        → KeepsDay form (calls_for day (calls_of day.members day.config.max_calls bytes.now)) (Err result) }
+        → KeepsDay form (calls_for day (calls_of_file day.members day.config.max_calls bytes.now)) (Err result) }
     ensures read { result ≢ Fault.File FileFault.ReadFailed }
 {
-    if let Err(fault) = calls_of(alloc, bytes, day.members, day.config.max_calls) {
+    if let Err(fault) = calls_of_file(alloc, bytes, day.members, day.config.max_calls) {
         return Fault::File(fault);
     }
     Fault::Open(fault)
@@ -114,7 +114,7 @@ pub fn open_orders<R: Source>(
         KeepsDayOfText form (Err fault) (prepend_known start.items (R.left reader.old)) (orders_for day)) }
     ensures opened { IfOk result (λ run.
         (open_fault day.config ≡ None) × (run.auction ≡ opened_auction day.config)) }
-    ensures none { IfOk result (λ run. (form_of run.kept ≡ form) × KeepsEntries run.kept run.auction []) }
+    ensures none { IfOk result (λ run. (form_kept run.kept ≡ form) × KeepsEntries run.kept run.auction []) }
     ensures rows { IfOk result (λ run. IfSome (prepend_known start.items (R.left reader.old)) (λ text.
         OpensBlock (Ok run.blocks) MAX_BYTES (R.left reader.new) text)) }
 {

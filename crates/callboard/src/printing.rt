@@ -10,7 +10,7 @@ ghost use Rattle.day_tables.specs.KeptBook.{HasAllTables};
 ghost use Rattle.day_tables.specs.TableRecords.{PrintsTable};
 ghost use Rattle.journal.specs.JournalText.{journal_text};
 ghost use Rattle.journal.specs.KeptLines.{HasEntryLines};
-ghost use Rattle.printed_lines.specs.KeptText.{text_of};
+ghost use Rattle.printed_lines.specs.KeptText.{kept_text};
 ghost use Rattle.printed_lines.specs.Printing.{Prints};
 ghost use Rattle.printed_lines.specs.ReplyLines.{lines};
 ghost use Rattle.callboard.specs.BoardRun.{closing_text};
@@ -173,7 +173,7 @@ fn print_lines_kept<S: Sink>(
     day: DayHeader,
     lines: &KeptText,
 ) -> Result<(), WriteFailed>
-    ensures { (entries : List Entry) → HasEntryLines (text_of lines.now) entries
+    ensures { (entries : List Entry) → HasEntryLines (kept_text lines.now) entries
         → WritesAll S.Sink writer.old writer.new result (journal_text day entries) }
 {
     let mut printer = Printer::new(writer);
@@ -183,8 +183,8 @@ fn print_lines_kept<S: Sink>(
 
 /// Writes the journal of a day whose lines were kept. It takes no memory.
 pub fn write_journal<S: Sink>(writer: &mut S, day: DayHeader, lines: &KeptText) -> Result<(), Fault>
-    requires { (entries : List Entry) × HasEntryLines (text_of lines.now) entries }
-    ensures text { (entries : List Entry) → HasEntryLines (text_of lines.now) entries
+    requires { (entries : List Entry) × HasEntryLines (kept_text lines.now) entries }
+    ensures text { (entries : List Entry) → HasEntryLines (kept_text lines.now) entries
         → WritesText (S.written writer.old) (S.written writer.new) (journal_text day entries) result }
     ensures failed { IsErrOf result Fault.WriteFailed ↔ (S.failures writer.old < S.failures writer.new) }
     ensures fault { IfErr result (λ f. f ≡ Fault.WriteFailed) }

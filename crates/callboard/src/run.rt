@@ -5,7 +5,7 @@ ghost use Rattle.auction_terms.specs.Day.{IsLegal};
 ghost use Rattle.auction_terms.specs.declared.Entry.{Entry};
 ghost use Rattle.callboard.specs.AuctionRun.{RunsOnAuction};
 ghost use Rattle.callboard.specs.FileRun.{WritesText, ends_by, ends_of};
-ghost use Rattle.callboard.specs.KeptEntries.{KeepsDay, KeepsDayOfText, KeepsWholeDay, form_of};
+ghost use Rattle.callboard.specs.KeptEntries.{KeepsDay, KeepsDayOfText, KeepsWholeDay, form_kept};
 ghost use Rattle.journal.specs.DayWithCalls.{DayWithCalls, run_input};
 ghost use Rattle.callboard.specs.Printed.{IsOfPrinting, IsWideIfBegun, printed};
 
@@ -30,11 +30,11 @@ fn write_kept<S: Sink>(
 ) -> Result<(), Fault>
     requires { (entries : List Entry) × KeepsWholeDay kept.old day.config entries × IsLegal day.config entries }
     ensures text { (entries : List Entry) → KeepsWholeDay kept.old day.config entries
-        → WritesText (S.written writer.old) (S.written writer.new) (printed (form_of kept.old) day entries) result }
+        → WritesText (S.written writer.old) (S.written writer.new) (printed (form_kept kept.old) day entries) result }
     ensures failed { IsErrOf result Fault.WriteFailed ↔ (S.failures writer.old < S.failures writer.new) }
-    ensures fault { IfErr result (IsOfPrinting (form_of kept.old)) }
+    ensures fault { IfErr result (IsOfPrinting (form_kept kept.old)) }
     ensures wide { (entries : List Entry) → KeepsWholeDay kept.old day.config entries
-        → IsWideIfBegun result (form_of kept.old) entries }
+        → IsWideIfBegun result (form_kept kept.old) entries }
 {
     match kept {
         Kept::Lines(replies) => write_lines(writer, replies),

@@ -7,17 +7,17 @@ use Rattle.day_audit.specs.declared.running.Audit.{Audit}
 use Rattle.day_audit.specs.AuditCounts.{no_counts}
 
 -- the recorded day
-abbrev pub day_of : Audit → RecordedDay
-day_of audit = recorded audit.journal.now
+abbrev pub audited_day : Audit → RecordedDay
+audited_day audit = recorded audit.journal.now
 
 -- nothing was counted, and the auction is the one that the day begins with; it can have all of the day's calls, each of
 -- which has a text
 pub record IsNewAudit (audit : Audit) : Type 0 where
   pub counts : audit.counts ≡ no_counts
-  pub auction : audit.auction ≡ opened_auction (day_of audit).day.config
-  pub few : length (day_of audit).calls ≤ (day_of audit).day.config.max_calls
-  pub even : length (day_of audit).texts ≡ length (day_of audit).calls
-  pub texts : All IsReplyText (day_of audit).texts
+  pub auction : audit.auction ≡ opened_auction (audited_day audit).day.config
+  pub few : length (audited_day audit).calls ≤ (audited_day audit).day.config.max_calls
+  pub even : length (audited_day audit).texts ≡ length (audited_day audit).calls
+  pub texts : All IsReplyText (audited_day audit).texts
 
 -- the audit is still of the same day, and its auction has the same config
 pub record IsSameDay (old new : Audit) : Type 0 where

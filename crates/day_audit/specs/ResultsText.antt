@@ -21,13 +21,14 @@ uncross_lines before [] = []
 uncross_lines before (reply ∷ replies) = uncross_line (before + 1) reply ++ uncross_lines (before + 1) replies
 
 -- the auction that the day is in, or that it is over
-abbrev pub day_line : Option AuctionKind → List ℕ
-day_line None = codes "day over\n"
-day_line (Some kind) = codes "in " ++ (kind_word kind ++ codes "\n")
+abbrev pub current_auction_line : Option AuctionKind → List ℕ
+current_auction_line None = codes "day over\n"
+current_auction_line (Some kind) = codes "in " ++ (kind_word kind ++ codes "\n")
 
 -- the lines of the uncrosses of a day with these calls, and where the day stands after them
 abbrev pub results_text : Config → List Call → List ℕ
-results_text config calls = uncross_lines 0 (replay config calls).1 ++ day_line (replay config calls).0.auction
+results_text config calls =
+    uncross_lines 0 (replay config calls).1 ++ current_auction_line (replay config calls).0.auction
 
 abbrev pub results_if : Bool → RecordedDay → List ℕ
 results_if true j = results_text j.day.config j.calls

@@ -5,7 +5,7 @@ ghost use Rattle.auction_terms.specs.Auxiliary.RunningAuction.{opened_auction};
 ghost use Rattle.auction_terms.specs.Day.{replies_from, state_after};
 ghost use Rattle.printed_lines.specs.Printing.{Prints};
 ghost use Rattle.printed_lines.specs.declared.page.TheConstants.{ROOM};
-ghost use Rattle.day_audit.specs.ResultsText.{day_line, results_text, uncross_line, uncross_lines};
+ghost use Rattle.day_audit.specs.ResultsText.{current_auction_line, results_text, uncross_line, uncross_lines};
 
 use auction::Auction;
 use auction_terms::{AuctionKind, Call, Reply};
@@ -47,7 +47,7 @@ fn print_uncrosses<S: Sink>(
 
 fn put_day(page: &mut Page, auction: Option<AuctionKind>)
     requires { length page.old + 60 ≤ ROOM }
-    ensures { page.new ≡ page.old ++ day_line auction }
+    ensures { page.new ≡ page.old ++ current_auction_line auction }
 {
     match auction {
         None => page.put("day over\n"),
@@ -64,7 +64,7 @@ fn print_day<S: Sink>(
     printer: &mut Printer<'_, S>,
     auction: Option<AuctionKind>,
 ) -> Result<(), WriteFailed>
-    ensures { Prints S.Sink printer.old printer.new result (day_line auction) }
+    ensures { Prints S.Sink printer.old printer.new result (current_auction_line auction) }
 {
     printer.make_room()?;
     put_day(&mut printer.page, auction);

@@ -11,7 +11,7 @@ ghost use Rattle.journal.specs.declared.reading.TheConstants.{MAX_JOURNAL_BYTES}
 ghost use Rattle.printed_lines.specs.Printing.{Prints};
 ghost use Rattle.printed_lines.specs.ReplyWords.{reply_text};
 ghost use Rattle.day_audit.specs.Answers.{answers_in, finding_of};
-ghost use Rattle.day_audit.specs.BegunAudit.{IsNewAudit, IsSameDay, day_of};
+ghost use Rattle.day_audit.specs.BegunAudit.{IsNewAudit, IsSameDay, audited_day};
 ghost use Rattle.day_audit.specs.AuditCounts.{counts_of, no_counts};
 ghost use Rattle.day_audit.specs.AuditText.{audit_text, differences};
 ghost use Rattle.day_audit.specs.ResultsText.{printed_text, results_text};
@@ -67,8 +67,9 @@ impl<'a> Audit<'a> {
         printer: &mut Printer<'_, S>,
     ) -> Result<(), WriteFailed>
         requires { IsNewAudit self.old }
-        ensures printed { Prints S.Sink printer.old printer.new result (differences 0 (answers_in (day_of self.old))) }
-        ensures counts { OnOk result (self.new.counts ≡ counts_of (answers_in (day_of self.old))) }
+        ensures printed { Prints S.Sink printer.old printer.new result
+            (differences 0 (answers_in (audited_day self.old))) }
+        ensures counts { OnOk result (self.new.counts ≡ counts_of (answers_in (audited_day self.old))) }
         ensures day { IsSameDay self.old self.new }
     {
         let journal = self.journal;
@@ -86,8 +87,9 @@ impl<'a> Audit<'a> {
     /// Prints what is found of the day: the differences, and then what was counted.
     fn print_findings<S: Sink>(&mut self, printer: &mut Printer<'_, S>) -> Result<(), WriteFailed>
         requires { IsNewAudit self.old }
-        ensures printed { Prints S.Sink printer.old printer.new result (audit_text (answers_in (day_of self.old))) }
-        ensures counts { OnOk result (self.new.counts ≡ counts_of (answers_in (day_of self.old))) }
+        ensures printed { Prints S.Sink printer.old printer.new result
+            (audit_text (answers_in (audited_day self.old))) }
+        ensures counts { OnOk result (self.new.counts ≡ counts_of (answers_in (audited_day self.old))) }
         ensures day { IsSameDay self.old self.new }
     {
         self.print_differences(printer)?;
@@ -96,9 +98,9 @@ impl<'a> Audit<'a> {
 
     /// Prints the results of the day, whose calls are applied from its beginning again.
     fn print_results<S: Sink>(&mut self, printer: &mut Printer<'_, S>) -> Result<(), WriteFailed>
-        requires { length (day_of self.old).calls ≤ self.old.auction.config.max_calls }
+        requires { length (audited_day self.old).calls ≤ self.old.auction.config.max_calls }
         ensures printed { Prints S.Sink printer.old printer.new result
-            (results_text self.old.auction.config (day_of self.old).calls) }
+            (results_text self.old.auction.config (audited_day self.old).calls) }
         ensures counts { self.new.counts ≡ self.old.counts }
     {
         self.auction.reset();
@@ -112,8 +114,8 @@ impl<'a> Audit<'a> {
         results: bool,
     ) -> Result<(), WriteFailed>
         requires { IsNewAudit self.old }
-        ensures printed { Prints S.Sink printer.old printer.new result (printed_text results (day_of self.old)) }
-        ensures counts { OnOk result (self.new.counts ≡ counts_of (answers_in (day_of self.old))) }
+        ensures printed { Prints S.Sink printer.old printer.new result (printed_text results (audited_day self.old)) }
+        ensures counts { OnOk result (self.new.counts ≡ counts_of (answers_in (audited_day self.old))) }
     {
         self.print_findings(printer)?;
         if !results {
@@ -125,8 +127,8 @@ impl<'a> Audit<'a> {
     /// Writes the whole text of an audit, or at a failure a beginning of it.
     fn write<S: Sink>(&mut self, writer: &mut S, results: bool) -> Result<(), WriteFailed>
         requires { IsNewAudit self.old }
-        ensures written { WritesAll S.Sink writer.old writer.new result (printed_text results (day_of self.old)) }
-        ensures counts { OnOk result (self.new.counts ≡ counts_of (answers_in (day_of self.old))) }
+        ensures written { WritesAll S.Sink writer.old writer.new result (printed_text results (audited_day self.old)) }
+        ensures counts { OnOk result (self.new.counts ≡ counts_of (answers_in (audited_day self.old))) }
     {
         let mut printer = Printer::new(writer);
         self.print(&mut printer, results)?;

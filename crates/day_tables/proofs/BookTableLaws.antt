@@ -30,7 +30,7 @@ use Rattle.day_tables.specs.BookTable.{tick_record, tick_records, market_record,
 use Rattle.day_tables.specs.BookTable.{tables_after}
 use Rattle.day_tables.specs.TableCurves.{HasRoomForTicks, AreCurves, IsDecidingRule}
 use Rattle.day_tables.specs.TableRows.{HasPlaces, IsTableOf, is_at_price, is_row, side_between, rule_at, row, row_if}
-use Rattle.day_tables.specs.TableRows.{rows_below, market_row, tick_shown}
+use Rattle.day_tables.specs.TableRows.{table_rows_below, market_table_row, tick_shown}
 use Rattle.day_tables.proofs.TickTableLaws.{limit_present, long_present}
 
 -- ---- what is among some ticks
@@ -129,8 +129,8 @@ module _ (shown : ShownBook) (table : Table) (is : IsTableOf shown table) where
   records_more m true e = rw e refl
   records_more m false e = rw e refl
 
-  rows_are : (m : ℕ) → m ≤ length table.bids.now → rows_below table m ≡ tick_records shown table.low m
-  unfolding rows_below tick_records
+  rows_are : (m : ℕ) → m ≤ length table.bids.now → table_rows_below table m ≡ tick_records shown table.low m
+  unfolding table_rows_below tick_records
   rows_are zero h = refl
   rows_are (suc m) h =
       let first = row_if_is m (omega arith) in
@@ -138,12 +138,12 @@ module _ (shown : ShownBook) (table : Table) (is : IsTableOf shown table) where
       let more = records_more m (has_record shown (table.low + m)) refl in
       rw (first, rest) (sym more)
 
-  market_is : market_row table ≡ market_record shown
-  unfolding market_row market_record
+  market_is : market_table_row table ≡ market_record shown
+  unfolding market_table_row market_record
   market_is = rw (is.command, is.kind, is.market_bids, is.market_asks) refl
 
   pub whole_table : (config : Config) → table.low ≡ config.low → length table.bids.now ≡ config.high + 1 - config.low
-      → market_row table ++ rows_below table (length table.bids.now) ≡ book_table config shown
+      → market_table_row table ++ table_rows_below table (length table.bids.now) ≡ book_table config shown
   unfolding book_table
   whole_table config low long =
       rw (market_is, rows_are (length table.bids.now) (omega arith), low, long) refl
@@ -233,7 +233,8 @@ pub table-printed : (auction : RunningAuction) (command : ℕ) (kind : AuctionKi
     → table.command ≡ command → table.kind ≡ kind
     → AreCurves v.low (length v.bids) table.curves.now (current_orders auction.state)
     → table.price ≡ tick_shown (display auction.state) → IsDecidingRule (current_orders auction.state) table.rule
-    → market_row table ++ rows_below table (length table.bids.now) ≡ table_before auction.config command auction.state
+    → market_table_row table ++ table_rows_below table (length table.bids.now)
+    ≡ table_before auction.config command auction.state
 unfolding table_before
 table-printed auction command kind v table now over is drawn to_command to_kind curves price rule =
     let state = auction.state in
@@ -257,21 +258,22 @@ pub field-rest : (old middle new field rest : List ℕ) → middle ≡ old ++ fi
 field-rest old middle new field rest e f = f ∙ ap (λ t. t ++ rest) e ∙ append_assoc old field rest
 
 pub rows-next : (table : Table) (front all : List ℕ) (place next : ℕ) → place ≡ next + 1
-    → front ++ rows_below table place ≡ all
-    → front ++ (row_if table next ++ rows_below table next) ≡ all
-unfolding rows_below
+    → front ++ table_rows_below table place ≡ all
+    → front ++ (row_if table next ++ table_rows_below table next) ≡ all
+unfolding table_rows_below
 rows-next table front all place next is e =
     let to : place ≡ suc next = omega arith in
     rw to at e
 
 pub rows-done : (table : Table) (front all : List ℕ) (place next : ℕ) → place ≡ next + 1
-    → front ++ rows_below table place ≡ all
-    → (front ++ row_if table next) ++ rows_below table next ≡ all
+    → front ++ table_rows_below table place ≡ all
+    → (front ++ row_if table next) ++ table_rows_below table next ≡ all
 rows-done table front all place next is e = append_assoc front _ _ ∙ rows-next table front all place next is e
 
-pub rows-end : (table : Table) (front all : List ℕ) (place : ℕ) → place ≡ 0 → front ++ rows_below table place ≡ all
+pub rows-end : (table : Table) (front all : List ℕ) (place : ℕ) → place ≡ 0
+    → front ++ table_rows_below table place ≡ all
     → front ≡ all
-unfolding rows_below
+unfolding table_rows_below
 rows-end table front all place none e = sym (append-nil front) ∙ rw none at e
 
 pub tables-next : (config : Config) (state : State) (entries : List Entry) (front all : List ℕ) (i : ℕ) (d : Entry)

@@ -17,9 +17,10 @@ use Rattle.auction_terms.specs.Auxiliary.RunningAuction.{RunningAuction, auction
 use Rattle.auction_terms.specs.Day.{State, opening_state, step, state_after, replies_from, replay, call_of, calls_of}
 use Rattle.auction_terms.specs.Day.{IsLegal}
 use Rattle.auction.specs.AuctionState.{call_by}
-use Rattle.day_tables.specs.TradeTable.{entered_id, has_entered_id, member_of, auctions_of_reply, trade_auctions}
+use Rattle.day_tables.specs.TradeTable.{entered_id, has_entered_id, member_who_entered, auctions_of_reply}
+use Rattle.day_tables.specs.TradeTable.{trade_auctions}
 use Rattle.day_tables.specs.TradeTable.{trade_record, trade_records, trades_header, trades_text}
-use Rattle.day_tables.specs.TableMembers.{entering_members, member_at}
+use Rattle.day_tables.specs.TableMembers.{entering_members, member_of_id}
 use Rattle.day_tables.proofs.StepLaws.{step-reported}
 
 -- ---- the commands of a history, one by one
@@ -247,7 +248,7 @@ nth_member config state (entry ∷ entries) n h =
         let to : next.next_id + m ≡ state.next_id + suc m = omega (arith, parts.1) in
         rw (e, apart) (rest m ∙ ap (λ id. option_map (λ (x : Entry). x.member) (find (has_entered_id id) entries)) to)
 
-member_after : (members : List ℕ) (n : ℕ) → member_at members (suc n) ≡ slice_get members n
+member_after : (members : List ℕ) (n : ℕ) → member_of_id members (suc n) ≡ slice_get members n
 member_after members n =
     let other : eqb (suc n) 0 ≡ false = ne_eqb (suc n) 0 (λ is. omega (arith, is)) in
     let less : suc n - 1 ≡ n = omega arith in
@@ -255,8 +256,8 @@ member_after members n =
 
 -- the members by their places are the members by their ids
 pub members_by_id : (config : Config) (entries : List Entry) → IsLegal config entries → (id : ℕ)
-    → member_at (entering_members entries) id ≡ member_of entries id
-unfolding member_of
+    → member_of_id (entering_members entries) id ≡ member_who_entered entries id
+unfolding member_who_entered
 members_by_id config entries legal zero =
     sym
     (ap (option_map (λ (entry : Entry). entry.member))
@@ -271,11 +272,12 @@ pub table_of_trades : (config : Config) (entries : List Entry) (members : List �
     (tape : List Trade) → IsLegal config entries
     → members ≡ entering_members entries → kinds ≡ trade_auctions entries
     → tape ≡ (replay config (calls_of entries)).0.tape
-    → trades_header ++ trade_records (member_at members) 0 kinds tape ≡ trades_text config entries
+    → trades_header ++ trade_records (member_of_id members) 0 kinds tape ≡ trades_text config entries
 unfolding trades_text
 table_of_trades config entries members kinds tape legal by_place by_trade is =
     rw (by_place, by_trade, is) (ap (λ t. trades_header ++ t)
-    (same_records (member_at (entering_members entries)) (member_of entries) (members_by_id config entries legal) 0
+    (same_records (member_of_id (entering_members entries)) (member_who_entered entries) (members_by_id config entries
+    legal) 0
     (trade_auctions entries) (replay config (calls_of entries)).0.tape))
 
 -- ---- each trade is told

@@ -13,6 +13,7 @@ use Rattle.auction_terms.specs.Book.{demand, supply, volume, surplus, surplus_si
 use Rattle.auction_terms.specs.AuctionPrice.{best_limits, price_tick}
 use Rattle.auction_terms.specs.Ladder.{quantity_at, market_quantity}
 use Rattle.auction_terms.specs.Day.{State, opening_state, step, call_of, is_uncross_reply}
+use Rattle.tick_ladder.specs.FallingTicks.{falling_ticks}
 use Rattle.printed_lines.specs.ReplyWords.{kind_word, side_word}
 use Rattle.day_tables.specs.declared.rule.Rule.{Rule}
 use Rattle.day_tables.specs.declared.rule.Rule.TheVariants.{Market, Single, Highest, Lowest, Reference}
@@ -71,11 +72,6 @@ market_record shown =
     csv_record (decimal shown.command ∷ kind_word shown.auction ∷ codes "market"
     ∷ decimal (market_quantity Bid shown.book) ∷ decimal (market_quantity Ask shown.book)
     ∷ [] ∷ [] ∷ [] ∷ [] ∷ [] ∷ [] ∷ [] ∷ [])
-
--- n ticks from low on, the highest first
-abbrev pub falling_ticks : ℕ → ℕ → List ℕ
-falling_ticks low zero = []
-falling_ticks low (suc n) = (low + n) ∷ falling_ticks low n
 
 -- the records of n ticks from low on, the highest first
 unfoldable pub tick_records : ShownBook → ℕ → ℕ → List ℕ

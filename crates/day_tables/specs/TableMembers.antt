@@ -9,5 +9,5 @@ entering_members entries =
     map (λ (entry : Entry). entry.member) (filter (λ (entry : Entry). is_some (entered_id entry.reply)) entries)
 
 -- the member of an id, if ids are counted from 1
-abbrev pub member_at : List ℕ → ℕ → Option ℕ
-member_at members id = if id == 0 then None else slice_get members (id - 1)
+abbrev pub member_of_id : List ℕ → ℕ → Option ℕ
+member_of_id members id = if id == 0 then None else slice_get members (id - 1)

@@ -80,12 +80,12 @@ abbrev pub row_if : Table → ℕ → List ℕ
 row_if table place = if is_row table place then row table place else []
 
 -- the rows of the places below one, the highest first
-unfoldable pub rows_below : Table → ℕ → List ℕ
-rows_below table zero = []
-rows_below table (suc place) = row_if table place ++ rows_below table place
+unfoldable pub table_rows_below : Table → ℕ → List ℕ
+table_rows_below table zero = []
+table_rows_below table (suc place) = row_if table place ++ table_rows_below table place
 
-unfoldable pub market_row : Table → List ℕ
-market_row table =
+unfoldable pub market_table_row : Table → List ℕ
+market_table_row table =
     csv_record (decimal table.command ∷ kind_word table.kind ∷ codes "market"
     ∷ decimal table.market_bids ∷ decimal table.market_asks ∷ [] ∷ [] ∷ [] ∷ [] ∷ [] ∷ [] ∷ [] ∷ [])
 

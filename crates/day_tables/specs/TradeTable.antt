@@ -36,8 +36,8 @@ abbrev pub has_entered_id : ℕ → Entry → Bool
 has_entered_id id entry = option_map_or (λ told. told == id) (entered_id entry.reply) false
 
 -- the member of the entry that was answered with this id
-unfoldable pub member_of : List Entry → ℕ → Option ℕ
-member_of entries id = option_map (λ entry. entry.member) (find (has_entered_id id) entries)
+unfoldable pub member_who_entered : List Entry → ℕ → Option ℕ
+member_who_entered entries id = option_map (λ entry. entry.member) (find (has_entered_id id) entries)
 
 abbrev pub member_word : Option ℕ → List ℕ
 member_word member = option_map_or decimal member []
@@ -80,4 +80,4 @@ trade_records member before (kind ∷ kinds) (trade ∷ tape) =
 unfoldable pub trades_text : Config → List Entry → List ℕ
 trades_text config entries =
     trades_header
-    ++ trade_records (member_of entries) 0 (trade_auctions entries) (replay config (calls_of entries)).0.tape
+    ++ trade_records (member_who_entered entries) 0 (trade_auctions entries) (replay config (calls_of entries)).0.tape

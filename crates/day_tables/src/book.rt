@@ -13,7 +13,7 @@ ghost use Rattle.day_tables.specs.ShownTable.{IsHeadingIn, IsShownIn};
 ghost use Rattle.day_tables.specs.TableCurves.{HasRoomForTicks};
 ghost use Rattle.day_tables.specs.TableRecords.{PrintsTable, IsOnlyNoMemory};
 ghost use Rattle.day_tables.specs.TableRows.{HasPlaces, HasHead, side_between, is_row, row, row_end, row_if};
-ghost use Rattle.day_tables.specs.TableRows.{rows_below, market_row, is_at_price, rule_at, tick_shown};
+ghost use Rattle.day_tables.specs.TableRows.{table_rows_below, market_table_row, is_at_price, rule_at, tick_shown};
 ghost use Rattle.day_tables.specs.declared.front_text.TheConstants.{SHORT, TEXT_ROOM};
 ghost use Rattle.day_tables.specs.declared.fault.TableFault.TheVariants as fault;
 
@@ -232,7 +232,7 @@ fn write_row(rows: &mut RowsSoFar, table: &Table<'_>, place: usize)
 
 fn put_market(page: &mut Page, table: &Table<'_>)
     requires { length page.old + LONGEST_LINE ≤ ROOM }
-    ensures { page.new ≡ page.old ++ market_row table.now }
+    ensures { page.new ≡ page.old ++ market_table_row table.now }
 {
     put_number(page, table.command);
     put_word(page, kind_word(table.kind));
@@ -244,7 +244,7 @@ fn put_market(page: &mut Page, table: &Table<'_>)
 
 /// Prints the record of the market orders.
 fn print_market<S: Sink>(printer: &mut Printer<'_, S>, table: &Table<'_>) -> Result<(), WriteFailed>
-    ensures { Prints S.Sink printer.old printer.new result (market_row table.now) }
+    ensures { Prints S.Sink printer.old printer.new result (market_table_row table.now) }
 {
     printer.make_room()?;
     put_market(&mut printer.page, table);
@@ -291,7 +291,7 @@ fn print_place<S: Sink>(
 /// Prints the records of all places, the highest first.
 fn print_places<S: Sink>(printer: &mut Printer<'_, S>, table: &Table<'_>) -> Result<(), WriteFailed>
     requires { HasPlaces table.now }
-    ensures { Prints S.Sink printer.old printer.new result (rows_below table.now (length table.now.bids.now)) }
+    ensures { Prints S.Sink printer.old printer.new result (table_rows_below table.now (length table.now.bids.now)) }
 {
     let mut rows = rows_of(table);
     let mut place = table.bids.len();
@@ -306,7 +306,7 @@ fn print_places<S: Sink>(printer: &mut Printer<'_, S>, table: &Table<'_>) -> Res
 fn print_rows<S: Sink>(printer: &mut Printer<'_, S>, table: &Table<'_>) -> Result<(), WriteFailed>
     requires { HasPlaces table.now }
     ensures { Prints S.Sink printer.old printer.new result
-        (market_row table.now ++ rows_below table.now (length table.now.bids.now)) }
+        (market_table_row table.now ++ table_rows_below table.now (length table.now.bids.now)) }
 {
     print_market(printer, table)?;
     print_places(printer, table)

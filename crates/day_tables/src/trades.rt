@@ -7,7 +7,7 @@ ghost use Rattle.auction.specs.ConfigFault.{open_fault};
 ghost use Rattle.printed_lines.specs.Printing.{Prints};
 ghost use Rattle.printed_lines.specs.declared.page.TheConstants.{LONGEST_LINE, ROOM};
 ghost use Rattle.day_tables.specs.TableRecords.{PrintsTable, IsOnlyNoMemory};
-ghost use Rattle.day_tables.specs.TableMembers.{entering_members, member_at};
+ghost use Rattle.day_tables.specs.TableMembers.{entering_members, member_of_id};
 ghost use Rattle.day_tables.specs.TradeTable.{entered_id, auctions_of_reply, trade_auctions, trades_header};
 ghost use Rattle.day_tables.specs.TradeTable.{trade_record, trade_records, trades_text};
 ghost use Rattle.day_tables.specs.declared.fault.TableFault.TheVariants as fault;
@@ -73,8 +73,8 @@ fn trade_auctions(alloc: Global, entries: &[Entry]) -> Result<Vec<AuctionKind>, 
 }
 
 /// The member that entered an order.
-fn member_of(members: &[u8], id: u32) -> Option<u8>
-    ensures { result ≡ member_at members.now id }
+fn member_who_entered(members: &[u8], id: u32) -> Option<u8>
+    ensures { result ≡ member_of_id members.now id }
 {
     if id == 0 {
         return None;
@@ -99,14 +99,14 @@ fn print_header<S: Sink>(printer: &mut Printer<'_, S>) -> Result<(), WriteFailed
 
 fn put_trade(page: &mut Page, members: &[u8], number: u64, kind: AuctionKind, trade: Trade)
     requires { length page.old + LONGEST_LINE ≤ ROOM }
-    ensures { page.new ≡ page.old ++ trade_record (member_at members.now) number kind trade }
+    ensures { page.new ≡ page.old ++ trade_record (member_of_id members.now) number kind trade }
 {
     put_number(page, number);
     put_word(page, kind_word(kind));
     put_number(page, u64::from(trade.bid));
-    put_member(page, member_of(members, trade.bid));
+    put_member(page, member_who_entered(members, trade.bid));
     put_number(page, u64::from(trade.ask));
-    put_member(page, member_of(members, trade.ask));
+    put_member(page, member_who_entered(members, trade.ask));
     put_number(page, trade.quantity);
     page.put_number(u64::from(trade.tick));
     page.put("\n");
@@ -120,7 +120,7 @@ fn print_trade<S: Sink>(
     trade: Trade,
 ) -> Result<(), WriteFailed>
     ensures { Prints S.Sink printer.old printer.new result
-        (trade_record (member_at members.now) number kind trade) }
+        (trade_record (member_of_id members.now) number kind trade) }
 {
     printer.make_room()?;
     put_trade(&mut printer.page, members, number, kind, trade);
@@ -135,7 +135,7 @@ fn print_tape<S: Sink>(
     tape: &[Trade],
 ) -> Result<(), WriteFailed>
     ensures { Prints S.Sink printer.old printer.new result
-        (trade_records (member_at members.now) 0 kinds.now tape.now) }
+        (trade_records (member_of_id members.now) 0 kinds.now tape.now) }
 {
     let count = kinds.len().min(tape.len());
     for place in 0..count {
@@ -158,7 +158,7 @@ fn print_trade_table<S: Sink>(
     tape: &[Trade],
 ) -> Result<(), WriteFailed>
     ensures { Prints S.Sink printer.old printer.new result
-        (trades_header ++ trade_records (member_at members.now) 0 kinds.now tape.now) }
+        (trades_header ++ trade_records (member_of_id members.now) 0 kinds.now tape.now) }
 {
     print_header(printer)?;
     print_tape(printer, members, kinds, tape)

@@ -25,12 +25,12 @@ has_letter_first [] = false
 has_letter_first (byte ∷ rest) = is_letter byte
 
 -- a space or a tab
-abbrev pub is_blank : Option ℕ → Bool
-is_blank byte = option_map_or (λ b. (b == 32) || (b == 9)) byte false
+abbrev pub is_blank_byte : Option ℕ → Bool
+is_blank_byte byte = option_map_or (λ b. (b == 32) || (b == 9)) byte false
 
 -- it begins or ends with a space or a tab
 abbrev pub has_blank_edge : List ℕ → Bool
-has_blank_edge field = is_blank (slice_get field 0) || is_blank (slice_get field (length field - 1))
+has_blank_edge field = is_blank_byte (slice_get field 0) || is_blank_byte (slice_get field (length field - 1))
 
 abbrev pub digits_in : List ℕ → ℕ
 digits_in field = count_by is_ascii_digit field

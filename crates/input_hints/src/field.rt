@@ -2,7 +2,7 @@
 
 ghost use Rattle.std.specs.Prelude.{◌≡◌, ◌≤◌, length};
 ghost use Rattle.std.specs.Str.{bytes_eq};
-ghost use Rattle.input_hints.specs.FieldLooks.{digits_in, has_blank_edge, has_byte, has_letter_first, is_blank};
+ghost use Rattle.input_hints.specs.FieldLooks.{digits_in, has_blank_edge, has_byte, has_letter_first, is_blank_byte};
 ghost use Rattle.input_hints.specs.FieldLooks.{is_command_word, is_decimal, is_digits, is_utf_16, is_whole, points_in};
 ghost use Rattle.input_hints.specs.Hints.{is_like_file};
 
@@ -34,8 +34,8 @@ pub(crate) fn has_letter_first(bytes: &[u8]) -> bool
 }
 
 /// Whether a byte is a space or a tab.
-fn is_blank(byte: Option<u8>) -> bool
-    ensures { result ≡ is_blank byte }
+fn is_blank_byte(byte: Option<u8>) -> bool
+    ensures { result ≡ is_blank_byte byte }
 {
     match byte {
         Some(byte) => byte == b' ' || byte == b'\t',
@@ -47,7 +47,7 @@ fn is_blank(byte: Option<u8>) -> bool
 pub(crate) fn has_blank_edge(field: &[u8]) -> bool
     ensures { result ≡ has_blank_edge field.now }
 {
-    is_blank(field.first().copied()) || is_blank(field.last().copied())
+    is_blank_byte(field.first().copied()) || is_blank_byte(field.last().copied())
 }
 
 /// How many digits there are.

@@ -26,7 +26,7 @@ use Rattle.auction_terms.specs.declared.Restriction.TheVariants.{Unrestricted, O
 use Rattle.auction_terms.specs.declared.Command.{Command}
 use Rattle.auction_terms.specs.declared.Command.TheVariants.{Enter, Change, Delete, OrderStatus, Indicate, ReadTrade}
 use Rattle.auction_terms.specs.declared.Command.TheVariants.{Uncross}
-use Rattle.journal.specs.EntryRecord.{head_of}
+use Rattle.journal.specs.EntryRecord.{start_of_entry}
 use Rattle.journal.specs.CallFields.{FitsRecord, HasShortTick, command_fields, enter_ending, limit_field, number_field}
 use Rattle.journal.specs.CallFields.{side_field}
 
@@ -154,12 +154,12 @@ word_for Uncross = word.Uncross
 
 -- the member and the command word are read back, whatever stands behind
 pub head-read : (members member : ℕ) (command : Command) (behind : List (List ℕ)) → members < 2 ^ 32 → member < members
-    → head_of members (decimal member ∷ (command_fields command ++ behind)) ≡ Ok (record {
+    → start_of_entry members (decimal member ∷ (command_fields command ++ behind)) ≡ Ok (record {
       member = member;
       word =
           word_for command;
     })
-unfolding head_of member_of word_at word_of field_at
+unfolding start_of_entry member_of word_at word_of field_at
 head-read members member (Enter side restriction limit quantity peak) behind small below =
     let lt : nat_lt member members ≡ true = search rules in rw (decimal-number member (omega arith), lt) refl
 head-read members member (Change id limit quantity) behind small below =

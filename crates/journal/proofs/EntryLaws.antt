@@ -13,11 +13,12 @@ use Rattle.order_file.specs.declared.fault.RecordFault.{RecordFault}
 use Rattle.order_file.specs.declared.fault.RecordFault.TheVariants as fault
 use Rattle.journal.specs.declared.day.DayHeader.{DayHeader}
 use Rattle.journal.specs.declared.entry.RecordStart.{RecordStart}
-use Rattle.journal.specs.EntryRecord.{RecordedCall, call_with, fields_of_call, head_of, is_reply_text, reply_of_fields}
+use Rattle.journal.specs.EntryRecord.{RecordedCall, call_with, fields_of_call, start_of_entry, is_reply_text}
+use Rattle.journal.specs.EntryRecord.{reply_of_fields}
 use Rattle.journal.specs.EntryRecord.{call_part, recorded_call_of, reply_part}
-use Rattle.order_file.specs.File.{GivesWanted, IsOfRecord, calls_of, file as file_says, within_limit}
+use Rattle.order_file.specs.File.{GivesWanted, IsOfRecord, calls_of_file, file as file_says, within_limit}
 use Rattle.order_file.specs.declared.reading.TheConstants.{MAX_BYTES}
-use Rattle.journal.specs.DayRecord.{day_of, is_day_row}
+use Rattle.journal.specs.DayRecord.{day_of_record, is_day_row}
 use Rattle.journal.specs.DayWithCalls.{day_with_calls, run_input_of, or_orders, orders_for}
 use Rattle.journal.specs.JournalFile.{RecordedDay, journal_of, journal_of_rows, recorded_in, recorded_calls_after}
 use Rattle.journal.specs.declared.run_input.RunInput.{RunInput}
@@ -130,13 +131,14 @@ fails-record number (fault.BadField k) wanted h = h
 
 -- ---- one record
 
-pub head-bad : (members number : ℕ) (fields : List (List ℕ)) (fault : RecordFault) → Err fault ≡ head_of members fields
+pub head-bad : (members number : ℕ) (fields : List (List ℕ)) (fault : RecordFault)
+    → Err fault ≡ start_of_entry members fields
     → with_record_number number (recorded_call_of members fields) ≡ Err (in_record number fault)
 unfolding recorded_call_of
 head-bad members number fields fault e = rw (sym e) refl
 
 pub call-bad : (members number : ℕ) (fields front : List (List ℕ)) (head : RecordStart) (fine : Bool) (place : ℕ)
-    (fault : RecordFault) → Ok head ≡ head_of members fields
+    (fault : RecordFault) → Ok head ≡ start_of_entry members fields
     → front ≡ fields_of_call fields → fine ≡ is_reply_text (reply_of_fields fields) → place ≡ length fields
     → Err fault ≡ call_with head front fine place
     → with_record_number number (recorded_call_of members fields) ≡ Err (in_record number fault)
@@ -147,7 +149,7 @@ call-bad members number fields front head fine place fault e f g h k =
     rw (sym e, bad) refl
 
 pub call-good : (members number : ℕ) (fields front : List (List ℕ)) (head : RecordStart) (fine : Bool) (place : ℕ)
-    (call : Call) → Ok head ≡ head_of members fields
+    (call : Call) → Ok head ≡ start_of_entry members fields
     → front ≡ fields_of_call fields → fine ≡ is_reply_text (reply_of_fields fields) → place ≡ length fields
     → Ok call ≡ call_with head front fine place
     → with_record_number number (recorded_call_of members fields) ≡ Ok (record {
@@ -174,13 +176,13 @@ first-other rows rest row e f = rw (e, f) refl
 
 pub first-faulty : (rows rest : List (List (List ℕ))) (row : List (List ℕ)) (fault : RecordFault) → rows ≡ row ∷ rest
     → is_day_row row ≡ true
-    → Err fault ≡ day_of row → journal_of_rows rows ≡ Err (in_record 1 fault)
+    → Err fault ≡ day_of_record row → journal_of_rows rows ≡ Err (in_record 1 fault)
 unfolding journal_of_rows
 first-faulty rows rest row fault e f g = rw (e, f, sym g) refl
 
 pub first-day : (rows rest : List (List (List ℕ))) (row : List (List ℕ)) (day : DayHeader) → rows ≡ row ∷ rest
     → is_day_row row ≡ true
-    → Ok day ≡ day_of row → journal_of_rows rows ≡ recorded_in day rest
+    → Ok day ≡ day_of_record row → journal_of_rows rows ≡ recorded_in day rest
 unfolding journal_of_rows
 first-day rows rest row day e f g = rw (e, f, sym g) refl
 
@@ -192,14 +194,14 @@ unfolding orders_for file_says within_limit
 orders-long day bytes h = let long : nat_lt MAX_BYTES (length bytes) ≡ true = search rules in rw long refl
 
 pub orders-bad : (day : DayHeader) (bytes : List ℕ) (fault : FileFault) → length bytes ≤ MAX_BYTES
-    → calls_of day.members day.config.max_calls bytes ≡ Err fault
+    → calls_of_file day.members day.config.max_calls bytes ≡ Err fault
     → orders_for day bytes ≡ Err fault
 unfolding orders_for file_says within_limit
 orders-bad day bytes fault h e = let short : nat_lt MAX_BYTES (length bytes) ≡ false =
     search rules in rw (short, e) refl
 
 pub orders-good : (day : DayHeader) (bytes : List ℕ) (calls : List Call) → length bytes ≤ MAX_BYTES
-    → calls_of day.members day.config.max_calls bytes ≡ Ok calls
+    → calls_of_file day.members day.config.max_calls bytes ≡ Ok calls
     → orders_for day bytes ≡ Ok (record { day = day; calls = calls })
 unfolding orders_for file_says within_limit
 orders-good day bytes calls h e = let short : nat_lt MAX_BYTES (length bytes) ≡ false =

@@ -6,12 +6,13 @@ use Rattle.std.specs.Str.{bytes_eq}
 use Rattle.csv.specs.Records.{field_at}
 use Rattle.order_file.specs.Field.{digits_after, if_small, number_of, side_of, limit_of, peak_of}
 use Rattle.order_file.specs.Record.{count_within, field_as, peak_in, peak_at, restriction_at, member_of, word_at}
-use Rattle.order_file.specs.Record.{enter_of, change_of, lone_number, command_of, call_of}
+use Rattle.order_file.specs.Record.{enter_of, change_of, lone_number, command_of, call_of_record}
 use Rattle.auction_terms.specs.Results.{◌>>=◌}
 use Rattle.auction_terms.specs.declared.Call.{Call}
 use Rattle.order_file.specs.declared.fault.RecordFault.TheVariants.{BadField}
 use Rattle.journal.specs.declared.entry.RecordStart.{RecordStart}
-use Rattle.journal.specs.EntryRecord.{RecordedCall, call_with, fields_of_call, head_of, is_reply_text, reply_of_fields}
+use Rattle.journal.specs.EntryRecord.{RecordedCall, call_with, fields_of_call, start_of_entry, is_reply_text}
+use Rattle.journal.specs.EntryRecord.{reply_of_fields}
 use Rattle.journal.specs.EntryRecord.{recorded_call_of}
 use Rattle.order_file.specs.declared.fault.RecordFault.{RecordFault}
 use Rattle.order_file.specs.declared.record.Word.{Word}
@@ -193,9 +194,9 @@ call-parts (Err e) r2 g call k h = absurd (cc h)
 call-parts (Ok member) (Err e) g call k h = absurd (cc h)
 
 -- a call that a record says is one that a record can hold
-pub call-fits : (members : ℕ) (fields : List (List ℕ)) (call : Call) → call_of members fields ≡ Ok call
+pub call-fits : (members : ℕ) (fields : List (List ℕ)) (call : Call) → call_of_record members fields ≡ Ok call
     → FitsRecord call.command
-unfolding call_of
+unfolding call_of_record
 call-fits members fields call h =
     call-parts (member_of members fields) (word_at fields) (λ w. command_of w fields) call
     (λ w c e. command-fits w fields c e) h
@@ -234,6 +235,6 @@ pub recording-fits : (members : ℕ) (fields : List (List ℕ)) (recording : Rec
     → recorded_call_of members fields ≡ Ok recording → FitsRecord recording.call.command
 unfolding recorded_call_of
 recording-fits members fields recording h =
-    recording-parts (head_of members fields)
+    recording-parts (start_of_entry members fields)
     (λ head. call_with head (fields_of_call fields) (is_reply_text (reply_of_fields fields)) (length fields))
     (reply_of_fields fields) recording (λ head c e. with-fits head _ _ _ c e) h

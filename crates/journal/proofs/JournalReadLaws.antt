@@ -24,7 +24,8 @@ use Rattle.journal.specs.CallFields.{FitsRecord, HasShortTick, FitsU32, call_fie
 use Rattle.journal.specs.CallFields.{limit_field, number_field, side_field}
 use Rattle.journal.specs.declared.day.DayHeader.{DayHeader}
 use Rattle.journal.specs.declared.reading.TheConstants.{MAX_JOURNAL_BYTES}
-use Rattle.journal.specs.DayRecord.{FitsDay, day_fields, day_of, is_blank, is_day_row, number_if_any, number_within}
+use Rattle.journal.specs.DayRecord.{FitsDay, day_fields, day_of_record, is_blank_field, is_day_row, number_if_any}
+use Rattle.journal.specs.DayRecord.{number_within}
 use Rattle.journal.specs.EntryRecord.{RecordedCall, call_with, fields_of_call, is_reply_text, reply_of_fields}
 use Rattle.journal.specs.EntryRecord.{recorded_call_fields, recorded_call_of}
 use Rattle.journal.specs.JournalFile.{journal, journal_of, journal_of_rows, recorded_day, recorded_in}
@@ -139,7 +140,7 @@ within-read least most n place fields small h at =
     let short : n < 2 ^ 32 = omega (arith, h.1) in
     rw (at, decimal-number n short, above, below) refl
 
-not-blank : (ds : List ℕ) → 0 < length ds → is_blank (Some ds) ≡ false
+not-blank : (ds : List ℕ) → 0 < length ds → is_blank_field (Some ds) ≡ false
 not-blank [] h = absurd (omega arith)
 not-blank (d ∷ ds) h = refl
 
@@ -156,8 +157,8 @@ any-read most place (Some n) fields small h at =
       not-blank (decimal n) (decimal_nonempty n short),
     ) refl
 
-pub day-read : (day : DayHeader) → FitsDay day → day_of (day_fields day) ≡ Ok day
-unfolding day_of day_fields count_within field_at
+pub day-read : (day : DayHeader) → FitsDay day → day_of_record (day_fields day) ≡ Ok day
+unfolding day_of_record day_fields count_within field_at
 day-read day h = rw (
   within-read 1 MAX_TICK day.config.low 1 (day_fields day) (omega arith) h.low refl,
   within-read 1 MAX_TICK day.config.high 2 (day_fields day) (omega arith) h.high refl,

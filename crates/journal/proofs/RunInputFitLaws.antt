@@ -10,8 +10,8 @@ use Rattle.auction_terms.specs.declared.Call.{Call}
 use Rattle.auction_terms.specs.declared.Command.{Command}
 use Rattle.auction_terms.specs.Results.{◌>>=◌}
 use Rattle.order_file.specs.Field.{number_of}
-use Rattle.order_file.specs.File.{calls_after, calls_of, file as file_says, within_limit}
-use Rattle.order_file.specs.Record.{call_of, command_of, count_within, field_as, member_of, with_record_number}
+use Rattle.order_file.specs.File.{calls_after, calls_of_file, file as file_says, within_limit}
+use Rattle.order_file.specs.Record.{call_of_record, command_of, count_within, field_as, member_of, with_record_number}
 use Rattle.order_file.specs.Record.{numbered_call, word_at}
 use Rattle.order_file.specs.declared.fault.FileFault.{FileFault}
 use Rattle.order_file.specs.declared.fault.FileFault.TheVariants as file
@@ -22,8 +22,10 @@ use Rattle.order_file.specs.declared.record.Word.{Word}
 use Rattle.journal.specs.declared.day.DayHeader.{DayHeader}
 use Rattle.journal.specs.declared.entry.RecordStart.{RecordStart}
 use Rattle.journal.specs.declared.reading.TheConstants.{MAX_JOURNAL_BYTES}
-use Rattle.journal.specs.DayRecord.{FitsDay, IsUpTo, day_of, is_blank, is_day_row, number_if_any, number_within}
-use Rattle.journal.specs.EntryRecord.{RecordedCall, call_with, fields_of_call, head_of, is_reply_text, reply_of_fields}
+use Rattle.journal.specs.DayRecord.{FitsDay, IsUpTo, day_of_record, is_blank_field, is_day_row, number_if_any}
+use Rattle.journal.specs.DayRecord.{number_within}
+use Rattle.journal.specs.EntryRecord.{RecordedCall, call_with, fields_of_call, start_of_entry, is_reply_text}
+use Rattle.journal.specs.EntryRecord.{reply_of_fields}
 use Rattle.journal.specs.EntryRecord.{call_part, recorded_call_of}
 use Rattle.journal.specs.DayWithCalls.{DayWithCalls, run_input, run_input_by, run_input_of, orders_for}
 use Rattle.journal.specs.JournalFile.{RecordedDay, journal_of, journal_of_rows, recorded_day, recorded_in}
@@ -67,9 +69,9 @@ call-below-parts members (Ok m) (Ok w) g call k h = last (g w) h
         cc in subst (λ (p : Call). p.member < members) is (k m refl)
     last (Err e) q = absurd (cc q)
 
-call-below : (members : ℕ) (fields : List (List ℕ)) (call : Call) → call_of members fields ≡ Ok call
+call-below : (members : ℕ) (fields : List (List ℕ)) (call : Call) → call_of_record members fields ≡ Ok call
     → call.member < members
-unfolding call_of
+unfolding call_of_record
 call-below members fields call h =
     call-below-parts members (member_of members fields) (word_at fields) (λ w. command_of w fields) call
     (λ m e. member-below members fields m e) h
@@ -82,9 +84,9 @@ head-below-parts members (Ok m) (Err e) head k h = absurd (cc h)
 head-below-parts members (Ok m) (Ok w) head k h = let is : record { member = m; word = w } ≡ head =
     cc in subst (λ (p : RecordStart). p.member < members) is (k m refl)
 
-head-below : (members : ℕ) (fields : List (List ℕ)) (head : RecordStart) → head_of members fields ≡ Ok head
+head-below : (members : ℕ) (fields : List (List ℕ)) (head : RecordStart) → start_of_entry members fields ≡ Ok head
     → head.member < members
-unfolding head_of
+unfolding start_of_entry
 head-below members fields head h =
     head-below-parts members (member_of members fields) (word_at fields) head (λ m e. member-below members fields m e) h
 
@@ -126,7 +128,7 @@ recording-below : (members : ℕ) (fields : List (List ℕ)) (recording : Record
     → recorded_call_of members fields ≡ Ok recording → recording.call.member < members
 unfolding recorded_call_of
 recording-below members fields recording h =
-    recording-below-parts members (head_of members fields)
+    recording-below-parts members (start_of_entry members fields)
     (λ head. call_with head (fields_of_call fields) (is_reply_text (reply_of_fields fields)) (length fields))
     (reply_of_fields fields) recording
     (λ head e. head-below members fields head e) (λ head c e. with-member head _ _ _ c e) h
@@ -211,9 +213,9 @@ calls-list members max_calls before (row ∷ rows) calls room h =
     by_at_most true t q more = absurd (cc (rw t at q))
     by_at_most false t q more =
         let free : before < max_calls = search rules in
-        calls-list-parts members max_calls before (with_record_number (before + 1) (call_of members row))
+        calls-list-parts members max_calls before (with_record_number (before + 1) (call_of_record members row))
         (calls_after members max_calls (before + 1) rows) calls free
-        (λ x e. let good = with_record_number-good (before + 1) (call_of members row) x e in
+        (λ x e. let good = with_record_number-good (before + 1) (call_of_record members row) x e in
         (call-below members row x good, call-fits members row x good))
         (λ xs e. more xs (omega (arith, free)) e) (rw t at q)
 
@@ -253,7 +255,7 @@ any-good : (most place : ℕ) (fields : List (List ℕ)) (n : Option ℕ) → nu
     → IfSome n (λ k. k ≤ most)
 unfolding number_if_any
 any-good most place fields n h =
-    any-parts most (is_blank (field_at fields place)) (number_within 0 most place fields) n
+    any-parts most (is_blank_field (field_at fields place)) (number_within 0 most place fields) n
     (λ k e. (within-good 0 most place fields k e).1) h
 
 abbrev day_with : ℕ → ℕ → ℕ → ℕ → ℕ → ℕ → Option ℕ → DayHeader
@@ -300,8 +302,8 @@ day-parts (Ok u) (Ok a) (Ok b) (Ok c) (Ok d) (Ok m) (Ok n) (Ok range) day k1 k2 
       range = k7 range refl;
     })
 
-day-good : (fields : List (List ℕ)) (day : DayHeader) → day_of fields ≡ Ok day → FitsDay day
-unfolding day_of
+day-good : (fields : List (List ℕ)) (day : DayHeader) → day_of_record fields ≡ Ok day → FitsDay day
+unfolding day_of_record
 day-good fields day h =
     day-parts (count_within 8 8 fields) (number_within 1 MAX_TICK 1 fields) (number_within 1 MAX_TICK 2 fields)
     (number_within 1 MAX_TICK 3 fields)
@@ -354,8 +356,8 @@ rows-good (row ∷ rows) j h = by_day_row (is_day_row row) refl h
   where
     by_day_row : (b : Bool) → is_day_row row ≡ b → journal_of_rows (row ∷ rows) ≡ Ok j → FitsRunInput (made j)
     by_day_row true t q =
-        rows-parts row rows (with_record_number 1 (day_of row)) j
-        (λ day e. day-good row day (with_record_number-good 1 (day_of row) day e)) (rw t at q)
+        rows-parts row rows (with_record_number 1 (day_of_record row)) j
+        (λ day e. day-good row day (with_record_number-good 1 (day_of_record row) day e)) (rw t at q)
     by_day_row false t q = absurd (cc (rw t at q))
 
 orders-parts : (day : DayHeader) (r : Result (List Call) FileFault) (g : DayWithCalls) → FitsDay day
@@ -384,7 +386,7 @@ orders-fit day bytes g fits h =
     orders-parts day (file_says bytes day.members day.config.max_calls) g fits
     (λ calls e. calls-list day.members day.config.max_calls 0 (records default_config (strip_bom bytes)) calls
     (omega arith)
-    (within-then MAX_BYTES bytes (calls_of day.members day.config.max_calls) calls e)) h
+    (within-then MAX_BYTES bytes (calls_of_file day.members day.config.max_calls) calls e)) h
 
 run_input-parts : (day : DayHeader) (bytes : List ℕ) (r : Result RecordedDay FileFault) (g : DayWithCalls) → FitsDay day
     → ((j : RecordedDay) → r ≡ Ok j → FitsRunInput (made j))

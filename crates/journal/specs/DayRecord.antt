@@ -34,20 +34,20 @@ number_within least most place fields = do
   number ← field_as number_of place fields
   if nat_le least number && nat_le number most then Ok number else Err (BadField (place + 1))
 
-abbrev pub is_blank : Option (List ℕ) → Bool
-is_blank (Some []) = true
-is_blank (Some (b ∷ bs)) = false
-is_blank None = false
+abbrev pub is_blank_field : Option (List ℕ) → Bool
+is_blank_field (Some []) = true
+is_blank_field (Some (b ∷ bs)) = false
+is_blank_field None = false
 
 -- the same, or none where the field is empty
 unfoldable pub number_if_any : ℕ → ℕ → List (List ℕ) → Result (Option ℕ) RecordFault
 number_if_any most place fields =
-    if is_blank (field_at fields place) then Ok None
+    if is_blank_field (field_at fields place) then Ok None
     else number_within 0 most place fields >>= λ number. Ok (Some number)
 
 -- the day of a record, each number in the range of the option of its name, or the record's first fault
-unfoldable pub day_of : List (List ℕ) → Result DayHeader RecordFault
-day_of fields = do
+unfoldable pub day_of_record : List (List ℕ) → Result DayHeader RecordFault
+day_of_record fields = do
   _ ← count_within 8 8 fields
   low ← number_within 1 MAX_TICK 1 fields
   high ← number_within 1 MAX_TICK 2 fields

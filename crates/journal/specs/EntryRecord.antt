@@ -48,8 +48,8 @@ reply_of_fields fields = unwrap_or (field_at fields (length fields - 1)) []
 abbrev pub fields_of_call : List (List ℕ) → List (List ℕ)
 fields_of_call fields = take (length fields - 1) fields
 
-unfoldable pub head_of : ℕ → List (List ℕ) → Result RecordStart RecordFault
-head_of members fields = do
+unfoldable pub start_of_entry : ℕ → List (List ℕ) → Result RecordStart RecordFault
+start_of_entry members fields = do
   member ← member_of members fields
   word ← word_at fields
   Ok (record { member = member; word = word })
@@ -64,6 +64,6 @@ call_with head fields fine place = do
 -- a record as a call with its reply, or its first fault
 unfoldable pub recorded_call_of : ℕ → List (List ℕ) → Result RecordedCall RecordFault
 recorded_call_of members fields = do
-  head ← head_of members fields
+  head ← start_of_entry members fields
   call ← call_with head (fields_of_call fields) (is_reply_text (reply_of_fields fields)) (length fields)
   Ok (record { call = call; text = reply_of_fields fields })

@@ -11,7 +11,7 @@ use Rattle.order_file.specs.declared.fault.FileFault.TheVariants.{NotADay, TooMa
 use Rattle.journal.specs.declared.day.DayHeader.{DayHeader}
 use Rattle.journal.specs.declared.reading.Journal.{Journal}
 use Rattle.journal.specs.declared.reading.TheConstants.{MAX_JOURNAL_BYTES}
-use Rattle.journal.specs.DayRecord.{day_of, is_day_row}
+use Rattle.journal.specs.DayRecord.{day_of_record, is_day_row}
 use Rattle.journal.specs.EntryRecord.{RecordedCall, call_part, recorded_call_of, reply_part}
 
 -- a day, its calls, and the recorded text of each call's reply
@@ -41,7 +41,7 @@ recorded_in day rows =
 unfoldable pub journal_of_rows : List (List (List ℕ)) → Result RecordedDay FileFault
 journal_of_rows [] = Err NotADay
 journal_of_rows (row ∷ rows) =
-    if is_day_row row then (with_record_number 1 (day_of row) >>= λ day. recorded_in day rows) else Err NotADay
+    if is_day_row row then (with_record_number 1 (day_of_record row) >>= λ day. recorded_in day rows) else Err NotADay
 
 unfoldable pub journal_of : List ℕ → Result RecordedDay FileFault
 journal_of bytes = journal_of_rows (records default_config (strip_bom bytes))

@@ -6,7 +6,7 @@ use Rattle.auction_terms.specs.declared.Config.{Config}
 use Rattle.auction_terms.specs.declared.Entry.{Entry}
 use Rattle.auction_terms.specs.declared.Reply.{Reply}
 use Rattle.auction_terms.specs.Day.{IsLegal, calls_of, replay}
-use Rattle.order_file.specs.Record.{call_of}
+use Rattle.order_file.specs.Record.{call_of_record}
 use Rattle.printed_lines.specs.ReplyWords.{reply_text}
 use Rattle.journal.specs.PlainLines.{IsPlain}
 use Rattle.journal.specs.CallFields.{FitsRecord}
@@ -93,7 +93,7 @@ ReplayIsLegal = (config : Config) (entries : List Entry) → length entries ≤ 
 
 -- a call that a record of an order file says is one that a record can hold
 abbrev pub OrderCallsFit : Type 0
-OrderCallsFit = (members : ℕ) (fields : List (List ℕ)) (call : Call) → call_of members fields ≡ Ok call
+OrderCallsFit = (members : ℕ) (fields : List (List ℕ)) (call : Call) → call_of_record members fields ≡ Ok call
     → FitsRecord call.command
 
 -- and so is one that a record of a journal says

@@ -2,7 +2,7 @@
 
 ghost use Rattle.std.specs.Prelude.{◌≡◌, ◌<◌, ◌≤◌, IfOk};
 ghost use Rattle.csv.specs.Records.{field_at, fields_of};
-ghost use Rattle.journal.specs.DayRecord.{day_of, is_blank, is_day_row, number_if_any, number_within};
+ghost use Rattle.journal.specs.DayRecord.{day_of_record, is_blank_field, is_day_row, number_if_any, number_within};
 
 use auction_terms::{Config, MAX_CALLS, MAX_MEMBERS, MAX_OPEN_ORDERS, MAX_TICK};
 use csv::ByteRecord;
@@ -45,8 +45,8 @@ fn number_within(
     Err(RecordFault::BadField { field: place + 1 })
 }
 
-fn is_blank(fields: &ByteRecord, place: usize) -> bool
-    ensures { result ≡ is_blank (field_at (fields_of fields.now) place) }
+fn is_blank_field(fields: &ByteRecord, place: usize) -> bool
+    ensures { result ≡ is_blank_field (field_at (fields_of fields.now) place) }
 {
     match fields.get(place) {
         Some(field) => field.is_empty(),
@@ -60,7 +60,7 @@ fn number_if_any(fields: &ByteRecord, place: usize, most: u32) -> Result<Option<
     requires { place < 64 }
     ensures { result ≡ number_if_any most place (fields_of fields.now) }
 {
-    if is_blank(fields, place) {
+    if is_blank_field(fields, place) {
         return Ok(None);
     }
     let number = number_within(fields, place, 0, most)?;
@@ -68,9 +68,9 @@ fn number_if_any(fields: &ByteRecord, place: usize, most: u32) -> Result<Option<
 }
 
 /// The day of a record that is one, or its first fault.
-#[tactic(auto, unfolding(crate::specs::DayRecord::day_of))]
-pub(crate) fn day_of(fields: &ByteRecord) -> Result<DayHeader, RecordFault>
-    ensures { result ≡ day_of (fields_of fields.now) }
+#[tactic(auto, unfolding(crate::specs::DayRecord::day_of_record))]
+pub(crate) fn day_of_record(fields: &ByteRecord) -> Result<DayHeader, RecordFault>
+    ensures { result ≡ day_of_record (fields_of fields.now) }
 {
     count_within(fields, 8, 8)?;
     let low = number_within(fields, 1, 1, MAX_TICK)?;

@@ -5,7 +5,7 @@ ghost use Rattle.std.specs.List.{list_all};
 ghost use Rattle.csv.specs.Records.{fields_of, partial_of};
 ghost use Rattle.order_file.specs.File.{FailsAsWanted, IsOfRecord};
 ghost use Rattle.order_file.specs.Record.{with_record_number};
-ghost use Rattle.journal.specs.EntryRecord.{IsReplyText, call_with, fields_of_call, head_of, is_printable};
+ghost use Rattle.journal.specs.EntryRecord.{IsReplyText, call_with, fields_of_call, start_of_entry, is_printable};
 ghost use Rattle.journal.specs.EntryRecord.{is_reply_text, reply_of_fields, recorded_call_of};
 
 use auction_terms::Call;
@@ -43,9 +43,9 @@ fn is_reply_text(text: &[u8]) -> bool
     text.len() <= MAX_REPLY && is_all_printable(text)
 }
 
-#[tactic(auto, unfolding(crate::specs::EntryRecord::head_of))]
-fn head_of(fields: &ByteRecord, members: u8) -> Result<RecordStart, RecordFault>
-    ensures head { result ≡ head_of members (fields_of fields.now) }
+#[tactic(auto, unfolding(crate::specs::EntryRecord::start_of_entry))]
+fn start_of_entry(fields: &ByteRecord, members: u8) -> Result<RecordStart, RecordFault>
+    ensures head { result ≡ start_of_entry members (fields_of fields.now) }
     ensures below { IfOk result (λ head. head.member < members) }
 {
     let member = member_of(fields, members)?;
@@ -116,7 +116,7 @@ pub(crate) fn call_of(
     ensures below { IfOk result (λ call. call.member < members) }
     ensures fine { OnOk result (IsReplyText (reply_of_fields (fields_of row.old))) }
 {
-    let head = match head_of(row, members) {
+    let head = match start_of_entry(row, members) {
         Ok(head) => head,
         Err(fault) => return Err(fault.in_record(number)),
     };

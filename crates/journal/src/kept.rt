@@ -2,7 +2,7 @@
 
 ghost use Rattle.std.specs.Prelude.{◌++◌, ◌∷◌, [], List, OnOk};
 ghost use Rattle.auction_terms.specs.declared.Entry.{Entry};
-ghost use Rattle.printed_lines.specs.KeptText.{text_of};
+ghost use Rattle.printed_lines.specs.KeptText.{kept_text};
 ghost use Rattle.printed_lines.specs.Printing.{Prints};
 ghost use Rattle.journal.specs.JournalText.{journal_text};
 ghost use Rattle.journal.specs.KeptLines.{HasEntryLines};
@@ -17,8 +17,8 @@ use std::alloc::AllocError;
 
 /// Keeps the line of an entry behind those of the entries before it. The error is that memory is refused.
 pub fn keep_entry(lines: &mut KeptText, entry: Entry) -> Result<(), AllocError>
-    ensures { (entries : List Entry) → HasEntryLines (text_of lines.old) entries
-        → OnOk result (HasEntryLines (text_of lines.new) (entries ++ entry ∷ [])) }
+    ensures { (entries : List Entry) → HasEntryLines (kept_text lines.old) entries
+        → OnOk result (HasEntryLines (kept_text lines.new) (entries ++ entry ∷ [])) }
 {
     see_reply(entry.reply);
     lines.make_room()?;
@@ -32,7 +32,7 @@ pub fn print_kept_journal<S: Sink>(
     day: DayHeader,
     lines: &KeptText,
 ) -> Result<(), WriteFailed>
-    ensures { (entries : List Entry) → HasEntryLines (text_of lines.now) entries
+    ensures { (entries : List Entry) → HasEntryLines (kept_text lines.now) entries
         → Prints S.Sink printer.old printer.new result (journal_text day entries) }
 {
     print_day(printer, day)?;

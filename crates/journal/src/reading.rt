@@ -10,7 +10,7 @@ ghost use Rattle.journal.specs.EntryRecord.{IsReplyText};
 ghost use Rattle.journal.specs.JournalFile.{journal, journal_of, journal_of_rows, recorded, recorded_in};
 ghost use Rattle.journal.specs.declared.reading.TheConstants.{MAX_JOURNAL_BYTES};
 
-use crate::day::{DayHeader, day_of, is_day_row};
+use crate::day::{DayHeader, day_of_record, is_day_row};
 use crate::entry::call_of;
 use auction_terms::Call;
 use byte_streams::Source;
@@ -82,7 +82,7 @@ fn day_from(alloc: Global, rows: &mut Reader<&[u8]>) -> Result<DayHeader, FileFa
     if !is_day_row(&row) {
         return Err(FileFault::NotADay);
     }
-    match day_of(&row) {
+    match day_of_record(&row) {
         Ok(day) => Ok(day),
         Err(fault) => Err(fault.in_record(1)),
     }

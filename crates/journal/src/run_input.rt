@@ -11,7 +11,7 @@ use crate::day::DayHeader;
 use crate::reading::{Journal, MAX_JOURNAL_BYTES, journal_of};
 use auction_terms::Call;
 use byte_streams::Source;
-use order_file::{FileFault, MAX_BYTES, bytes_of, calls_of};
+use order_file::{FileFault, MAX_BYTES, bytes_of, calls_of_file};
 use std::alloc::Global;
 
 /// What a run is given: its day, and the calls in their order.
@@ -32,7 +32,7 @@ fn orders_for(alloc: Global, bytes: &[u8], day: DayHeader) -> Result<RunInput, F
     if bytes.len() > MAX_BYTES {
         return Err(FileFault::TooLong);
     }
-    let calls = calls_of(alloc, bytes, day.members, day.config.max_calls)?;
+    let calls = calls_of_file(alloc, bytes, day.members, day.config.max_calls)?;
     Ok(RunInput { day, calls })
 }
 
@@ -82,7 +82,7 @@ fn run_input_of(alloc: Global, bytes: &[u8], day: DayHeader) -> Result<RunInput,
 ///
 /// Where the first field of the first record is `day`, it is a journal: its day record is the day, its calls are the
 /// calls, and its replies are dropped, once their form was looked at. Else it is an order file of this day, with the
-/// faults of [`calls_of`]. An order file may have `order_file::MAX_BYTES` bytes, a journal `MAX_JOURNAL_BYTES`.
+/// faults of [`calls_of_file`]. An order file may have `order_file::MAX_BYTES` bytes, a journal `MAX_JOURNAL_BYTES`.
 #[tactic(auto, unfolding(crate::specs::DayWithCalls::run_input))]
 pub fn read_run_input<R: Source>(
     alloc: Global,

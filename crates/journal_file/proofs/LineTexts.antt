@@ -1,7 +1,7 @@
 -- Texts of lines.
 use Rattle.std.proofs.Common.{◌≡◌, ◌⊎◌, inl, inr, ℕ, zero, suc, true, false, List, [], ◌∷◌, ◌++◌, take, All, refl, ◌∙◌}
 use Rattle.std.proofs.Common.{ap, arith}
-use Rattle.journal_file.specs.Committed.{has_line, committed, IsInLine, text_of, BeginsWithLines}
+use Rattle.journal_file.specs.Committed.{has_line, committed, IsInLine, joined, BeginsWithLines}
 use Rattle.journal_file.proofs.Lines.{line-end, line-other, line-goes-on, ends}
 
 -- a line that has begun has not ended
@@ -36,22 +36,22 @@ head_in line lines all = all 0 [] (omega arith)
 rest_in : (line : List ℕ) (lines : List (List ℕ)) → All IsInLine (line ∷ lines) → All IsInLine lines
 rest_in line lines all = λ k d lt. all (suc k) d (omega arith)
 
-pub committed-lines : (lines : List (List ℕ)) → All IsInLine lines → committed (text_of lines) ≡ text_of lines
+pub committed-lines : (lines : List (List ℕ)) → All IsInLine lines → committed (joined lines) ≡ joined lines
 committed-lines [] all = refl
 committed-lines (line ∷ lines) all =
-    committed-line line (text_of lines) (head_in line lines all)
+    committed-line line (joined lines) (head_in line lines all)
     ∙ ap (λ (l : List ℕ). line ++ 10 ∷ l) (committed-lines lines (rest_in line lines all))
 
 pub first_lines : (lines : List (List ℕ)) → All IsInLine lines → (k : ℕ)
-    → (j : ℕ) × (committed (take k (text_of lines)) ≡ text_of (take j lines))
+    → (j : ℕ) × (committed (take k (joined lines)) ≡ joined (take j lines))
 first_lines [] all zero = (0, refl)
 first_lines [] all (suc k) = (0, refl)
-first_lines (line ∷ lines) all k = elim (ends_where k line (text_of lines)) [
+first_lines (line ∷ lines) all k = elim (ends_where k line (joined lines)) [
   | inl inside ↦ (0, ap committed inside ∙ ends (take k line) (none_inside k line (head_in line lines all)))
   | inr behind ↦
       let more = first_lines lines (rest_in line lines all) behind.0 in (
         suc more.0,
-        ap committed behind.1 ∙ committed-line line (take behind.0 (text_of lines)) (head_in line lines all)
+        ap committed behind.1 ∙ committed-line line (take behind.0 (joined lines)) (head_in line lines all)
             ∙ ap (λ (l : List ℕ). line ++ 10 ∷ l) more.1,
       )
 ]

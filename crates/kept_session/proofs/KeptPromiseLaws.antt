@@ -19,7 +19,7 @@ use Rattle.journal.specs.declared.day.DayHeader.{DayHeader}
 use Rattle.journal.specs.declared.reading.TheConstants.{MAX_JOURNAL_BYTES}
 use Rattle.journal.proofs.JournalSizeLaws.{reads-history}
 use Rattle.journal.proofs.JournalTextLaws.{text-by-lines}
-use Rattle.journal_file.specs.Committed.{committed, text_of}
+use Rattle.journal_file.specs.Committed.{committed, joined}
 use Rattle.journal_file.proofs.LineTexts.{committed-lines, first_lines}
 use Rattle.kept_session.specs.KeptPromises.{AreWholeLines, LawfulIsGoneOnWith, LeavesFirstEntries}
 use Rattle.kept_session.specs.Replayed.{replayed}
@@ -31,12 +31,12 @@ use Rattle.kept_session.proofs.PrintableLineLaws.{first-and-more, insides-both, 
 
 -- a journal as the text of its lines
 as-lines : (day : DayHeader) (entries : List Entry)
-    → journal_text day entries ≡ text_of (day_inside day ∷ insides entries)
+    → journal_text day entries ≡ joined (day_inside day ∷ insides entries)
 as-lines day entries =
     text-by-lines day entries
     ∙ ap (λ (t : List ℕ). t ++ call_lines 0 entries) (day-text day)
-    ∙ ap (λ (t : List ℕ). text_of (day_inside day ∷ []) ++ t) (calls-text 0 entries)
-    ∙ append_assoc (day_inside day) (10 ∷ []) (text_of (insides entries))
+    ∙ ap (λ (t : List ℕ). joined (day_inside day ∷ []) ++ t) (calls-text 0 entries)
+    ∙ append_assoc (day_inside day) (10 ∷ []) (joined (insides entries))
 
 pub are-whole : AreWholeLines
 are-whole day entries fits h =
@@ -51,12 +51,12 @@ day-whole day text is =
 
 -- ---- the first of them
 
-texts-both : (xs ys : List (List ℕ)) → text_of (xs ++ ys) ≡ text_of xs ++ text_of ys
+texts-both : (xs ys : List (List ℕ)) → joined (xs ++ ys) ≡ joined xs ++ joined ys
 texts-both [] ys = refl
-texts-both (x ∷ xs) ys = rw (texts-both xs ys) (sym (append_assoc x (10 ∷ text_of xs) (text_of ys)))
+texts-both (x ∷ xs) ys = rw (texts-both xs ys) (sym (append_assoc x (10 ∷ joined xs) (joined ys)))
 
 journal-both : (day : DayHeader) (before more : List Entry)
-    → journal_text day before ++ text_of (insides more) ≡ journal_text day (before ++ more)
+    → journal_text day before ++ joined (insides more) ≡ journal_text day (before ++ more)
 journal-both day before more =
     rw (as-lines day before, as-lines day (before ++ more), insides-both before more)
     (sym (texts-both (day_inside day ∷ insides before) (insides more)))
@@ -67,7 +67,7 @@ leaves-first day before entries file fits h begun =
       lines.0,
       begun.1 ∙ ap (λ (t : List ℕ). journal_text day before ++ committed (take begun.0 t)) (calls-text 0 entries)
           ∙ ap (λ (t : List ℕ). journal_text day before ++ t)
-          (lines.1 ∙ ap text_of (first-insides lines.0 entries))
+          (lines.1 ∙ ap joined (first-insides lines.0 entries))
           ∙ journal-both day before (take lines.0 entries),
     )
 

@@ -25,7 +25,7 @@ use Rattle.journal.specs.PrintedJournal.{call_line, call_lines, comma_fields, da
 use Rattle.journal.specs.declared.day.DayHeader.{DayHeader}
 use Rattle.journal.proofs.RecordLineLaws.{and-left, and-right}
 use Rattle.journal.proofs.ReplyTextLaws.{reply-printable}
-use Rattle.journal_file.specs.Committed.{IsInLine, text_of}
+use Rattle.journal_file.specs.Committed.{IsInLine, joined}
 
 abbrev IsPrintable : List ℕ → Type 0
 IsPrintable text = list_all is_printable text ≡ true
@@ -141,11 +141,11 @@ in-line (b ∷ bs) h =
 pub insides : List Entry → List (List ℕ)
 insides entries = map inside_call entries
 
-pub calls-text : (before : ℕ) (entries : List Entry) → call_lines before entries ≡ text_of (insides entries)
+pub calls-text : (before : ℕ) (entries : List Entry) → call_lines before entries ≡ joined (insides entries)
 unfolding call_lines insides
 calls-text before [] = refl
 calls-text before (e ∷ es) =
-    rw (calls-text (before + 1) es, ← line-of-call e) (append_assoc (inside_call e) (10 ∷ []) (text_of (insides es)))
+    rw (calls-text (before + 1) es, ← line-of-call e) (append_assoc (inside_call e) (10 ∷ []) (joined (insides es)))
 
 pub first-and-more : (line : List ℕ) (lines : List (List ℕ)) → IsInLine line → All IsInLine lines
     → All IsInLine (line ∷ lines)
@@ -182,7 +182,7 @@ insides-both (x ∷ xs) ys = ap (λ (l : List (List ℕ)). inside_call x ∷ l) 
 pub day_inside : DayHeader → List ℕ
 day_inside day = inside_day day
 
-pub day-text : (day : DayHeader) → day_line day ≡ text_of (day_inside day ∷ [])
+pub day-text : (day : DayHeader) → day_line day ≡ joined (day_inside day ∷ [])
 unfolding day_inside
 day-text day = sym (line-of-day day)
 

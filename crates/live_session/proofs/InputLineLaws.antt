@@ -14,42 +14,43 @@ use Rattle.memchr.specs.Find.{IsFirstByte, is_byte2}
 use Rattle.live_session.specs.Answered.{line_fault}
 use Rattle.live_session.specs.InputLines.{HasNoLineEnd, IsFirstLineEnd, Lines, is_line_end, is_marked, is_quote_open}
 use Rattle.live_session.specs.InputLines.{is_too_long}
-use Rattle.live_session.specs.InputLines.{line_ended, line_longer, lines_after, next_byte, state_after}
+use Rattle.live_session.specs.InputLines.{line_ended, line_longer, lines_once_read, next_byte, line_state_after}
 use Rattle.live_session.specs.declared.line.TheConstants.{MAX_RECORD_BYTES}
 use Rattle.live_session.proofs.RecordTextLaws.{state-append}
 
 -- ---- lines, as more bytes come
 
 pub lines-append : (lines : Lines) (xs ys : List ℕ)
-    → lines_after lines (xs ++ ys) ≡ lines_after (lines_after lines xs) ys
-unfolding lines_after
+    → lines_once_read lines (xs ++ ys) ≡ lines_once_read (lines_once_read lines xs) ys
+unfolding lines_once_read
 lines-append lines [] ys = refl
 lines-append lines (x ∷ xs) ys = lines-append (next_byte lines x) xs ys
 
 pub lines-longer : (lines : Lines) (bytes : List ℕ) → HasNoLineEnd bytes
-    → lines_after lines bytes ≡ line_longer bytes lines
-unfolding lines_after
+    → lines_once_read lines bytes ≡ line_longer bytes lines
+unfolding lines_once_read
 lines-longer lines [] h =
     ap (λ (x : List ℕ). record { ended = lines.ended; at_hand = x }) (sym (append-nil lines.at_hand))
 lines-longer lines (b ∷ bs) h =
     let here : next_byte lines b ≡ line_longer (b ∷ []) lines = rw h.0 refl in
-    ap (λ (l : Lines). lines_after l bs) here ∙ lines-longer (line_longer (b ∷ []) lines) bs h.1
+    ap (λ (l : Lines). lines_once_read l bs) here ∙ lines-longer (line_longer (b ∷ []) lines) bs h.1
     ∙ ap (λ (x : List ℕ). record { ended = lines.ended; at_hand = x }) (append_assoc lines.at_hand (b ∷ []) bs)
 
 one-end : (lines : Lines) (b : ℕ) (more : List ℕ) → is_line_end b ≡ true
-    → lines_after lines (b ∷ more) ≡ lines_after (line_ended lines) more
-unfolding lines_after
+    → lines_once_read lines (b ∷ more) ≡ lines_once_read (line_ended lines) more
+unfolding lines_once_read
 one-end lines b more is =
-    let here : next_byte lines b ≡ line_ended lines = rw is refl in ap (λ (l : Lines). lines_after l more) here
+    let here : next_byte lines b ≡ line_ended lines = rw is refl in ap (λ (l : Lines). lines_once_read l more) here
 
 pub lines-ended : (lines : Lines) (front more : List ℕ) (b : ℕ) → HasNoLineEnd front → is_line_end b ≡ true
-    → lines_after lines (front ++ b ∷ more) ≡ lines_after (line_ended (line_longer front lines)) more
+    → lines_once_read lines (front ++ b ∷ more) ≡ lines_once_read (line_ended (line_longer front lines)) more
 lines-ended lines front more b none is =
-    lines-append lines front (b ∷ more) ∙ ap (λ (l : Lines). lines_after l (b ∷ more)) (lines-longer lines front none)
+    lines-append lines front (b ∷ more) ∙ ap (λ (l : Lines). lines_once_read l (b ∷ more)) (lines-longer lines front
+    none)
     ∙ one-end (line_longer front lines) b more is
 
-pub lines-none : (lines : Lines) → lines_after lines [] ≡ lines
-unfolding lines_after
+pub lines-none : (lines : Lines) → lines_once_read lines [] ≡ lines
+unfolding lines_once_read
 lines-none lines = refl
 
 -- ---- the first line end
@@ -194,26 +195,26 @@ strip-unmarked (a ∷ b ∷ c ∷ rest) e = rw e refl
 -- ---- the state of the reader of records
 
 pub quote-open : (line text : List ℕ) (s t : State) (r : Bool) → text ≡ strip_bom line
-    → s ≡ state_after st.StartRecord text
+    → s ≡ line_state_after st.StartRecord text
     → t ≡ (step default_config s 10).0 → r ≡ ends_at_end t → r ≡ is_quote_open line
-unfolding state_after
+unfolding line_state_after
 quote-open line text s t r text_is s_is t_is is =
     is
     ∙ ap ends_at_end
-    (t_is ∙ ap (λ (u : State). (step default_config u 10).0) (s_is ∙ ap (state_after st.StartRecord) text_is)
+    (t_is ∙ ap (λ (u : State). (step default_config u 10).0) (s_is ∙ ap (line_state_after st.StartRecord) text_is)
     ∙ sym (state-append st.StartRecord (strip_bom line) (10 ∷ [])))
 
 pub state-next : (s : State) (text : List ℕ) (i d : ℕ) (t : State) → i < length text
     → t ≡ (step default_config s (get_or text i d)).0
-    → state_after s (drop i text) ≡ state_after t (drop (i + 1) text)
-unfolding state_after
+    → line_state_after s (drop i text) ≡ line_state_after t (drop (i + 1) text)
+unfolding line_state_after
 state-next s text i d t lt is =
     let parts : drop i text ≡ get_or text i d ∷ drop (i + 1) text =
     drop-cons text i d lt ∙ ap (λ (m : ℕ). get_or text i d ∷ drop m text) (sym (add-one i)) in
-    rw parts (ap (λ (u : State). state_after u (drop (i + 1) text)) (sym is))
+    rw parts (ap (λ (u : State). line_state_after u (drop (i + 1) text)) (sym is))
 
-pub state-end : (s : State) (text : List ℕ) (i : ℕ) → length text ≤ i → state_after s (drop i text) ≡ s
-unfolding state_after
+pub state-end : (s : State) (text : List ℕ) (i : ℕ) → length text ≤ i → line_state_after s (drop i text) ≡ s
+unfolding line_state_after
 state-end s text i le = rw (drop_all i text le) refl
 
 -- no byte is left

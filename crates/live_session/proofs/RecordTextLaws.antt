@@ -11,7 +11,7 @@ use Rattle.csv.specs.declared.parser.State.TheVariants as st
 use Rattle.order_file.specs.Blocks.{Rows}
 use Rattle.order_file.specs.Rows.{records_left}
 use Rattle.order_file.proofs.RowLaws.{first-record, no-record}
-use Rattle.live_session.specs.InputLines.{is_record_open, state_after}
+use Rattle.live_session.specs.InputLines.{is_record_open, line_state_after}
 
 -- ---- the machine between records and in them
 
@@ -151,16 +151,16 @@ no-row s e = rw e refl
 
 -- a text that ends between two records, and then another
 whole-then : (s : State) (fields : List (List ℕ)) (field x y : List ℕ) → IsClean s fields field
-    → ends_at_end (state_after s x) ≡ false
+    → ends_at_end (line_state_after s x) ≡ false
     → rows s fields field (x ++ y) ≡ rows s fields field x ++ records_left st.StartRecord y
-unfolding state_after
+unfolding line_state_after
 whole-then s fields field [] y clean e =
     let (none, empty) = clean.1 e in
     rw (none, empty, no-row s e) (sym (left-are-rows s y) ∙ left-between s y clean.0 e)
 whole-then s fields field (c ∷ x) y clean e = by_action (does s c clean.0) (λ t f p h k. whole-then t f p x y h k)
   where
     by_action : IsOneOfThree s c
-        → ((t : State) (f : List (List ℕ)) (p : List ℕ) → IsClean t f p → ends_at_end (state_after t x) ≡ false
+        → ((t : State) (f : List (List ℕ)) (p : List ℕ) → IsClean t f p → ends_at_end (line_state_after t x) ≡ false
         → rows t f p (x ++ y) ≡ rows t f p x ++ records_left st.StartRecord y)
         → rows s fields field (c ∷ (x ++ y)) ≡ rows s fields field (c ∷ x) ++ records_left st.StartRecord y
     by_action (inl (t, a, reached, within, no_end, is)) more =
@@ -206,26 +206,26 @@ line-end-first x = by_first_bytes x
 
 -- ---- texts one behind the other
 
-pub state-append : (s : State) (x y : List ℕ) → state_after s (x ++ y) ≡ state_after (state_after s x) y
-unfolding state_after
+pub state-append : (s : State) (x y : List ℕ) → line_state_after s (x ++ y) ≡ line_state_after (line_state_after s x) y
+unfolding line_state_after
 state-append s [] y = refl
 state-append s (c ∷ x) y = state-append (step default_config s c).0 x y
 
-reached-after : (s : State) (x : List ℕ) → IsReached s → IsReached (state_after s x)
-unfolding state_after
+reached-after : (s : State) (x : List ℕ) → IsReached s → IsReached (line_state_after s x)
+unfolding line_state_after
 reached-after s [] h = h
 reached-after s (c ∷ x) h = by_action (does s c h) (λ t k. reached-after t x k)
   where
-    by_action : IsOneOfThree s c → ((t : State) → IsReached t → IsReached (state_after t x))
-        → IsReached (state_after (step default_config s c).0 x)
+    by_action : IsOneOfThree s c → ((t : State) → IsReached t → IsReached (line_state_after t x))
+        → IsReached (line_state_after (step default_config s c).0 x)
     by_action (inl (t, a, reached, within, no_end, is)) more = rw is (more t reached)
     by_action (inr (inl (t, reached, between, is))) more = rw is (more t reached)
     by_action (inr (inr (between, is))) more = rw is (more st.StartRecord tt)
 
 -- from between two records a text leads where it leads from the start
 closed-from : (s : State) (y : List ℕ) → IsReached s → ends_at_end s ≡ false → IsClosed y
-    → ends_at_end (state_after s y) ≡ false
-unfolding state_after
+    → ends_at_end (line_state_after s y) ≡ false
+unfolding line_state_after
 closed-from st.StartRecord y h e k = k
 closed-from st.AfterCr [] h e k = refl
 closed-from st.AfterCr (c ∷ y) h e k = rw (step-between c) k
@@ -239,8 +239,8 @@ closed-from st.InComment y h e k = absurd h
 pub closed-both : (x y : List ℕ) → IsClosed x → IsClosed y → IsClosed (x ++ y)
 closed-both x y h k =
     rw (state-append st.StartRecord x y)
-    (closed-from (state_after st.StartRecord x) y (reached-after st.StartRecord x tt) h k)
+    (closed-from (line_state_after st.StartRecord x) y (reached-after st.StartRecord x tt) h k)
 
 pub closed-none : IsClosed []
-unfolding state_after
+unfolding line_state_after
 closed-none = refl

@@ -14,12 +14,13 @@ use Rattle.input_hints.specs.declared.hint.Hint.{Hint}
 use Rattle.journal.specs.PrintedJournal.{call_line, call_lines}
 use Rattle.live_session.specs.Answered.{Answered, after_input_end, after_line, after_line_by, after_lines, after_record}
 use Rattle.live_session.specs.Answered.{after_records, answer_by, answer_call, answer_view, answered, answered_lines}
-use Rattle.live_session.specs.Answered.{answered_whole, cause_of, ending_of, refused_with, shown}
+use Rattle.live_session.specs.Answered.{answered_whole, cause_of, ending_of, refused_with, answered_by_view}
 use Rattle.live_session.specs.Answered.{line_fault}
 use Rattle.live_session.specs.Answered.{live_call, nothing_yet, refused, replied}
 use Rattle.live_session.specs.Gathered.{AddsAnswers, Gathers}
-use Rattle.live_session.specs.InputLines.{Lines, is_line_end, line_ended, lines_after, lines_of, next_byte, no_lines}
-use Rattle.live_session.specs.InputLines.{record_text}
+use Rattle.live_session.specs.InputLines.{Lines, is_line_end, line_ended, lines_once_read, lines_of, next_byte}
+use Rattle.live_session.specs.InputLines.{no_lines}
+use Rattle.live_session.specs.InputLines.{text_of_record}
 use Rattle.live_session.specs.declared.fault.BadRecord.{BadRecord}
 use Rattle.live_session.specs.declared.fault.BadRecord.TheVariants as bad
 use Rattle.live_session.specs.declared.fault.Ending.TheVariants.{SomeBad}
@@ -62,7 +63,7 @@ line-refused terms start lines fault is =
 
 pub line-read : (terms : SessionTerms) (start : RunningAuction) (lines : Lines) → line_fault lines.at_hand ≡ None
     → answered_lines terms start (line_ended lines)
-    ≡ after_records terms (answered_lines terms start lines) (records default_config (record_text lines.at_hand))
+    ≡ after_records terms (answered_lines terms start lines) (records default_config (text_of_record lines.at_hand))
 line-read terms start lines is =
     line-answered terms start lines ∙ ap (after_line_by terms (answered_lines terms start lines) lines.at_hand) is
 
@@ -87,12 +88,12 @@ none-waiting terms a none = rw none refl
 pub waiting-more : (terms : SessionTerms) (start : RunningAuction) (lines : Lines) (applied : Answered) (text : List ℕ)
     → IsClosed text → after_records terms applied (records default_config text) ≡ answered_lines terms start lines
     → line_fault lines.at_hand ≡ None
-    → after_records terms applied (records default_config (text ++ record_text lines.at_hand))
+    → after_records terms applied (records default_config (text ++ text_of_record lines.at_hand))
     ≡ answered_lines terms start (line_ended lines)
 waiting-more terms start lines applied text closed answers good =
-    ap (after_records terms applied) (records-then text (record_text lines.at_hand) closed)
-    ∙ after-both terms applied (records default_config text) (records default_config (record_text lines.at_hand))
-    ∙ ap (λ (a : Answered). after_records terms a (records default_config (record_text lines.at_hand))) answers
+    ap (after_records terms applied) (records-then text (text_of_record lines.at_hand) closed)
+    ∙ after-both terms applied (records default_config text) (records default_config (text_of_record lines.at_hand))
+    ∙ ap (λ (a : Answered). after_records terms a (records default_config (text_of_record lines.at_hand))) answers
     ∙ sym (line-read terms start lines good)
 
 -- ---- some answers come before others
@@ -126,11 +127,11 @@ begins-refused-with a f cause = record { text = (_, refl); entries = ([], append
 begins-refused : (a : Answered) (f : BadRecord) → IsBeginningOf a (refused a f)
 begins-refused a f = begins-refused-with a f None
 
-begins-shown : (a : Answered) (view : View) → IsBeginningOf a (shown a view)
-begins-shown a view = record { text = (_, refl); entries = ([], append-nil a.entries) }
+begins-answered_by_view : (a : Answered) (view : View) → IsBeginningOf a (answered_by_view a view)
+begins-answered_by_view a view = record { text = (_, refl); entries = ([], append-nil a.entries) }
 
 begins-view : (a : Answered) (r : Result View RecordFault) → IsBeginningOf a (answer_view a r)
-begins-view a (Ok view) = begins-shown a view
+begins-view a (Ok view) = begins-answered_by_view a view
 begins-view a (Err f) = begins-refused a (bad.Malformed f)
 
 begins-call : (terms : SessionTerms) (a : Answered) (fields : List (List ℕ)) (r : Result Call BadRecord)
@@ -153,7 +154,7 @@ begins-records terms a (r ∷ rs) =
 begins-line-by : (terms : SessionTerms) (a : Answered) (line : List ℕ) (f : Option BadRecord)
     → IsBeginningOf a (after_line_by terms a line f)
 begins-line-by terms a line (Some f) = begins-refused a f
-begins-line-by terms a line None = begins-records terms a (records default_config (record_text line))
+begins-line-by terms a line None = begins-records terms a (records default_config (text_of_record line))
 
 begins-lines : (terms : SessionTerms) (a : Answered) (ls : List (List ℕ)) → IsBeginningOf a (after_lines terms a ls)
 unfolding after_lines
@@ -167,14 +168,14 @@ begins-end a (b ∷ bs) = begins-refused a bad.CutOff
 
 -- the lines that have ended stay the first
 ended-first : (lines : Lines) (bytes : List ℕ) → (more : List (List ℕ))
-    × (lines.ended ++ more ≡ (lines_after lines bytes).ended)
-unfolding lines_after
+    × (lines.ended ++ more ≡ (lines_once_read lines bytes).ended)
+unfolding lines_once_read
 ended-first lines [] = ([], append-nil lines.ended)
 ended-first lines (b ∷ bs) = by_line_end (is_line_end b) refl (ended-first (next_byte lines b) bs)
   where
     by_line_end : (x : Bool) → is_line_end b ≡ x
-        → (more : List (List ℕ)) × ((next_byte lines b).ended ++ more ≡ (lines_after (next_byte lines b) bs).ended)
-        → (more : List (List ℕ)) × (lines.ended ++ more ≡ (lines_after (next_byte lines b) bs).ended)
+        → (more : List (List ℕ)) × ((next_byte lines b).ended ++ more ≡ (lines_once_read (next_byte lines b) bs).ended)
+        → (more : List (List ℕ)) × (lines.ended ++ more ≡ (lines_once_read (next_byte lines b) bs).ended)
     by_line_end true e (more, is) =
         let here : (next_byte lines b).ended ≡ lines.ended ++ lines.at_hand ∷ [] = rw e refl in (
           lines.at_hand ∷ more,

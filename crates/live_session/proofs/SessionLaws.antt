@@ -10,7 +10,7 @@ use Rattle.live_session.specs.Answered.{Answered, after_input_end, answered_line
 use Rattle.live_session.specs.Gathered.{Gathers}
 use Rattle.live_session.specs.Hearing.{HasHeard}
 use Rattle.live_session.specs.InputLines.{IsFirstLineEnd, Lines, is_quote_open, is_too_long, line_ended, line_longer}
-use Rattle.live_session.specs.InputLines.{lines_after, record_text}
+use Rattle.live_session.specs.InputLines.{lines_once_read, text_of_record}
 use Rattle.live_session.specs.declared.fault.BadRecord.{BadRecord}
 use Rattle.live_session.specs.declared.fault.BadRecord.TheVariants as bad
 use Rattle.live_session.specs.declared.line.TheConstants.{MAX_RECORD_BYTES}
@@ -60,12 +60,12 @@ kept-line old new terms start lines given committed h fine same waiting line =
     record {
       applied = h.applied;
       gathers = subst (λ (r : Responder). Gathers r terms h.applied given committed) (sym same) h.gathers;
-      text = h.text ++ record_text lines.at_hand;
+      text = h.text ++ text_of_record lines.at_hand;
       waiting =
           waiting ∙ ap (λ (x : List ℕ). (x ++ strip_bom old.line.items) ++ 10 ∷ []) h.waiting
           ∙ ap (λ (x : List ℕ). ((10 ∷ h.text) ++ strip_bom x) ++ 10 ∷ []) whole
           ∙ append_assoc (10 ∷ h.text) (strip_bom lines.at_hand) (10 ∷ []);
-      closed = closed-both h.text (record_text lines.at_hand) h.closed (not-faulty lines.at_hand good).1;
+      closed = closed-both h.text (text_of_record lines.at_hand) h.closed (not-faulty lines.at_hand good).1;
       answers = waiting-more terms start lines h.applied h.text h.closed h.answers good;
       line = line;
     }
@@ -73,13 +73,13 @@ kept-line old new terms start lines given committed h fine same waiting line =
 -- the next line of what is left
 pub next-line : (now : Lines) (rest line behind more : List ℕ) (place : ℕ) → IsFirstLineEnd rest (Some place)
     → line ≡ take place rest → behind ≡ drop place rest → more ≡ drop 1 behind
-    → lines_after (line_ended (line_longer line now)) more ≡ lines_after now rest
+    → lines_once_read (line_ended (line_longer line now)) more ≡ lines_once_read now rest
 next-line now rest line behind more place h line_is behind_is more_is =
     let more_same : more ≡ drop 1 (drop place rest) = more_is ∙ ap (drop 1) behind_is in
-    ap (λ (x : List ℕ). lines_after (line_ended (line_longer x now)) more) line_is
-    ∙ ap (λ (x : List ℕ). lines_after (line_ended (line_longer (take place rest) now)) x) more_same
+    ap (λ (x : List ℕ). lines_once_read (line_ended (line_longer x now)) more) line_is
+    ∙ ap (λ (x : List ℕ). lines_once_read (line_ended (line_longer (take place rest) now)) x) more_same
     ∙ sym (lines-ended now (take place rest) (drop 1 (drop place rest)) (slice_index rest place) h.2 h.1)
-    ∙ ap (lines_after now) (split-there rest place h.0)
+    ∙ ap (lines_once_read now) (split-there rest place h.0)
 
 -- ---- the line that an input ends in
 

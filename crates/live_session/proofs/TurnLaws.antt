@@ -13,12 +13,12 @@ use Rattle.csv.specs.Reading.{default_config}
 use Rattle.journal.specs.PrintedJournal.{call_lines}
 use Rattle.journal.proofs.KeptLineLaws.{holds-none}
 use Rattle.order_file.proofs.RowLaws.{records_from-done}
-use Rattle.printed_lines.specs.KeptText.{text_of}
+use Rattle.printed_lines.specs.KeptText.{kept_text}
 use Rattle.live_session.specs.Answered.{Answered, after_lines, answered, answered_lines, answered_whole}
 use Rattle.live_session.specs.Gathered.{Gathers, IsCommitted}
 use Rattle.live_session.specs.Giving.{GivesGathered, HasGiven, IsEmptied, IsUnread}
 use Rattle.live_session.specs.Hearing.{HasAnsweredAll, HasHeard, IsNewSession}
-use Rattle.live_session.specs.InputLines.{Lines, lines_after, lines_of, no_lines}
+use Rattle.live_session.specs.InputLines.{Lines, lines_once_read, lines_of, no_lines}
 use Rattle.live_session.specs.Talk.{AppendsBetween, EndsSession, HasAnswered, HasRead}
 use Rattle.live_session.specs.Talk.{IsAnswered, IsAnswerTo, MayBeWritten}
 use Rattle.live_session.specs.declared.conversation.Conversation.{Ghosts}
@@ -72,7 +72,7 @@ no-entry-lines = refl
 
 answered-nothing : {C : Type 0} (c : Ghosts C) (terms : SessionTerms) (start : RunningAuction) (base : C)
     → HasAnswered c base base (answered terms start [])
-unfolding after_lines lines_after
+unfolding after_lines lines_once_read
 answered-nothing c terms start base = record {
   text = Appends-nil _;
   entries = subst (Appends (c.committed base) (c.committed base)) (sym no-entry-lines) (Appends-nil _);
@@ -82,7 +82,7 @@ answered-nothing c terms start base = record {
 
 all-nothing : (terms : SessionTerms) (start : RunningAuction) (session : Session) → IsNewSession session terms start
     → HasAnsweredAll session terms start (lines_of []) (answered terms start []).text (answered terms start []).entries
-unfolding after_lines lines_after
+unfolding after_lines lines_once_read
 all-nothing terms start session new = record {
   gathers = record {
     terms_are = new.responder.terms_are;
@@ -214,19 +214,19 @@ module _ {C : Type 0} (c : Ghosts C) (terms : SessionTerms) (start : RunningAuct
       (gathers : Gathers responder terms answers before.text before.entries) (becomes_on : (d : C) → c.Becomes now d
       → c.Becomes base d) where
     -- the lines of the entries that are gathered, behind those before
-    entry-lines : call_lines 0 before.entries ++ text_of responder.entries ≡ call_lines 0 answers.entries
+    entry-lines : call_lines 0 before.entries ++ kept_text responder.entries ≡ call_lines 0 answers.entries
     entry-lines =
         ap (λ (t : List ℕ). call_lines 0 before.entries ++ t) gathers.lines.0
         ∙ sym (entries-both 0 0 before.entries gathers.kept) ∙ ap (call_lines 0) gathers.entries
 
-    committed-all : (d : C) → Appends (c.committed now) (c.committed d) (text_of responder.entries)
+    committed-all : (d : C) → Appends (c.committed now) (c.committed d) (kept_text responder.entries)
         → Appends (c.committed base) (c.committed d) (call_lines 0 answers.entries)
     committed-all d h =
         subst (Appends (c.committed base) (c.committed d)) entry-lines (appends-more _ _ _ _ _ just.answered.entries h)
 
     pub may-be-written : IsAnswerTo terms start (heard ++ bytes) answers → (d : C)
-        → IsCommitted c now d (text_of responder.entries)
-        → MayBeWritten c terms start base d (text_of responder.answers)
+        → IsCommitted c now d (kept_text responder.entries)
+        → MayBeWritten c terms start base d (kept_text responder.answers)
     may-be-written is d h = record {
       heard = heard ++ bytes;
       device = record { same = becomes_on d h.same; read = rw h.left just.device.read };
@@ -240,7 +240,7 @@ module _ {C : Type 0} (c : Ghosts C) (terms : SessionTerms) (start : RunningAuct
     }
 
     -- all was given
-    pub has-answered : (d : C) → HasGiven c now d (text_of responder.answers) (text_of responder.entries)
+    pub has-answered : (d : C) → HasGiven c now d (kept_text responder.answers) (kept_text responder.entries)
         → HasAnswered c base d answers
     has-answered d h = record {
       text =
@@ -258,10 +258,11 @@ module _ {C : Type 0} (c : Ghosts C) (terms : SessionTerms) (start : RunningAuct
     reads-same d h = h.reads ∙ just.reads
 
     module _ (first : IsBeginningOf answers whole) where
-      text-parts : (before.text ++ text_of responder.answers) ++ first.text.0 ≡ whole.text
+      text-parts : (before.text ++ kept_text responder.answers) ++ first.text.0 ≡ whole.text
       text-parts = ap (λ (t : List ℕ). t ++ first.text.0) gathers.text ∙ first.text.1
 
-      entry-parts : (call_lines 0 before.entries ++ text_of responder.entries) ++ (entries-begin answers whole first).0
+      entry-parts : (call_lines 0 before.entries ++ kept_text responder.entries) ++ (entries-begin answers whole
+          first).0
           ≡ call_lines 0 whole.entries
       entry-parts =
           ap (λ (t : List ℕ). t ++ (entries-begin answers whole first).0) entry-lines
@@ -280,10 +281,11 @@ module _ {C : Type 0} (c : Ghosts C) (terms : SessionTerms) (start : RunningAuct
           short = just.short;
           device = has-read d h.unread;
           text =
-              between-some _ _ _ before.text (text_of responder.answers) first.text.0 whole.text just.answered.text
+              between-some _ _ _ before.text (kept_text responder.answers) first.text.0 whole.text just.answered.text
               h.written text-parts;
           entries =
-              between-all _ _ _ (call_lines 0 before.entries) (text_of responder.entries) _ (call_lines 0 whole.entries)
+              between-all _ _ _ (call_lines 0 before.entries) (kept_text responder.entries) _ (call_lines 0
+              whole.entries)
               just.answered.entries h.committed entry-parts;
           reads = reads-same d h.unread;
         },
@@ -298,10 +300,10 @@ module _ {C : Type 0} (c : Ghosts C) (terms : SessionTerms) (start : RunningAuct
           device = has-read d h.unread;
           text =
               between-least _ _ before.text whole.text _
-              (sym (append_assoc before.text (text_of responder.answers) first.text.0) ∙ text-parts)
+              (sym (append_assoc before.text (kept_text responder.answers) first.text.0) ∙ text-parts)
               (rw h.written just.answered.text);
           entries =
-              between-some _ _ _ (call_lines 0 before.entries) (text_of responder.entries) _
+              between-some _ _ _ (call_lines 0 before.entries) (kept_text responder.entries) _
               (call_lines 0 whole.entries) just.answered.entries h.committed entry-parts;
           reads = reads-same d h.unread;
         },
@@ -351,7 +353,7 @@ gathers-emptied old new terms answers given committed h e = record {
 -- what was heard behind what was answered
 pub heard-more : (session : Session) (terms : SessionTerms) (start : RunningAuction) (heard bytes given : List ℕ)
     (committed : List Entry)
-    → HasAnsweredAll session terms start (lines_after (lines_of heard) bytes) given committed
+    → HasAnsweredAll session terms start (lines_once_read (lines_of heard) bytes) given committed
     → HasAnsweredAll session terms start (lines_of (heard ++ bytes)) given committed
 heard-more session terms start heard bytes given committed h =
     subst (λ (l : Lines). HasAnsweredAll session terms start l given committed)

@@ -6,7 +6,7 @@ use Rattle.auction_terms.specs.declared.Entry.{Entry}
 use Rattle.auction_terms.specs.Day.{step}
 use Rattle.auction_terms.specs.Auxiliary.RunningAuction.{RunningAuction, auction_after_call}
 use Rattle.csv.specs.Reading.{default_config, records}
-use Rattle.order_file.specs.Record.{call_of}
+use Rattle.order_file.specs.Record.{call_of_record}
 use Rattle.order_file.specs.declared.fault.RecordFault.{RecordFault}
 use Rattle.printed_lines.specs.ReplyLines.{line}
 use Rattle.input_hints.specs.RecordHints.{hint_of_record}
@@ -16,7 +16,7 @@ use Rattle.auction_views.specs.View.{is_view, view_of}
 use Rattle.auction_views.specs.ViewText.{view_text}
 use Rattle.auction_views.specs.declared.view.View.{View}
 use Rattle.live_session.specs.BadRecords.{bad_record_line}
-use Rattle.live_session.specs.InputLines.{Lines, is_quote_open, is_too_long, lines_of, record_text}
+use Rattle.live_session.specs.InputLines.{Lines, is_quote_open, is_too_long, lines_of, text_of_record}
 use Rattle.live_session.specs.declared.fault.BadRecord.{BadRecord}
 use Rattle.live_session.specs.declared.fault.BadRecord.TheVariants as bad
 use Rattle.live_session.specs.declared.fault.Ending.{Ending}
@@ -48,7 +48,7 @@ unless_reserved terms auction (Ok call) = if is_reserved terms auction call then
 unfoldable pub live_call : SessionTerms → RunningAuction → List (List ℕ) → Result Call BadRecord
 live_call terms auction fields =
     if nat_le auction.config.max_calls auction.calls then Err bad.TooManyCommands
-    else unless_reserved terms auction (call_of terms.members fields)
+    else unless_reserved terms auction (call_of_record terms.members fields)
 
 -- a call, with the auction's reply
 abbrev pub entry_for : RunningAuction → Call → Entry
@@ -83,8 +83,8 @@ abbrev pub refused : Answered → BadRecord → Answered
 refused so_far fault = refused_with so_far fault None
 
 -- A view is answered by its text. It is no call, and changes nothing.
-abbrev pub shown : Answered → View → Answered
-shown so_far view = record {
+abbrev pub answered_by_view : Answered → View → Answered
+answered_by_view so_far view = record {
   auction = so_far.auction;
   records = so_far.records + 1;
   text = so_far.text ++ view_text so_far.auction view;
@@ -93,7 +93,7 @@ shown so_far view = record {
 }
 
 abbrev pub answer_view : Answered → Result View RecordFault → Answered
-answer_view so_far (Ok view) = shown so_far view
+answer_view so_far (Ok view) = answered_by_view so_far view
 answer_view so_far (Err fault) = refused so_far (bad.Malformed fault)
 
 abbrev pub day_terms : SessionTerms → RunningAuction → DayTerms
@@ -143,7 +143,7 @@ line_fault line =
 
 abbrev pub after_line_by : SessionTerms → Answered → List ℕ → Option BadRecord → Answered
 after_line_by terms so_far line (Some fault) = refused so_far fault
-after_line_by terms so_far line None = after_records terms so_far (records default_config (record_text line))
+after_line_by terms so_far line None = after_records terms so_far (records default_config (text_of_record line))
 
 -- After one more line: it is a record, or blank, and then passed over.
 abbrev pub after_line : SessionTerms → Answered → List ℕ → Answered

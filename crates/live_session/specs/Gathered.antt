@@ -3,7 +3,7 @@ use Rattle.std.specs.Prelude.{◌≡◌, ℕ, List, ◌++◌, Result, OnOk}
 use Rattle.std.specs.Io.KnownBytes.{Appends}
 use Rattle.auction_terms.specs.declared.Entry.{Entry}
 use Rattle.journal.specs.KeptLines.{HasEntryLines}
-use Rattle.printed_lines.specs.KeptText.{text_of}
+use Rattle.printed_lines.specs.KeptText.{kept_text}
 use Rattle.live_session.specs.Answered.{Answered, ending_of}
 use Rattle.live_session.specs.declared.conversation.Conversation.{Ghosts}
 use Rattle.live_session.specs.declared.responder.Responder.{Responder}
@@ -16,10 +16,10 @@ pub record Gathers (responder : Responder) (terms : SessionTerms) (so_far : Answ
   pub auction : responder.auction ≡ so_far.auction
   pub records_are : responder.records ≡ so_far.records
   pub ending : responder.ending ≡ ending_of so_far.faults
-  pub text : given ++ text_of responder.answers ≡ so_far.text
+  pub text : given ++ kept_text responder.answers ≡ so_far.text
   pub kept : List Entry
   pub entries : committed ++ kept ≡ so_far.entries
-  pub lines : HasEntryLines (text_of responder.entries) kept
+  pub lines : HasEntryLines (kept_text responder.entries) kept
 
 -- answers come to those that were gathered
 abbrev pub AddsAnswers : {E : Type 0} → Responder → Responder → (SessionTerms → Answered → Answered)

@@ -3,7 +3,7 @@ use Rattle.std.specs.Prelude.{◌≡◌, ◌<◌, ℕ, List, [], Result, Ok, Err
 use Rattle.std.specs.Io.KnownBytes.{Appends}
 use Rattle.auction_terms.specs.Auxiliary.RunningAuction.{RunningAuction}
 use Rattle.byte_streams.specs.Streams.{AppendsBeginning}
-use Rattle.printed_lines.specs.KeptText.{text_of}
+use Rattle.printed_lines.specs.KeptText.{kept_text}
 use Rattle.live_session.specs.declared.conversation.Conversation.{Ghosts}
 use Rattle.live_session.specs.declared.fault.Ending.TheVariants.{AllGood}
 use Rattle.live_session.specs.declared.fault.LiveFault.{LiveFault}
@@ -17,8 +17,8 @@ pub record IsNew (responder : Responder) (terms : SessionTerms) (start : Running
   pub auction : responder.auction ≡ start
   pub records_are : responder.records ≡ 0
   pub ending : responder.ending ≡ AllGood
-  pub answers : text_of responder.answers ≡ []
-  pub entries : text_of responder.entries ≡ []
+  pub answers : kept_text responder.answers ≡ []
+  pub entries : kept_text responder.entries ≡ []
 
 -- the same texts, each in one piece
 pub record IsInPieces (old new : Responder) : Type 0 where
@@ -26,9 +26,9 @@ pub record IsInPieces (old new : Responder) : Type 0 where
   pub auction : new.auction ≡ old.auction
   pub records_are : new.records ≡ old.records
   pub ending : new.ending ≡ old.ending
-  pub answers : new.answers.full.items ≡ text_of old.answers
+  pub answers : new.answers.full.items ≡ kept_text old.answers
   pub answers_page : new.answers.page ≡ []
-  pub entries : new.entries.full.items ≡ text_of old.entries
+  pub entries : new.entries.full.items ≡ kept_text old.entries
   pub entries_page : new.entries.page ≡ []
 
 abbrev pub IsGatheredAs : {E : Type 0} → Responder → Responder → Result (Unit {0}) E → Type 0
@@ -70,16 +70,17 @@ pub record IsEmptied (old new : Responder) : Type 0 where
   pub auction : new.auction ≡ old.auction
   pub records_are : new.records ≡ old.records
   pub ending : new.ending ≡ old.ending
-  pub answers : text_of new.answers ≡ []
-  pub entries : text_of new.entries ≡ []
+  pub answers : kept_text new.answers ≡ []
+  pub entries : kept_text new.entries ≡ []
 
 -- what came of giving what is gathered
 abbrev pub GivesGathered : {C : Type 0} → Ghosts C → C → C → Responder → Responder → Result (Unit {0}) LiveFault
     → Type 0
 GivesGathered c old new before after (Ok u) =
-    HasGiven c old new (text_of before.answers) (text_of before.entries) × IsEmptied before after
+    HasGiven c old new (kept_text before.answers) (kept_text before.entries) × IsEmptied before after
 GivesGathered c old new before after (Err fault.WriteFailed) =
-    HasGivenBeginning c old new (text_of before.answers) (text_of before.entries)
-GivesGathered c old new before after (Err fault.CommitFailed) = HasCommittedBeginning c old new (text_of before.entries)
+    HasGivenBeginning c old new (kept_text before.answers) (kept_text before.entries)
+GivesGathered c old new before after (Err fault.CommitFailed) =
+    HasCommittedBeginning c old new (kept_text before.entries)
 GivesGathered c old new before after (Err fault.NoMemory) = new ≡ old
 GivesGathered c old new before after (Err fault.ReadFailed) = ⊥

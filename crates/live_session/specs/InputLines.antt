@@ -33,13 +33,13 @@ abbrev pub next_byte : Lines → ℕ → Lines
 next_byte lines byte = if is_line_end byte then line_ended lines else line_longer (byte ∷ []) lines
 
 -- after these bytes
-unfoldable pub lines_after : Lines → List ℕ → Lines
-lines_after lines [] = lines
-lines_after lines (byte ∷ bytes) = lines_after (next_byte lines byte) bytes
+unfoldable pub lines_once_read : Lines → List ℕ → Lines
+lines_once_read lines [] = lines
+lines_once_read lines (byte ∷ bytes) = lines_once_read (next_byte lines byte) bytes
 
 -- the lines of what has come of an input
 abbrev pub lines_of : List ℕ → Lines
-lines_of heard = lines_after no_lines heard
+lines_of heard = lines_once_read no_lines heard
 
 -- ---- a line
 
@@ -55,21 +55,21 @@ is_marked (a ∷ b ∷ []) = false
 is_marked (a ∷ b ∷ c ∷ rest) = is_bom a b c
 
 -- a line as a text of records: a byte order mark before it is dropped
-abbrev pub record_text : List ℕ → List ℕ
-record_text line = strip_bom line ++ 10 ∷ []
+abbrev pub text_of_record : List ℕ → List ℕ
+text_of_record line = strip_bom line ++ 10 ∷ []
 
 -- the state in which these bytes leave the reader of records
-unfoldable pub state_after : State → List ℕ → State
-state_after state [] = state
-state_after state (byte ∷ bytes) = state_after (step default_config state byte).0 bytes
+unfoldable pub line_state_after : State → List ℕ → State
+line_state_after state [] = state
+line_state_after state (byte ∷ bytes) = line_state_after (step default_config state byte).0 bytes
 
 -- behind these bytes a record is at hand
 abbrev pub is_record_open : List ℕ → Bool
-is_record_open text = ends_at_end (state_after st.StartRecord text)
+is_record_open text = ends_at_end (line_state_after st.StartRecord text)
 
 -- a quote that was opened isn't closed: the record would go on behind the line's end
 abbrev pub is_quote_open : List ℕ → Bool
-is_quote_open line = is_record_open (record_text line)
+is_quote_open line = is_record_open (text_of_record line)
 
 -- ---- where a line ends
 

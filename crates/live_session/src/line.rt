@@ -4,7 +4,7 @@ ghost use Rattle.std.specs.Prelude.{◌≡◌, ◌≢◌, ◌≤◌, ◌+◌, �
 ghost use Rattle.csv.specs.Reading.{strip_bom};
 ghost use Rattle.csv.specs.declared.parser.State.TheVariants as st;
 ghost use Rattle.live_session.specs.Answered.{line_fault};
-ghost use Rattle.live_session.specs.InputLines.{IsFirstLineEnd, is_marked, is_quote_open, state_after};
+ghost use Rattle.live_session.specs.InputLines.{IsFirstLineEnd, is_marked, is_quote_open, line_state_after};
 ghost use Rattle.live_session.specs.Spot.{state_of};
 
 use crate::fault::BadRecord;
@@ -70,7 +70,7 @@ pub(crate) fn is_blank(line: &[u8]) -> bool
 
 /// Where these bytes leave the reader of records.
 fn spot_behind(text: &[u8]) -> Spot
-    ensures { state_of result ≡ state_after st.StartRecord text.now }
+    ensures { state_of result ≡ line_state_after st.StartRecord text.now }
 {
     let mut spot = Spot::RecordStart;
     for byte in text {

@@ -6,11 +6,11 @@ ghost use Rattle.csv.specs.Reading.{default_config, records, strip_bom};
 ghost use Rattle.csv.specs.Records.{fields_of};
 ghost use Rattle.order_file.specs.Rows.{IsRecordReader, rows_left};
 ghost use Rattle.journal.specs.KeptLines.{HasEntryLines};
-ghost use Rattle.printed_lines.specs.KeptText.{text_of};
+ghost use Rattle.printed_lines.specs.KeptText.{kept_text};
 ghost use Rattle.auction_views.specs.View.{view_of};
 ghost use Rattle.live_session.specs.Answered.{after_record, after_records, answer_call, answer_view, cause_of};
 ghost use Rattle.live_session.specs.Answered.{is_reserved};
-ghost use Rattle.live_session.specs.Answered.{live_call, refused, refused_row, refused_with, replied, shown};
+ghost use Rattle.live_session.specs.Answered.{live_call, refused, refused_row, refused_with, replied, answered_by_view};
 ghost use Rattle.live_session.specs.Gathered.{AddsAnswers, IsCommitted};
 ghost use Rattle.live_session.specs.Giving.{GivesGathered, IsGatheredAs, IsNew};
 
@@ -23,7 +23,7 @@ use auction_views::{View, is_view, put_view, view_of};
 use csv::{ByteRecord, Reader};
 use input_hints::{DayTerms, Hint, hint_of_record};
 use journal::keep_entry;
-use order_file::{call_of, next_row, reader_of};
+use order_file::{call_of_record, next_row, reader_of};
 use printed_lines::{KeptText, put_line};
 use std::alloc::{AllocError, Global};
 
@@ -44,7 +44,7 @@ fn live_call(auction: &Auction, terms: SessionTerms, row: &ByteRecord) -> Result
     if auction.calls() >= auction.config().max_calls {
         return Err(BadRecord::TooManyCommands);
     }
-    let call = match call_of(row, terms.members) {
+    let call = match call_of_record(row, terms.members) {
         Ok(call) => call,
         Err(fault) => return Err(BadRecord::Malformed(fault)),
     };
@@ -177,7 +177,7 @@ impl Responder {
 
     /// Gathers the text of a view.
     fn show(&mut self, alloc: Global, view: View) -> Result<(), AllocError>
-        ensures { AddsAnswers self.old self.new (λ _ so_far. shown so_far view) result }
+        ensures { AddsAnswers self.old self.new (λ _ so_far. answered_by_view so_far view) result }
     {
         let number = self.next_number()?;
         put_view(alloc, &mut self.answers, &mut self.auction, view)?;
@@ -259,9 +259,9 @@ impl Responder {
 
     /// Commits the gathered entries, and then writes the gathered answers.
     pub(crate) fn give<C: Conversation>(&mut self, talk: &mut C) -> Result<(), LiveFault>
-        requires lines { (kept : List Entry) × HasEntryLines (text_of self.old.entries) kept }
-        requires writes { (now : C) → IsCommitted C.Conversation talk.old now (text_of self.old.entries)
-            → C.MayWrite now (text_of self.old.answers) }
+        requires lines { (kept : List Entry) × HasEntryLines (kept_text self.old.entries) kept }
+        requires writes { (now : C) → IsCommitted C.Conversation talk.old now (kept_text self.old.entries)
+            → C.MayWrite now (kept_text self.old.answers) }
         ensures { GivesGathered C.Conversation talk.old talk.new self.old self.new result }
     {
         let Ok(()) = self.turn_pages() else {

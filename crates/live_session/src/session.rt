@@ -2,7 +2,7 @@
 
 ghost use Rattle.std.specs.Prelude.{IfOk};
 ghost use Rattle.live_session.specs.Hearing.{AnswersAll, AnswersEnd, HearsLines, IsNewSession, KeepsLine, RefusesLine};
-ghost use Rattle.live_session.specs.InputLines.{line_ended, line_longer, lines_after};
+ghost use Rattle.live_session.specs.InputLines.{line_ended, line_longer, lines_once_read};
 
 use crate::fault::BadRecord;
 use crate::line::{add_to_line, first_line_end, is_blank, line_fault, put_record};
@@ -95,7 +95,7 @@ impl Session {
 
     /// Takes the bytes that come next, of any number of lines.
     fn take_all(&mut self, alloc: Global, bytes: &[u8]) -> Result<(), AllocError>
-        ensures { HearsLines self.old self.new (λ lines. lines_after lines bytes.now) result }
+        ensures { HearsLines self.old self.new (λ lines. lines_once_read lines bytes.now) result }
     {
         let mut rest = bytes;
         'lines: while !rest.is_empty() {
@@ -112,7 +112,7 @@ impl Session {
 
     /// Takes the bytes that come next, and gathers the answers to all lines that have ended.
     pub(crate) fn hear(&mut self, alloc: Global, bytes: &[u8]) -> Result<(), AllocError>
-        ensures { AnswersAll self.old self.new (λ lines. lines_after lines bytes.now) result }
+        ensures { AnswersAll self.old self.new (λ lines. lines_once_read lines bytes.now) result }
     {
         self.take_all(alloc, bytes)?;
         self.answer_waiting(alloc)

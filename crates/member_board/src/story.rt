@@ -5,7 +5,7 @@
 //! begins the longer, so what a member has seen can be held against what another was told.
 ghost use Rattle.std.specs.Prelude.{◌≡◌, ◌+◌, ◌<◌, ◌≤◌, ◌^◌, ◌++◌, ◌∷◌, [], length, MatchBool};
 ghost use mathlib.Core.List.{IsPrefix};
-ghost use Rattle.board_terms.specs.Stories.{head_of};
+ghost use Rattle.board_terms.specs.Stories.{newest_name};
 
 use crate::identity::BoardIdentity;
 use auction_terms::Call;
@@ -65,7 +65,7 @@ pub(crate) struct Blank {
     head: Word<Call, u64, Law>,
     seen: Seen<Call, u64, Law>,
     pub ghost empty: { seen.log ≡ [] },
-    pub ghost head_is: { head ≡ head_of seen.book },
+    pub ghost head_is: { head ≡ newest_name seen.book },
 }
 
 impl Blank {
@@ -102,7 +102,7 @@ impl Blank {
 pub(crate) struct Head<K: BoardIdentity> {
     head: Word<Call, u64, Law>,
     of: PhantomData<K>,
-    ghost head_is: { head ≡ head_of K.story },
+    ghost head_is: { head ≡ newest_name K.story },
 }
 
 /// A beginning of the story that was seen. Contracts see it as the list of its calls.

@@ -53,8 +53,8 @@ abbrev pub with_last : OrdersView → Order → List Stamped
 with_last orders order = orders.line ++ record { order = order; stamp = orders.stamps } ∷ []
 
 -- the line after a change: the order with the id keeps its place, or goes last, under the next stamp
-abbrev pub with_change : OrdersView → ℕ → Limit → ℕ → Bool → List Stamped
-with_change orders id limit quantity kept =
+abbrev pub with_changed_order : OrdersView → ℕ → Limit → ℕ → Bool → List Stamped
+with_changed_order orders id limit quantity kept =
     if kept
     then changed_by order_of id (on_order (with_terms limit quantity)) orders.line
     else moved_by order_of id (under_stamp orders.stamps (with_terms limit quantity)) orders.line
@@ -64,8 +64,8 @@ abbrev pub with_less : OrdersView → ℕ → ℕ → List Stamped
 with_less orders id quantity = left_by order_of (changed_by order_of id (on_order (less_quantity quantity)) orders.line)
 
 -- no orders, and none entered
-abbrev pub without_orders : OrdersView → OrdersView
-without_orders orders = record orders { line = []; slots = []; stamps = 0; entered = 0 }
+abbrev pub cleared_orders : OrdersView → OrdersView
+cleared_orders orders = record orders { line = []; slots = []; stamps = 0; entered = 0 }
 
 -- as many orders may be open, and as many calls be had
 abbrev pub HasSameRoom : OrdersView → OrdersView → Type 0

@@ -3,7 +3,7 @@ use Rattle.std.specs.Prelude.{◌≡◌, Bool, true, false, unwrap_or}
 use Rattle.auction_terms.specs.declared.Limit.{Limit}
 use Rattle.auction_terms.specs.declared.Limit.TheVariants.{Market, At}
 use Rattle.auction_terms.specs.declared.Stamped.{Stamped}
-use Rattle.order_book.specs.Packing.{limit_of, peak_of, tick_or_zero}
+use Rattle.order_book.specs.Packing.{unpacked_limit, unpacked_peak, tick_or_zero}
 use Rattle.order_book.specs.declared.packed.PackedOrder.TheInside.{Inside}
 
 -- the order with its stamp
@@ -14,9 +14,9 @@ stamped_order packed = record {
     member = packed.member;
     side = packed.side;
     restriction = packed.restriction;
-    limit = limit_of packed.has_limit packed.tick;
+    limit = unpacked_limit packed.has_limit packed.tick;
     quantity = packed.quantity;
-    peak = peak_of packed.peak;
+    peak = unpacked_peak packed.peak;
   };
   stamp = packed.stamp;
 }

@@ -9,14 +9,14 @@ tick_or_zero Market = 0
 tick_or_zero (At tick) = tick
 
 -- the limit at a tick, if there is one
-abbrev pub limit_of : Bool → ℕ → Limit
-limit_of true tick = At tick
-limit_of false tick = Market
+abbrev pub unpacked_limit : Bool → ℕ → Limit
+unpacked_limit true tick = At tick
+unpacked_limit false tick = Market
 
 -- the peak, or none for 0
-abbrev pub peak_of : ℕ → Option ℕ
-peak_of zero = None
-peak_of (suc n) = Some (suc n)
+abbrev pub unpacked_peak : ℕ → Option ℕ
+unpacked_peak zero = None
+unpacked_peak (suc n) = Some (suc n)
 
 -- a peak is none or a number of 32 bits, and not 0
 abbrev pub HasShortPeak : Option ℕ → Type 0

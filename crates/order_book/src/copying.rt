@@ -1,7 +1,7 @@
 //! The open orders emptied, and the open orders copied.
 ghost use Rattle.std.specs.Prelude.{◌≡◌, ◌≤◌, vec_capacity, IfOk};
 ghost use Rattle.slab.specs.Slab.{slab_len};
-ghost use Rattle.order_book.specs.Orders.{HasKeys, without_orders};
+ghost use Rattle.order_book.specs.Orders.{HasKeys, cleared_orders};
 
 use crate::Orders;
 use crate::packed::PackedOrder;
@@ -34,7 +34,7 @@ fn copied_keys(alloc: Global, keys: &[u32], room: usize) -> Result<Vec<u32>, All
 impl Orders {
     /// Removes all orders and forgets their ids and stamps, as if none had been entered. It takes no memory.
     pub fn reset(&mut self)
-        ensures { self.new ≡ without_orders self.old }
+        ensures { self.new ≡ cleared_orders self.old }
     {
         self.orders.clear();
         self.keys.clear();

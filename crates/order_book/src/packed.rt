@@ -1,6 +1,6 @@
 //! An open order with its stamp, in few bytes.
 ghost use Rattle.std.specs.Prelude.{◌≡◌, ◌<◌, ◌^◌};
-ghost use Rattle.order_book.specs.Packing.{HasShortPeak, limit_of, peak_of, tick_or_zero};
+ghost use Rattle.order_book.specs.Packing.{HasShortPeak, unpacked_limit, unpacked_peak, tick_or_zero};
 
 use auction_terms::{Limit, Order, Restriction, Side, Stamped};
 use std::marker::Model;
@@ -47,8 +47,8 @@ fn tick_or_zero(limit: Limit) -> u32
 }
 
 /// The limit at a tick, if there is one.
-fn limit_of(has_limit: bool, tick: u32) -> Limit
-    ensures { result ≡ limit_of has_limit tick }
+fn unpacked_limit(has_limit: bool, tick: u32) -> Limit
+    ensures { result ≡ unpacked_limit has_limit tick }
 {
     if has_limit {
         return Limit::At(tick);
@@ -57,8 +57,8 @@ fn limit_of(has_limit: bool, tick: u32) -> Limit
 }
 
 /// The peak, or none for 0.
-fn peak_of(peak: u32) -> Option<u64>
-    ensures value { result ≡ peak_of peak }
+fn unpacked_peak(peak: u32) -> Option<u64>
+    ensures value { result ≡ unpacked_peak peak }
     ensures short { HasShortPeak result }
 {
     if peak == 0 {
@@ -114,9 +114,9 @@ impl PackedOrder {
             member: self.member,
             side: self.side,
             restriction: self.restriction,
-            limit: limit_of(self.has_limit, self.tick),
+            limit: unpacked_limit(self.has_limit, self.tick),
             quantity: u64::from(self.quantity),
-            peak: peak_of(self.peak),
+            peak: unpacked_peak(self.peak),
         };
         Stamped {
             order,

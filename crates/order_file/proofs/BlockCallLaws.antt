@@ -8,7 +8,7 @@ use Rattle.order_file.specs.Blocks.{BlockState, Rows, and_then_rows, block_rows,
 use Rattle.order_file.specs.Blocks.{rows_within}
 use Rattle.std.specs.Prelude.{IfOk, IfSome, IsSomeAnd, is_ok}
 use Rattle.std.proofs.lemmas.Bool.{true≢false}
-use Rattle.order_file.specs.File.{FailsAsWanted, GivesWanted, calls_after, calls_of, file, within_limit}
+use Rattle.order_file.specs.File.{FailsAsWanted, GivesWanted, calls_after, calls_of_file, file, within_limit}
 use Rattle.order_file.specs.declared.fault.FileFault.{FileFault}
 use Rattle.order_file.specs.declared.fault.FileFault.TheVariants as fault
 use Rattle.order_file.specs.declared.reading.TheConstants.{MAX_BYTES}
@@ -26,10 +26,10 @@ unfolding file rows_within
 file-rows text members max_calls = by_result (within_limit MAX_BYTES text)
   where
     by_result : (r : Result (List ℕ) FileFault)
-        → (r >>= calls_of members max_calls)
+        → (r >>= calls_of_file members max_calls)
         ≡ ((r >>= λ bytes. Ok (records default_config (strip_bom bytes))) >>= λ rows. after []
         (calls_after members max_calls 0 rows))
-    by_result (Ok bytes) = sym (nothing-before (calls_of members max_calls bytes))
+    by_result (Ok bytes) = sym (nothing-before (calls_of_file members max_calls bytes))
     by_result (Err e) = refl
 
 after-twice : (front more : List Call) (r : Result (List Call) FileFault)

@@ -19,15 +19,15 @@ calls_after members max_calls before (r ∷ rs) =
       Ok (call ∷ rest)
 
 -- the calls of the records of a text
-abbrev pub calls_of : ℕ → ℕ → List ℕ → Result (List Call) FileFault
-calls_of members max_calls bytes = calls_after members max_calls 0 (records default_config (strip_bom bytes))
+abbrev pub calls_of_file : ℕ → ℕ → List ℕ → Result (List Call) FileFault
+calls_of_file members max_calls bytes = calls_after members max_calls 0 (records default_config (strip_bom bytes))
 
 -- the bytes, if they are no more than they may be
 unfoldable pub within_limit : ℕ → List ℕ → Result (List ℕ) FileFault
 within_limit most bytes = if nat_lt most (length bytes) then Err TooLong else Ok bytes
 
 unfoldable pub file : List ℕ → ℕ → ℕ → Result (List Call) FileFault
-file bytes members max_calls = within_limit MAX_BYTES bytes >>= calls_of members max_calls
+file bytes members max_calls = within_limit MAX_BYTES bytes >>= calls_of_file members max_calls
 
 -- What a function returned, seen by view, is what was wanted, unless memory ran out or a read failed.
 abbrev pub FailsAsWanted : {Y : Type 0} → FileFault → Result Y FileFault → Type 0

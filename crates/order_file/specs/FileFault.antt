@@ -12,17 +12,17 @@ in_record number fault.BadCount = file.BadCount number
 in_record number (fault.BadField field) = file.BadField number field
 
 -- what is said of the record with this number
-abbrev pub record_text : ℕ → List ℕ → List ℕ
-record_text number words = codes "record " ++ (decimal number ++ (codes ": " ++ words))
+abbrev pub numbered_text : ℕ → List ℕ → List ℕ
+numbered_text number words = codes "record " ++ (decimal number ++ (codes ": " ++ words))
 
 -- the line that is printed of a fault
 abbrev pub fault_text : FileFault → List ℕ
 fault_text file.TooLong = codes "file too long"
 fault_text file.ReadFailed = codes "read failed"
-fault_text (file.BadMember number) = record_text number (codes "bad member")
-fault_text (file.BadCommand number) = record_text number (codes "bad command")
-fault_text (file.BadCount number) = record_text number (codes "wrong number of fields")
-fault_text (file.BadField number field) = record_text number (codes "bad field " ++ decimal field)
-fault_text (file.TooManyCommands number) = record_text number (codes "too many commands")
+fault_text (file.BadMember number) = numbered_text number (codes "bad member")
+fault_text (file.BadCommand number) = numbered_text number (codes "bad command")
+fault_text (file.BadCount number) = numbered_text number (codes "wrong number of fields")
+fault_text (file.BadField number field) = numbered_text number (codes "bad field " ++ decimal field)
+fault_text (file.TooManyCommands number) = numbered_text number (codes "too many commands")
 fault_text file.NotADay = codes "record 1: not a day record"
 fault_text file.NoMemory = codes "out of memory"

@@ -84,8 +84,8 @@ command_of word.ReadTrade fields = lone_number fields >>= λ number. Ok (command
 command_of word.Indicate fields = count_within 2 2 fields >>= λ _. Ok command.Indicate
 command_of word.Uncross fields = count_within 2 2 fields >>= λ _. Ok command.Uncross
 
-unfoldable pub call_of : ℕ → List (List ℕ) → Result Call RecordFault
-call_of members fields = do
+unfoldable pub call_of_record : ℕ → List (List ℕ) → Result Call RecordFault
+call_of_record members fields = do
   member ← member_of members fields
   word ← word_at fields
   command ← command_of word fields
@@ -97,4 +97,4 @@ with_record_number number (Err fault) = Err (in_record number fault)
 
 -- the same, with the number of the record in its fault
 unfoldable pub numbered_call : ℕ → ℕ → List (List ℕ) → Result Call FileFault
-numbered_call members number fields = with_record_number number (call_of members fields)
+numbered_call members number fields = with_record_number number (call_of_record members fields)

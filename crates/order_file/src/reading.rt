@@ -7,7 +7,7 @@ ghost use Rattle.byte_streams.specs.Streams.{TakesAtMost};
 ghost use Rattle.csv.specs.Reading.{default_config, records, strip_bom};
 ghost use Rattle.csv.specs.Records.{fields_of};
 ghost use Rattle.order_file.specs.Calls.{IsReady, calls_left};
-ghost use Rattle.order_file.specs.File.{GivesWanted, IsBelow, IsOfRecord, calls_of, within_limit};
+ghost use Rattle.order_file.specs.File.{GivesWanted, IsBelow, IsOfRecord, calls_of_file, within_limit};
 ghost use Rattle.order_file.specs.Rows.{IsRecordReader, rows_left};
 ghost use Rattle.order_file.specs.declared.reading.TheConstants.{MAX_BYTES};
 
@@ -138,13 +138,13 @@ pub fn reader_of<'a>(alloc: Global, bytes: &'a [u8]) -> Result<Reader<&'a [u8]>,
 
 /// The calls of a file that was read, or its first fault; `members` is how many members there are, `max_calls` how
 /// many commands may be applied.
-pub fn calls_of(
+pub fn calls_of_file(
     alloc: Global,
     bytes: &[u8],
     members: u8,
     max_calls: u32,
 ) -> Result<Vec<Call>, FileFault>
-    ensures calls { GivesWanted (λ v. v.items) result (calls_of members max_calls bytes.now) }
+    ensures calls { GivesWanted (λ v. v.items) result (calls_of_file members max_calls bytes.now) }
     ensures parsed { IfErr result IsOfRecord }
     ensures few { IfOk result (λ v. length v.items ≤ max_calls) }
     ensures below { IfOk result (λ v. All (IsBelow members) v.items) }

@@ -6,7 +6,7 @@ ghost use Rattle.order_file.specs.Field.{number_of, side_of, limit_of, peak_of, 
 ghost use Rattle.order_file.specs.File.{IsOfRecord};
 ghost use Rattle.order_file.specs.CommandWord.{word_of};
 ghost use Rattle.order_file.specs.Record.{field_as, peak_at, restriction_at, member_of, word_at, count_within};
-ghost use Rattle.order_file.specs.Record.{enter_of, change_of, lone_number, command_of, call_of, numbered_call};
+ghost use Rattle.order_file.specs.Record.{enter_of, change_of, lone_number, command_of, call_of_record, numbered_call};
 
 use crate::fault::{FileFault, RecordFault};
 use crate::field::{limit_of, number_of, peak_of, restriction_of, side_of};
@@ -225,10 +225,10 @@ pub fn command_of(word: Word, fields: &ByteRecord) -> Result<Command, RecordFaul
 }
 
 /// The call of a record, or its first fault.
-#[tactic(auto, unfolding(crate::specs::Record::call_of))]
+#[tactic(auto, unfolding(crate::specs::Record::call_of_record))]
 #[inline(always)]
-pub fn call_of(fields: &ByteRecord, members: u8) -> Result<Call, RecordFault>
-    ensures call { result ≡ call_of members (fields_of fields.now) }
+pub fn call_of_record(fields: &ByteRecord, members: u8) -> Result<Call, RecordFault>
+    ensures call { result ≡ call_of_record members (fields_of fields.now) }
     ensures below { IfOk result (λ call. call.member < members) }
 {
     let member = member_of(fields, members)?;
@@ -245,7 +245,7 @@ pub fn numbered_call(fields: &ByteRecord, number: u64, members: u8) -> Result<Ca
     ensures parsed { IfErr result IsOfRecord }
     ensures below { IfOk result (λ call. call.member < members) }
 {
-    match call_of(fields, members) {
+    match call_of_record(fields, members) {
         Ok(call) => Ok(call),
         Err(fault) => Err(fault.in_record(number)),
     }

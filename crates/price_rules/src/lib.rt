@@ -152,7 +152,7 @@ fn highest_deciding(ladder: &Ladder, around: &Around) -> u32
 ///
 /// Around the place where demand and supply cross lie at most four limits among which the price is chosen. A bid below
 /// them adds to the demand at lower limits alone, which are worse by then, and so does an ask above them to the supply.
-pub fn decide(ladder: &Ladder, reference: u32) -> Decision
+pub fn determine_price(ladder: &Ladder, reference: u32) -> Decision
     requires low { ladder.now.low ≤ reference }
     requires high { reference < ladder.now.low + length ladder.now.bids }
     ensures price { OfEachBook ladder.now (λ book. result.price ≡ price book reference) }

@@ -1,7 +1,7 @@
 //! Text that is kept in memory until it is printed.
 
 ghost use Rattle.std.specs.Prelude.{◌≡◌, ◌≤◌, ◌+◌, [], length, IfOk};
-ghost use Rattle.printed_lines.specs.KeptText.{text_of};
+ghost use Rattle.printed_lines.specs.KeptText.{kept_text};
 ghost use Rattle.printed_lines.specs.Printing.{Prints};
 ghost use Rattle.printed_lines.specs.declared.page.TheConstants.{LONGEST_LINE, ROOM};
 
@@ -21,7 +21,7 @@ pub struct KeptText {
 impl KeptText {
     /// No text.
     pub fn new(alloc: Global) -> KeptText
-        ensures { text_of result ≡ [] }
+        ensures { kept_text result ≡ [] }
     {
         KeptText {
             full: Vec::new(alloc),
@@ -31,7 +31,7 @@ impl KeptText {
 
     /// Moves what stands on the page behind the full ones. The error is that memory is refused.
     pub fn turn_page(&mut self) -> Result<(), AllocError>
-        ensures text { text_of self.new ≡ text_of self.old }
+        ensures text { kept_text self.new ≡ kept_text self.old }
         ensures page { IfOk result (λ _. self.new.page ≡ []) }
     {
         self.full.extend_from_slice(self.page.as_slice())?;
@@ -43,7 +43,7 @@ impl KeptText {
     /// memory is refused.
     #[inline(always)]
     pub fn make_room(&mut self) -> Result<(), AllocError>
-        ensures text { text_of self.new ≡ text_of self.old }
+        ensures text { kept_text self.new ≡ kept_text self.old }
         ensures room { IfOk result (λ _. length self.new.page + LONGEST_LINE ≤ ROOM) }
     {
         if self.page.len() > ROOM - LONGEST_LINE {
@@ -54,7 +54,7 @@ impl KeptText {
 
     /// Prints the text.
     pub fn print<S: Sink>(&self, printer: &mut Printer<'_, S>) -> Result<(), WriteFailed>
-        ensures { Prints S.Sink printer.old printer.new result (text_of self.now) }
+        ensures { Prints S.Sink printer.old printer.new result (kept_text self.now) }
     {
         printer.print_whole(self.full.as_slice())?;
         printer.print_whole(self.page.as_slice())

@@ -10,8 +10,9 @@ use Rattle.auction_terms.specs.declared.Reply.{Reply}
 use Rattle.auction_terms.specs.declared.Reply.TheVariants as reply
 use Rattle.auction_terms.specs.Refusals.{refusal_number}
 use Rattle.std.proofs.lemmas.Bool.Decides.{nat_tests}
-use Rattle.reply_list.specs.ReplyList.{IsCoded, IsKept, brief_reply, entered_after, entered_by, next_id, replies_from}
-use Rattle.reply_list.specs.ReplyList.{reply_of, shown_after, shown_by}
+use Rattle.reply_list.specs.ReplyList.{IsCoded, IsKept, brief_reply, entered_after, entered_by, next_id}
+use Rattle.reply_list.specs.ReplyList.{replies_of_codes}
+use Rattle.reply_list.specs.ReplyList.{reply_of_code, shown_after, shown_by}
 use Rattle.reply_list.specs.declared.TheConstants.{ENTERED, OTHER, AGAIN}
 
 -- a refusal's number is its code
@@ -28,7 +29,7 @@ refusal_code refused.NoSuchTrade = refl
 refusal_code refused.PastAuction = refl
 
 pub length-replies : (others : List Reply) (entered shown : ℕ) (codes : List ℕ)
-    → length (replies_from others entered shown codes) ≡ length codes
+    → length (replies_of_codes others entered shown codes) ≡ length codes
 length-replies others entered shown [] = refl
 length-replies others entered shown (code ∷ codes) =
     ap suc (length-replies others (entered_after entered code) (shown_after shown code) codes)
@@ -36,12 +37,12 @@ length-replies others entered shown (code ∷ codes) =
 -- ---- one code more
 
 pub replies-push : (others : List Reply) (entered shown : ℕ) (codes : List ℕ) (code : ℕ)
-    → replies_from others entered shown (codes ++ code ∷ [])
-    ≡ replies_from others entered shown codes
-    ++ reply_of others (entered_by entered codes) (shown_by shown codes) code ∷ []
+    → replies_of_codes others entered shown (codes ++ code ∷ [])
+    ≡ replies_of_codes others entered shown codes
+    ++ reply_of_code others (entered_by entered codes) (shown_by shown codes) code ∷ []
 replies-push others entered shown [] code = refl
 replies-push others entered shown (first ∷ codes) code =
-    ap (λ rs. reply_of others entered shown first ∷ rs)
+    ap (λ rs. reply_of_code others entered shown first ∷ rs)
     (replies-push others (entered_after entered first) (shown_after shown first) codes code)
 
 pub entered-push : (entered : ℕ) (codes : List ℕ) (code : ℕ)
@@ -69,13 +70,13 @@ shown-more shown (code ∷ codes) = omega (arith, more-after shown code, shown-m
 
 -- a code says the same once there are more others
 reply-grown : (others more : List Reply) (entered shown code : ℕ) → shown_after shown code ≤ length others
-    → reply_of (others ++ more) entered shown code ≡ reply_of others entered shown code
-unfolding reply_of
+    → reply_of_code (others ++ more) entered shown code ≡ reply_of_code others entered shown code
+unfolding reply_of_code
 reply-grown others more entered shown code h =
     by_equal (nat_eq code ENTERED) (nat_eq code OTHER) (nat_eq code AGAIN) refl refl refl
   where
     by_equal : (a b c : Bool) → nat_eq code ENTERED ≡ a → nat_eq code OTHER ≡ b → nat_eq code AGAIN ≡ c
-        → reply_of (others ++ more) entered shown code ≡ reply_of others entered shown code
+        → reply_of_code (others ++ more) entered shown code ≡ reply_of_code others entered shown code
     by_equal true b c e f g = rw e refl
     by_equal false true c e f g =
         let within : shown < length others = omega (arith, rw f at h) in
@@ -88,7 +89,7 @@ reply-grown others more entered shown code h =
 -- and so do all codes, which read no more of the others than there are
 pub replies-grown : (others more : List Reply) (entered shown : ℕ) (codes : List ℕ)
     → shown_by shown codes ≤ length others
-    → replies_from (others ++ more) entered shown codes ≡ replies_from others entered shown codes
+    → replies_of_codes (others ++ more) entered shown codes ≡ replies_of_codes others entered shown codes
 replies-grown others more entered shown [] h = refl
 replies-grown others more entered shown (code ∷ codes) h =
     let within : shown_after shown code ≤ length others = omega (arith, shown-more (shown_after shown code) codes) in
@@ -109,8 +110,8 @@ not-again : (code : ℕ) → code < ENTERED → nat_eq code AGAIN ≡ false
 not-again code low = grind (arith, nat_tests)
 
 brief-says : (others : List Reply) (entered shown code : ℕ) → code < ENTERED
-    → reply_of others entered shown code ≡ brief_reply code
-unfolding reply_of
+    → reply_of_code others entered shown code ≡ brief_reply code
+unfolding reply_of_code
 brief-says others entered shown code low = rw (not-entered code low, not-other code low, not-again code low) refl
 
 pub brief-coded : (entered code : ℕ) (said : Reply) → code < ENTERED → brief_reply code ≡ said
@@ -121,7 +122,7 @@ brief-coded entered code said low is = record {
 }
 
 pub entered-coded : (entered : ℕ) → IsCoded entered ENTERED (reply.Entered (next_id entered))
-unfolding reply_of
+unfolding reply_of_code
 entered-coded entered = record {
   says = λ others shown. refl;
   alone = λ shown. refl;
@@ -129,15 +130,15 @@ entered-coded entered = record {
 
 -- the next of the others is the one that was put behind them
 pub other-says : (others all : List Reply) (entered : ℕ) (said : Reply) → all ≡ others ++ said ∷ []
-    → reply_of all entered (length others) OTHER ≡ said
-unfolding reply_of
+    → reply_of_code all entered (length others) OTHER ≡ said
+unfolding reply_of_code
 other-says others all entered said put = rw put (get_or-append_seam others said [] reply.Deleted)
 
 -- the last one is said again
 pub again-says : (others : List Reply) (entered : ℕ) (said : Reply)
     → (0 < length others) × (get_or others (length others - 1) said ≡ said)
-    → reply_of others entered (length others) AGAIN ≡ said
-unfolding reply_of
+    → reply_of_code others entered (length others) AGAIN ≡ said
+unfolding reply_of_code
 again-says [] entered said last = absurd (omega (arith, last.0))
 again-says (first ∷ others) entered said last =
     let back : length (first ∷ others) - 1 ≡ length others = omega arith in
@@ -162,15 +163,15 @@ module _ (others all more : List Reply) (codes reserved after : List ℕ) (enter
         ap (shown_by 0) put-behind ∙ shown-push 0 codes code ∙ ap (λ n. shown_after n code) kept.shown_is ∙ shown;
   }
 
-  pub replies-pushed : (before : List Reply) (said : Reply) → replies_from others 0 0 codes ≡ before
-      → reply_of all entered (length others) code ≡ said → replies_from all 0 0 after ≡ before ++ said ∷ []
+  pub replies-pushed : (before : List Reply) (said : Reply) → replies_of_codes others 0 0 codes ≡ before
+      → reply_of_code all entered (length others) code ≡ said → replies_of_codes all 0 0 after ≡ before ++ said ∷ []
   replies-pushed before said was is =
-      let front : replies_from all 0 0 codes ≡ before =
-      ap (λ l. replies_from l 0 0 codes) grown
+      let front : replies_of_codes all 0 0 codes ≡ before =
+      ap (λ l. replies_of_codes l 0 0 codes) grown
       ∙ replies-grown others more 0 0 codes (omega (arith, kept.shown_is)) ∙ was in
-      let last : reply_of all (entered_by 0 codes) (shown_by 0 codes) code ≡ said =
-      ap (λ e. reply_of all e (shown_by 0 codes) code) kept.entered_is
-      ∙ ap (λ n. reply_of all entered n code) kept.shown_is ∙ is in
-      ap (replies_from all 0 0) put-behind ∙ replies-push all 0 0 codes code
-      ∙ ap (λ rs. rs ++ reply_of all (entered_by 0 codes) (shown_by 0 codes) code ∷ []) front
+      let last : reply_of_code all (entered_by 0 codes) (shown_by 0 codes) code ≡ said =
+      ap (λ e. reply_of_code all e (shown_by 0 codes) code) kept.entered_is
+      ∙ ap (λ n. reply_of_code all entered n code) kept.shown_is ∙ is in
+      ap (replies_of_codes all 0 0) put-behind ∙ replies-push all 0 0 codes code
+      ∙ ap (λ rs. rs ++ reply_of_code all (entered_by 0 codes) (shown_by 0 codes) code ∷ []) front
       ∙ ap (λ r. before ++ r ∷ []) last

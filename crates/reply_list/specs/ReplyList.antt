@@ -33,19 +33,19 @@ shown_after shown code = if nat_eq code OTHER then shown + 1 else shown
 
 -- the reply of a code, where the last entry and so many others were read: one entry more, the next of the others, the
 -- last one again, or a brief reply
-unfoldable pub reply_of : List Reply → ℕ → ℕ → ℕ → Reply
-reply_of others entered shown code =
+unfoldable pub reply_of_code : List Reply → ℕ → ℕ → ℕ → Reply
+reply_of_code others entered shown code =
     if nat_eq code ENTERED then reply.Entered (next_id entered)
     else if nat_eq code OTHER then get_or others shown reply.Deleted
     else if nat_eq code AGAIN then get_or (reply.Deleted ∷ others) shown reply.Deleted
     else brief_reply code
 
 -- the replies of codes
-abbrev pub replies_from : List Reply → ℕ → ℕ → List ℕ → List Reply
-replies_from others entered shown [] = []
-replies_from others entered shown (code ∷ codes) =
-    reply_of others entered shown code
-    ∷ replies_from others (entered_after entered code) (shown_after shown code) codes
+abbrev pub replies_of_codes : List Reply → ℕ → ℕ → List ℕ → List Reply
+replies_of_codes others entered shown [] = []
+replies_of_codes others entered shown (code ∷ codes) =
+    reply_of_code others entered shown code
+    ∷ replies_of_codes others (entered_after entered code) (shown_after shown code) codes
 
 -- what was read once all of these codes were
 abbrev pub entered_by : ℕ → List ℕ → ℕ
@@ -63,5 +63,5 @@ pub record IsKept (codes : List ℕ) (entered : ℕ) (others : List Reply) : Typ
 
 -- a code that says a reply behind the entry with this id, whatever the others are
 pub record IsCoded (entered code : ℕ) (said : Reply) : Type 0 where
-  pub says : (others : List Reply) (shown : ℕ) → reply_of others entered shown code ≡ said
+  pub says : (others : List Reply) (shown : ℕ) → reply_of_code others entered shown code ≡ said
   pub alone : (shown : ℕ) → shown_after shown code ≡ shown

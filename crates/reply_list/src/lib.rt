@@ -9,7 +9,7 @@ ghost use Rattle.std.specs.Prelude.{◌≡◌, ◌<◌, ◌≤◌, ◌+◌, ◌-
 ghost use Rattle.std.specs.Prelude.{ℕ, List, get_or, length, true, IfOk, IfSome, OnErr, OnOk};
 ghost use Rattle.auction_terms.specs.declared.Reply.TheVariants as replies;
 ghost use Rattle.auction_terms.specs.declared.Reply.{Reply};
-ghost use Rattle.reply_list.specs.ReplyList.{IsCoded, brief_reply, entered_after, reply_of, shown_after};
+ghost use Rattle.reply_list.specs.ReplyList.{IsCoded, brief_reply, entered_after, reply_of_code, shown_after};
 
 use auction_terms::{Refusal, Reply};
 use std::alloc::{AllocError, Global};
@@ -35,11 +35,11 @@ pub struct ReplyList {
 impl Model for ReplyList {
     ghost use Rattle.std.specs.Prelude.{List};
     ghost use Rattle.auction_terms.specs.declared.Reply.{Reply};
-    ghost use Rattle.reply_list.specs.ReplyList.{IsKept, replies_from};
+    ghost use Rattle.reply_list.specs.ReplyList.{IsKept, replies_of_codes};
 
     ghost Value = { List Reply };
 
-    ghost view = { λ l. replies_from l.others.items 0 0 l.codes.items };
+    ghost view = { λ l. replies_of_codes l.others.items 0 0 l.codes.items };
 
     ghost invariant = { λ l. IsKept l.codes.items l.entered l.others.items };
 }
@@ -56,11 +56,11 @@ pub struct Replies<'a> {
 impl<'a> Model for Replies<'a> {
     ghost use Rattle.std.specs.Prelude.{◌<◌, ◌+◌, ◌^◌, List, length};
     ghost use Rattle.auction_terms.specs.declared.Reply.{Reply};
-    ghost use Rattle.reply_list.specs.ReplyList.{replies_from};
+    ghost use Rattle.reply_list.specs.ReplyList.{replies_of_codes};
 
     ghost Value = { List Reply };
 
-    ghost view = { λ r. replies_from r.others.now r.entered r.shown r.codes.now };
+    ghost view = { λ r. replies_of_codes r.others.now r.entered r.shown r.codes.now };
 
     ghost invariant = { λ r. r.shown + length r.codes.now < 2 ^ 64 };
 }
@@ -103,7 +103,7 @@ fn ends_with(others: &[Reply], reply: &Reply) -> bool
 /// The code of a reply that is kept whole: it is put behind the others, but where it is the last of them already.
 fn other_code(others: &mut Vec<Reply>, reply: &Reply) -> Result<u8, AllocError>
     ensures said { IfOk result (λ code. (entered : ℕ)
-        → reply_of others.new.items entered (length others.old.items) code ≡ reply.now) }
+        → reply_of_code others.new.items entered (length others.old.items) code ≡ reply.now) }
     ensures shown { IfOk result (λ code. shown_after (length others.old.items) code ≡ length others.new.items) }
     ensures kept { (more : List Reply) × (others.new.items ≡ others.old.items ++ more) }
     ensures refused { OnErr result (others.new.items ≡ others.old.items) }
@@ -119,7 +119,7 @@ fn other_code(others: &mut Vec<Reply>, reply: &Reply) -> Result<u8, AllocError>
 #[inline]
 fn code_of(others: &mut Vec<Reply>, entered: u32, reply: &Reply) -> Result<u8, AllocError>
     ensures said { IfOk result (λ code.
-        reply_of others.new.items entered (length others.old.items) code ≡ reply.now) }
+        reply_of_code others.new.items entered (length others.old.items) code ≡ reply.now) }
     ensures shown { IfOk result (λ code. shown_after (length others.old.items) code ≡ length others.new.items) }
     ensures kept { (more : List Reply) × (others.new.items ≡ others.old.items ++ more) }
     ensures refused { OnErr result (others.new.items ≡ others.old.items) }
@@ -198,10 +198,10 @@ fn last_of(others: &[Reply], shown: usize) -> Reply
 }
 
 /// The reply that a code says behind so many of the others, and entries of which the last has this id.
-#[tactic(auto, unfolding(crate::specs::ReplyList::reply_of))]
+#[tactic(auto, unfolding(crate::specs::ReplyList::reply_of_code))]
 #[inline]
-fn reply_of(others: &[Reply], entered: u32, shown: usize, code: u8) -> Reply
-    ensures { result ≡ reply_of others.now entered shown code }
+fn reply_of_code(others: &[Reply], entered: u32, shown: usize, code: u8) -> Reply
+    ensures { result ≡ reply_of_code others.now entered shown code }
 {
     match code {
         ENTERED => Reply::Entered {
@@ -267,7 +267,7 @@ impl<'a> Replies<'a> {
         ensures { self.old ≡ result ∷ self.new }
     {
         let code = self.codes[0];
-        let reply = reply_of(self.others, self.entered, self.shown, code);
+        let reply = reply_of_code(self.others, self.entered, self.shown, code);
         self.codes = &self.codes[1..];
         self.entered = entered_after(self.entered, code);
         self.shown = shown_after(self.shown, code);

@@ -1,7 +1,7 @@
 //! The story of the day, as `member_board` has it, with its book as a ghost value in place of a type parameter.
 ghost use Rattle.std.specs.Prelude.{◌≡◌, ◌+◌, ◌<◌, ◌≤◌, ◌^◌, ◌++◌, ◌∷◌, [], length, MatchBool};
 ghost use mathlib.Core.List.{IsPrefix};
-ghost use Rattle.board_terms.specs.Stories.{head_of};
+ghost use Rattle.board_terms.specs.Stories.{newest_name};
 ghost use Rattle.shared_board.specs.BoardViews.{beginning};
 
 use auction_terms::Call;
@@ -59,7 +59,7 @@ impl Plain<Call, Call, u64> for Add {
 #[derive(Drop)]
 pub(crate) struct Head {
     pub(crate) word: Word<Call, u64, Law>,
-    ghost head_is: { word ≡ head_of word.book },
+    ghost head_is: { word ≡ newest_name word.book },
 }
 
 /// A beginning of the story that was seen. Contracts see its book and the list of its calls.

@@ -10,7 +10,7 @@ pub record IsCoarse (fine coarse : List ℕ) : Type 0 where
   pub law : (k : ℕ) → k ≤ length coarse → before coarse k ≡ before fine (k * 64)
 
 -- the sums of the blocks of 64 places, and of the groups of 64 blocks
-pub record IsTally (places blocks groups : List ℕ) : Type 0 where
+pub record HasBlockSums (places blocks groups : List ℕ) : Type 0 where
   pub few : length places ≤ MAX_TICKS
   pub blocks_are : IsCoarse places blocks
   pub groups_are : IsCoarse blocks groups

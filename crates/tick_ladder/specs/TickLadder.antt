@@ -13,8 +13,8 @@ use Rattle.auction_terms.specs.Ladder.{LadderView, ladder_of, flag_of, IsTickOf}
 use Rattle.tick_ladder.specs.declared.Ladder.TheInside.{Inside}
 
 -- what the fields stand for
-abbrev pub view_of : Inside → LadderView
-view_of a = record {
+abbrev pub ladder_view : Inside → LadderView
+ladder_view a = record {
   low = a.low;
   bids = a.bids;
   asks = a.asks;
@@ -52,8 +52,8 @@ abbrev pub HasSameTicks : LadderView → LadderView → Type 0
 HasSameTicks view other = (other.low ≡ view.low) × (length other.bids ≡ length view.bids)
 
 -- the ladder with the same ticks, and no order
-abbrev pub without_orders : LadderView → LadderView
-without_orders view = record {
+abbrev pub emptied_ladder : LadderView → LadderView
+emptied_ladder view = record {
   low = view.low;
   bids = replicate (length view.bids) 0;
   asks = replicate (length view.bids) 0;

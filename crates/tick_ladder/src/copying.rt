@@ -1,6 +1,6 @@
 //! A ladder emptied, and a ladder copied.
 ghost use Rattle.std.specs.Prelude.{◌≡◌, IfOk};
-ghost use Rattle.tick_ladder.specs.TickLadder.{HasSameTicks, without_orders};
+ghost use Rattle.tick_ladder.specs.TickLadder.{HasSameTicks, emptied_ladder};
 
 use crate::Ladder;
 use std::alloc::{AllocError, Global};
@@ -8,7 +8,7 @@ use std::alloc::{AllocError, Global};
 impl Ladder {
     /// Takes all quantities away. It takes no memory.
     pub fn reset(&mut self)
-        ensures { self.new ≡ without_orders self.old }
+        ensures { self.new ≡ emptied_ladder self.old }
     {
         self.bids.reset();
         self.asks.reset();

@@ -13,13 +13,13 @@ ghost use Rattle.tick_ladder.specs.TickLadder.{IsInBounds, IsLadder, IsLadderOf}
 ghost use Rattle.tick_ladder.specs.OccupiedPlaces.{IsLastBefore, IsFirstFrom, IsCrossingOf};
 
 mod copying;
-mod tally;
+mod quantities;
 mod walks;
 
 use auction_terms::{Limit, Side};
+use quantities::{Quantities, crossing_of};
 use std::alloc::{AllocError, Global};
 use std::marker::Model;
-use tally::{Tally, crossing_of};
 
 /// The place from which on more is offered than wanted: the last place, counted from the lowest tick, at which the
 /// demand is not below the supply before it, with both.
@@ -37,10 +37,10 @@ pub struct Crossing {
 #[derive(Drop)]
 pub struct Ladder {
     low: u32,
-    bids: Tally,
-    asks: Tally,
+    bids: Quantities,
+    asks: Quantities,
     // 1 where bids or asks stand.
-    present: Tally,
+    present: Quantities,
     market_bids: u64,
     market_asks: u64,
 }
@@ -50,11 +50,11 @@ impl Model for Ladder {
 
     ghost Value = { LadderView };
 
-    ghost use Rattle.tick_ladder.specs.TickLadder.{view_of, IsLadder};
+    ghost use Rattle.tick_ladder.specs.TickLadder.{ladder_view, IsLadder};
 
-    ghost view = { view_of };
+    ghost view = { ladder_view };
 
-    ghost invariant = { λ a. IsLadder (view_of a) };
+    ghost invariant = { λ a. IsLadder (ladder_view a) };
 }
 
 /// 1 where bids or asks stand, else 0.
@@ -86,9 +86,9 @@ impl Ladder {
         let ticks = (high - low) as usize + 1;
         Ok(Ladder {
             low,
-            bids: Tally::open(alloc, ticks)?,
-            asks: Tally::open(alloc, ticks)?,
-            present: Tally::open(alloc, ticks)?,
+            bids: Quantities::open(alloc, ticks)?,
+            asks: Quantities::open(alloc, ticks)?,
+            present: Quantities::open(alloc, ticks)?,
             market_bids: 0,
             market_asks: 0,
         })

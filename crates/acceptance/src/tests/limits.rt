@@ -1,7 +1,7 @@
 //! Numbers at the edges of their limits, in calls of an auction.
 
 use super::{order, reply_to};
-use auction::{Auction, OpenFault, Verdict, audit};
+use auction::{Auction, AuditFinding, OpenFault, audit};
 use auction_terms::{Command, Config, Limit, Refusal, Reply, Restriction, Side};
 use std::test::Fail;
 
@@ -52,7 +52,7 @@ fn configs_with_bounds_and_reference(rt: HostRuntime) {
         let opened = Auction::open(rt.alloc(), config);
         assert!(rt; opened.err() == fault, "{low} {high} {first}");
         let found = audit(rt.alloc(), config, &[]);
-        assert!(rt; found == fault.map_or(Ok(Verdict::Legal), |fault| Err(fault)));
+        assert!(rt; found == fault.map_or(Ok(AuditFinding::Legal), |fault| Err(fault)));
     }
 }
 

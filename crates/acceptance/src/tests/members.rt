@@ -3,7 +3,7 @@ ghost use Rattle.std.specs.Prelude.{◌≡◌, ◌≤◌, length, IfOk};
 ghost use Rattle.member_floor.specs.PlaysScript.{FitsMembers};
 
 use super::closed;
-use auction::{Verdict, audit};
+use auction::{AuditFinding, audit};
 use auction_terms::{Command, Config, MAX_CALLS};
 use left_right::Absorb;
 use member_board::{Board, BoardIdentity, CallFault, Closing, Fresh, Member, Update, Version};
@@ -206,6 +206,6 @@ fn scripts_that_fill_the_history(rt: HostRuntime) -> Result<(), Fail> {
     let closing = closing_under(&rt, rt.alloc(), &OpenGate, 10)?.ok_or("not closed")?;
     assert_eq!(rt; closing.history.len(), 10);
     let verdict = audit(rt.alloc(), TEN_CALLS, closing.history.as_slice())?;
-    assert!(rt; verdict == Verdict::Legal);
+    assert!(rt; verdict == AuditFinding::Legal);
     Ok(())
 }

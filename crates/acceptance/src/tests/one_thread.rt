@@ -1,7 +1,7 @@
 //! The auction of one thread.
 
 use super::{BEST_BID, DAY, bid_entered, order, reply_to};
-use auction::{Auction, OpenFault, Verdict, audit};
+use auction::{Auction, AuditFinding, OpenFault, audit};
 use auction_terms::{AuctionKind, Command, Config, Display, Entry, Price, Reply, Side, Trade};
 
 // Three bids and three asks: 500 shares are executed at 200, and 200 are left on the bid side.
@@ -63,9 +63,9 @@ fn audits(rt: HostRuntime) -> Result<(), OpenFault> {
         reply: Reply::Indicated(BEST_BID),
     };
     let rows = [
-        (DAY, 1, Verdict::Legal),
-        (DAY, 2, Verdict::BadAt(0)),
-        (short, 1, Verdict::BadAt(1)),
+        (DAY, 1, AuditFinding::Legal),
+        (DAY, 2, AuditFinding::BadAt(0)),
+        (short, 1, AuditFinding::BadAt(1)),
     ];
     for (config, id, verdict) in rows {
         let history = [bid_entered(id), closing_under];

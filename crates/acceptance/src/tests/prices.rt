@@ -4,7 +4,7 @@ ghost use Rattle.std.specs.Prelude.{◌≡◌, ◌≤◌, length};
 ghost use Rattle.tick_ladder.specs.TickLadder.{total_quantity};
 
 use auction_terms::{Limit, Price, Side};
-use price_rules::decide;
+use price_rules::determine_price;
 use std::alloc::{AllocError, Global};
 use std::test::Fail;
 use tick_ladder::Ladder;
@@ -67,7 +67,7 @@ fn price_of_orders(
     let mut ladder = Ladder::open(alloc, 1, 1000)?;
     let total = add_all(&mut ladder, 0, BID, bids);
     add_all(&mut ladder, total, ASK, asks);
-    Ok(decide(&ladder, reference).price)
+    Ok(determine_price(&ladder, reference).price)
 }
 
 fn price(tick: u32, volume: u64, surplus: u64, side: Option<Side>) -> Option<Price> {

@@ -2,7 +2,7 @@
 
 use auction_terms::{Call, Command, Limit, Restriction, Side};
 use byte_streams::{FromMemory, Source, SourceFailed};
-use order_file::{FileFault, MAX_BYTES, bytes_of, calls_of};
+use order_file::{FileFault, MAX_BYTES, bytes_of, calls_of_file};
 use std::alloc::Global;
 use std::test::Fail;
 
@@ -14,7 +14,7 @@ pub(super) fn read_orders<R: Source>(
     max_calls: u32,
 ) -> Result<Vec<Call>, FileFault> {
     let bytes = bytes_of(alloc, source, MAX_BYTES)?;
-    calls_of(alloc, bytes.as_slice(), members, max_calls)
+    calls_of_file(alloc, bytes.as_slice(), members, max_calls)
 }
 
 fn read(alloc: Global, text: &[u8]) -> Result<Vec<Call>, FileFault> {

@@ -8,7 +8,7 @@
 use super::reading::read_orders;
 use super::{DAY, bid_entered};
 use allocation::Desk;
-use auction::{Auction, OpenFault, Verdict, audit};
+use auction::{Auction, AuditFinding, OpenFault, audit};
 use auction_terms::{Call, Command, Side};
 use byte_streams::FromMemory;
 use clap::error::ErrorKind;
@@ -42,7 +42,7 @@ fn an_auction_is_opened(rt: HostRuntime) -> Result<(), OpenFault> {
 #[test]
 fn a_history_is_audited(rt: HostRuntime) -> Result<(), OpenFault> {
     let history = [bid_entered(1), bid_entered(1)];
-    assert!(rt; audit(rt.alloc(), DAY, history.as_slice())? == Verdict::BadAt(1));
+    assert!(rt; audit(rt.alloc(), DAY, history.as_slice())? == AuditFinding::BadAt(1));
     Ok(())
 }
 

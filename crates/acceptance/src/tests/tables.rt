@@ -4,7 +4,7 @@ ghost use Rattle.std.specs.Prelude.{◌≡◌, ◌<◌};
 ghost use Rattle.auction_terms.specs.Day.{IsLegal};
 
 use super::{DAY, order, reply_to};
-use auction::{Auction, Verdict, audit};
+use auction::{Auction, AuditFinding, audit};
 use auction_terms::{Command, Config, Entry, Limit, Restriction, Side};
 use byte_streams::{Failures, ToMemory};
 use day_tables::{print_book, print_trades};
@@ -76,7 +76,7 @@ fn table<L: Ledger>(
 fn table_of(alloc: Global, calls: &[(u8, Command)], which: Which) -> Vec<u8> {
     let entries = entries_of(alloc, calls);
     match audit(alloc, DAY, &entries) {
-        Ok(Verdict::Legal) => table::<Brand>(alloc, Blank::new(1), DAY, &entries, which),
+        Ok(AuditFinding::Legal) => table::<Brand>(alloc, Blank::new(1), DAY, &entries, which),
         _ => Vec::new(alloc),
     }
 }

@@ -2,10 +2,10 @@
 ghost use Rattle.std.specs.Prelude.{◌≡◌, ◌≤◌, IfSome, IfNone};
 ghost use Rattle.auction_terms.specs.declared.Limit.TheVariants.{At};
 ghost use Rattle.tick_ladder.specs.TickLadder.{IsInBounds};
-ghost use Rattle.auction.specs.KnownPrice.{is_beyond as beyond, still_known, shown, IsKnownIn};
+ghost use Rattle.auction.specs.KnownPrice.{is_beyond as beyond, still_known, display_known, IsKnownIn};
 
 use auction_terms::{AuctionKind, Display, Limit, Order, Price, Side};
-use price_rules::decide;
+use price_rules::determine_price;
 use tick_ladder::Ladder;
 
 /// The price at a reference, and which orders decide it: bids below `lowest` and asks above `highest`, in ticks, change
@@ -24,7 +24,7 @@ impl KnownPrice {
     /// What is shown: the price, or the best limits where there is none.
     #[inline(always)]
     pub(super) fn display(&self) -> Display
-        ensures { result ≡ shown self.now.price self.now.best_bid self.now.best_ask }
+        ensures { result ≡ display_known self.now.price self.now.best_bid self.now.best_ask }
     {
         match self.price {
             Some(price) => Display::Priced(price),
@@ -86,7 +86,7 @@ pub(super) fn find(ladder: &Ladder, reference: u32) -> KnownPrice
     ensures reference { result.reference ≡ reference }
     ensures known { IsKnownIn ladder.now result }
 {
-    let decision = decide(ladder, reference);
+    let decision = determine_price(ladder, reference);
     match decision.price {
         Some(price) => KnownPrice {
             reference,

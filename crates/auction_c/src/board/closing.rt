@@ -7,7 +7,7 @@ ghost use Rattle.board_terms.specs.declared.closing.Closing.{Closing};
 ghost use Rattle.shared_board.specs.BoardViews.{IsClosingOf, OpenedBoard};
 ghost use Rattle.auction_c.specs.Entries.{AreEntries};
 ghost use Rattle.auction_c.specs.BoardCalls.{HoldAccounts, HoldsAccount, IsAccountError, IsAccountsError, IsCloseError};
-ghost use Rattle.auction_c.specs.BoardCalls.{IsHandleError, IsLockError, WritesClosing, first_held, lacks_room};
+ghost use Rattle.auction_c.specs.BoardCalls.{IsHandleError, IsLockError, WritesClosing, first_boxed, lacks_room};
 ghost use Rattle.auction_c.specs.declared.errors.TheConstants.{BAD_LENGTH, NO_MEMBER};
 
 use crate::board::copying::copy_entries;
@@ -36,22 +36,22 @@ fn account_error(member: &mut SharedMember, number: usize, floor: &TakenFloor) -
 }
 
 // The same of the member that the handle holds.
-fn held_error(handle: &mut AuctionMember, number: usize, floor: &TakenFloor) -> u32
-    requires board { IfSome handle.old.held.value (λ m. m.board ≡ floor.now.board) }
+fn boxed_error(handle: &mut AuctionMember, number: usize, floor: &TakenFloor) -> u32
+    requires board { IfSome handle.old.boxed.value (λ m. m.board ≡ floor.now.board) }
     ensures same { handle.new ≡ handle.old }
-    ensures account { result ≡ 0 → HoldsAccount floor.now number handle.old.held.value }
-    ensures error { 0 < result → IsHandleError floor.now number handle.old.held.value result }
+    ensures account { result ≡ 0 → HoldsAccount floor.now number handle.old.boxed.value }
+    ensures error { 0 < result → IsHandleError floor.now number handle.old.boxed.value result }
 {
     if !handle.is_open {
         return NO_MEMBER;
     }
-    account_error(handle.held.get_mut(), number, floor)
+    account_error(handle.boxed.get_mut(), number, floor)
 }
 
 // `DONE` where the handles hold all members, in the order of their numbers, and their accounts are of this history;
 // else the first error.
 fn accounts_error(handles: &mut [AuctionMember], members: usize, floor: &TakenFloor) -> u32
-    requires one_board { All (λ h. IfSome h.held.value (λ m. m.board ≡ floor.now.board)) handles.old }
+    requires one_board { All (λ h. IfSome h.boxed.value (λ m. m.board ≡ floor.now.board)) handles.old }
     requires members { members ≡ floor.now.board.members }
     ensures same { handles.new ≡ handles.old }
     ensures accounts { result ≡ 0 → HoldAccounts floor.now handles.old }
@@ -61,7 +61,7 @@ fn accounts_error(handles: &mut [AuctionMember], members: usize, floor: &TakenFl
         return MISSING_MEMBER;
     }
     for i in 0..handles.len() {
-        let error = held_error(&mut handles[i], i, floor);
+        let error = boxed_error(&mut handles[i], i, floor);
         if error != DONE {
             return error;
         }
@@ -109,36 +109,36 @@ fn take_first_floor(
     counts: usize,
 ) -> Result<TakenFloor, u32>
     ensures same { first.new ≡ first.old }
-    ensures board { IfOk result (λ f. IsSomeAnd first.old.held.value (λ m. f.board ≡ m.board)) }
+    ensures board { IfOk result (λ f. IsSomeAnd first.old.boxed.value (λ m. f.board ≡ m.board)) }
     ensures room { IfOk result (λ f. (f.board.config.max_calls ≤ room) × (counts ≡ f.board.members)) }
     ensures error { IfErr result (λ e. 0 < e) }
-    ensures missing { IfNone first.old.held.value (result ≡ Err NO_MEMBER) }
-    ensures length { IfSome first.old.held.value (λ m.
+    ensures missing { IfNone first.old.boxed.value (result ≡ Err NO_MEMBER) }
+    ensures length { IfSome first.old.boxed.value (λ m.
         lacks_room m.board room counts ≡ true → result ≡ Err BAD_LENGTH) }
-    ensures lock { IfSome first.old.held.value (λ m.
+    ensures lock { IfSome first.old.boxed.value (λ m.
         lacks_room m.board room counts ≡ false → IfErr result IsLockError) }
 {
     if !first.is_open {
         return Err(NO_MEMBER);
     }
-    take_with_room(first.held.get_mut(), room, counts)
+    take_with_room(first.boxed.get_mut(), room, counts)
 }
 
 fn give_back(first: &mut AuctionMember, floor: TakenFloor)
-    requires board { IfSome first.old.held.value (λ m. floor.board ≡ m.board) }
+    requires board { IfSome first.old.boxed.value (λ m. floor.board ≡ m.board) }
     ensures same { first.new ≡ first.old }
 {
     if first.is_open {
-        first.held.get_mut().give_floor(floor);
+        first.boxed.get_mut().give_floor(floor);
     }
 }
 
 fn end_board(first: &mut AuctionMember, floor: &TakenFloor)
-    requires board { IfSome first.old.held.value (λ m. floor.now.board ≡ m.board) }
+    requires board { IfSome first.old.boxed.value (λ m. floor.now.board ≡ m.board) }
     ensures same { first.new ≡ first.old }
 {
     if first.is_open {
-        first.held.get_mut().shut(floor);
+        first.boxed.get_mut().shut(floor);
     }
 }
 
@@ -149,17 +149,17 @@ pub(crate) fn close_all(
     counts: &mut [u32],
     written: &mut usize,
 ) -> u32
-    requires one_board { (board : OpenedBoard) × All (λ h. IfSome h.held.value (λ m. m.board ≡ board)) handles.old }
+    requires one_board { (board : OpenedBoard) × All (λ h. IfSome h.boxed.value (λ m. m.board ≡ board)) handles.old }
     ensures same { handles.new ≡ handles.old }
     ensures done { result ≡ 0 →
         (board : OpenedBoard) × WritesClosing board handles.old entries.new counts.new written.new }
     ensures unchanged { 0 < result →
         (entries.new ≡ entries.old) × (counts.new ≡ counts.old) × (written.new ≡ written.old) }
     ensures empty { length handles.old ≡ 0 → result ≡ BAD_LENGTH }
-    ensures missing { 0 < length handles.old → IfNone (first_held handles.old) (result ≡ NO_MEMBER) }
-    ensures length { IfSome (first_held handles.old) (λ m.
+    ensures missing { 0 < length handles.old → IfNone (first_boxed handles.old) (result ≡ NO_MEMBER) }
+    ensures length { IfSome (first_boxed handles.old) (λ m.
         lacks_room m.board (length entries.old) (length counts.old) ≡ true → result ≡ BAD_LENGTH) }
-    ensures error { IfSome (first_held handles.old) (λ m.
+    ensures error { IfSome (first_boxed handles.old) (λ m.
         lacks_room m.board (length entries.old) (length counts.old) ≡ false → 0 < result →
         IsCloseError m.board handles.old result) }
 {

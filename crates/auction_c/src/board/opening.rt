@@ -30,7 +30,7 @@ fn boxed(alloc: Global, members: Vec<SharedMember>) -> Result<Vec<Box<SharedMemb
 // Puts the members into the handles, in order.
 fn put_in(handles: &mut [AuctionMember], members: Vec<Box<SharedMember>>)
     requires { length handles.old ≡ length members.items }
-    ensures { map (λ h. h.held.value) handles.new ≡ map (λ b. Some b.value) members.items }
+    ensures { map (λ h. h.boxed.value) handles.new ≡ map (λ b. Some b.value) members.items }
 {
     let mut i = 0;
     for member in members {

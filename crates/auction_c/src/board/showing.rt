@@ -7,7 +7,7 @@ use crate::board::copying::copy_entries;
 use crate::board::taking::{see_floor, take_floor, take_seen_floor};
 use crate::copying::{copy_ladder, copy_trades};
 use crate::errors::{BAD_LENGTH, DONE};
-use crate::structs::{AuctionEntry, AuctionMarket, AuctionTrade};
+use crate::structs::{AuctionEntry, AuctionMarketOrders, AuctionTrade};
 use auction_terms::{Entry, Trade};
 use shared_board::SharedMember;
 
@@ -31,7 +31,7 @@ pub(crate) fn show_ladder(
     member: &mut SharedMember,
     bids: &mut [u64],
     asks: &mut [u64],
-    market: &mut AuctionMarket,
+    market: &mut AuctionMarketOrders,
     calls: &mut u32,
 ) -> u32
     ensures done { result ≡ 0 → ShowsLadder bids.new asks.new market.new calls.new member.old member.new }

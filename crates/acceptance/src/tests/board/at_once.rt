@@ -2,7 +2,7 @@
 ghost use Rattle.std.specs.Prelude.{◌≡◌};
 
 use super::{CONFIG, check, shows};
-use auction::{Verdict, audit};
+use auction::{AuditFinding, audit};
 use auction_terms::{Command, Display, Entry, Limit, Price, Restriction, Side};
 use left_right::Absorb;
 use member_board::{Board, BoardIdentity, Closing, Fresh, Member, Receipt, Update, Version, close};
@@ -192,7 +192,7 @@ fn one_day<R: Wait + Threads + Sync>(rt: &R, alloc: Global) -> Result<(), Fail> 
         "wrong counts",
     )?;
     let verdict = audit(alloc, CONFIG, closing.history.as_slice()).map_err(|_| "not audited")?;
-    check(verdict == Verdict::Legal, "not legal")?;
+    check(verdict == AuditFinding::Legal, "not legal")?;
     let mut number = 0u8;
     for own in receipts.iter() {
         check(

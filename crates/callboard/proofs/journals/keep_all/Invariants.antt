@@ -2,14 +2,14 @@
 use Rattle.std.proofs.Common.{◌≡◌, ◌+◌, ◌++◌, List, drop}
 use Rattle.auction_terms.specs.declared.Call.{Call}
 use Rattle.auction_terms.specs.declared.Entry.{Entry}
-use Rattle.callboard.specs.KeptEntries.{KeepsEntries, after_calls, form_of}
+use Rattle.callboard.specs.KeptEntries.{KeepsEntries, after_calls, form_kept}
 use Rattle.callboard.specs.Printed.{entries_from}
 use Rattle.callboard.proofs.journals.keep_all.Given as goal
 
 -- The calls so far came to the auction and are kept.
 abbrev pub invariant-loop-call : goal.invariant-loop-call
 invariant-loop-call l = record {
-  form : form_of l.kept ≡ form_of l.fn.kept;
+  form : form_kept l.kept ≡ form_kept l.fn.kept;
   config : l.auction.config ≡ l.fn.auction.config;
   count : l.auction.calls ≡ l.fn.auction.calls + l.call-index;
   calls : (front : List Call) × (l.auction ≡ after_calls l.fn.auction front)

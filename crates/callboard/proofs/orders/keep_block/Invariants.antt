@@ -6,7 +6,7 @@ use Rattle.order_file.specs.Blocks.{block_rows}
 use Rattle.order_file.specs.Calls.{IsReady, calls_left}
 use Rattle.order_file.specs.File.{calls_after}
 use Rattle.order_file.proofs.CallLaws.{after}
-use Rattle.callboard.specs.KeptEntries.{KeepsEntries, after_calls, form_of}
+use Rattle.callboard.specs.KeptEntries.{KeepsEntries, after_calls, form_kept}
 use Rattle.callboard.specs.Printed.{entries_from}
 use Rattle.callboard.proofs.orders.keep_block.Given as goal
 
@@ -14,7 +14,7 @@ use Rattle.callboard.proofs.orders.keep_block.Given as goal
 abbrev pub invariant-turns : goal.invariant-turns
 invariant-turns l = record {
   ready : IsReady l.members l.fn.auction.config.max_calls l.auction.calls l.calls;
-  form : form_of l.kept ≡ form_of l.fn.kept;
+  form : form_kept l.kept ≡ form_kept l.fn.kept;
   config : l.auction.config ≡ l.fn.auction.config;
   calls : (front : List Call) × (l.auction ≡ after_calls l.fn.auction front)
       × (after front (calls_left l.calls)

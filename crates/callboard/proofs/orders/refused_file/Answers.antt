@@ -1,6 +1,6 @@
 -- Answers of `refused_file` (src/orders.rt): what the prover left open; rt looks here.
 use Rattle.std.proofs.Common.{ℕ, List, Err, subst}
-use Rattle.order_file.specs.File.{calls_of}
+use Rattle.order_file.specs.File.{calls_of_file}
 use Rattle.callboard.specs.KeptEntries.{KeepsDay, calls_for}
 use Rattle.callboard.proofs.FileSaidLaws.{file-read, file-unread}
 use Rattle.callboard.proofs.orders.refused_file.Goals as goal
@@ -10,7 +10,7 @@ returns-in-Ok-clause-kept g c = λ form.
     file-read form c.args.day _ c.in-Ok.bytes.items (Err c.refused_orders.result) c.in-Ok.ensures.bytes
     (subst
     (λ (bytes : List ℕ). KeepsDay form
-    (calls_for c.args.day (calls_of c.args.day.members c.args.day.config.max_calls bytes))
+    (calls_for c.args.day (calls_of_file c.args.day.members c.args.day.config.max_calls bytes))
     (Err c.refused_orders.result))
     c.as_slice.ensures.value (c.refused_orders.ensures.kept form))
 

@@ -5,7 +5,7 @@ use Rattle.auction_terms.specs.declared.Call.{Call}
 use Rattle.auction_terms.specs.Auxiliary.RunningAuction.{opened_auction}
 use Rattle.order_file.specs.Blocks.{turns_left}
 use Rattle.order_file.proofs.BlockCallLaws.{CarriesCalls}
-use Rattle.callboard.specs.KeptEntries.{KeepsEntries, after_calls, form_of}
+use Rattle.callboard.specs.KeptEntries.{KeepsEntries, after_calls, form_kept}
 use Rattle.callboard.specs.Printed.{history_of}
 use Rattle.callboard.proofs.FileSaidLaws.{BeginsOrders}
 use Rattle.callboard.proofs.run.run_file.Given as goal
@@ -16,7 +16,7 @@ abbrev pub invariant-turns : goal.invariant-turns
 invariant-turns g l = record {
   untouched : l.writer ≡ l.fn.writer;
   steady : g.R.Source.failures l.reader ≡ g.R.Source.failures l.fn.reader;
-  form : form_of l.kept ≡ l.fn.form;
+  form : form_kept l.kept ≡ l.fn.form;
   room : l.auction.calls ≤ l.day.config.max_calls;
   calls : (start : List ℕ) × (rest : Option (List ℕ)) × (front : List Call)
       × BeginsOrders (g.R.Source.left l.fn.reader) rest start

@@ -1,5 +1,5 @@
 -- Answers of `serve` (src/serve.rt): what the prover left open; rt looks here.
-use Rattle.callboard.specs.Served.{day_of}
+use Rattle.callboard.specs.Served.{day_of_settings}
 use Rattle.callboard.proofs.ServedLaws.{does-kept, serves-settings, serves-words}
 use Rattle.callboard.proofs.serve.serve.Goals as goal
 
@@ -10,5 +10,5 @@ pub returns-in-Some : goal.returns-in-Some
 returns-in-Some g c =
     serves-settings _ _ c.in-Ok.settings _ _ c.serve_kept.result c.in-Ok.ensures.words c.in-Ok.ensures.ranges
     c.in-Live.is
-    (does-kept _ (day_of c.in-Ok.settings) c.in-Ok.settings.journal c.in-Some.file c.in-Live.reserve _
+    (does-kept _ (day_of_settings c.in-Ok.settings) c.in-Ok.settings.journal c.in-Some.file c.in-Live.reserve _
     c.serve_kept.result c.in-Some.is c.serve_kept.ensures)

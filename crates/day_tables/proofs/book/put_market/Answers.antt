@@ -1,12 +1,12 @@
 -- Answers of `put_market` (src/book.rt): what the prover left open; rt looks here.
 use Rattle.std.proofs.Common.{codes, decimal}
-use Rattle.day_tables.specs.TableRows.{market_row}
+use Rattle.day_tables.specs.TableRows.{market_table_row}
 use Rattle.day_tables.proofs.RecordLaws.{field-more}
 use Rattle.day_tables.proofs.BookTableLaws.{field-rest}
 use Rattle.day_tables.proofs.book.put_market.Goals as goal
 
 pub returns : goal.returns
-unfolding market_row
+unfolding market_table_row
 returns c =
     let table = c.args.table.now in
     field-more _ _ _ _ _ c.put_number.ensures.text

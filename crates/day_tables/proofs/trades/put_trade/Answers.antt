@@ -9,8 +9,8 @@ returns c =
     field-more _ _ _ _ _ c.put_number.ensures.text
     (field-more _ _ _ _ _ (rw c.kind_word.ensures.word at c.put_word.ensures.text)
     (field-more _ _ _ _ _ (rw c.from.ensures at c.put_number-2.ensures.text)
-    (field-more _ _ _ _ _ (rw c.member_of.ensures at c.put_member.ensures.text)
+    (field-more _ _ _ _ _ (rw c.member_who_entered.ensures at c.put_member.ensures.text)
     (field-more _ _ _ _ _ (rw c.from-2.ensures at c.put_number-3.ensures.text)
-    (field-more _ _ _ _ _ (rw c.member_of-2.ensures at c.put_member-2.ensures.text)
+    (field-more _ _ _ _ _ (rw c.member_who_entered-2.ensures at c.put_member-2.ensures.text)
     (field-more _ _ _ _ _ c.put_number-4.ensures.text
     (field-last _ _ _ _ (rw c.from-3.ensures at c.put_number-5.ensures.text) c.put.ensures.text)))))))

@@ -30,8 +30,8 @@ returns-then-error-ne-DONE-clause-error c =
     let some : 0 < error = omega (arith, c.if-error-ne-DONE.true) in
     let accounts : IsAccountsError f now error =
     subst (λ (hs : List AuctionMember). IsAccountsError f hs error) back (c.accounts_error-error.ensures.error some) in
-    let held : IsSomeAnd c.index-handles-0.result.held.value (λ (m : BoardMember). f.board ≡ m.board) =
-    subst (λ (a : AuctionMember). IsSomeAnd a.held.value (λ (m : BoardMember). f.board ≡ m.board))
+    let boxed : IsSomeAnd c.index-handles-0.result.boxed.value (λ (m : BoardMember). f.board ≡ m.board) =
+    subst (λ (a : AuctionMember). IsSomeAnd a.boxed.value (λ (m : BoardMember). f.board ≡ m.board))
     (sym c.index-handles-0.is) c.in-Ok.ensures.board in
     close_error f now c.index-handles-0.result (length c.args.entries.now) (length c.args.counts.now) error
-    (sym c.is_empty.ensures ∙ c.if-is_empty.false) c.index-handles-0.is held accounts
+    (sym c.is_empty.ensures ∙ c.if-is_empty.false) c.index-handles-0.is boxed accounts

@@ -8,6 +8,6 @@ use Rattle.auction_c.proofs.board.opening.is_in_use.Goals as goal
 
 pub returns : goal.returns
 returns c =
-    let test = λ (h : AuctionMember). is_some h.held.value in
+    let test = λ (h : AuctionMember). is_some h.boxed.value in
     any_from_yields_List test _ _ c.any.result c.any.ensures.ran (YieldsList-from_slice c.args.handles.now cc)
     (λ x b q k. search (rules, tests))

@@ -7,5 +7,5 @@ invariant-loop-member l = record {
   at : l.i ≡ length l.yielded;
   wide : length l.handles ≡ length l.fn.members.items;
   split : l.yielded ++ l.member-iterator.rest.items ≡ l.fn.members.items;
-  members : map (λ h. h.held.value) (take l.i l.handles) ≡ map (λ b. Some b.value) l.yielded;
+  members : map (λ h. h.boxed.value) (take l.i l.handles) ≡ map (λ b. Some b.value) l.yielded;
 }

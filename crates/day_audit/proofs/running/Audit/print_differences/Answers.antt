@@ -7,7 +7,7 @@ use Rattle.day_audit.proofs.AnswerLaws.{counts_with_all-end, counts_with_all-nex
 use Rattle.day_audit.proofs.AnswerLaws.{text_at-place}
 use Rattle.auction_terms.specs.declared.Call.{Call}
 use Rattle.day_audit.specs.Answers.{finding_of}
-use Rattle.day_audit.specs.BegunAudit.{day_of}
+use Rattle.day_audit.specs.BegunAudit.{audited_day}
 use Rattle.day_audit.proofs.running.Audit.print_differences.Goals as goal
 
 pub loop-before-init : goal.loop-before-init
@@ -35,14 +35,14 @@ calls-gone calls items before is h = rw (← is) h
 pub print_finding-requires : goal.print_finding-requires
 print_finding-requires g c =
     let left = calls-left _ _ _ c.deref-call-items.ensures.value c.loop-before-test.true in
-    let inside : c.loop-before.before < length (day_of c.args.self.now).texts = rw c.requires.even left in
+    let inside : c.loop-before.before < length (audited_day c.args.self.now).texts = rw c.requires.even left in
     rw (c.text_at-text.ensures, text_at-place _ _ inside) (short-text _ _ c.requires.texts inside)
 
 pub returns-in_err-print_finding-clause-printed : goal.returns-in_err-print_finding-clause-printed
 returns-in_err-print_finding-clause-printed g c =
     let (journal, config, calls, page, entries, compared, unlawful, counts, front, is, printed) =
     c.loop-before.invariant in
-    let day = day_of c.args.self.now in
+    let day = audited_day c.args.self.now in
     let left = calls-left _ _ _ c.deref-call-items.ensures.value c.loop-before-test.true in
     let inside : c.loop-before.before < length day.texts = rw c.requires.even left in
     let call = ap (λ (calls : List Call). get_or calls c.loop-before.before _) c.deref-call-items.ensures.value in
@@ -56,7 +56,7 @@ pub loop-before-preserved : goal.loop-before-preserved
 loop-before-preserved g c =
     let (journal, config, calls, page, entries, compared, unlawful, counts, front, is, printed) =
     c.loop-before.invariant in
-    let day = day_of c.args.self.now in
+    let day = audited_day c.args.self.now in
     let left = calls-left _ _ _ c.deref-call-items.ensures.value c.loop-before-test.true in
     let inside : c.loop-before.before < length day.texts = rw c.requires.even left in
     let call = ap (λ (calls : List Call). get_or calls c.loop-before.before _) c.deref-call-items.ensures.value in
@@ -83,12 +83,12 @@ pub returns-clause-printed : goal.returns-clause-printed
 returns-clause-printed g c =
     let (journal, config, calls, page, entries, compared, unlawful, counts, front, is, printed) =
     c.loop-before.invariant in
-    rw (← differences-end (day_of c.args.self.now) _ _ _ _
+    rw (← differences-end (audited_day c.args.self.now) _ _ _ _
     (calls-gone _ _ _ c.deref-call-items.ensures.value c.loop-before-test.false) c.requires.even is) printed
 
 pub returns-clause-counts : goal.returns-clause-counts
 returns-clause-counts g c =
     let (journal, config, calls, page, entries, compared, unlawful, counts, front, is, printed) =
     c.loop-before.invariant in
-    counts_with_all-end (day_of c.args.self.now) _ _ _ _
+    counts_with_all-end (audited_day c.args.self.now) _ _ _ _
     (calls-gone _ _ _ c.deref-call-items.ensures.value c.loop-before-test.false) c.requires.even counts

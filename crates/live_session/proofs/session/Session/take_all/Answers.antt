@@ -2,7 +2,7 @@
 -- Of `Session::take_all`: one more line, in the form that `rt` wants.
 use Rattle.std.proofs.Common.{◌≡◌, [], refl, ap, subst, sym, rules, OnOk, ◌∙◌}
 use Rattle.live_session.specs.Hearing.{HasHeard}
-use Rattle.live_session.specs.InputLines.{Lines, lines_after}
+use Rattle.live_session.specs.InputLines.{Lines, lines_once_read}
 use Rattle.live_session.proofs.InputLineLaws.{lines-longer, lines-none, no-bytes}
 use Rattle.live_session.proofs.SessionLaws.{next-line}
 use Rattle.live_session.proofs.session.Session.take_all.Goals as goal
@@ -30,4 +30,4 @@ returns c = λ terms start lines given committed h.
     let (now, at, same) = c.lines.invariant terms start lines given committed h in
     let none : c.lines.rest.now ≡ [] = no-bytes _ (search rules) in
     subst (λ (l : Lines). HasHeard c.lines.self terms start l given committed)
-    (sym (lines-none now) ∙ ap (lines_after now) (sym none) ∙ same) at
+    (sym (lines-none now) ∙ ap (lines_once_read now) (sym none) ∙ same) at

@@ -1,0 +1,17 @@
+-- What a `AuctionBox` owns: the same as a `Box<Auction>`, or nothing.
+use Rattle.std.specs.Prelude.{Option, Some, None}
+use Rattle.std.specs.Coded.{coded_option}
+use base.Fml.{Fml, ftrue}
+use base.Stored.{Coded}
+use denote.RawPtr.{Ptr}
+use Rattle.std.specs.Box.Ownership.{box_owns}
+use Rattle.std.specs.Global.{Global}
+use Rattle.std_heap.specs.contracts.GlobalAllocator.TheImpl.{ghosts}
+use Rattle.auction.specs.contracts.Auction.{the_row}
+
+abbrev pub box_owns : Global → Ptr → Option the_row.Denot → Fml
+box_owns alloc at None = ftrue
+box_owns alloc at (Some value) = box_owns (ghosts.dealloc_token alloc) the_row at value
+
+abbrev pub auction_coded : Coded (Option the_row.Denot)
+auction_coded = coded_option the_row.coded
