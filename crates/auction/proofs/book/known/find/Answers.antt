@@ -7,7 +7,7 @@ use Rattle.auction.proofs.book.known.find.Goals as goal
 pub returns-in-None-clause-known : goal.returns-in-None-clause-known
 returns-in-None-clause-known c book ladder over other others same =
     let v = c.args.ladder.now in
-    let decision = c.decide-decision.result in
+    let decision = c.determine_price-decision.result in
     let bid = c.best-best_bid.ensures.book book over.positive ladder in
     let ask = c.best-best_ask.ensures.book book over.positive ladder in
     let wider =
@@ -18,7 +18,7 @@ returns-in-None-clause-known c book ladder over other others same =
     c.highest_unpriced.ensures.none in
     record {
       of = refl;
-      found = sym (sym c.in-None.is ∙ c.decide-decision.ensures.deciding book other ladder others wider);
+      found = sym (sym c.in-None.is ∙ c.determine_price-decision.ensures.deciding book other ladder others wider);
       displayed = display_of-none other c.best-best_bid.result c.best-best_ask.result
           (bid ∙ best_bid_same v.low (length v.bids) c.lowest_unpriced.result c.highest_unpriced.result book other over
           others same (subst (λ o. IfSome o (λ t. c.lowest_unpriced.result ≤ t)) bid c.lowest_unpriced.ensures.best)
