@@ -11,7 +11,7 @@ use Rattle.std_heap.specs.contracts.GlobalAllocator.TheImpl.{ghosts, dict}
 use Rattle.std_heap.proofs.Global.TheLaws as heap
 use Rattle.shared_board.specs.contracts.member.SharedMember as Auction
 use Rattle.shared_board.proofs.member.SharedMember.TheLaws as auction
-use Rattle.auction_c.specs.contracts.boxed.parts.Parts as Parts
+use Rattle.auction_c.specs.contracts.auction_box.parts.Parts as Parts
 use Rattle.auction_c.specs.contracts.member_box.MemberBox as AuctionBox
 
 abbrev pub E : Bx

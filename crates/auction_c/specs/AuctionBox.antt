@@ -1,4 +1,4 @@
--- What a `AuctionBox` owns: the same as a `Box<Auction>`, or nothing.
+-- What an `AuctionBox` owns: the same as a `Box<Auction>`, or nothing.
 use Rattle.std.specs.Prelude.{Option, Some, None}
 use Rattle.std.specs.Coded.{coded_option}
 use base.Fml.{Fml, ftrue}
@@ -9,9 +9,9 @@ use Rattle.std.specs.Global.{Global}
 use Rattle.std_heap.specs.contracts.GlobalAllocator.TheImpl.{ghosts}
 use Rattle.auction.specs.contracts.Auction.{the_row}
 
-abbrev pub box_owns : Global → Ptr → Option the_row.Denot → Fml
-box_owns alloc at None = ftrue
-box_owns alloc at (Some value) = box_owns (ghosts.dealloc_token alloc) the_row at value
+abbrev pub optional_box_owns : Global → Ptr → Option the_row.Denot → Fml
+optional_box_owns alloc at None = ftrue
+optional_box_owns alloc at (Some value) = box_owns (ghosts.dealloc_token alloc) the_row at value
 
 abbrev pub auction_coded : Coded (Option the_row.Denot)
 auction_coded = coded_option the_row.coded

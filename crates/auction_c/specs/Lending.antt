@@ -3,8 +3,8 @@ use Rattle.std.specs.Borrow.{Lends, MutBor, Fml}
 use Rattle.std.specs.Prelude.{Some}
 use Rattle.auction_terms.specs.Auxiliary.RunningAuction.{RunningAuction}
 use Rattle.auction.specs.contracts.Auction.{the_row as auction_row}
-use Rattle.auction_c.specs.declared.boxed.AuctionBox.{AuctionBox}
-use Rattle.auction_c.specs.contracts.boxed.AuctionBox.{the_row}
+use Rattle.auction_c.specs.declared.auction_box.AuctionBox.{AuctionBox}
+use Rattle.auction_c.specs.contracts.auction_box.AuctionBox.{the_row}
 
 -- h with the auction w
 abbrev pub with_auction : AuctionBox → RunningAuction → AuctionBox

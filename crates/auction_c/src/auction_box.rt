@@ -1,7 +1,7 @@
 //! An auction on the heap, or none.
 ghost use Rattle.std.specs.Prelude.{◌≡◌, Option, Some, None, IsSome};
 ghost use Rattle.auction_terms.specs.Auxiliary.RunningAuction.{RunningAuction};
-ghost use Rattle.auction_c.specs.AuctionBox.{auction_coded, box_owns};
+ghost use Rattle.auction_c.specs.AuctionBox.{auction_coded, optional_box_owns};
 
 pub(crate) mod parts;
 
@@ -21,7 +21,7 @@ pub struct AuctionBox {
 }
 
 impl Model for AuctionBox {
-    ghost also_owns = { λ h. box_owns h.alloc h.at h.value };
+    ghost also_owns = { λ h. optional_box_owns h.alloc h.at h.value };
 }
 
 // A handle goes from thread to thread as the auction that it holds.

@@ -1,7 +1,7 @@
 //! A member of a board on the heap, or none.
 ghost use Rattle.std.specs.Prelude.{◌≡◌, Option, Some, None, IsSome};
 ghost use Rattle.shared_board.specs.BoardViews.{BoardMember};
-ghost use Rattle.auction_c.specs.MemberBox.{member_coded, box_owns};
+ghost use Rattle.auction_c.specs.MemberBox.{member_coded, optional_box_owns};
 
 use crate::auction_box::parts::Parts;
 use shared_board::SharedMember;
@@ -19,7 +19,7 @@ pub struct MemberBox {
 }
 
 impl Model for MemberBox {
-    ghost also_owns = { λ h. box_owns h.alloc h.at h.value };
+    ghost also_owns = { λ h. optional_box_owns h.alloc h.at h.value };
 }
 
 // A handle goes from thread to thread as the member that it holds.

@@ -13,10 +13,10 @@ use Rattle.std_alloc.proofs.SendSync.{quiet, lies}
 use Rattle.std_heap.proofs.Global.TheSendSync as handle
 use Rattle.auction.specs.contracts.Auction as Member
 use Rattle.auction.proofs.Auction.TheSendSync.{the_send as member}
-use Rattle.auction_c.specs.AuctionBox.{box_owns}
-use Rattle.auction_c.specs.contracts.boxed.AuctionBox.{the_row, the_type}
+use Rattle.auction_c.specs.AuctionBox.{optional_box_owns}
+use Rattle.auction_c.specs.contracts.auction_box.AuctionBox.{the_row, the_type}
 
-keyless : (alloc : Global) (at : Ptr) (o : Option Member.the_row.Denot) → Keyless (box_owns alloc at o)
+keyless : (alloc : Global) (at : Ptr) (o : Option Member.the_row.Denot) → Keyless (optional_box_owns alloc at o)
 keyless alloc at None = tt
 keyless alloc at (Some v) = (lies Member.the_row member at v, heap.frees.frees alloc (raw (lone Member.the_row.mir)) at)
 

@@ -41,8 +41,8 @@ use Rattle.std_alloc.proofs.BoxSteps.Steps.{box_out, box_in}
 use Rattle.auction_c.specs.Lending.{with_auction}
 use Rattle.std.specs.Prelude.{Option, IsSome, Some}
 use Rattle.auction_c.proofs.AsBox.{E, HB, CR, as_box, holding, Some-inner}
-use Rattle.auction_c.specs.contracts.boxed.AuctionBox.get_mut as F
-use Rattle.auction_c.specs.contracts.boxed.AuctionBox.get_mut.Key.{name as #self}
+use Rattle.auction_c.specs.contracts.auction_box.AuctionBox.get_mut as F
+use Rattle.auction_c.specs.contracts.auction_box.AuctionBox.get_mut.Key.{name as #self}
 use Rattle.auction_c.proofs.auction_box.AuctionBox.get_mut.Statement as stated
 use Rattle.auction_c.proofs.auction_box.AuctionBox.get_mut.Code as code
 

@@ -28,8 +28,8 @@ use Rattle.std_alloc.proofs.BoxSteps.Form.{D, B, word, box_typed}
 use Rattle.std_alloc.proofs.BoxSteps.Steps.{box_out, box_in}
 use Rattle.std.specs.Prelude.{Option, IsSome}
 use Rattle.auction_c.proofs.AsBox.{E, HB, CR, as_box, holding, Some-inner, FromBox as From}
-use Rattle.auction_c.specs.contracts.boxed.AuctionBox.into_parts as F
-use Rattle.auction_c.specs.contracts.boxed.AuctionBox.into_parts.Key.{name as #self}
+use Rattle.auction_c.specs.contracts.auction_box.AuctionBox.into_parts as F
+use Rattle.auction_c.specs.contracts.auction_box.AuctionBox.into_parts.Key.{name as #self}
 use Rattle.auction_c.proofs.auction_box.AuctionBox.into_parts.Statement as stated
 use Rattle.auction_c.proofs.auction_box.AuctionBox.into_parts.Code as code
 

@@ -35,8 +35,8 @@ use Rattle.std_alloc.proofs.ResultValues.{and_tt}
 use Rattle.std_alloc.proofs.BoxSteps.Form.{P, box_ty, owning}
 use Rattle.std.specs.Prelude.{None}
 use Rattle.auction_c.proofs.AsBox.{E}
-use Rattle.auction_c.specs.contracts.boxed.AuctionBox.none as F
-use Rattle.auction_c.specs.contracts.boxed.AuctionBox.none.Key.{name as #self}
+use Rattle.auction_c.specs.contracts.auction_box.AuctionBox.none as F
+use Rattle.auction_c.specs.contracts.auction_box.AuctionBox.none.Key.{name as #self}
 use Rattle.auction_c.proofs.auction_box.AuctionBox.none.Statement as stated
 use Rattle.auction_c.proofs.auction_box.AuctionBox.none.Code as code
 

@@ -27,8 +27,8 @@ use Rattle.std.specs.Prelude.{Some}
 use Rattle.std_alloc.proofs.BoxSteps.Form.{D, B, word, box_typed}
 use Rattle.std_alloc.proofs.BoxSteps.Steps.{box_out, box_in}
 use Rattle.auction_c.proofs.AsBox.{E, FromParts as From}
-use Rattle.auction_c.specs.contracts.boxed.AuctionBox.of_parts as F
-use Rattle.auction_c.specs.contracts.boxed.AuctionBox.of_parts.Key.{name as #self}
+use Rattle.auction_c.specs.contracts.auction_box.AuctionBox.of_parts as F
+use Rattle.auction_c.specs.contracts.auction_box.AuctionBox.of_parts.Key.{name as #self}
 use Rattle.auction_c.proofs.auction_box.AuctionBox.of_parts.Statement as stated
 use Rattle.auction_c.proofs.auction_box.AuctionBox.of_parts.Code as code
 

@@ -39,12 +39,12 @@ use Rattle.core.proofs.alloc.Calls.{token, handle_tells, Goes-blank}
 use Rattle.std_alloc.specs.Box.Ownership.{box_owns}
 use Rattle.std_alloc.proofs.BoxSteps.Form.{Bx, D, τ, R, P, B, word, box_typed}
 use Rattle.std_alloc.proofs.BoxSteps.Steps.{box_out, box_in}
-use Rattle.auction_c.specs.contracts.boxed.parts.Parts as parts
+use Rattle.auction_c.specs.contracts.auction_box.parts.Parts as parts
 use Rattle.std_alloc.specs.contracts.boxed.Box.into_raw_with_allocator as Ra
 use Rattle.std_alloc.proofs.boxed.Box.into_raw_with_allocator.Symbol as raw_sym
 use Rattle.std_alloc.proofs.boxed.Box.into_raw_with_allocator.Met as raw_met
-use Rattle.auction_c.specs.contracts.boxed.parts.Parts.of as F
-use Rattle.auction_c.specs.contracts.boxed.parts.Parts.of.Key.{name as #self}
+use Rattle.auction_c.specs.contracts.auction_box.parts.Parts.of as F
+use Rattle.auction_c.specs.contracts.auction_box.parts.Parts.of.Key.{name as #self}
 use Rattle.auction_c.proofs.auction_box.parts.Parts.of.Statement as stated
 use Rattle.auction_c.proofs.auction_box.parts.Parts.of.Code as code
 
