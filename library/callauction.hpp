@@ -132,7 +132,7 @@ struct Config {
     std::int64_t reference = 200;              // the first reference price, a tick
     std::int64_t max_open = 4096;              // orders that may be open at a time
     std::int64_t max_calls = 65536;            // commands that may be applied
-    std::optional<std::int64_t> range = {};    // one more than so many ticks from the reference interrupts an uncross
+    std::optional<std::int64_t> range = {};    // a price further from the reference interrupts an uncross
 };
 
 // A limit of nothing is a market order's, a peak makes an iceberg order.

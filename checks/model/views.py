@@ -72,7 +72,7 @@ def numbered(fields: list[str], least: int, most: int) -> int:
 
 
 def view_text(fields: list[str], day: Day, calls: int, options: Options) -> str:
-    """What is answered to a view on a day of these options with so many calls made. Raises
+    """What is answered to a view on a day of these options after `calls` calls. Raises
     ViewFault.
     """
     if len(fields) == 1:

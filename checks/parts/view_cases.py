@@ -64,7 +64,7 @@ WORKED = [
     (b"show\n", "show no price bid - ask 200\n"),
     (b"show,orders\n", "show orders 1\n5,2,ask,200,50,50,350,\n"),
 ]
-"""A worked session: each view with what stands then."""
+"""A worked session: each view with its answer."""
 
 
 def view_talks() -> Iterator[Talk]:
@@ -128,6 +128,6 @@ def faults_by_the_model() -> Iterator[tuple[bytes, str, str]]:
     for view, fault in BAD_VIEWS:
         try:
             found = view_text(view.decode().split(","), day, 0, DEFAULTS)
-        except ViewFault as told:
-            found = str(told)
+        except ViewFault as raised:
+            found = str(raised)
         yield view, fault, found

@@ -20,7 +20,7 @@ from checks.texts.tree import Tree
 
 MOST_BYTES = 95_000
 FORBIDDEN = {
-    r"\bstands?\b": "say what it is, or where",
+    r"\bstands?\b(?!-in\b)": "say what it is, or where",
     r"\btells?\b|\btold\b": "says, prints, shows, names",
     r"\bso many\b": "the number, or 'as many as'",
     r"\bwant of memory\b": "refused memory, out of memory",
@@ -124,13 +124,18 @@ def dead_names(tree: Tree) -> Iterator[str]:
                 yield f"{tree.name(file)}:{place}: `{word}` is nowhere in the repository"
 
 
+def faults_of_words(where: str, text: str) -> Iterator[str]:
+    """The words of FORBIDDEN that a text has."""
+    for pattern, better in FORBIDDEN.items():
+        if found := re.search(pattern, text):
+            yield f"{where}: '{found[0].strip()}': {better}"
+
+
 def forbidden_words(tree: Tree) -> Iterator[str]:
     """Words of FORBIDDEN, and sentences that begin with That and have no second verb."""
     for file in tree.documents:
         for place, line in prose(tree, file):
-            for pattern, better in FORBIDDEN.items():
-                if found := re.search(pattern, line):
-                    yield f"{tree.name(file)}:{place}: '{found[0].strip()}': {better}"
+            yield from faults_of_words(f"{tree.name(file)}:{place}", line)
             for sentence in THAT.findall(line):
                 if len(VERB.findall(sentence)) < 2 and not VERB.match(sentence, len("That ")):
                     yield f"{tree.name(file)}:{place}: '{sentence[:40]}': a sentence with a verb"
@@ -140,8 +145,8 @@ def sizes(tree: Tree) -> Iterator[str]:
     """Documents that together have more than MOST_BYTES."""
     counts = {tree.name(file): file.stat().st_size for file in tree.documents}
     if sum(counts.values()) > MOST_BYTES:
-        told = ", ".join(f"{name} {count}" for name, count in counts.items())
-        yield f"the documents have {sum(counts.values())} bytes, {MOST_BYTES} at most: {told}"
+        listed = ", ".join(f"{name} {count}" for name, count in counts.items())
+        yield f"the documents have {sum(counts.values())} bytes, {MOST_BYTES} at most: {listed}"
 
 
 @functools.cache

@@ -97,7 +97,7 @@ class Auction:
 
     `low` and `high` are the lowest and the highest tick, `reference` the first reference price,
     `max_open` how many orders may be open at a time, `max_calls` how many commands may be applied.
-    With a `range`, an uncross whose price lies more than so many ticks from the reference is
+    With a `range`, an uncross whose price is more than `range` ticks from the reference is
     interrupted once.
 
     As a context manager it is closed at the end; else when it is dropped. Members are numbered from
@@ -118,8 +118,8 @@ class Auction:
     __signature__ = _Signature()
 
     _own: Any
-    """The library's handle, and whether a call has it. It stands at one place, and closes what it
-    holds when it is dropped.
+    """The library's handle, and whether a call has it. It never moves, and closes what it holds
+    when it is dropped.
     """
 
     def __new__(cls, *_: object, **__: object) -> Self:
@@ -174,8 +174,9 @@ class Auction:
         *,
         check: bool = False,
     ) -> Entered | Refused:
-        """Enters an order of so many shares, a market order without a limit, an iceberg order with
-        a peak. Raises TypeError or ValueError for a side that isn't Side.BID or Side.ASK.
+        """Enters an order of `quantity` shares: a market order without a limit (a tick), an iceberg
+        order with a peak, the most shares that it shows. Raises TypeError or ValueError for a side
+        that isn't Side.BID or Side.ASK.
         """
         if side is not _BID and side is not _ASK:
             member_of("side", side, Side)
@@ -276,7 +277,7 @@ class Auction:
         the interpreter is given up meanwhile: no thread may write either array then, or change its
         size.
 
-        Stops at the first struct that stands for no command (NoCommandError) and where `max_calls`
+        Stops at the first struct that is no command (NoCommandError) and where `max_calls`
         commands were applied (FullError). Their `applied` says how many were applied, and `replies`
         are the replies to those. Raises TypeError or ValueError for a bad array.
         """
@@ -385,7 +386,7 @@ class Auction:
     # ---- the whole auction
 
     def copy(self) -> Self:
-        """An auction of its own that stands where this one does. Raises MemoryError."""
+        """An auction of its own, a copy of this one as it is now. Raises MemoryError."""
         other = type(self).__new__(type(self))
         self._call(lib.python_clone, other._own)
         return other
@@ -428,7 +429,7 @@ class Auction:
     # ---- calls of the library
 
     def _call(self, function: Any, *arguments: Any) -> None:
-        """Calls the library on this handle. Raises what stands for its error."""
+        """Calls the library on this handle. Raises the exception of its error."""
         answer = function(self._own, *arguments)
         if answer:
             raise error_of(answer)

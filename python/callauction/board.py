@@ -176,7 +176,7 @@ class Member:
     # ---- calls of the library
 
     def _call(self, function: Any, *arguments: Any) -> None:
-        """Calls the library for this member. Raises what stands for its error."""
+        """Calls the library for this member. Raises the exception of its error."""
         answer = function(self._own, self._number, *arguments)
         if answer:
             raise board_error_of(answer)

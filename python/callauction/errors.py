@@ -46,4 +46,4 @@ class FullError(NotAppliedError):
 
 
 class NoCommandError(NotAppliedError, ValueError):
-    """A struct of an array stands for no command."""
+    """A struct of an array is no command."""

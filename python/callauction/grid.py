@@ -42,7 +42,7 @@ class FrameError(ValueError):
 
 
 def _shown(value: object) -> str:
-    """A value as an error tells it: nothing for a missing one, and no float for a whole number."""
+    """A value as an error shows it: nothing for a missing one, and no float for a whole number."""
     if isinstance(value, Decimal):
         return f"{value} "
     if pandas.api.types.is_scalar(value) and pandas.isna(value):

@@ -11,7 +11,7 @@ The frame has a row for each event, in the order in which the board took them. I
 - `restriction`: `opening` or `closing`, where the order is for that auction alone;
 - `time`: any; `kept`: at `replace`, whether the place in time was kept, if that is known.
 
-What was published of an auction stands in the row `uncross`, as far as it is known: `price`,
+What was published of an auction is in the row `uncross`, as far as it is known: `price`,
 `quantity` (what was executed), `surplus` and its `side`, `trades` (how many) and `auction`
 (`opening`, `intraday`, `closing`, or `interrupted` where nothing was executed). A row `trade` has
 the ids of both orders in `bid` and `ask`, `quantity` and `price`, in the order in which they were
@@ -237,19 +237,19 @@ class Journal:
 
     def audit(self) -> pandas.DataFrame:
         """The recorded results that aren't lawful: `entry`, its `row`, `time`, `event`, `order` and
-        `member`, and both texts, in ids and prices from there. `attrs` as of tables.audit_of.
-        Raises ProgramError.
+        `member`, and both texts, in the ids and prices of the extract. `attrs` are as of
+        tables.audit_of. Raises ProgramError.
         """
         found = audit_of(self.day())
         attrs = found.attrs
         for column in ("recorded", "lawful"):
-            found[column] = [self.told(text) for text in found[column]]
+            found[column] = [self.translated(text) for text in found[column]]
         joined = found.join(self.entries, on="entry")[[*AUDIT]]
         joined.attrs.update(attrs)
         return joined
 
-    def told(self, reply: str) -> str:
-        """The text of a reply in ids and prices from there."""
+    def translated(self, reply: str) -> str:
+        """The text of a reply in the ids and prices of the extract."""
         bests = _BESTS.fullmatch(reply)
         if bests:
             return f"no price bid {self._best(bests[1])} ask {self._best(bests[2])}"
@@ -268,7 +268,7 @@ class Journal:
 
 
 AUDIT = ("entry", "row", "time", "event", "order", "member", "recorded", "lawful")
-"""The columns of an audit in the names from there."""
+"""The columns of an audit, in the ids and prices of the extract."""
 _BESTS = re.compile(r"no price bid (\d+|-) ask (\d+|-)")
 _TICK = re.compile(r"\b(price|at) (\d+)")
 _ENTERED = re.compile(r"\bentered (\d+)")
@@ -341,7 +341,7 @@ class _Conversion:
         recorded = "" if kept is None else "changed kept" if kept else "changed moved"
         reply = self._write(row, member, command, recorded, order)
         if isinstance(reply, Refused) and not recorded:
-            # It was changed there: a text that is no lawful reply has the audit tell of it.
+            # It was changed there: a text that is no lawful reply makes it a finding.
             self.lines[-1] += "changed"
 
     def _uncross(self, row: Row) -> None:
@@ -422,7 +422,7 @@ def from_frame(
     `tick_size` is the step between two prices, `reference` the last price before the day; `low` and
     `high` are the lowest and the highest price, without them those of the orders and the reference;
     `range` is how far a price may lie from the reference before an uncross is interrupted. All are
-    decimals: a Decimal, a text, an int, or a float, which stands for the shortest decimal that
+    decimals: a Decimal, a text, an int, or a float, which means the shortest decimal that
     gives it. `ignore` names columns that are passed over, `*` each unknown one. `watch` is given
     the rows, such as tqdm.tqdm.
 

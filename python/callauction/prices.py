@@ -17,7 +17,7 @@ class BadCellError(ValueError):
 
 
 def decimal_of(value: object) -> Decimal:
-    """The exact decimal of an int, a Decimal, a text such as `20.05`, or a float, which stands for
+    """The exact decimal of an int, a Decimal, a text such as `20.05`, or a float, which means
     the shortest decimal that gives it. Raises BadCellError.
     """
     if isinstance(value, float):

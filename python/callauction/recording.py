@@ -1,4 +1,4 @@
-"""An auction that keeps its record, and tells its tables and its reasons: see RecordedAuction."""
+"""An auction that keeps its record, with its tables and its reasons: see RecordedAuction."""
 import operator
 import threading
 from types import TracebackType
@@ -221,7 +221,7 @@ class RecordedAuction(DayTables):
     # ---- the whole auction
 
     def copy(self) -> Self:
-        """An auction of its own that stands where this one does, with the same record."""
+        """A copy of this auction as it is now, with a copy of its record. Raises MemoryError."""
         other = object.__new__(type(self))
         with self._lock:
             other._auction = self._auction.copy()

@@ -89,7 +89,7 @@ class Config:
 
 @dataclasses.dataclass(frozen=True, slots=True)
 class Enter:
-    """A new order; with a peak it is an iceberg order, which shows so many shares at most."""
+    """A new order; with a peak it is an iceberg order, which shows at most `peak` shares."""
 
     side: Side
     quantity: int

@@ -101,7 +101,7 @@ def keys(tmp_path_factory: pytest.TempPathFactory) -> Keys:
 
 @contextlib.contextmanager
 def cluster(workers: int, keys: Keys) -> Iterator[Client]:
-    """A client of a scheduler with so many workers, processes of this machine, by TLS."""
+    """A client of a scheduler with `workers` workers, processes of this machine, by TLS."""
     settings = {
         "distributed.worker.multiprocessing-method": "forkserver",
         "distributed.scheduler.http.routes": [],

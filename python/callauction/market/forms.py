@@ -41,7 +41,7 @@ class Readable(Protocol):
     """Where output is read from: some bytes at a time, none at its end."""
 
     def read(self, size: int, /) -> bytes:
-        """At most so many bytes, none at the end."""
+        """At most `size` bytes, none at the end."""
 
 
 class OutputFault(Exception):

@@ -46,7 +46,7 @@ def forms_of(what: str | Sequence[str]) -> tuple[str, ...]:
 
 
 def _crew_of(client: "Client | None", workers: int | None) -> Workers:
-    """Who does the work: the workers of a client, or so many threads of this process."""
+    """Who does the work: the workers of a client, or this many threads of this process."""
     if client is None:
         return Threads(workers)
     return Cluster(client)

@@ -176,7 +176,7 @@ def text_of(value: Any) -> str:
 
 
 def fields(frame: Any, name: str) -> list[str]:
-    """The fields of a column as they stand in records: those of a column that isn't there are
+    """The fields of a column as records have them: those of a column that isn't there are
     empty, and an order without a limit is a market order.
     """
     found = texts(frame[name]) if name in frame else [""] * len(frame)
@@ -220,8 +220,8 @@ def days_of(days: Any, by: str, ignore: Collection[str]) -> dict[str, str]:
 
 def day_record(numbers: Iterable[str]) -> str:
     """The day record with these numbers, of which empty ones are the program's defaults."""
-    told = (number or default for number, default in zip(numbers, DAY.values()))
-    return ",".join(["day", *map(quoted, told)]) + "\n"
+    filled = (number or default for number, default in zip(numbers, DAY.values()))
+    return ",".join(["day", *map(quoted, filled)]) + "\n"
 
 
 # ---- what is written
@@ -307,16 +307,16 @@ def split(
 
     The journals take their places in `folder`, and those of files with the same names, when all
     are whole; at an error nothing is left of them. What a field says is no matter here: the program
-    tells what is bad. Raises TableError, InUse where another split or run writes to the folder, and
-    OSError where something can't be read or written.
+    refuses what is bad. Raises TableError, InUse where another split or run writes to the folder,
+    and OSError where something can't be read or written.
     """
     place = pathlib.Path(folder)
     place.mkdir(parents=True, exist_ok=True)
     with locked(place):
-        told = None if days is None else days_of(days, by, ignore)
+        openings = None if days is None else days_of(days, by, ignore)
         begun = pathlib.Path(tempfile.mkdtemp(prefix=".callauction-", dir=place))
         try:
-            journals = Journals(begun, told, by, ignore)
+            journals = Journals(begun, openings, by, ignore)
             for frame in partitions_of(table):
                 journals.add(frame)
             return journals.finish(place)

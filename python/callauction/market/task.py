@@ -36,12 +36,12 @@ GOOD = {DONE, UNLAWFUL}
 NO_MEMORY = "out of memory"
 """What the program says where it gets no memory."""
 LEAST_MEMORY, MEMORY_OF_BYTE = 64 * MIB, 8
-"""The address space that a run may have: so many bytes, and so many for each byte of its file, and
-as many times that as its form has shares.
+"""The address space that a run may have: the first in bytes, and the second for each byte of its
+file, times the shares of its form.
 """
 LEAST_SECONDS, BYTES_OF_MINUTE = 60, 4 * MIB
-"""How long a run may take: so many seconds, and a minute for each so many bytes of its file, which
-are some 100,000 entries.
+"""How long a run may take: the first in seconds, and a minute for each 4 MiB of its file, which are
+some 100,000 entries.
 """
 
 
@@ -63,7 +63,7 @@ class Request:
     """Whether the file's SHA-256 is asked for."""
 
     def for_size(self, size: int, form: Form) -> "Request":
-        """The request with the limits for a run in this form on a file of so many bytes."""
+        """The request with the limits for a run in this form on a file of `size` bytes."""
         memory = self.memory or form.shares * (LEAST_MEMORY + MEMORY_OF_BYTE * size)
         seconds = self.seconds or LEAST_SECONDS + 60 * (size // BYTES_OF_MINUTE)
         return dataclasses.replace(self, memory=memory, seconds=seconds)
@@ -276,8 +276,8 @@ def examine(
         except (ProgramFault, OutputFault) as fault:
             found.append(Found(Row(instrument_of(path), fault=str(fault)), worker))
         except OSError as fault:
-            told = fault.strerror or line_of(str(fault))
-            found.append(Found(Row(instrument_of(path), fault=told), worker))
+            text = fault.strerror or line_of(str(fault))
+            found.append(Found(Row(instrument_of(path), fault=text), worker))
     return found
 
 

@@ -78,7 +78,7 @@ class Connection:
         self._wakes.set()
 
     async def _write(self) -> None:
-        """Sends what there is, as fast as it is taken."""
+        """Sends the waiting messages, as fast as they are taken."""
         while self._code is None:
             self._wakes.clear()
             while self._answers:

@@ -50,7 +50,7 @@ HEADERS = {
     "Cache-Control": "no-store",
 }
 JOIN_RATE, JOIN_BURST = 2.0, 40
-"""Wrong codes and joins of one address: so many a second, and so many at once."""
+"""Wrong codes and joins of one address: how many a second, and how many at once."""
 
 
 @dataclasses.dataclass

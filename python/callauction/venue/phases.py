@@ -121,7 +121,7 @@ class State:
     def _with_end(
         self, phase: Phase, now: float, seconds: int, random_end: int, drawn: float
     ) -> Self:
-        """A call of so many seconds, and at most so many more."""
+        """A call of `seconds` seconds, and at most `random_end` more."""
         if not seconds:
             return type(self)(phase, self.auction)
         ends = now + seconds

@@ -56,7 +56,7 @@ class Pipe:
             self._go_on()
 
     def _go_on(self) -> None:
-        """Writes what there is room for."""
+        """Writes as much as the pipe takes."""
         loop = asyncio.get_running_loop()
         while self._blocks:
             try:
@@ -133,7 +133,7 @@ class Process:
         return self._child.pid
 
     def send(self, records: Sequence[str], answer: Sequence[Answer]) -> None:
-        """Sends records, and calls what stands for each with its answer."""
+        """Sends records, and gives each answer to the function of its record."""
         self._answers.extend(answer)
         self._pipe.write(records)
 

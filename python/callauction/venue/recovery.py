@@ -47,7 +47,7 @@ class Message:
 
 
 def entries_of(path: pathlib.Path, behind: int = 0, count: int | None = None) -> list[Entry]:
-    """The entries of a journal behind these, whole lines alone, so many at most. Raises OSError."""
+    """The whole lines of a journal after `behind` entries, at most `count`. Raises OSError."""
     with open(path, encoding="ascii") as file:
         lines = file.read().split("\n")[1 + behind : -1]
     found = []

@@ -51,7 +51,7 @@ def audit_events(
     `reference` is the last price before the day, `tick_size` the step between two prices, of which
     each limit is a multiple (None where it depends on the price), `range` how far a price may lie
     from the reference before an uncross is interrupted, `low` and `high` the bounds of limits. All
-    are decimals: a Decimal, a text, an int, or a float, which stands for the shortest decimal that
+    are decimals: a Decimal, a text, an int, or a float, which means the shortest decimal that
     gives it. `auctions` are those that the day holds, in their order.
 
     A row that can't be read, or that the rules refuse, is listed in the verdict, and the others are

@@ -75,7 +75,7 @@ class Replace:
 
 @dataclasses.dataclass(frozen=True, slots=True)
 class Cancel:
-    """An order is taken out, or so many of its shares."""
+    """An order is taken out, or `quantity` of its shares."""
 
     row: Row
     order: str
@@ -85,7 +85,7 @@ class Cancel:
 
 @dataclasses.dataclass(frozen=True, slots=True)
 class Published:
-    """An uncross with what was published of it; None stands for what wasn't."""
+    """An uncross with what was published of it; None is what wasn't."""
 
     row: Row
     price: Decimal | NoPrice | None = None

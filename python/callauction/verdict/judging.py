@@ -2,7 +2,7 @@
 
 Where a recorded result isn't the lawful one, what comes next may follow the one or the other: an
 engine goes on from what it did, a fault of the record alone changes nothing. Both are tried, and
-the day with the fewest differences is told, so one fault is one finding.
+the day with the fewest differences is taken, so one fault is one finding.
 """
 import collections
 import dataclasses
@@ -583,7 +583,7 @@ def _agrees(published: Published, shown: Indicated) -> bool:
 
 
 def _wrong_moment(moment: Moment, event: OrderEvent) -> Difference:
-    """The difference of an uncross that is lawful behind an event and stands elsewhere."""
+    """The difference of an uncross that is lawful behind an event and is recorded elsewhere."""
     before = [each for each in moment.events]
     recorded = f"behind row {before[-1].row.label}" if before else "before all orders"
     row = (moment.published.row.label,)

@@ -57,11 +57,11 @@ class _Order:
     def row(self, recorded: int | None) -> tuple[object, ...]:
         """Its row, with the shares that are recorded of it."""
         at = self.at
-        told = pandas.NA if recorded is None else recorded
+        recorded_shares = pandas.NA if recorded is None else recorded
         better = None if at.price is None else self.better
         return (
-            at.order, at.member, at.side, self.quantity, at.price, self.traded, told, better,
-            at.quantity, self.became,
+            at.order, at.member, at.side, self.quantity, at.price, self.traded, recorded_shares,
+            better, at.quantity, self.became,
         )  # fmt: skip
 
 
@@ -119,7 +119,7 @@ class _Course:
                 self._close(key, "lapsed" if rest else "executed", rest)
 
     def _close(self, key: str, became: str, rest: int) -> None:
-        """An order isn't open any more, with so many shares left of it."""
+        """An order isn't open any more, with `rest` shares left of it."""
         order = self.orders[key]
         order.at, order.became = dataclasses.replace(self.open[key], quantity=rest), became
         del self.open[key]
