@@ -5,6 +5,7 @@ from typing import Any, Self, cast
 
 import numpy
 
+from callauction import words
 from callauction._native import ffi, lib
 from callauction.arrays import COMMAND, ORDER, REPLY, TRADE, Shares, Structs, whole
 from callauction.errors import AuctionError, ClosedError, FullError, NoCommandError
@@ -19,32 +20,7 @@ from callauction.reading import (
     price,
     read,
 )
-from callauction.words import (
-    Change,
-    Changed,
-    Command,
-    Config,
-    Delete,
-    Deleted,
-    Enter,
-    Entered,
-    Indicate,
-    Interrupted,
-    MarketOrders,
-    NoPrice,
-    OpenOrder,
-    OrderStatus,
-    Price,
-    ReadTrade,
-    Refused,
-    Reply,
-    ReplyTag,
-    Restriction,
-    Side,
-    Traded,
-    Uncross,
-    Uncrossed,
-)
+from callauction.words import Command, Config, MarketOrders, Reply, ReplyTag, Restriction, Side
 
 MOST = (1 << 32) - 1
 _TERMS = ("member", "quantity", "limit", "peak")
@@ -173,7 +149,7 @@ class Auction:
         restriction: Restriction = Restriction.NONE,
         *,
         check: bool = False,
-    ) -> Entered | Refused:
+    ) -> words.Entered | words.Refused:
         """Enters an order of `quantity` shares: a market order without a limit (a tick), an iceberg
         order with a peak, the most shares that it shows. Raises TypeError or ValueError for a side
         that isn't Side.BID or Side.ASK.
@@ -203,26 +179,30 @@ class Auction:
         limit: int | None = None,
         *,
         check: bool = False,
-    ) -> Changed | Refused:
+    ) -> words.Changed | words.Refused:
         """Gives the member's order with this id another open quantity and limit. It keeps its place
         in time where the limit stays and the quantity doesn't grow.
         """
         tick, has = (0, 0) if limit is None else (limit, _HAS_LIMIT)
         given = (member, id, quantity, tick, has)
         reply = self._applied(lib.python_change, _CHANGE, given, check)
-        return cast("Changed | Refused", reply)
+        return cast("words.Changed | words.Refused", reply)
 
-    def delete(self, member: int, id: int, *, check: bool = False) -> Deleted | Refused:
+    def delete(self, member: int, id: int, *, check: bool = False) -> words.Deleted | words.Refused:
         """Takes the member's order with this id out."""
         reply = self._applied(lib.python_delete, _ID, (member, id), check)
-        return cast("Deleted | Refused", reply)
+        return cast("words.Deleted | words.Refused", reply)
 
-    def order_status(self, member: int, id: int, *, check: bool = False) -> OpenOrder | Refused:
+    def order_status(
+        self, member: int, id: int, *, check: bool = False
+    ) -> words.OpenOrder | words.Refused:
         """What is open of the member's order with this id."""
         reply = self._applied(lib.python_order_status, _ID, (member, id), check)
-        return cast("OpenOrder | Refused", reply)
+        return cast("words.OpenOrder | words.Refused", reply)
 
-    def indicate(self, member: int, *, check: bool = False) -> Price | NoPrice | Refused:
+    def indicate(
+        self, member: int, *, check: bool = False
+    ) -> words.Price | words.NoPrice | words.Refused:
         """The indicative price, or the best bid and ask where there is none."""
         if type(member) is not int:
             (member,) = numbers(_MEMBER, (member,))
@@ -232,38 +212,40 @@ class Auction:
             raise fault_of(_MEMBER, (member,)) from None
         if found.tag == _PRICED:
             return price(found)
-        return cast("NoPrice | Refused", read(found, check))
+        return cast("words.NoPrice | words.Refused", read(found, check))
 
     def uncross(
         self, member: int = 0, *, check: bool = False
-    ) -> Uncrossed | Interrupted | Refused:
+    ) -> words.Uncrossed | words.Interrupted | words.Refused:
         """Determines the price and executes. The next call phase follows at once; after the closing
         auction the day is over.
         """
         reply = self._applied(lib.python_uncross, _MEMBER, (member,), check)
-        return cast("Uncrossed | Interrupted | Refused", reply)
+        return cast("words.Uncrossed | words.Interrupted | words.Refused", reply)
 
-    def read_trade(self, member: int, number: int, *, check: bool = False) -> Traded | Refused:
+    def read_trade(
+        self, member: int, number: int, *, check: bool = False
+    ) -> words.Traded | words.Refused:
         """The trade of the day with this number, from 1 on."""
         reply = self._applied(lib.python_read_trade, _NUMBER, (member, number), check)
-        return cast("Traded | Refused", reply)
+        return cast("words.Traded | words.Refused", reply)
 
     def apply(self, member: int, command: Command, *, check: bool = False) -> Reply:
         """Applies a command. Raises TypeError where it is none of Command."""
         match command:
-            case Enter(side, quantity, limit, peak, restriction):
+            case words.Enter(side, quantity, limit, peak, restriction):
                 return self.enter(member, side, quantity, limit, peak, restriction, check=check)
-            case Change(id, quantity, limit):
+            case words.Change(id, quantity, limit):
                 return self.change(member, id, quantity, limit, check=check)
-            case Delete(id):
+            case words.Delete(id):
                 return self.delete(member, id, check=check)
-            case OrderStatus(id):
+            case words.OrderStatus(id):
                 return self.order_status(member, id, check=check)
-            case Indicate():
+            case words.Indicate():
                 return self.indicate(member, check=check)
-            case ReadTrade(number):
+            case words.ReadTrade(number):
                 return self.read_trade(member, number, check=check)
-            case Uncross():
+            case words.Uncross():
                 return self.uncross(member, check=check)
         raise TypeError(f"command must be one of Command, not {type(command).__name__}")
 
@@ -300,11 +282,11 @@ class Auction:
 
     # ---- what is shown
 
-    def display(self) -> Price | NoPrice:
+    def display(self) -> words.Price | words.NoPrice:
         """As `indicate`, but without a member and not counted as a call; after the day too."""
         shown = ffi.new("callauction_reply *")
         self._call(lib.python_display, shown)
-        return cast("Price | NoPrice", read(shown))
+        return cast("words.Price | words.NoPrice", read(shown))
 
     def ladder(self) -> tuple[Shares, Shares]:
         """The shares bid and the shares offered by the orders that count, with a limit at each tick

@@ -6,30 +6,13 @@ from typing import TYPE_CHECKING, Any, Self, cast
 
 import numpy
 
+from callauction import words
 from callauction._native import ffi, lib
 from callauction.arrays import ENTRY, TRADE, Shares, Structs
 from callauction.auction import MOST, config_of, config_struct
 from callauction.errors import RefusedError
 from callauction.reading import board_error_of, member_of, number, read
-from callauction.words import (
-    Change,
-    Command,
-    CommandTag,
-    Config,
-    Delete,
-    Enter,
-    Indicate,
-    MarketOrders,
-    NoPrice,
-    OrderStatus,
-    Price,
-    ReadTrade,
-    Refused,
-    Reply,
-    Restriction,
-    Side,
-    Uncross,
-)
+from callauction.words import Command, CommandTag, Config, MarketOrders, Reply, Restriction, Side
 
 if TYPE_CHECKING:
     from callauction.board_day import BoardDay
@@ -53,7 +36,7 @@ class Shown:
     """How many calls a board has had, and what is shown after them."""
 
     calls: int
-    display: Price | NoPrice
+    display: words.Price | words.NoPrice
 
 
 class Member:
@@ -90,7 +73,7 @@ class Member:
         receipt = ffi.new("callauction_receipt *")
         self._call(lib.python_board_call, _struct_of(command), receipt)
         reply = read(receipt.reply)
-        if check and isinstance(reply, Refused):
+        if check and isinstance(reply, words.Refused):
             raise RefusedError(reply.refusal)
         return Receipt(int(receipt.number), reply)
 
@@ -105,33 +88,33 @@ class Member:
         check: bool = False,
     ) -> Receipt:
         """Enters an order, as Auction.enter."""
-        return self.call(Enter(side, quantity, limit, peak, restriction), check=check)
+        return self.call(words.Enter(side, quantity, limit, peak, restriction), check=check)
 
     def change(
         self, id: int, quantity: int, limit: int | None = None, *, check: bool = False
     ) -> Receipt:
         """Changes an own order, as Auction.change."""
-        return self.call(Change(id, quantity, limit), check=check)
+        return self.call(words.Change(id, quantity, limit), check=check)
 
     def delete(self, id: int, *, check: bool = False) -> Receipt:
         """Takes an own order out."""
-        return self.call(Delete(id), check=check)
+        return self.call(words.Delete(id), check=check)
 
     def order_status(self, id: int, *, check: bool = False) -> Receipt:
         """What is open of an own order."""
-        return self.call(OrderStatus(id), check=check)
+        return self.call(words.OrderStatus(id), check=check)
 
     def indicate(self, *, check: bool = False) -> Receipt:
         """The indicative price, as a call; `look` shows it without one."""
-        return self.call(Indicate(), check=check)
+        return self.call(words.Indicate(), check=check)
 
     def read_trade(self, number: int, *, check: bool = False) -> Receipt:
         """The trade of the day with this number, from 1 on."""
-        return self.call(ReadTrade(number), check=check)
+        return self.call(words.ReadTrade(number), check=check)
 
     def uncross(self, *, check: bool = False) -> Receipt:
         """Determines the price and executes; for member 0 alone."""
-        return self.call(Uncross(), check=check)
+        return self.call(words.Uncross(), check=check)
 
     # ---- what is shown
 
@@ -141,7 +124,7 @@ class Member:
         """
         shown = ffi.new("callauction_shown *")
         self._call(lib.python_board_look, shown)
-        return Shown(int(shown.calls), cast("Price | NoPrice", read(shown.display)))
+        return Shown(int(shown.calls), cast("words.Price | words.NoPrice", read(shown.display)))
 
     def ladder(self) -> tuple[Shares, Shares, MarketOrders, int]:
         """The shares bid and offered by the orders that count, with a limit at each tick from low
@@ -296,7 +279,7 @@ def _struct_of(command: Command) -> Any:
     """
     made = ffi.new("callauction_command *")
     match command:
-        case Enter(side, quantity, limit, peak, restriction):
+        case words.Enter(side, quantity, limit, peak, restriction):
             member_of("side", side, Side)
             member_of("restriction", restriction, Restriction)
             if side is Side.NONE:
@@ -305,18 +288,18 @@ def _struct_of(command: Command) -> Any:
             _set_terms(made, quantity, limit)
             if peak is not None:
                 made.has_peak, made.peak = 1, number("peak", peak, MOST)
-        case Change(id, quantity, limit):
+        case words.Change(id, quantity, limit):
             made.tag, made.id = CommandTag.CHANGE, number("id", id, MOST)
             _set_terms(made, quantity, limit)
-        case Delete(id):
+        case words.Delete(id):
             made.tag, made.id = CommandTag.DELETE, number("id", id, MOST)
-        case OrderStatus(id):
+        case words.OrderStatus(id):
             made.tag, made.id = CommandTag.ORDER_STATUS, number("id", id, MOST)
-        case Indicate():
+        case words.Indicate():
             made.tag = CommandTag.INDICATE
-        case ReadTrade(place):
+        case words.ReadTrade(place):
             made.tag, made.id = CommandTag.READ_TRADE, number("number", place, MOST)
-        case Uncross():
+        case words.Uncross():
             made.tag = CommandTag.UNCROSS
         case _:
             raise TypeError(f"command must be one of Command, not {type(command).__name__}")

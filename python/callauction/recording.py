@@ -7,6 +7,7 @@ from typing import Self, cast
 import numpy
 import pandas
 
+from callauction import words
 from callauction.arrays import COMMAND, Shares, Structs, whole
 from callauction.auction import Auction
 from callauction.day_frames import DayTables, written_day
@@ -14,32 +15,7 @@ from callauction.errors import NotAppliedError, RefusedError
 from callauction.program import Day
 from callauction.reading import number, reply_of
 from callauction.tables import orders_frame
-from callauction.words import (
-    Change,
-    Changed,
-    Command,
-    CommandTag,
-    Config,
-    Delete,
-    Deleted,
-    Enter,
-    Entered,
-    Indicate,
-    Interrupted,
-    MarketOrders,
-    NoPrice,
-    OpenOrder,
-    OrderStatus,
-    Price,
-    ReadTrade,
-    Refused,
-    Reply,
-    Restriction,
-    Side,
-    Traded,
-    Uncross,
-    Uncrossed,
-)
+from callauction.words import Command, CommandTag, Config, MarketOrders, Reply, Restriction, Side
 from callauction.written import command_of
 
 MEMBERS = 64
@@ -98,40 +74,49 @@ class RecordedAuction(DayTables):
         restriction: Restriction = Restriction.NONE,
         *,
         check: bool = False,
-    ) -> Entered | Refused:
+    ) -> words.Entered | words.Refused:
         """As Auction.enter."""
-        reply = self._applied(member, Enter(side, quantity, limit, peak, restriction), check)
-        return cast("Entered | Refused", reply)
+        reply = self._applied(member, words.Enter(side, quantity, limit, peak, restriction), check)
+        return cast("words.Entered | words.Refused", reply)
 
     def change(
         self, member: int, id: int, quantity: int, limit: int | None = None, *, check: bool = False
-    ) -> Changed | Refused:
+    ) -> words.Changed | words.Refused:
         """As Auction.change."""
-        reply = self._applied(member, Change(id, quantity, limit), check)
-        return cast("Changed | Refused", reply)
+        reply = self._applied(member, words.Change(id, quantity, limit), check)
+        return cast("words.Changed | words.Refused", reply)
 
-    def delete(self, member: int, id: int, *, check: bool = False) -> Deleted | Refused:
+    def delete(self, member: int, id: int, *, check: bool = False) -> words.Deleted | words.Refused:
         """As Auction.delete."""
-        return cast("Deleted | Refused", self._applied(member, Delete(id), check))
+        return cast("words.Deleted | words.Refused", self._applied(member, words.Delete(id), check))
 
-    def order_status(self, member: int, id: int, *, check: bool = False) -> OpenOrder | Refused:
+    def order_status(
+        self, member: int, id: int, *, check: bool = False
+    ) -> words.OpenOrder | words.Refused:
         """As Auction.order_status."""
-        return cast("OpenOrder | Refused", self._applied(member, OrderStatus(id), check))
+        reply = self._applied(member, words.OrderStatus(id), check)
+        return cast("words.OpenOrder | words.Refused", reply)
 
-    def indicate(self, member: int, *, check: bool = False) -> Price | NoPrice | Refused:
+    def indicate(
+        self, member: int, *, check: bool = False
+    ) -> words.Price | words.NoPrice | words.Refused:
         """As Auction.indicate."""
-        return cast("Price | NoPrice | Refused", self._applied(member, Indicate(), check))
+        reply = self._applied(member, words.Indicate(), check)
+        return cast("words.Price | words.NoPrice | words.Refused", reply)
 
-    def read_trade(self, member: int, number: int, *, check: bool = False) -> Traded | Refused:
+    def read_trade(
+        self, member: int, number: int, *, check: bool = False
+    ) -> words.Traded | words.Refused:
         """As Auction.read_trade."""
-        return cast("Traded | Refused", self._applied(member, ReadTrade(number), check))
+        reply = self._applied(member, words.ReadTrade(number), check)
+        return cast("words.Traded | words.Refused", reply)
 
     def uncross(
         self, member: int = 0, *, check: bool = False
-    ) -> Uncrossed | Interrupted | Refused:
+    ) -> words.Uncrossed | words.Interrupted | words.Refused:
         """As Auction.uncross."""
-        reply = self._applied(member, Uncross(), check)
-        return cast("Uncrossed | Interrupted | Refused", reply)
+        reply = self._applied(member, words.Uncross(), check)
+        return cast("words.Uncrossed | words.Interrupted | words.Refused", reply)
 
     def apply(self, member: int, command: Command, *, check: bool = False) -> Reply:
         """As Auction.apply."""
@@ -157,7 +142,7 @@ class RecordedAuction(DayTables):
         with self._lock:
             reply = self._auction.apply(member, command)
             self._record.append((member, command, reply))
-        if check and isinstance(reply, Refused):
+        if check and isinstance(reply, words.Refused):
             raise RefusedError(reply.refusal)
         return reply
 
@@ -171,7 +156,7 @@ class RecordedAuction(DayTables):
 
     # ---- what is shown
 
-    def display(self) -> Price | NoPrice:
+    def display(self) -> words.Price | words.NoPrice:
         """As Auction.display."""
         with self._lock:
             return self._auction.display()
@@ -259,9 +244,9 @@ class RecordedAuction(DayTables):
 def _look_at(member: object, command: Command) -> None:
     """Raises TypeError or ValueError for a member or a number that no journal has."""
     number("member", member, MEMBERS - 1)
-    if isinstance(command, Enter | Change):
+    if isinstance(command, words.Enter | words.Change):
         number("quantity", command.quantity, MOST_NUMBER)
-    if isinstance(command, Enter) and command.peak is not None:
+    if isinstance(command, words.Enter) and command.peak is not None:
         number("peak", command.peak, MOST_NUMBER)
 
 
