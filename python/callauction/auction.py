@@ -9,6 +9,7 @@ from callauction import words
 from callauction._native import ffi, lib
 from callauction.arrays import COMMAND, ORDER, REPLY, TRADE, Shares, Structs, whole
 from callauction.errors import AuctionError, ClosedError, FullError, NoCommandError
+from callauction.limits import MOST_NUMBER
 from callauction.reading import (
     entered,
     error_of,
@@ -22,7 +23,6 @@ from callauction.reading import (
 )
 from callauction.words import Command, Config, MarketOrders, Reply, ReplyTag, Restriction, Side
 
-MOST = (1 << 32) - 1
 _TERMS = ("member", "quantity", "limit", "peak")
 _CHANGE = ("member", "id", "quantity", "limit", "has")
 _ID, _NUMBER, _MEMBER = ("member", "id"), ("member", "number"), ("member",)
@@ -51,13 +51,13 @@ def config_struct(
     one that is no integer or doesn't fit.
     """
     config = ffi.new("callauction_config *")
-    config.low = number("low", low, MOST)
-    config.high = number("high", high, MOST)
-    config.reference = number("reference", reference, MOST)
-    config.max_open = number("max_open", max_open, MOST)
-    config.max_calls = number("max_calls", max_calls, MOST)
+    config.low = number("low", low, MOST_NUMBER)
+    config.high = number("high", high, MOST_NUMBER)
+    config.reference = number("reference", reference, MOST_NUMBER)
+    config.max_open = number("max_open", max_open, MOST_NUMBER)
+    config.max_calls = number("max_calls", max_calls, MOST_NUMBER)
     config.has_range = range is not None
-    config.range = 0 if range is None else number("range", range, MOST)
+    config.range = 0 if range is None else number("range", range, MOST_NUMBER)
     return config
 
 

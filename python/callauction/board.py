@@ -9,15 +9,15 @@ import numpy
 from callauction import words
 from callauction._native import ffi, lib
 from callauction.arrays import ENTRY, TRADE, Shares, Structs
-from callauction.auction import MOST, config_of, config_struct
+from callauction.auction import config_of, config_struct
 from callauction.errors import RefusedError
+from callauction.limits import MOST_MEMBERS, MOST_NUMBER
 from callauction.reading import board_error_of, member_of, number, read
 from callauction.words import Command, CommandTag, Config, MarketOrders, Reply, Restriction, Side
 
 if TYPE_CHECKING:
     from callauction.board_day import BoardDay
 
-MOST_MEMBERS = 64
 _MOST_SEEN = (1 << 63) - 1
 _AT_ONCE = 1024
 """How many trades or entries are copied by one call of the library."""
@@ -204,7 +204,7 @@ class Board:
         max_calls: int = 65536,
         range: int | None = None,
     ) -> None:
-        count = number("members", members, MOST)
+        count = number("members", members, MOST_NUMBER)
         if not 1 <= count <= MOST_MEMBERS:
             raise ValueError(f"members must be from 1 to {MOST_MEMBERS}, not {count}")
         config = config_struct(low, high, reference, max_open, max_calls, range)
@@ -287,18 +287,18 @@ def _struct_of(command: Command) -> Any:
             made.tag, made.side, made.restriction = CommandTag.ENTER, side, restriction
             _set_terms(made, quantity, limit)
             if peak is not None:
-                made.has_peak, made.peak = 1, number("peak", peak, MOST)
+                made.has_peak, made.peak = 1, number("peak", peak, MOST_NUMBER)
         case words.Change(id, quantity, limit):
-            made.tag, made.id = CommandTag.CHANGE, number("id", id, MOST)
+            made.tag, made.id = CommandTag.CHANGE, number("id", id, MOST_NUMBER)
             _set_terms(made, quantity, limit)
         case words.Delete(id):
-            made.tag, made.id = CommandTag.DELETE, number("id", id, MOST)
+            made.tag, made.id = CommandTag.DELETE, number("id", id, MOST_NUMBER)
         case words.OrderStatus(id):
-            made.tag, made.id = CommandTag.ORDER_STATUS, number("id", id, MOST)
+            made.tag, made.id = CommandTag.ORDER_STATUS, number("id", id, MOST_NUMBER)
         case words.Indicate():
             made.tag = CommandTag.INDICATE
         case words.ReadTrade(place):
-            made.tag, made.id = CommandTag.READ_TRADE, number("number", place, MOST)
+            made.tag, made.id = CommandTag.READ_TRADE, number("number", place, MOST_NUMBER)
         case words.Uncross():
             made.tag = CommandTag.UNCROSS
         case _:
@@ -308,6 +308,6 @@ def _struct_of(command: Command) -> Any:
 
 def _set_terms(made: Any, quantity: int, limit: int | None) -> None:
     """Sets the quantity and the limit of a struct. Raises TypeError or ValueError."""
-    made.quantity = number("quantity", quantity, MOST)
+    made.quantity = number("quantity", quantity, MOST_NUMBER)
     if limit is not None:
-        made.has_limit, made.limit = 1, number("limit", limit, MOST)
+        made.has_limit, made.limit = 1, number("limit", limit, MOST_NUMBER)

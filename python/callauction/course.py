@@ -9,6 +9,7 @@ import numpy
 import pandas
 
 from callauction.arrays import COMMAND, REPLY, Structs
+from callauction.limits import MOST_CALLS
 from callauction.program import Day
 from callauction.tables import journal_of
 from callauction.words import AuctionKind, CommandTag, NoPrice, Price, ReplyTag, Restriction, Side
@@ -16,7 +17,6 @@ from callauction.words import AuctionKind, CommandTag, NoPrice, Price, ReplyTag,
 if TYPE_CHECKING:
     from callauction.auction import Auction
 
-MOST_CALLS = 1_048_576
 MOST_LOOKS = 20_000
 """How often the indicative price of a day is looked at: after each command of a day of that
 many, of a longer one after every second, third and so on.

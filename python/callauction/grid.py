@@ -1,34 +1,10 @@
-"""What is in a cell of a frame; prices as exact decimals and as ticks are those of prices.py."""
+"""What is in a cell of a frame."""
 from decimal import Decimal
 from typing import Any
 
 import pandas
 
-from callauction.prices import (
-    MOST_NUMBER,
-    MOST_TICK,
-    MOST_TICKS,
-    BadCellError,
-    Grid,
-    decimal_of,
-    grid_of,
-    tick_size_of,
-    whole_of,
-)
-
-__all__ = [
-    "MOST_NUMBER",
-    "MOST_TICK",
-    "MOST_TICKS",
-    "BadCellError",
-    "FrameError",
-    "Grid",
-    "cell_of",
-    "decimal_of",
-    "grid_of",
-    "tick_size_of",
-    "whole_of",
-]
+from callauction.prices import BadCellError
 
 
 class FrameError(ValueError):

@@ -31,23 +31,23 @@ from typing import Any
 import pandas
 
 from callauction.auction import Auction
-from callauction.course import MOST_CALLS, Watch, references_of
-from callauction.reasons import Explanation, explain
-from callauction.grid import (
-    MOST_TICKS,
+from callauction.course import Watch, references_of
+from callauction.grid import FrameError, cell_of
+from callauction.limits import MOST_CALLS, MOST_MEMBERS, MOST_OPEN, MOST_TICKS
+from callauction.prices import (
     BadCellError,
-    FrameError,
     Grid,
-    cell_of,
     decimal_of,
     grid_of,
     tick_size_of,
     whole_of,
 )
 from callauction.program import Day
+from callauction.reasons import Explanation, explain
 from callauction.tables import audit_of, book_at, books_of, journal_of, trades_of
 from callauction.verdict.columns import OTHER_NAMES, refuse_unknown
 from callauction.words import (
+    AUCTIONS,
     Change,
     Command,
     Delete,
@@ -66,12 +66,11 @@ from callauction.words import (
 from callauction.written import fields_of, text_of
 
 EVENTS = ("new", "replace", "cancel", "uncross", "trade")
-SHARED = 63
+SHARED = MOST_MEMBERS - 1
 """The numbers that members have; more members share them. Number 0 is the operator's."""
-MOST_OPEN = 65_536
 SIDES = {"bid": Side.BID, "buy": Side.BID, "ask": Side.ASK, "sell": Side.ASK}
 RESTRICTIONS = {"opening": Restriction.OPENING_ONLY, "closing": Restriction.CLOSING_ONLY}
-AUCTIONS = ("opening", "intraday", "closing", "interrupted")
+RESULTS = (*AUCTIONS, "interrupted")
 COLUMNS = (
     "event",
     "order",
@@ -348,7 +347,7 @@ class _Conversion:
         """A price that is known with its volume and surplus is the reply to an ask before it, or,
         with the auction and its trades, that to the uncross.
         """
-        auction = row.word("auction", AUCTIONS) if row.get("auction") is not None else None
+        auction = row.word("auction", RESULTS) if row.get("auction") is not None else None
         price, trades = self._published(row), row.whole("trades")
         if price and auction == "interrupted":
             self._write(row, None, Uncross(), f"interrupted {price}")

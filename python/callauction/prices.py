@@ -5,9 +5,8 @@ import fractions
 import re
 from decimal import Decimal
 
-MOST_TICK = 1_000_000
-MOST_TICKS = 65_536
-MOST_NUMBER = 4_294_967_295
+from callauction.limits import MOST_NUMBER, MOST_TICK
+
 _PLAIN = re.compile(r"[+-]?[0-9]{1,30}(\.[0-9]{1,30})?", re.ASCII)
 _EXACT = decimal.Context(prec=80, traps=[decimal.Inexact, decimal.InvalidOperation])
 

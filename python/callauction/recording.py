@@ -12,16 +12,12 @@ from callauction.arrays import COMMAND, Shares, Structs, whole
 from callauction.auction import Auction
 from callauction.day_frames import DayTables, written_day
 from callauction.errors import NotAppliedError, RefusedError
+from callauction.limits import MOST_MEMBERS, MOST_NUMBER
 from callauction.program import Day
 from callauction.reading import number, reply_of
 from callauction.tables import orders_frame
 from callauction.words import Command, CommandTag, Config, MarketOrders, Reply, Restriction, Side
 from callauction.written import command_of
-
-MEMBERS = 64
-MOST_NUMBER = (1 << 32) - 1
-"""The members of a journal, and its greatest number."""
-
 
 class RecordedAuction(DayTables):
     """An Auction with the record of its day, and what the program says of that record.
@@ -238,12 +234,12 @@ class RecordedAuction(DayTables):
         with self._lock:
             config, record = self._auction.config, [*self._record]
         entries = ((operator.index(member), command, reply) for member, command, reply in record)
-        return written_day(config, MEMBERS, entries)
+        return written_day(config, MOST_MEMBERS, entries)
 
 
 def _look_at(member: object, command: Command) -> None:
     """Raises TypeError or ValueError for a member or a number that no journal has."""
-    number("member", member, MEMBERS - 1)
+    number("member", member, MOST_MEMBERS - 1)
     if isinstance(command, words.Enter | words.Change):
         number("quantity", command.quantity, MOST_NUMBER)
     if isinstance(command, words.Enter) and command.peak is not None:
@@ -258,7 +254,7 @@ def _look_through(commands: Structs) -> None:
     has_quantity = numpy.isin(commands["tag"], (CommandTag.ENTER, CommandTag.CHANGE))
     has_peak = (commands["tag"] == CommandTag.ENTER) & (commands["has_peak"] != 0)
     for name, most, is_used in (
-        ("member", MEMBERS - 1, numpy.ones(len(commands), bool)),
+        ("member", MOST_MEMBERS - 1, numpy.ones(len(commands), bool)),
         ("quantity", MOST_NUMBER, has_quantity),
         ("peak", MOST_NUMBER, has_peak),
     ):

@@ -31,6 +31,11 @@ class AuctionKind(enum.IntEnum):
     CLOSING = 3
 
 
+AUCTIONS = tuple(kind.name.lower() for kind in AuctionKind)
+MARKET = "market"
+"""The words of files for the auctions, in their order, and for no limit."""
+
+
 class Refusal(enum.IntEnum):
     """Why a command was refused."""
 

@@ -7,9 +7,8 @@ import numpy
 
 from callauction import words
 from callauction.arrays import COMMAND
-from callauction.words import Command, CommandTag, Reply, Restriction, Side
+from callauction.words import MARKET, Command, CommandTag, Reply, Restriction, Side
 
-MARKET = "market"
 _RESTRICTIONS = {
     Restriction.NONE: "",
     Restriction.OPENING_ONLY: "opening",

@@ -8,7 +8,8 @@ import callauction as words
 import numpy
 import pandas
 import pytest
-from callauction.grid import BadCellError, FrameError, Grid, decimal_of, grid_of, whole_of
+from callauction.grid import FrameError
+from callauction.prices import BadCellError, Grid, decimal_of, grid_of, whole_of
 from callauction.journal import EVENTS, Journal, from_frame
 from callauction.program import Day
 from callauction.recording import RecordedAuction

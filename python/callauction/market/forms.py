@@ -4,7 +4,8 @@ import re
 from collections.abc import Callable, Iterator
 from typing import Any, Protocol
 
-from callauction.market.rows import AUCTIONS, OVER
+from callauction.market.rows import OVER
+from callauction.words import AUCTIONS
 
 BLOCK = 1 << 18
 """How many bytes of the program's output are looked at together."""

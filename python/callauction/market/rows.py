@@ -10,8 +10,8 @@ from typing import Any
 
 from callauction.market.files import whole
 from callauction.market.names import guarded, unguarded
+from callauction.words import AUCTIONS
 
-AUCTIONS = ("opening", "intraday", "closing")
 OVER = "over"
 """The state of a day whose closing auction ended."""
 

@@ -16,6 +16,7 @@ from typing import IO, Any
 
 from callauction.market.files import locked
 from callauction.market.names import file_of
+from callauction.words import MARKET
 
 DAY = {
     "low": "1",
@@ -41,7 +42,6 @@ CELLS = (
 )
 """The columns of the table beside that of the instruments."""
 NEEDED = ("member", "command")
-MARKET = "market"
 SPECIAL = ',"\r\n'
 """What a field is quoted for."""
 OPENERS: dict[str, Any] = {".gz": gzip.open, ".bz2": bz2.open, ".xz": lzma.open}

@@ -21,11 +21,10 @@ from callauction.plot.parts import (
     whole_steps,
 )
 from callauction.program import Day
-from callauction.words import Side
+from callauction.words import MARKET, Side
 
 MOST_QUEUED = 40
 """How many orders of a queue are drawn."""
-MARKET = "market"
 COLORS = {"bid": DEMAND, "ask": SUPPLY}
 WORDS = 8.0
 """The size of the words within bars, in points."""

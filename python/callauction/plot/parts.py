@@ -8,7 +8,7 @@ import pandas
 from matplotlib.axes import Axes
 from matplotlib.ticker import FixedLocator, FuncFormatter, MaxNLocator
 
-from callauction.grid import Grid, tick_size_of
+from callauction.prices import Grid, tick_size_of
 
 DEMAND, SUPPLY, VOLUME, PRICE, REFERENCE = "#0069a6", "#b34700", "#00735a", "#000000", "#5c5c5c"
 """Colours that people with any eyes can distinguish, each of a contrast of 4.5 or more to white."""

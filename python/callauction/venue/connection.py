@@ -15,7 +15,7 @@ from callauction.venue.messages import MessageError
 from callauction.venue.recovery import Entry
 from callauction.venue.venue import Venue
 
-MOST_OPEN = 256
+MOST_UNANSWERED = 256
 """Messages of a connection that aren't answered yet, or whose answer it hasn't taken."""
 HELLO_SECONDS = 10.0
 TOO_FAST_SECONDS = 0.1
@@ -57,7 +57,7 @@ class Connection:
         self._answers: collections.deque[shown.Json] = collections.deque()
         self._shown: dict[str, shown.Json] = {}
         self._wakes = asyncio.Event()
-        self._room = asyncio.Semaphore(MOST_OPEN)
+        self._room = asyncio.Semaphore(MOST_UNANSWERED)
         self._code: str | None = None
 
     # ---- what it is sent

@@ -7,15 +7,16 @@ import json
 import re
 from typing import Any
 
-from callauction.prices import MOST_NUMBER, BadCellError, decimal_of
+from callauction.limits import MOST_NUMBER
+from callauction.prices import BadCellError, decimal_of
 from callauction.venue.config import Instrument
+from callauction.words import MARKET
 
 MOST_BYTES = 4096
 MOST_MESSAGE = (1 << 53) - 1
 """The greatest number of a message: the greatest whole number that every JSON reader keeps."""
 SIDES = ("bid", "ask")
 RESTRICTIONS = ("", "opening", "closing")
-MARKET = "market"
 PRICE = re.compile(r"[0-9]{1,30}(\.[0-9]{1,30})?")
 TOPICS = ("states", "orders", "fills", "trades")
 ORDER_FIELDS = {

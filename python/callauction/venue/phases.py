@@ -7,8 +7,8 @@ import re
 from typing import Any, Self
 
 from callauction.venue.config import Plan
+from callauction.words import AUCTIONS
 
-AUCTIONS = ("opening", "intraday", "closing")
 OVER = "over"
 UNCROSSED = re.compile(r"(opening|intraday|closing) (?:price|no price)")
 

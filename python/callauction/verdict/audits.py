@@ -7,13 +7,14 @@ from typing import BinaryIO
 
 import pandas
 
-from callauction.grid import BadCellError, Grid, decimal_of, tick_size_of
+from callauction.prices import BadCellError, Grid, decimal_of, tick_size_of
 from callauction.verdict.columns import EVENT_COLUMNS, ColumnError, refuse_unknown
-from callauction.verdict.events import AUCTIONS, BadRow, Extract, New, Published, Replace, events_of
+from callauction.verdict.events import BadRow, Extract, New, Published, Replace, events_of
 from callauction.verdict.findings import Verdict, verdict_of
 from callauction.verdict.judging import Judge
 from callauction.verdict.reading import ExtractError, Reading, Table, read_table
 from callauction.verdict.replay import Rules
+from callauction.words import AUCTIONS
 
 BOOK_COLUMNS = (
     "order",

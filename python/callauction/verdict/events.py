@@ -7,14 +7,15 @@ from decimal import Decimal
 
 import pandas
 
-from callauction.grid import BadCellError, cell_of, decimal_of, whole_of
+from callauction.grid import cell_of
+from callauction.prices import BadCellError, decimal_of, whole_of
 from callauction.verdict import times
 from callauction.verdict.reading import Reading, Table
+from callauction.words import AUCTIONS
 
 EVENTS = ("new", "replace", "cancel", "uncross", "trade", "fill")
 SIDES = {"bid": "bid", "buy": "bid", "ask": "ask", "sell": "ask"}
 SURPLUS_SIDES = {**SIDES, "none": "none"}
-AUCTIONS = ("opening", "intraday", "closing")
 INTERRUPTED = "interrupted"
 RESTRICTIONS = ("opening", "closing")
 NO_PRICE_WORDS = ("none", "no price")

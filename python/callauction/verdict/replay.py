@@ -12,11 +12,12 @@ from decimal import Decimal
 
 import pandas
 
+from callauction.limits import MOST_CALLS, MOST_OPEN, MOST_TICKS
 from callauction.program import Day
 from callauction.tables import BOOK, table_of
-from callauction.verdict.events import AUCTIONS, Cancel, New, Replace
+from callauction.verdict.events import Cancel, New, Replace
+from callauction.words import AUCTIONS
 
-MOST_OPEN, MOST_CALLS, MOST_TICKS = 65_536, 1_048_576, 65_536
 MEMBER, OPERATOR = 1, 0
 """All orders are one member's: whose an order is decides no price and no fill."""
 GONE = -1
