@@ -7,7 +7,7 @@ import re
 import sys
 import time
 from collections.abc import Iterable, Iterator
-from typing import TYPE_CHECKING, Any
+from typing import TYPE_CHECKING, NoReturn
 
 from tqdm import tqdm
 
@@ -135,7 +135,7 @@ def request_of(asked: argparse.Namespace) -> Request:
 # ---- the run
 
 
-def show(files: dict[str, str], taken: int) -> Any:
+def show(files: dict[str, str], taken: int) -> "tqdm[NoReturn]":
     """A progress bar on standard error, if that is a terminal."""
     is_shown = sys.stderr.isatty()
     return tqdm(total=len(files), initial=taken, unit=" instruments", disable=not is_shown)
