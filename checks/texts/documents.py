@@ -57,24 +57,26 @@ ENUM = re.compile(PUBLIC + r"enum (?P<name>[A-Z]\w*)")
 VARIANT = re.compile(r"^\s+(?P<name>[A-Z]\w*)(?:[({,]| \{|$)")
 
 
-def spans(tree: Tree, file: pathlib.Path) -> Iterator[tuple[int, str]]:
-    """The texts in backticks of a document, with their lines, but for blocks of code."""
+def text_lines(tree: Tree, file: pathlib.Path) -> Iterator[tuple[int, str]]:
+    """The lines of a document with their places, but for blocks of code."""
     is_in_block = False
     for place, line in enumerate(tree.lines(file), 1):
         if line.startswith("```"):
             is_in_block = not is_in_block
         elif not is_in_block and not line.startswith("    "):
-            yield from ((place, text) for text in SPAN.findall(line))
+            yield place, line
+
+
+def spans(tree: Tree, file: pathlib.Path) -> Iterator[tuple[int, str]]:
+    """The texts in backticks of a document, with their lines."""
+    for place, line in text_lines(tree, file):
+        yield from ((place, text) for text in SPAN.findall(line))
 
 
 def prose(tree: Tree, file: pathlib.Path) -> Iterator[tuple[int, str]]:
-    """The lines of a document without its blocks of code and what is in backticks."""
-    is_in_block = False
-    for place, line in enumerate(tree.lines(file), 1):
-        if line.startswith("```"):
-            is_in_block = not is_in_block
-        elif not is_in_block and not line.startswith("    "):
-            yield place, SPAN.sub("``", line)
+    """The lines of a document without what is in backticks."""
+    for place, line in text_lines(tree, file):
+        yield place, SPAN.sub("``", line)
 
 
 @functools.lru_cache(maxsize=None)

@@ -173,7 +173,7 @@ def _refused(journal: pandas.DataFrame) -> Part:
 
 def _config(journal: pandas.DataFrame) -> Part:
     """What the day was opened with."""
-    said = {
+    texts = {
         "low": "lowest tick",
         "high": "highest tick",
         "reference": "first reference price (ticks)",
@@ -184,6 +184,6 @@ def _config(journal: pandas.DataFrame) -> Part:
     }
     values = [journal.attrs[name] for name in DAY]
     frame = pandas.DataFrame(
-        {"what": said.values(), "value": [shown_cell(value, "none", True) for value in values]}
+        {"what": texts.values(), "value": [shown_cell(value, "none", True) for value in values]}
     )
     return "Config", html_table(frame, "What the day was opened with", "config")

@@ -156,8 +156,8 @@ class Site:
         bucket = self._joins.setdefault(request.remote or "", Bucket(JOIN_RATE, JOIN_BURST))
         if not bucket.takes():
             raise MessageError("too_fast")
-        said = await body_of(request)
-        code, name = messages.text_of(said, "code"), messages.text_of(said, "name", "")
+        body = await body_of(request)
+        code, name = messages.text_of(body, "code"), messages.text_of(body, "name", "")
         member, token = await self._venue.join(code, name)
         return answered({"name": member.name, "token": token})
 
@@ -206,9 +206,9 @@ class Site:
     async def _operator(self, request: web.Request) -> web.Response:
         """Does what the operator asks for."""
         self._check_operator(request)
-        said = await body_of(request)
+        body = await body_of(request)
         try:
-            return answered(await teaching.done(self._venue, said))
+            return answered(await teaching.done(self._venue, body))
         except PhaseError as fault:
             raise MessageError("bad_phase", str(fault)) from None
 

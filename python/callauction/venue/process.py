@@ -151,12 +151,12 @@ class Process:
         """Takes the answers until the program ends."""
         output, errors = self._child.stdout, self._child.stderr
         assert output is not None and errors is not None
-        said = asyncio.create_task(errors.read(MOST_ERROR))
+        error = asyncio.create_task(errors.read(MOST_ERROR))
         while block := await output.read(BLOCK):
             *lines, self._rest = (self._rest + block).split(b"\n")
             for line in lines:
                 self._take(line.decode("ascii", "replace"))
-        self._error = await said
+        self._error = await error
         self._pipe.close()
         self.has_ended = True
         self._on_end(self._fault(await self._child.wait()))
