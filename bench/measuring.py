@@ -185,9 +185,9 @@ Figures = dict[str, list[float]]
 
 
 def printed(
-    command: list[str], found: Figures, environment: dict[str, str] | None = None, behind: int = 0
+    command: list[str], found: Figures, environment: dict[str, str] | None = None, units: int = 0
 ) -> None:
-    """Runs a command that prints lines `NAME.. NUMBER`, with `behind` words after the number, and
+    """Runs a command that prints lines `NAME.. NUMBER`, with `units` words after the number, and
     keeps its numbers. Raises CalledProcessError.
     """
     run = subprocess.run(
@@ -195,7 +195,7 @@ def printed(
     )
     for line in run.stdout.splitlines():
         words = line.split()
-        *name, number = words[: len(words) - behind]
+        *name, number = words[: len(words) - units]
         found.setdefault(" ".join(name), []).append(float(number))
 
 

@@ -253,7 +253,7 @@ CALLAUCTION_RESULT uint32_t callauction_apply(callauction_handle *handle, const 
                                               callauction_reply *reply);
 
 /* Applies commands one after another, each as callauction_apply, up to the first error, which it answers, and writes
- * how many were applied, and their replies; those behind stay as they were. BAD_LENGTH where the two counts differ. */
+ * how many were applied, and their replies; those after stay as they were. BAD_LENGTH where the two counts differ. */
 CALLAUCTION_RESULT uint32_t callauction_apply_many(callauction_handle *handle, const callauction_command *commands,
                                                    size_t command_count, callauction_reply *replies,
                                                    size_t reply_count, size_t *applied);

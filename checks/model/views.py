@@ -16,7 +16,7 @@ class ViewFault(Exception):
 
 
 def table(name: str, rows: list[str]) -> str:
-    """Rows, behind a line that says how many they are."""
+    """Rows, after a line that says how many they are."""
     return f"show {name} {len(rows)}\n" + "".join(rows)
 
 

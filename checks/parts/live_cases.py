@@ -173,7 +173,7 @@ def bad_talks() -> Iterator[Talk]:
 
 
 def late_talks() -> Iterator[Talk]:
-    """Commands behind the last that a member may have."""
+    """Commands after the last that a member may have."""
     yield Talk(
         "commands behind the last that may come",
         ["--calls", "2", "--reserve", "0"],

@@ -3,7 +3,7 @@ beside the model; files that a crash or a hand has left; another day's, unlawful
 ones; a file that can't grow; options.
 
 After each crash the file must begin as the model's journal does, with all that was answered, and
-the next session must go on behind it. The expected texts are the model's.
+the next session must go on after it. The expected texts are the model's.
 """
 import contextlib
 import dataclasses
@@ -177,9 +177,9 @@ def test_terminated_and_gone_on(program: str, tmp_path: pathlib.Path, seed: int)
     finish(program, file, day, [])
 
 
-def written(file: pathlib.Path, day: Kept, count: int, behind: bytes) -> None:
-    """Writes the day's first `count` lines, and these bytes behind them."""
-    file.write_bytes("".join(day.journal[:count]).encode("ascii") + behind)
+def written(file: pathlib.Path, day: Kept, count: int, rest: bytes) -> None:
+    """Writes the day's first `count` lines, and these bytes after them."""
+    file.write_bytes("".join(day.journal[:count]).encode("ascii") + rest)
 
 
 TAILS = [

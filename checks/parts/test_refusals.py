@@ -41,11 +41,11 @@ Answer = tuple[int, str, str]
 """A status, what is printed, and what is written on standard error."""
 Test = Callable[[Answer], bool]
 Row = tuple[str, list[str], bytes, Test, Test]
-"""A name, the words behind the program's name, its input, what the right answer is like, and what
+"""A name, the words after the program's name, its input, what the right answer is like, and what
 one is like that was refused memory.
 """
 BadRow = tuple[list[str], int, str]
-"""The words behind the program's name, the status, and a part of what is written."""
+"""The words after the program's name, the status, and a part of what is written."""
 
 
 def run(heap: str, refused: int, words: list[str], data: bytes) -> tuple[Answer, list[int]]:

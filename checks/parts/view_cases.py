@@ -105,7 +105,7 @@ def random_view(dice: random.Random, options: Options) -> list[str]:
 
 
 def random_talk(seed: int) -> Talk:
-    """The random order file of this seed, with views before and behind its records."""
+    """The random order file of this seed, with views before and after its records."""
     dice = random.Random(f"views {seed}")
     options, text = orders.order_file("short", seed)
     options = DEFAULTS | options

@@ -222,7 +222,7 @@ static void every_reply(void) {
     WANT(callauction_close(&auction) == CALLAUCTION_DONE);
 }
 
-/* Many commands: the replies of one by one, up to the first error, and those behind stay. */
+/* Many commands: the replies of one by one, up to the first error, and those after stay. */
 static void many(void) {
     callauction_handle auction = {0};
     callauction_command commands[6] = {

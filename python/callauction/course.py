@@ -156,7 +156,7 @@ def references_of(journal: pandas.DataFrame, numbers: Iterable[int]) -> dict[int
     """The reference price before each of the commands with these numbers, which rise, in ticks.
 
     The library is asked: a copy of the auction at that place, all of whose orders are deleted, has
-    the reference as the price of two market orders. None where it takes no such orders: behind the
+    the reference as the price of two market orders. None where it takes no such orders: after the
     day's end, where one order alone may be open, or where a day has too many calls.
     """
     commands = commands_of(journal)

@@ -29,7 +29,7 @@ class RefusedError(AuctionError):
 
 
 class NotAppliedError(AuctionError):
-    """A command wasn't applied, and none behind it.
+    """A command wasn't applied, and none after it.
 
     `applied` says how many commands of the call were applied before it, and `replies` are their
     replies, an array of REPLY of that length (None where the call was of one command).

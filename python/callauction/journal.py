@@ -6,7 +6,7 @@ The frame has a row for each event, in the order in which the board took them. I
 - `order`: the order's id there; `member`: who sent it, which `replace` and `cancel` may
   leave out;
 - `side`: `bid` or `buy`, `ask` or `sell`; `price`: a decimal, missing for a market order;
-- `quantity`: shares, at `replace` what is open behind it, at `cancel` what is taken out where
+- `quantity`: shares, at `replace` what is open after it, at `cancel` what is taken out where
   that isn't all; `peak`: of an iceberg order;
 - `restriction`: `opening` or `closing`, where the order is for that auction alone;
 - `time`: any; `kept`: at `replace`, whether the place in time was kept, if that is known.

@@ -1,5 +1,5 @@
 """Commands and replies as docs/FORMATS.md writes them: a command in its shortest form, a reply by
-the text behind its number.
+the text after its number.
 """
 from operator import index
 
@@ -21,7 +21,7 @@ def _limit(limit: int | None) -> str:
 
 
 def fields_of(command: Command) -> str:
-    """The fields of a command behind its member, parted by commas. Raises TypeError where it is
+    """The fields of a command after its member, parted by commas. Raises TypeError where it is
     none of Command.
     """
     match command:

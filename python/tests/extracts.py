@@ -73,7 +73,7 @@ class Recorder:
         self.gone: list[int] = []
 
     def add(self, event: str, **cells: object) -> None:
-        """A row, some time behind the one before it."""
+        """A row, some time after the one before it."""
         self.seconds += self.chance.choice([0, 1, 1, 7])
         clock = divmod(self.seconds, 3600)
         minute, second = divmod(clock[1], 60)

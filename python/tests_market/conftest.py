@@ -192,7 +192,7 @@ def words_of(*words: object) -> list[str]:
 
 
 def command(*words: object, program: object, before: list[str] = []) -> Ran:
-    """A run of the command line, behind these words."""
+    """A run of the command line, after these words."""
     return subprocess.run(
         [*before, *words_of(*words)],
         env=environment(program),

@@ -60,7 +60,7 @@ def lock_of(result: pathlib.Path) -> pathlib.Path:
 
 
 def with_end(path: pathlib.Path, end: str) -> pathlib.Path:
-    """The path with this end behind its whole name."""
+    """The path with this end after its whole name."""
     return path.with_name(path.name + end)
 
 

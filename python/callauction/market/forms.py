@@ -170,7 +170,7 @@ def read_number(block: bytes) -> int:
 
 
 def read_trades(blocks: Blocks) -> Columns:
-    """How many trades there are: the records behind the header. Raises OutputFault."""
+    """How many trades there are: the records after the header. Raises OutputFault."""
     records = sum(block.count(b"\n") for block in blocks)
     if records == 0:
         raise OutputFault("the program printed no table")

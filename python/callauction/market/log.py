@@ -18,7 +18,7 @@ HEADER = [*COLUMNS, "worker", "size", "sha256", "check"]
 
 
 def check_of(before: str, fields: Iterable[object]) -> str:
-    """The check of a line with these fields behind a line with this check."""
+    """The check of a line with these fields after a line with this check."""
     text = before + record_of(fields)
     return hashlib.sha256(text.encode()).hexdigest()
 

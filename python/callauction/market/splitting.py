@@ -122,7 +122,7 @@ def frames_of(path: pathlib.Path) -> "Iterator[pandas.DataFrame]":
 
 def frames_of_csv(path: pathlib.Path) -> "Iterator[pandas.DataFrame]":
     """The frames of a CSV file, whose cells are texts. A byte order mark, blank lines, and commas
-    behind a row say nothing. Raises OSError, ValueError, csv.Error, and TableError for a row that
+    after a row say nothing. Raises OSError, ValueError, csv.Error, and TableError for a row that
     is longer than the header.
     """
     import pandas

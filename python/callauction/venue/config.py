@@ -1,6 +1,6 @@
 """What a venue is opened with: a file in TOML, or defaults for all that it leaves out.
 
-Prices are decimal texts in the file and ticks behind it; lengths of time are seconds.
+Prices are decimal texts in the file and ticks after it; lengths of time are seconds.
 """
 import dataclasses
 import pathlib

@@ -191,8 +191,8 @@ class Site:
             first = request.query.get("first", "1")
             if not first.isdecimal() or len(first) > 10:
                 raise MessageError("bad_message", "first is no number of a trade")
-            behind = instrument.trades[max(0, int(first) - 1) :]
-            return answered(shown.trades_of(instrument, behind, False))
+            later = instrument.trades[max(0, int(first) - 1) :]
+            return answered(shown.trades_of(instrument, later, False))
         raise web.HTTPNotFound
 
     # ---- the operator

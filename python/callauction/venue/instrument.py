@@ -172,7 +172,7 @@ class Instrument:
         self._keep_point(point)
 
     def _uncrossed(self, entry: Entry) -> None:
-        """The phase behind an uncross."""
+        """The phase after an uncross."""
         self.state = self.state.replied(entry.reply)
         if not entry.reply.startswith("refused"):
             self.results.append(entry.reply)

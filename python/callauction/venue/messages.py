@@ -59,7 +59,7 @@ class MessageError(ValueError):
 @dataclasses.dataclass(frozen=True, slots=True)
 class Order:
     """A message that becomes a command: its number, its instrument, and the rest of its record
-    behind the member.
+    after the member.
     """
 
     number: int
@@ -146,7 +146,7 @@ def order_of(instrument: Instrument, message: dict[str, Any]) -> Order:
 
 
 def entered(instrument: Instrument, message: dict[str, Any]) -> str:
-    """The record of a new order behind its member, in its shortest form. Raises MessageError."""
+    """The record of a new order after its member, in its shortest form. Raises MessageError."""
     side, only = text_of(message, "side"), text_of(message, "only", "")
     if side not in SIDES:
         raise MessageError("bad_message", "side is bid or ask")

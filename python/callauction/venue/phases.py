@@ -107,7 +107,7 @@ class State:
         return self._with_end(Phase.EXTENDED, now, seconds, 0, 0.0)
 
     def replied(self, reply: str) -> Self:
-        """The state behind the program's reply to an uncross: an interruption goes on as an
+        """The state after the program's reply to an uncross: an interruption goes on as an
         extended call without an end yet, a refusal changes nothing.
         """
         if reply.startswith("interrupted"):

@@ -406,7 +406,7 @@ def _ordered(
     rows: list[tuple[Row, dict[str, object]]], frame: pandas.DataFrame, reading: Reading
 ) -> list[tuple[Row, dict[str, object]]]:
     """The rows by time, then sequence, then place, where that is asked; a row without a time stays
-    behind the one above it.
+    after the one above it.
     """
     if not reading.sort:
         return rows

@@ -13,7 +13,7 @@ from callauction.verdict.events import Cancel, New, Replace
 from callauction.verdict.judging import Judged, Judgement
 from callauction.verdict.names import Names
 from callauction.verdict.queue import recorded_fills
-from callauction.verdict.replay import GONE, OpenOrder, OrderEvent, Replay, Rules, behind
+from callauction.verdict.replay import GONE, OpenOrder, OrderEvent, Replay, Rules, order_after
 
 ORDERS = {
     "order": "object",
@@ -87,17 +87,17 @@ class _Course:
         if judged.is_ended and price is not None:
             for key, shares in replayed.fills.items():
                 self.orders[key].execute(shares, replayed.orders[key].price, price)
-        if judged.is_ended and judged.behind is not None:
-            done = judged.behind.executed
+        if judged.is_ended and judged.next_state is not None:
+            done = judged.next_state.executed
             fills = {key: shares - self.executed.get(key, 0) for key, shares in done.items()}
             self._end(judged.auction, replayed.fills if is_last else fills)
-            self.executed, self.ended = done, judged.behind.ended
+            self.executed, self.ended = done, judged.next_state.ended
 
     def take(self, events: Iterable[OrderEvent]) -> None:
         """The events of a call phase that aren't refused."""
         done = self.executed if self.total_quantity else {}
         for event in events:
-            following = behind(event, self.open, done)
+            following = order_after(event, self.open, done)
             if following is None:
                 continue
             key = following.key
