@@ -139,13 +139,15 @@ class Member:
         return bids, asks, MarketOrders(market.bids, market.asks), int(calls[0])
 
     def trades(self, seen: int = 0) -> Structs:
-        """The trades of the day after the first `seen`: a new array of TRADE."""
+        """The trades of the day after the first `seen`: a new array of TRADE. Raises TypeError or
+        ValueError for a bad number.
+        """
         calls = ffi.new("uint32_t *")
         return self._copied(lib.python_board_trades, "callauction_trade[]", TRADE, seen, calls)
 
     def history(self, seen: int = 0) -> Structs:
-        """The entries of the board's history after the first `seen`: a new array of ENTRY, for who
-        writes them down while the day runs.
+        """The entries of the board's history after the first `seen`: a new array of ENTRY, for a
+        thread that writes them down while the day runs. Raises as trades.
         """
         return self._copied(lib.python_board_history, "callauction_entry[]", ENTRY, seen)
 

@@ -112,7 +112,7 @@ def test_each_part_shows_its_rule_alone(
           "price=Price(tick=203"]),
     (18, ["gain 700 of 1,100 possible, efficiency 63.6%"]),
 ])
-def test_the_execution_is_as_it_is_told(
+def test_the_execution_is_as_the_text_says(
     price: nbformat.NotebookNode, number: int, texts_of_part: list[str]
 ) -> None:
     shown = part(price, number)
@@ -121,7 +121,7 @@ def test_the_execution_is_as_it_is_told(
 
 
 @pytest.mark.filterwarnings("ignore")
-def test_a_lesson_draws_what_it_tells_of(price: nbformat.NotebookNode) -> None:
+def test_a_lesson_draws_what_it_describes(price: nbformat.NotebookNode) -> None:
     assert pictures(price) >= 17
     assert price.metadata["widgets_opened"], "the slider of part 8"
     assert "python3-ipywidgets" not in part(price, 8)
