@@ -16,7 +16,7 @@ from typing import TYPE_CHECKING, Any, NoReturn
 
 import tqdm
 
-from callauction.grid import FrameError
+from callauction.cells import FrameError
 from callauction.program import OPTIONS, Day, ProgramError
 from callauction.statuses import BAD_DAY, BAD_FILE, DONE, FAILED
 from callauction.tables import book_at, books_of, journal_of

@@ -3,7 +3,7 @@
 The frame has a row for each event, in the order in which the board took them. Its columns are
 
 - `event`: `new`, `replace`, `cancel`, `uncross` (an auction ended) or `trade`;
-- `order`: the order's id there; `member`: who sent it, which `replace` and `cancel` may
+- `order`: the order's id; `member`: who sent it, which `replace` and `cancel` may
   leave out;
 - `side`: `bid` or `buy`, `ask` or `sell`; `price`: a decimal, missing for a market order;
 - `quantity`: shares, at `replace` what is open after it, at `cancel` what is taken out where
@@ -32,7 +32,7 @@ import pandas
 
 from callauction.auction import Auction
 from callauction.course import Watch, references_of
-from callauction.grid import FrameError, cell_of
+from callauction.cells import FrameError, cell_of
 from callauction.limits import MOST_CALLS, MOST_MEMBERS, MOST_OPEN, MOST_TICKS
 from callauction.prices import (
     BadCellError,
@@ -170,12 +170,12 @@ class Row:
 
 @dataclasses.dataclass(frozen=True)
 class Journal:
-    """A frame as a journal, and the maps back to its own ids, members, times and prices.
+    """A frame as a journal, and the maps back to the frame's ids, members, times and prices.
 
-    `text` is the journal; `grid` has the price of each tick; `orders` has by our id the order's id
-    there (`order`), its `member` there and the `number` that it has here, and the `row`; `entries`
-    has for each entry of the journal the `row`, its `time`, its `event`, and the `order` and the
-    `member` there. All tables name ids, members, prices and times as they are there.
+    `text` is the journal; `grid` has the price of each tick; `orders` has by the journal's id the
+    frame's `order` and `member`, the `number` of that member in the journal, and the `row`;
+    `entries` has for each entry of the journal the frame's `row`, `time`, `event`, `order` and
+    `member`. All tables have the frame's ids, members, prices and times.
     """
 
     text: str
@@ -236,7 +236,7 @@ class Journal:
 
     def audit(self) -> pandas.DataFrame:
         """The recorded results that aren't lawful: `entry`, its `row`, `time`, `event`, `order` and
-        `member`, and both texts, in the ids and prices of the extract. `attrs` are as of
+        `member`, and both texts, in the ids and prices of the frame. `attrs` are as of
         tables.audit_of. Raises ProgramError.
         """
         found = audit_of(self.day())
@@ -248,7 +248,7 @@ class Journal:
         return joined
 
     def translated(self, reply: str) -> str:
-        """The text of a reply in the ids and prices of the extract."""
+        """The text of a reply in the ids and prices of the frame."""
         bests = _BESTS.fullmatch(reply)
         if bests:
             return f"no price bid {self._best(bests[1])} ask {self._best(bests[2])}"
@@ -259,7 +259,7 @@ class Journal:
         )
 
     def _order(self, id: int) -> Any:
-        """The order's id there; ours where there is none."""
+        """The frame's id of an order; the journal's where it has none."""
         return self.orders.at[id, "order"] if id in self.orders.index else id
 
     def _best(self, limit: str) -> str:
@@ -267,14 +267,14 @@ class Journal:
 
 
 AUDIT = ("entry", "row", "time", "event", "order", "member", "recorded", "lawful")
-"""The columns of an audit, in the ids and prices of the extract."""
+"""The columns of an audit, in the ids and prices of the frame."""
 _BESTS = re.compile(r"no price bid (\d+|-) ask (\d+|-)")
 _TICK = re.compile(r"\b(price|at) (\d+)")
 _ENTERED = re.compile(r"\bentered (\d+)")
 _TRADE = re.compile(r"\btrade (\d+) (\d+)")
 
 
-# ---- the way there
+# ---- from the frame to the journal
 
 
 class _Conversion:
@@ -283,7 +283,7 @@ class _Conversion:
     def __init__(self, grid: Grid, auction: Auction) -> None:
         self.grid, self.auction = grid, auction
         self.orders: dict[Any, tuple[int, Any, object]] = {}
-        """By its id there an order's id here, its member there, and its row."""
+        """By the frame's id of an order: the journal's id, the frame's member, and the row."""
         self.numbers: dict[Any, int] = {}
         self.lines: list[str] = []
         self.entries: list[tuple[object, Any, str, Any, Any]] = []
@@ -340,7 +340,7 @@ class _Conversion:
         recorded = "" if kept is None else "changed kept" if kept else "changed moved"
         reply = self._write(row, member, command, recorded, order)
         if isinstance(reply, Refused) and not recorded:
-            # It was changed there: a text that is no lawful reply makes it a finding.
+            # The other system changed it: a text that is no lawful reply makes it a finding.
             self.lines[-1] += "changed"
 
     def _uncross(self, row: Row) -> None:
@@ -382,7 +382,7 @@ class _Conversion:
         self._write(row, None, ReadTrade(self.trades), text)
 
     def _known(self, row: Row, column: str) -> tuple[Any, int, Any]:
-        """The id there of an order that was entered, its id here, and its member."""
+        """The frame's id of an order that was entered, the journal's id, and the member."""
         order = row.name(column)
         if order not in self.orders:
             raise row.fault(column, "is the id of no order before it")

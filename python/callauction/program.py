@@ -47,7 +47,7 @@ class BadDayError(ProgramError):
 
 
 class FailedError(ProgramError):
-    """The program is missing or couldn't be started, memory was wanting, or a read or a write
+    """The program is missing or couldn't be started, memory was refused, or a read or a write
     failed.
     """
 

@@ -8,7 +8,7 @@ import callauction as words
 import numpy
 import pandas
 import pytest
-from callauction.grid import FrameError
+from callauction.cells import FrameError
 from callauction.prices import BadCellError, Grid, decimal_of, grid_of, whole_of
 from callauction.journal import EVENTS, Journal, from_frame
 from callauction.program import Day
@@ -97,7 +97,7 @@ def test_an_audit_names_what_is_unlawful_as_it_is_named_there() -> None:
     assert found.attrs == dict(entries=8, compared=4, unlawful=3, is_legal=False)
 
 
-def test_replies_are_translated_to_the_ids_and_prices_of_the_extract() -> None:
+def test_replies_are_translated_to_the_ids_and_prices_of_the_frame() -> None:
     journal = converted(ADLER_AND_BIRK)
     for reply, text in (
         ("entered 2", "entered B4"),

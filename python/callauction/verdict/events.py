@@ -7,7 +7,7 @@ from decimal import Decimal
 
 import pandas
 
-from callauction.grid import cell_of
+from callauction.cells import cell_of
 from callauction.prices import BadCellError, decimal_of, whole_of
 from callauction.verdict import times
 from callauction.verdict.reading import Reading, Table
