@@ -1,10 +1,9 @@
 """Rules for the documents: each gives its faults as `FILE:LINE: ..` or `FILE: ..`.
 
-- Each name in backticks exists: as a file, or as a word of the code, the scripts or the examples;
-  also in docs/WRONG_BODIES.md.
+- Each name in backticks exists: as a file, or as a word of the code, the scripts or the examples.
 - docs/GLOSSARY.md gives each term once, with names of the code that exist; a type or a variant that
   it names is declared once.
-- No document has a word that FORBIDDEN lists.
+- No document has a word that FORBIDDEN lists. Both rules hold of docs/WRONG_BODIES.md too.
 - Together they have at most MOST_BYTES, docs/WRONG_BODIES.md and CHANGELOG.md aside.
 - The kit of `rt version` is among those that a document names, where it names any.
 """
@@ -114,10 +113,15 @@ def dead_words(tree: Tree, text: str) -> list[str]:
     return dead
 
 
+def with_made(tree: Tree) -> list[pathlib.Path]:
+    """The documents, and docs/WRONG_BODIES.md, which is made of lines that a person wrote."""
+    made = [file for file in tree.files if tree.name(file) == "docs/WRONG_BODIES.md"]
+    return [*tree.documents, *made]
+
+
 def dead_names(tree: Tree) -> Iterator[str]:
     """Names in backticks that the repository has nowhere."""
-    made = [file for file in tree.files if tree.name(file) == "docs/WRONG_BODIES.md"]
-    for file in [*tree.documents, *made]:
+    for file in with_made(tree):
         for place, text in spans(tree, file):
             for path in PATH.findall(text):
                 if (tree.top / path.split("/")[0]).is_dir() and not is_path(tree, path):
@@ -135,7 +139,7 @@ def faults_of_words(where: str, text: str) -> Iterator[str]:
 
 def forbidden_words(tree: Tree) -> Iterator[str]:
     """Words of FORBIDDEN, and sentences that begin with That and have no second verb."""
-    for file in tree.documents:
+    for file in with_made(tree):
         for place, line in prose(tree, file):
             yield from faults_of_words(f"{tree.name(file)}:{place}", line)
             for sentence in THAT.findall(line):
