@@ -66,8 +66,8 @@ typedef enum callauction_error {
     CALLAUCTION_ERROR_CLOSED = 13,       /* the board was closed */
     CALLAUCTION_ERROR_NO_MEMBER = 14,    /* the handle holds no member */
     CALLAUCTION_ERROR_MISSING_MEMBER = 15, /* the handles don't hold all members of a board in their order */
-    CALLAUCTION_ERROR_OVERTAKEN = 16,    /* the board's story has a call that its history hasn't; no run is known to
-                                            meet it */
+    CALLAUCTION_ERROR_OVERTAKEN = 16,    /* the board's story, the list of its calls, has one that its history
+                                            hasn't; no run is known to meet it */
     CALLAUCTION_ERROR_BAD_MEMBER = 17    /* the number is neither a member's nor CALLAUCTION_ALL_MEMBERS */
 } callauction_error;
 
