@@ -106,7 +106,7 @@ static void *call_all(void *argument) {
     return NULL;
 }
 
-/* The calls of so many members at once, in nanoseconds on the wall a call; then looks of one. */
+/* The calls of `members` members at once, wall nanoseconds a call; then the looks of one. */
 static void measure_board(uint32_t members, const char *name) {
     callauction_member handles[MOST] = {{0}};
     pthread_t threads[MOST];

@@ -77,7 +77,7 @@ def program_of(text: str) -> Program:
 
 
 def write(kind: str, count: int, folder: str) -> pathlib.Path:
-    """Writes a file of so many commands, and gives its path."""
+    """Writes a file of `count` commands, and gives its path."""
     path = pathlib.Path(folder) / f"{kind}-{count}.csv"
     with open(path, "w", encoding="ascii") as out:
         out.writelines(line + "\n" for line in orders.records(kind, count))
@@ -85,7 +85,7 @@ def write(kind: str, count: int, folder: str) -> pathlib.Path:
 
 
 def written(most: int, only: str | None, folder: str) -> list[File]:
-    """Writes the files, of at most so many commands each, or one of them alone."""
+    """Writes the files, of at most `most` commands each, or one of them alone."""
     return [
         File(kind, write(kind, min(count, most), folder), words)
         for kind, count, words in FILES
@@ -123,7 +123,7 @@ def peak_memory(command: list[str], path: pathlib.Path) -> float:
 
 
 def in_turns(commands: list[list[str]], path: pathlib.Path, runs: int) -> list[Measured]:
-    """Runs commands on a file in turns, so many times each, and gives what each took."""
+    """Runs commands on a file in turns, `runs` times each, and gives what each took."""
     found = [Measured(memory=peak_memory(command, path)) for command in commands]
     for _ in range(runs):
         for command, measured in zip(commands, found):
@@ -185,9 +185,9 @@ Figures = dict[str, list[float]]
 
 
 def printed(
-    command: list[str], found: Figures, environment: dict[str, str] | None = None, behind: int = 0
+    command: list[str], found: Figures, environment: dict[str, str] | None = None, units: int = 0
 ) -> None:
-    """Runs a command that prints lines `NAME.. NUMBER`, with so many words behind the number, and
+    """Runs a command that prints lines `NAME.. NUMBER`, with `units` words after the number, and
     keeps its numbers. Raises CalledProcessError.
     """
     run = subprocess.run(
@@ -195,7 +195,7 @@ def printed(
     )
     for line in run.stdout.splitlines():
         words = line.split()
-        *name, number = words[: len(words) - behind]
+        *name, number = words[: len(words) - units]
         found.setdefault(" ".join(name), []).append(float(number))
 
 

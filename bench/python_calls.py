@@ -14,7 +14,7 @@ THOUSANDS = [LIMITS[k : k + AT_ONCE] for k in range(0, CALLS, AT_ONCE)]
 
 
 def begin(standing: int) -> Auction:
-    """An auction with so many open orders."""
+    """An auction with `standing` open orders."""
     auction = Auction(reference=500, max_open=65_536, max_calls=1_048_576)
     for k in range(standing):
         auction.enter(1, SIDES[k % 2], 100, 1 + k % 1000, check=True)

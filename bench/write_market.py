@@ -72,7 +72,7 @@ def phase(market: orders.Market, count: int) -> Iterator[str]:
 
 
 def commands(count: int, dice: random.Random) -> Iterator[str]:
-    """A day of so many commands. After an uncross only orders that came since are named."""
+    """A day of `count` commands. After an uncross only orders that came since are named."""
     next_id = 1
     for auction in range(AUCTIONS):
         market = orders.Market(TICKS, dice)
@@ -93,8 +93,8 @@ def lawful(program: str, entries: Iterator[str]) -> list[str]:
 
 def change(lines: list[str], dice: random.Random) -> list[int]:
     """Records another number in a few replies: the numbers of their entries, which rise."""
-    told = [place for place in range(1, len(lines)) if NUMBER.search(reply_of(lines[place]))]
-    chosen = sorted(dice.sample(told, min(len(told), dice.randint(1, MOST_CHANGED))))
+    numbered = [place for place in range(1, len(lines)) if NUMBER.search(reply_of(lines[place]))]
+    chosen = sorted(dice.sample(numbered, min(len(numbered), dice.randint(1, MOST_CHANGED))))
     for place in chosen:
         reply = reply_of(lines[place])
         other = NUMBER.sub(lambda number: str(int(number[0]) + 1), reply, count=1)
@@ -127,8 +127,8 @@ def write_market(folder: pathlib.Path, asked: argparse.Namespace) -> None:
     with concurrent.futures.ProcessPoolExecutor() as pool:
         places = sorted(range(asked.instruments), key=lambda place: -counts[place])
         tasks = [pool.submit(write, folder, place, counts[place], asked) for place in places]
-        told = sorted(task.result() for task in tasks)
-    (folder / "changed.txt").write_text("".join(told), encoding="ascii")
+        lines = sorted(task.result() for task in tasks)
+    (folder / "changed.txt").write_text("".join(lines), encoding="ascii")
 
 
 def arguments() -> argparse.ArgumentParser:

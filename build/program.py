@@ -1,10 +1,10 @@
 #!/usr/bin/env python3
 """Proves and builds the program, with progress on standard error: `build/program.py`.
 
-Crates that don't stand on each other are proved at once, as cores and memory allow. Those with the
+Crates that don't use each other are proved at once, as cores and memory allow. Those with the
 longest way to the program above them have all cores (at most four jobs), and what is proved beside
 them takes what they leave (`nice`). The toolchain works in a crate's folder and in those below it,
-and of two crates that stand on one it lets the second wait. So each is proved in a room of its own,
+and of two crates that use a third it lets the second wait. So each is proved in a room of its own,
 out/build/rooms/CRATE, with a copy of its text and of what was built below it, and what is made
 there is moved to the crate's own out/. On a terminal one line is rewritten; elsewhere each crate
 has a line of its own. What is proved is kept, so a build that was interrupted goes on where it
@@ -82,7 +82,7 @@ def crate_lines(top: pathlib.Path) -> dict[str, str]:
 
 
 def crates_below(top: pathlib.Path, program: str) -> dict[str, list[str]]:
-    """The program's crate and those of the repository that it stands on, lowest first, each with
+    """The program's crate and those of the repository that it uses, lowest first, each with
     those that it names. Raises OSError.
     """
     named = {name: line.partition(":")[2].split() for name, line in crate_lines(top).items()}

@@ -46,7 +46,7 @@ class Edit:
             raise BadEdit("an old text without a new one")
 
     def check_fit(self, top: pathlib.Path) -> None:
-        """Raises BadEdit unless there are pairs, and each old text stands once in its file."""
+        """Raises BadEdit unless there are pairs, and each old text is exactly once in its file."""
         texts: dict[str, str] = {}
         for path, old, new in self.pairs():
             if path not in texts:

@@ -23,7 +23,7 @@ sys.path.insert(0, str(built.TOP / "build"))
 
 import debian  # noqa: E402
 
-# Words of a command that stand for what is built, and for pytest under a Python that has it.
+# Words of a command that mean what is built, and pytest under a Python that has it.
 PROGRAM, TESTS, LIBRARY, PYTEST = "PROGRAM", "TESTS", "LIBRARY", "PYTEST"
 COUNTS = re.compile(r"(\d+) passed, (\d+) failed")
 LOGS = built.TOP / "out/check"

@@ -62,7 +62,7 @@ void trade(ca::Member member, std::uint64_t seed) {
     for (int i = 0; i < calls_of_a_member; i++) trader.read(want(member.call_waiting(trader.next()), "call").reply);
 }
 
-// Looks until it is told to stop: whether the calls that it saw never became fewer.
+// Looks until `is_over`: whether the calls that it saw never became fewer.
 bool watch(ca::Member member, const std::atomic<bool> &is_over) {
     std::uint32_t seen = 0;
     while (!is_over) {

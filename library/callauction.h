@@ -6,15 +6,15 @@
  *
  * A handle of zeros holds nothing, and each call on it but an opening answers CALLAUCTION_ERROR_NO_AUCTION, or
  * CALLAUCTION_ERROR_NO_MEMBER, and does nothing else. Each call answers CALLAUCTION_DONE or the number of an error, and
- * an error changes nothing but a count that it writes as 0 (callauction_apply_many says how many commands it had
- * applied before one; a call on a full board says what it has shown the member).
+ * an error changes nothing but a count that it writes as 0 (callauction_apply_many writes how many commands it had
+ * applied before one; after CALLAUCTION_ERROR_FULL on a board its member has seen at least max_calls calls).
  *
  * docs/MODEL.md says what a command does, when it is refused and what it is answered. Limits and prices are ticks,
  * quantities whole shares. Members are numbered from 0, and member 0 is the operator, who alone uncrosses.
  *
  * Limits: ticks from 1 to 1,000,000, at most 65,536 of them; orders of 1 to 1,000,000,000 shares; 1 to 65,536 open
  * orders; 1 to 1,048,576 calls a day; members 0 to 255 of an auction of one thread, 1 to 64 members of a board. C
- * converts an integer to a field's type without a word: 256 as a member is member 0. callauction.hpp checks that.
+ * converts an integer to a field's type silently: 256 as a member is member 0. callauction.hpp checks that.
  *
  * What each call does is proved, as long as its caller keeps to this:
  *
@@ -66,8 +66,8 @@ typedef enum callauction_error {
     CALLAUCTION_ERROR_CLOSED = 13,       /* the board was closed */
     CALLAUCTION_ERROR_NO_MEMBER = 14,    /* the handle holds no member */
     CALLAUCTION_ERROR_MISSING_MEMBER = 15, /* the handles don't hold all members of a board in their order */
-    CALLAUCTION_ERROR_OVERTAKEN = 16,    /* the board's story has a call that its history hasn't; no run is known to
-                                            meet it */
+    CALLAUCTION_ERROR_OVERTAKEN = 16,    /* the board's story, the list of its calls, has one that its history
+                                            hasn't; no run is known to meet it */
     CALLAUCTION_ERROR_BAD_MEMBER = 17    /* the number is neither a member's nor CALLAUCTION_ALL_MEMBERS */
 } callauction_error;
 
@@ -253,7 +253,7 @@ CALLAUCTION_RESULT uint32_t callauction_apply(callauction_handle *handle, const 
                                               callauction_reply *reply);
 
 /* Applies commands one after another, each as callauction_apply, up to the first error, which it answers, and writes
- * how many were applied, and their replies; those behind stay as they were. BAD_LENGTH where the two counts differ. */
+ * how many were applied, and their replies; those after stay as they were. BAD_LENGTH where the two counts differ. */
 CALLAUCTION_RESULT uint32_t callauction_apply_many(callauction_handle *handle, const callauction_command *commands,
                                                    size_t command_count, callauction_reply *replies,
                                                    size_t reply_count, size_t *applied);
@@ -321,9 +321,9 @@ CALLAUCTION_RESULT uint32_t callauction_board_call(callauction_member *member, c
                                                    callauction_receipt *receipt);
 
 /* Writes how many calls the board has had and what is shown after them. It takes no lock and waits for nobody; only a
- * board's first look takes the lock as a call does, and where it is BUSY all the while shows what the member has seen:
- * calls before it take no time to show what nobody looks at. It never goes back: all that the member has seen, its own
- * calls among it, comes before. After the board was closed it shows the last. */
+ * board's first look takes the lock as a call does, as calls before it spend no time on what nobody looks at; where the
+ * lock is BUSY all the while it shows what the member has seen. It never goes back: all that the member has seen, its
+ * own calls among it, comes before. After the board was closed it shows the last. */
 CALLAUCTION_RESULT uint32_t callauction_board_look(callauction_member *member, callauction_shown *shown);
 
 /* As callauction_ladder and callauction_trades, after as many calls as it writes, none of which the member hasn't seen

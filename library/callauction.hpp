@@ -1,12 +1,12 @@
 // callauction.h in C++17: owning classes, optional limits, results by value. Header only; link libcallauction.
 //
 // An Auction is for one thread at a time. A Board is one auction for many members, who call at once: each Member goes
-// to a thread of its own, and the Board outlives them. What a command does, when it is refused and what it is answered
-// is said in docs/MODEL.md, what each call does in callauction.h. Limits and prices are ticks, quantities whole shares.
+// to a thread of its own, and the Board outlives them. docs/MODEL.md says what a command does, when it is refused and
+// what it is answered, callauction.h what each call does. Limits and prices are ticks, quantities whole shares.
 //
-// A call answers a Result: a value, or the Error that callauction.h names. Nothing throws, but for memory:
-// std::bad_alloc where memory is refused. Numbers are given as std::int64_t and looked at: where one doesn't fit its
-// field of a struct, as 256 for a member, the call answers Error::no_command, or Error::no_config, and does nothing.
+// A call answers a Result: a value, or the Error that callauction.h names. It throws std::bad_alloc where memory is
+// refused, and nothing else. Numbers are given as std::int64_t and checked: where one doesn't fit its field of a
+// struct, as 256 for a member, the call answers Error::no_command, or Error::no_config, and does nothing.
 #ifndef CALLAUCTION_HPP
 #define CALLAUCTION_HPP
 
@@ -132,10 +132,10 @@ struct Config {
     std::int64_t reference = 200;              // the first reference price, a tick
     std::int64_t max_open = 4096;              // orders that may be open at a time
     std::int64_t max_calls = 65536;            // commands that may be applied
-    std::optional<std::int64_t> range = {};    // one more than so many ticks from the reference interrupts an uncross
+    std::optional<std::int64_t> range = {};    // a price further from the reference interrupts an uncross
 };
 
-// A limit of nothing is a market order's, a peak makes an iceberg order.
+// An order without a limit is a market order, one with a peak an iceberg order.
 struct Enter {
     Side side;
     std::int64_t quantity;
@@ -521,8 +521,8 @@ public:
         return call(*given);
     }
 
-    // The same, but waits while another call has the board: its thread sleeps at a mutex of the board, on which no
-    // proof rests.
+    // The same, but waits while another call has the board: its thread sleeps at a mutex of the board. This waiting
+    // isn't proved.
     Result<Receipt> call_waiting(const Command &command) {
         const auto given = struct_of(0, command);
         if (!given) return given.error();

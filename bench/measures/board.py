@@ -36,7 +36,7 @@ def measure(asked: argparse.Namespace) -> bool:
     clock = measuring.our_clock(asked.clock)
     found: Figures = {}
     for _ in range(asked.runs):
-        measuring.printed([clock, "board"], found, behind=1)
+        measuring.printed([clock, "board"], found, units=1)
     taken = {
         name: measuring.middle(numbers) if "beside" in name else min(numbers)
         for name, numbers in found.items()

@@ -65,7 +65,7 @@ def is_kept(commands: list[list[str]], file: measuring.File, printed: bytes) -> 
     return is_same
 
 
-def tell_answers(
+def print_answers(
     program: Program, file: measuring.File, kept: pathlib.Path, trips: int, runs: int
 ) -> bool:
     """Prints the answers a second. Whether a journal that isn't synced takes no more than it may.
@@ -97,7 +97,9 @@ def tell_answers(
     return is_right
 
 
-def tell_going_on(program: Program, file: measuring.File, journal: pathlib.Path, runs: int) -> bool:
+def print_going_on(
+    program: Program, file: measuring.File, journal: pathlib.Path, runs: int
+) -> bool:
     """Prints what it takes to go on with a journal, beside its audit. Whether that is no more than
     it may be.
     """
@@ -132,7 +134,7 @@ def measure(asked: argparse.Namespace) -> bool:
         commands = sessions(program, file.words, kept)
         is_right = is_kept(commands, file, journal.read_bytes())
         print("lines and journal:", "the same" if is_right else "OTHERS", end="\n\n")
-        is_right &= tell_answers(program, file, kept, asked.trips, asked.runs)
+        is_right &= print_answers(program, file, kept, asked.trips, asked.runs)
         print()
-        is_right &= tell_going_on(program, file, journal, asked.runs)
+        is_right &= print_going_on(program, file, journal, asked.runs)
     return is_right

@@ -26,7 +26,7 @@ def measure(asked: argparse.Namespace) -> bool:
         program = measuring.compiled("library.c", library, folder)
         for _ in range(asked.runs):
             measuring.printed([program], found)
-            measuring.printed([clock, "board"], found, behind=1)
+            measuring.printed([clock, "board"], found, units=1)
     head("call", "best, ns", "middle, ns", "best : inside", "middle : inside")
     inside = min(found[INSIDE]), measuring.middle(found[INSIDE])
     for name in ORDER:

@@ -28,7 +28,7 @@ def lines_of(command: list[str], file: File) -> bytes:
     return run.stdout
 
 
-def tell_bulk(program: Program, files: list[File], runs: int) -> bool:
+def print_bulk(program: Program, files: list[File], runs: int) -> bool:
     """Prints what the files take in bulk. Whether the lines are the same, and none takes too
     much.
     """
@@ -68,7 +68,7 @@ def round_trip(command: list[str], trips: int) -> float:
     return seconds / trips
 
 
-def tell_trips(program: Program, trips: int, runs: int) -> None:
+def print_trips(program: Program, trips: int, runs: int) -> None:
     """Prints the microseconds of a round trip."""
     head("round trip over pipes", "best run, us", "middle run, us")
     commands = {"--live": [*program.words, *measuring.ROOM, "--live"], "cat": ["cat"]}
@@ -84,7 +84,7 @@ def measure(asked: argparse.Namespace) -> bool:
     program = measuring.our_program(asked.program)
     with tempfile.TemporaryDirectory() as folder:
         files = measuring.written(asked.count, asked.only, folder)
-        is_right = tell_bulk(program, files, asked.runs)
+        is_right = print_bulk(program, files, asked.runs)
     print()
-    tell_trips(program, asked.trips, asked.runs)
+    print_trips(program, asked.trips, asked.runs)
     return is_right

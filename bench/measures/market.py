@@ -99,7 +99,7 @@ def run_market(workers: int, task: Task) -> tuple[Times, float]:
 
 
 def measured(task: Task, counts: list[int], runs: int) -> Best:
-    """The best times of each way, with so many workers."""
+    """The best times of each way, with each of these counts of workers."""
     best: Best = {}
     for _ in range(runs):
         for kind in ("loop", "two-runs"):
@@ -145,7 +145,7 @@ def shells_agree(task: Task, entries: int) -> bool:
     return True
 
 
-def tell(best: Best, entries: int) -> None:
+def print_times(best: Best, entries: int) -> None:
     """Prints the table of what was measured."""
     columns = ["seconds", "processor, s", "entries a second", "times GNU parallel's"]
     measuring.head("workers", "what", *columns)
@@ -184,7 +184,7 @@ def write_table(path: pathlib.Path, rows: int) -> None:
 
 
 def split_table(rows: int, task: Task) -> tuple[float, float]:
-    """Splits a table of so many rows: the seconds, and the peak memory in MiB."""
+    """Splits a table of `rows` rows: the seconds, and the peak memory in MiB."""
     table, figures = task.work / "table.csv", task.work / "figures"
     write_table(table, rows)
     measured = [sys.executable, measuring.TOP / "checks/measured.py", figures]
@@ -196,7 +196,7 @@ def split_table(rows: int, task: Task) -> tuple[float, float]:
     return seconds, peak / 1024
 
 
-def tell_splits(rows: int, task: Task) -> bool:
+def print_splits(rows: int, task: Task) -> bool:
     """Prints what splitting takes: whether the memory stays."""
     measuring.head("rows", "seconds", "rows a second", "MiB")
     peaks = []
@@ -237,11 +237,11 @@ def measure(asked: argparse.Namespace) -> bool:
         task = ready(asked, pathlib.Path(work))
         best = measured(task, counts, asked.runs)
         found, entries = changed_in(task)
-        tell(best, entries)
+        print_times(best, entries)
         is_right = found == expected(task) and shells_agree(task, entries)
         print("\nall found what was changed" if is_right else "\nnot all found what was changed")
         is_right &= is_wanted(best, counts)
         if asked.rows:
             print()
-            is_right &= tell_splits(asked.rows, task)
+            is_right &= print_splits(asked.rows, task)
     return is_right

@@ -23,7 +23,7 @@ def measure(asked: argparse.Namespace) -> bool:
     clock = measuring.our_clock(asked.clock)
     found: Figures = {}
     for _ in range(asked.runs):
-        measuring.printed([clock, "price"], found, behind=1)
+        measuring.printed([clock, "price"], found, units=1)
     best = {name: min(numbers) for name, numbers in found.items()}
     head("ticks", "limits", "ns an order and price")
     for name, nanoseconds in best.items():

@@ -86,7 +86,7 @@ def instructions_of_a_command(command: list[str], path: pathlib.Path) -> str:
     return f"{(instructions(command, path) - instructions(command, None)) / count:,.0f}"
 
 
-def tell_replies(programs: list[Program], files: list[File]) -> bool:
+def print_replies(programs: list[Program], files: list[File]) -> bool:
     """Prints how each file is answered. Whether all programs print the same, and nothing is
     refused.
     """
@@ -102,7 +102,7 @@ def tell_replies(programs: list[Program], files: list[File]) -> bool:
     return is_right
 
 
-def tell_times(
+def print_times(
     loop: Program, programs: list[Program], files: list[File], runs: int
 ) -> list[list[Measured]]:
     """Prints what csv's loop and each program take for each file. Gives what was measured, a list
@@ -119,7 +119,7 @@ def tell_times(
     return found
 
 
-def tell_ratios(
+def print_ratios(
     programs: list[Program], files: list[File], found: list[list[Measured]]
 ) -> None:
     """Prints how many times each peer's processor time the program takes, whole and less csv's."""
@@ -132,7 +132,7 @@ def tell_ratios(
         row(file.kind, *[f"{ratio:.2f}" for ratio in ratios])
 
 
-def tell_room(
+def print_room(
     programs: list[Program], files: list[File], found: list[list[Measured]], folder: str
 ) -> None:
     """Prints the peak memory that was measured of each program on each file, and counts the
@@ -156,7 +156,7 @@ def journal_of(command: list[str], path: pathlib.Path, folder: str) -> pathlib.P
     return made
 
 
-def tell_forms(program: Program, files: list[File], runs: int, folder: str) -> bool:
+def print_forms(program: Program, files: list[File], runs: int, folder: str) -> bool:
     """Prints what the program takes for other forms than lines. Whether none takes more than it
     may.
     """
@@ -193,13 +193,13 @@ def measure(asked: argparse.Namespace) -> bool:
     programs = [ours, *asked.peer]
     with tempfile.TemporaryDirectory() as folder:
         files = measuring.written(asked.count, asked.only, folder)
-        is_right = tell_replies(programs, files)
+        is_right = print_replies(programs, files)
         print()
-        found = tell_times(loop, programs, files, asked.runs)
+        found = print_times(loop, programs, files, asked.runs)
         print()
-        tell_ratios(programs, files, found)
+        print_ratios(programs, files, found)
         print()
-        tell_room(programs, files, found, folder)
+        print_room(programs, files, found, folder)
         print()
-        is_right &= tell_forms(ours, files, asked.runs, folder)
+        is_right &= print_forms(ours, files, asked.runs, folder)
     return is_right

@@ -159,7 +159,7 @@ def processor_seconds(process: int) -> float:
     return ticks / os.sysconf("SC_CLK_TCK")
 
 
-def tell(name: str, played: Played, processor: float) -> None:
+def print_row(name: str, played: Played, processor: float) -> None:
     """Prints a row."""
     seconds, waits = played
     middle, late = (1000 * waits[len(waits) * share // 100] for share in (50, 99))
@@ -172,7 +172,7 @@ def echo(task: Task) -> None:
     with started(words, dict(os.environ), "^echo") as (child, said):
         before = processor_seconds(child.pid)
         played = robots(task, said.split()[1], [""] * MEMBERS)
-        tell("echo", played, processor_seconds(child.pid) - before)
+        print_row("echo", played, processor_seconds(child.pid) - before)
 
 
 def venue(task: Task, is_synced: bool) -> bool:
@@ -190,7 +190,7 @@ def venue(task: Task, is_synced: bool) -> bool:
             before = processor_seconds(child.pid)
             played = robots(task, f"{url}api/socket", hellos)
             name = "venue" if is_synced else "venue, sync = false"
-            tell(name, played, processor_seconds(child.pid) - before)
+            print_row(name, played, processor_seconds(child.pid) - before)
         journals = [folder / f"venue/I{it}.journal.csv" for it in range(INSTRUMENTS)]
         return all(is_right(task.program, it) for it in journals)
 

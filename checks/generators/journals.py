@@ -5,7 +5,7 @@ this KIND and SEED.
 Three in four are well formed: each reply is recorded as it is lawful, or some are left out, or
 some are changed (another number, another word, a cut text, a longer one). Their commands may be
 spelled otherwise than they are printed: leading zeros, empty fields at the end of an entry; lines
-may end with CR or CR LF, empty ones may stand between, the last line end may be missing. The
+may end with CR or CR LF, empty ones may come between, the last line end may be missing. The
 others are spoiled: a field of any record is another, one too many or missing, the day can't be
 opened, there are too many entries, a reply is too long or has a byte that isn't printable, or
 there is no day record. The options given with a journal are mostly such that no order file could

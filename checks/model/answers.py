@@ -27,7 +27,7 @@ FORMS: dict[str, Callable[[Given], str]] = {
 UNLAWFUL = 4
 
 Answer = tuple[int, str, str]
-"""A status, what is printed, and what is told on standard error."""
+"""A status, what is printed, and what is printed on standard error."""
 
 
 def printed(text: str, options: Options, form: str = "lines") -> str:

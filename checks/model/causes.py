@@ -33,7 +33,7 @@ def form_cause(place: int, fields: list[str]) -> str | None:
 
 
 def words_at(place: int, word: str) -> list[str]:
-    """The words that may stand in a field, counted from 1, of a record with this command word."""
+    """The words that a field may have, counted from 1, of a record with this command word."""
     if place == 2:
         return list(FIELDS)
     if place == 3 and word == "enter":
@@ -42,7 +42,7 @@ def words_at(place: int, word: str) -> list[str]:
 
 
 def takes_a_number(place: int, word: str) -> bool:
-    """Whether a number may stand in a field, counted from 1, of a record with this word."""
+    """Whether a number may be in a field, counted from 1, of a record with this word."""
     return place not in (2, 7) and not (place == 3 and word == "enter")
 
 
@@ -85,10 +85,10 @@ def day_options(text: str, options: Options, places: dict[str, int]) -> Options:
     if not is_journal(text):
         return options
     day = next(records(text))
-    told = {name: number(day[k]) for name, k in places.items() if k < len(day)}
-    if len(told) < len(places) or None in told.values():
+    numbers = {name: number(day[k]) for name, k in places.items() if k < len(day)}
+    if len(numbers) < len(places) or None in numbers.values():
         return options
-    return {**options, **told}
+    return {**options, **numbers}
 
 
 def bounds_cause(start: str, options: Options) -> str:
@@ -110,17 +110,17 @@ def likely_cause(fault: str, text: str, options: Options) -> str:
     """
     if fault in ("bad bounds", "bad reference"):
         return bounds_cause(text[:START_BYTES], options)
-    told = FAULT.fullmatch(fault)
-    if told is None:
+    found = FAULT.fullmatch(fault)
+    if found is None:
         return ""
-    place = int(told["place"])
+    place = int(found["place"])
     rows = list(records(text[:START_BYTES]))
     if len(rows) < (place if len(text) < START_BYTES else place + 1):
         return ""
     fields = rows[place - 1]
-    is_reply = place > 1 and is_journal(text) and told["field"] == str(len(fields))
+    is_reply = place > 1 and is_journal(text) and found["field"] == str(len(fields))
     if is_reply:
         return ""
     day = day_options(text[:START_BYTES], options, DAY_FIELDS)
-    cause = record_cause(told["what"], place, fields, day)
+    cause = record_cause(found["what"], place, fields, day)
     return f"{cause}\n" if cause else ""

@@ -81,7 +81,7 @@ def is_journal(text: str) -> bool:
 
 
 def command(place: int, fields: list[str], members: int, replies: int = 0) -> Call:
-    """The member and the words of a record, behind which stand so many fields for its reply.
+    """The member and the words of a record, after which are `replies` fields for its reply.
 
     Raises FileFault with the first fault: of the member, then the word, then the number of fields,
     then from left to right.

@@ -37,7 +37,7 @@ def ordered(members: list[int], given: Given) -> list[Call] | None:
 
 
 def story_text(lines: list[str], given: Given) -> str | None:
-    """The history by the rules, where the members call in the order that these lines tell; None
+    """The history by the rules, where the members call in the order of these lines; None
     where they can't.
     """
     said = [ENTRY.match(line) for line in lines]
@@ -45,8 +45,8 @@ def story_text(lines: list[str], given: Given) -> str | None:
     if calls is None:
         return None
     day = opened(given.options)
-    told = ((place, call[0], day.apply(*call)) for place, call in enumerate(calls, 1))
-    return "".join(f"{place}: member {member} {reply}\n" for place, member, reply in told)
+    entries = ((place, call[0], day.apply(*call)) for place, call in enumerate(calls, 1))
+    return "".join(f"{place}: member {member} {reply}\n" for place, member, reply in entries)
 
 
 def may_be_tally(text: str, given: Given, with_history: bool) -> bool:

@@ -16,7 +16,7 @@ class ViewFault(Exception):
 
 
 def table(name: str, rows: list[str]) -> str:
-    """Rows, behind a line that says how many they are."""
+    """Rows, after a line that says how many they are."""
     return f"show {name} {len(rows)}\n" + "".join(rows)
 
 
@@ -72,7 +72,7 @@ def numbered(fields: list[str], least: int, most: int) -> int:
 
 
 def view_text(fields: list[str], day: Day, calls: int, options: Options) -> str:
-    """What is answered to a view on a day of these options with so many calls made. Raises
+    """What is answered to a view on a day of these options after `calls` calls. Raises
     ViewFault.
     """
     if len(fields) == 1:

@@ -198,8 +198,8 @@ CAUSES: list[tuple[str, bytes, str]] = [
 
 def cause_table() -> Iterator[Case]:
     """Faults with their likely causes, and others without one."""
-    for name, data, told in CAUSES:
-        yield small(name, [], data, fault(told))
+    for name, data, text in CAUSES:
+        yield small(name, [], data, fault(text))
 
 
 def byte_table() -> Iterator[Case]:

@@ -124,12 +124,12 @@ def cut_talks() -> Iterator[Talk]:
 
 
 def bad(number: int, fault: str, record: bytes = b"", options: Options = DEFAULTS) -> str:
-    """The line of a bad record's fault, with the likely cause that the record's fields tell."""
+    """The line of a bad record's fault, with the likely cause that the record's fields show."""
     cause = record_cause(fault, number, record.decode("latin-1").split(","), options)
     return f"record {number}: {fault}: {cause}\n" if cause else f"record {number}: {fault}\n"
 
 
-TOLD = [
+FAULTS = [
     (b"9,ask\n", "bad member: members are numbered from 0, and there are 4"),
     (b"0,enter,sell,1,1\n", "bad field 3: a side is bid or ask"),
     (b"0,enter,bid,1,-1\n", "bad field 5: limits are ticks from 1 to 1000"),
@@ -151,7 +151,7 @@ def bad_talks() -> Iterator[Talk]:
         [],
         [
             Turn(header, f"record 1: {likely}\n"),
-            *[Turn(sent, f"record {at}: {told}\n") for at, (sent, told) in enumerate(TOLD, 2)],
+            *[Turn(sent, f"record {at}: {fault}\n") for at, (sent, fault) in enumerate(FAULTS, 2)],
         ],
         status=1,
     )
@@ -173,7 +173,7 @@ def bad_talks() -> Iterator[Talk]:
 
 
 def late_talks() -> Iterator[Talk]:
-    """Commands behind the last that a member may have."""
+    """Commands after the last that a member may have."""
     yield Talk(
         "commands behind the last that may come",
         ["--calls", "2", "--reserve", "0"],
@@ -285,9 +285,9 @@ def random_session(seed: int) -> Random:
 def faults_of(
     records: list[tuple[str, str | None]], calls: int, reserve: int
 ) -> Iterator[str | None]:
-    """The fault of each record, or None for one that is executed, on a day of so many calls, the
-    last of which are the operator's. Each record has the fault of its line or of its fields, if
-    they have one.
+    """The fault of each record, or None for one that is executed, on a day of `calls` calls, the
+    last `reserve` of which are the operator's. Each record has the fault of its line or of its
+    fields, if they have one.
     """
     made = 0
     for record, fault in records:

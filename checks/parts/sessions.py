@@ -131,7 +131,7 @@ class Session:
 
 @dataclasses.dataclass(frozen=True)
 class Talk:
-    """A session: its name, the words behind --live, its turns, what is still said once its input
+    """A session: its name, the words after --live, its turns, what is still said once its input
     has ended, and the status. Where `ends_itself` it ends before its input.
     """
 

@@ -22,7 +22,7 @@ from checks.parts.hostile_files import CALLS, Case
 MEASURED = built.TOP / "checks/measured.py"
 MOST_SECONDS = 60  # of one run of the program
 MOST_DEVICE_SECONDS = 5
-MIB_SHOWN = 0.9  # the files of at least so many MiB are in the table
+MIB_SHOWN = 0.9  # files of at least this size are in the table
 HEAD = "| file | MiB | seconds | of the processor | peak MiB |"
 CASES = [case for table in hostile_files.TABLES for case in table()]
 JOURNALS = [case for table in hostile_journals.TABLES for case in table()]
@@ -43,8 +43,8 @@ def run(program: str, words: list[str], data: bytes) -> tuple[Answer, float, flo
 
 def options_of(words: list[str]) -> Options:
     """The day's options that a command line has."""
-    told = [(name, words.index(f"--{name}")) for name in DEFAULTS if f"--{name}" in words]
-    return DEFAULTS | {name: int(words[place + 1]) for name, place in told}
+    places = [(name, words.index(f"--{name}")) for name in DEFAULTS if f"--{name}" in words]
+    return DEFAULTS | {name: int(words[place + 1]) for name, place in places}
 
 
 def with_cause(wanted: Answer, words: list[str], data: bytes) -> Answer:

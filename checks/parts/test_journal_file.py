@@ -3,7 +3,7 @@ beside the model; files that a crash or a hand has left; another day's, unlawful
 ones; a file that can't grow; options.
 
 After each crash the file must begin as the model's journal does, with all that was answered, and
-the next session must go on behind it. The expected texts are the model's.
+the next session must go on after it. The expected texts are the model's.
 """
 import contextlib
 import dataclasses
@@ -177,9 +177,9 @@ def test_terminated_and_gone_on(program: str, tmp_path: pathlib.Path, seed: int)
     finish(program, file, day, [])
 
 
-def written(file: pathlib.Path, day: Kept, count: int, behind: bytes) -> None:
-    """Writes so many of the day's lines, and these bytes behind them."""
-    file.write_bytes("".join(day.journal[:count]).encode("ascii") + behind)
+def written(file: pathlib.Path, day: Kept, count: int, rest: bytes) -> None:
+    """Writes the day's first `count` lines, and these bytes after them."""
+    file.write_bytes("".join(day.journal[:count]).encode("ascii") + rest)
 
 
 TAILS = [
@@ -204,7 +204,7 @@ def test_torn_end(program: str, tmp_path: pathlib.Path, tail: bytes, seed: int) 
 
 
 def refused(
-    program: str, file: pathlib.Path, words: list[str], status: int, told: str,
+    program: str, file: pathlib.Path, words: list[str], status: int, fault: str,
     before: Callable[[], None] | None = None,
 ) -> None:
     """A session that doesn't begin, and leaves the file as it was."""
@@ -217,7 +217,7 @@ def refused(
         timeout=MOST_SECONDS,
         preexec_fn=before,
     )
-    assert (got.returncode, got.stdout, got.stderr) == (status, "", told)
+    assert (got.returncode, got.stdout, got.stderr) == (status, "", fault)
     assert was is None or file.read_bytes() == was
 
 
@@ -249,7 +249,7 @@ def test_another_day(
 
 
 @pytest.mark.parametrize(
-    ("lines", "status", "told"),
+    ("lines", "status", "fault"),
     [
         ("1,ask\n", 1, "journal record 1: not a day record\n"),
         (f"{DAY}1,sell,x\n1,ask,{ASK}\n", 1, "journal record 2: bad command\n"),
@@ -265,26 +265,26 @@ def test_another_day(
     ids=["no day", "a command", "a member", "a reply", "unlawful", "no reply"],
 )
 def test_foreign_lines(
-    program: str, tmp_path: pathlib.Path, lines: str, status: int, told: str
+    program: str, tmp_path: pathlib.Path, lines: str, status: int, fault: str
 ) -> None:
     file = tmp_path / "day.journal"
     file.write_text(lines)
-    refused(program, file, [], status, told)
+    refused(program, file, [], status, fault)
 
 
 @pytest.mark.parametrize(
-    ("words", "told"),
+    ("words", "fault"),
     [
         (["--low", "5", "--high", "1"], "bad bounds\nlow 5 is above high 1\n"),
         (["--reference", "1001"], "bad reference\nthe reference 1001 is outside 1 to 1000\n"),
     ],
     ids=["bounds", "reference"],
 )
-def test_bad_day(program: str, tmp_path: pathlib.Path, words: list[str], told: str) -> None:
+def test_bad_day(program: str, tmp_path: pathlib.Path, words: list[str], fault: str) -> None:
     new, torn = tmp_path / "new", tmp_path / "torn"
     torn.write_bytes(b"day,\0\0")
     for file in (new, torn, tmp_path / "no/such/folder"):
-        refused(program, file, words, 2, told)
+        refused(program, file, words, 2, fault)
     assert list(tmp_path.iterdir()) == [torn]
 
 
@@ -369,7 +369,7 @@ def test_read_only(as_nobody: list[str], of_folder: int, of_file: int | None) ->
 
 
 def limited(most: int) -> Callable[[], None]:
-    """Keeps files of a child below so many bytes, without a signal."""
+    """Keeps files of a child below `most` bytes, without a signal."""
 
     def set_limit() -> None:
         signal.signal(signal.SIGXFSZ, signal.SIG_IGN)

@@ -7,12 +7,12 @@ from collections.abc import Callable, Iterator
 import pytest
 
 from checks import built, edits
-from checks.texts import documents, sources
+from checks.texts import comments, documents, sources
 from checks.texts.tree import Tree
 
 Rule = Callable[[Tree], Iterator[str]]
 OURS = Tree(built.TOP)
-RULES = [*sources.RULES, *documents.RULES]
+RULES = [*sources.RULES, *documents.RULES, *comments.RULES]
 GLOSSARY = """# Glossary
 
 | Term | Meaning | In code |
@@ -105,6 +105,17 @@ def test_a_dead_path(tmp_path: pathlib.Path) -> None:
 def test_a_forbidden_word(tmp_path: pathlib.Path, text: str) -> None:
     tree = planted(tmp_path, **{"docs/MODEL.md": f"{text.replace('So many', 'As so many')}\n"})
     assert len(faults_of(documents.forbidden_words, tree)) == 1
+
+
+@pytest.mark.parametrize("name, text", [
+    ("python/a.py", 'def f() -> None:\n    """It takes so\n    many."""\n'),
+    ("python/b.py", "WORD = 'stands'  # it stands there\n"),
+    ("library/a.c", "/* It stands\n * there. */\n"),
+    ("library/a.hpp", "int tells = 0;  // it tells of it\n"),
+    ("library/build", "#!/usr/bin/env bash\ntells=0  # it tells of it\n"),
+])
+def test_a_forbidden_word_of_a_comment(tmp_path: pathlib.Path, name: str, text: str) -> None:
+    assert len(faults_of(comments.forbidden_comments, planted(tmp_path, **{name: text}))) == 1
 
 
 def test_documents_that_are_too_long(tmp_path: pathlib.Path) -> None:

@@ -88,7 +88,7 @@ def test_devices_and_options(program: str, run: Run) -> None:
 
 
 def memory_of(program: str, count: int) -> int:
-    """The peak memory of a session of so many records, in KiB."""
+    """The peak memory of a session of `count` records, in KiB."""
     with tempfile.NamedTemporaryFile("r") as figures:
         subprocess.run(
             [sys.executable, str(MEASURED), figures.name, program, "--live"],

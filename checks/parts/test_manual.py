@@ -39,7 +39,7 @@ def text_of(place: str) -> str:
 
 
 def option(value: str | None, text: str) -> Option:
-    """An option with this text, in which its default may stand."""
+    """An option with this text, which may name its default."""
     default = DEFAULT.search(text)
     return Option(value or "", default[1] if default else "", text)
 

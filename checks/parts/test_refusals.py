@@ -41,11 +41,11 @@ Answer = tuple[int, str, str]
 """A status, what is printed, and what is written on standard error."""
 Test = Callable[[Answer], bool]
 Row = tuple[str, list[str], bytes, Test, Test]
-"""A name, the words behind the program's name, its input, what the right answer is like, and what
-one is like that ended for want of memory.
+"""A name, the words after the program's name, its input, what the right answer is like, and what
+one is like that was refused memory.
 """
 BadRow = tuple[list[str], int, str]
-"""The words behind the program's name, the status, and a part of what is written."""
+"""The words after the program's name, the status, and a part of what is written."""
 
 
 def run(heap: str, refused: int, words: list[str], data: bytes) -> tuple[Answer, list[int]]:
@@ -71,17 +71,17 @@ def run(heap: str, refused: int, words: list[str], data: bytes) -> tuple[Answer,
 
 
 def is_refusal_of_program(answer: Answer) -> bool:
-    """Whether the program ended for want of memory."""
+    """Whether the program ended because memory was refused."""
     return answer == NO_MEMORY
 
 
 def is_refusal_of_floor(answer: Answer) -> bool:
-    """Whether the program ended for want of memory, or since a board couldn't be closed."""
+    """Whether memory was refused to the program, or its board couldn't be closed."""
     return answer in (NO_MEMORY, NOT_CLOSED)
 
 
 def is_refusal_of_session(answer: Answer) -> bool:
-    """Whether a session ended for want of memory; what was answered before stays."""
+    """Whether memory was refused to a session; what was answered before stays."""
     return answer[::2] == NO_MEMORY[::2]
 
 
@@ -227,8 +227,8 @@ def test_bad_words_and_files(program: str, sweep: Sweep, name: str) -> None:
 
 def test_bad_bounds(program: str, sweep: Sweep) -> None:
     words = [program, "--low", "5", "--high", "4"]
-    told = "bad bounds\n"
-    right = (2, "", told + "low 5 is above high 4\n"), (2, "", told)
+    line = "bad bounds\n"
+    right = (2, "", line + "low 5 is above high 4\n"), (2, "", line)
     sweep("bad bounds", words, b"1,ask\n", right.__contains__, is_refusal_of_program)
 
 

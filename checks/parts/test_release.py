@@ -145,10 +145,10 @@ def test_installing(built: dict[str, str], tmp_path: pathlib.Path, is_staged: bo
 
 def test_using_what_is_installed(built: dict[str, str], tmp_path: pathlib.Path) -> None:
     place = tmp_path / "a place"
-    told = run(TOP / "install", place, env=built)
-    assert told.returncode == 0 and f"LD_LIBRARY_PATH={place}/lib" in told.stderr
+    installed = run(TOP / "install", place, env=built)
+    assert installed.returncode == 0 and f"LD_LIBRARY_PATH={place}/lib" in installed.stderr
     (packages,) = place.glob("lib/python3*/dist-packages")
-    assert f"PYTHONPATH={packages}" in told.stderr
+    assert f"PYTHONPATH={packages}" in installed.stderr
     assert done("/usr/bin/python3", "-c", PYTHON, env={"PYTHONPATH": str(packages)}) == PRINTED
     user = tmp_path / "user.c"
     user.write_text(C)
@@ -337,16 +337,16 @@ def test_the_wheel(release: pathlib.Path, venv: pathlib.Path, tmp_path: pathlib.
     assert done(python, "-c", PYTHON, cwd=tmp_path) == PRINTED
     lines = README.search((TOP / "README.md").read_text())
     assert lines
-    told = done(python, "-c", textwrap.dedent(lines[1]), cwd=tmp_path)
-    assert told.startswith("Price(tick=200, volume=300, ")
+    printed = done(python, "-c", textwrap.dedent(lines[1]), cwd=tmp_path)
+    assert printed.startswith("Price(tick=200, volume=300, ")
     found = done(python, "-c", "import callauction.finder as it; print(it.program())", cwd=tmp_path)
     assert str(venv) in found and done(found.strip(), input=ORDERS) == ANSWERS
     words = [python, "-P", "-m", "pytest", "-q", "-x", "-c", TOP / "python/pyproject.toml"]
     words += [TOP / "python/tests", "-k", "not notebook and not lesson"]
     env = {"HYPOTHESIS_STORAGE_DIRECTORY": str(tmp_path / "hypothesis"), "MPLBACKEND": "Agg"}
     env |= {"PYTHONDONTWRITEBYTECODE": "1", "HOME": str(tmp_path)}
-    told = done(*words, env=env, cwd=tmp_path)
-    assert re.search(r"\b\d{2,} passed", told), told
+    printed = done(*words, env=env, cwd=tmp_path)
+    assert re.search(r"\b\d{2,} passed", printed), printed
     done(venv / "bin/pip", "uninstall", "-y", "callauction")
     assert [*venv.rglob("*callauction*")] == []
 
@@ -355,8 +355,8 @@ DEBIAN = ("callboard", "libcallauction1", "libcallauction-dev", "python3-callauc
 
 
 def test_lintian_has_no_error(release: pathlib.Path) -> None:
-    told = done("lintian", "--allow-root", "--fail-on", "error", *release.glob("*.deb"))
-    assert "E:" not in told
+    printed = done("lintian", "--allow-root", "--fail-on", "error", *release.glob("*.deb"))
+    assert "E:" not in printed
 
 
 def test_the_packages_config_for_cmake(release: pathlib.Path, tmp_path: pathlib.Path) -> None:
@@ -380,7 +380,7 @@ def fresh_root(folder: pathlib.Path, packages: str) -> Iterator[pathlib.Path | N
 
 
 def files_of(root: pathlib.Path) -> set[str]:
-    """The files of a root that are told apart: without caches, logs and the lists of packages."""
+    """The files of a root that are compared: without caches, logs and the lists of packages."""
     left = ("proc", "sys", "dev", "tmp", "run", "var/cache", "var/log", "etc/ld.so.cache")
     words = ["find", ".", "-xdev"]
     for place in left:

@@ -64,7 +64,7 @@ WORKED = [
     (b"show\n", "show no price bid - ask 200\n"),
     (b"show,orders\n", "show orders 1\n5,2,ask,200,50,50,350,\n"),
 ]
-"""A worked session: each view with what stands then."""
+"""A worked session: each view with its answer."""
 
 
 def view_talks() -> Iterator[Talk]:
@@ -105,7 +105,7 @@ def random_view(dice: random.Random, options: Options) -> list[str]:
 
 
 def random_talk(seed: int) -> Talk:
-    """The random order file of this seed, with views before and behind its records."""
+    """The random order file of this seed, with views before and after its records."""
     dice = random.Random(f"views {seed}")
     options, text = orders.order_file("short", seed)
     options = DEFAULTS | options
@@ -128,6 +128,6 @@ def faults_by_the_model() -> Iterator[tuple[bytes, str, str]]:
     for view, fault in BAD_VIEWS:
         try:
             found = view_text(view.decode().split(","), day, 0, DEFAULTS)
-        except ViewFault as told:
-            found = str(told)
+        except ViewFault as raised:
+            found = str(raised)
         yield view, fault, found

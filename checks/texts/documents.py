@@ -1,10 +1,9 @@
 """Rules for the documents: each gives its faults as `FILE:LINE: ..` or `FILE: ..`.
 
-- Each name in backticks exists: as a file, or as a word of the code, the scripts or the examples;
-  also in docs/WRONG_BODIES.md.
+- Each name in backticks exists: as a file, or as a word of the code, the scripts or the examples.
 - docs/GLOSSARY.md gives each term once, with names of the code that exist; a type or a variant that
   it names is declared once.
-- No document has a word that FORBIDDEN lists.
+- No document has a word that FORBIDDEN lists. Both rules hold of docs/WRONG_BODIES.md too.
 - Together they have at most MOST_BYTES, docs/WRONG_BODIES.md and CHANGELOG.md aside.
 - The kit of `rt version` is among those that a document names, where it names any.
 """
@@ -20,7 +19,7 @@ from checks.texts.tree import Tree
 
 MOST_BYTES = 95_000
 FORBIDDEN = {
-    r"\bstands?\b": "say what it is, or where",
+    r"\bstands?\b(?!-in\b)": "say what it is, or where",
     r"\btells?\b|\btold\b": "says, prints, shows, names",
     r"\bso many\b": "the number, or 'as many as'",
     r"\bwant of memory\b": "refused memory, out of memory",
@@ -57,24 +56,26 @@ ENUM = re.compile(PUBLIC + r"enum (?P<name>[A-Z]\w*)")
 VARIANT = re.compile(r"^\s+(?P<name>[A-Z]\w*)(?:[({,]| \{|$)")
 
 
-def spans(tree: Tree, file: pathlib.Path) -> Iterator[tuple[int, str]]:
-    """The texts in backticks of a document, with their lines, but for blocks of code."""
+def text_lines(tree: Tree, file: pathlib.Path) -> Iterator[tuple[int, str]]:
+    """The lines of a document with their places, but for blocks of code."""
     is_in_block = False
     for place, line in enumerate(tree.lines(file), 1):
         if line.startswith("```"):
             is_in_block = not is_in_block
         elif not is_in_block and not line.startswith("    "):
-            yield from ((place, text) for text in SPAN.findall(line))
+            yield place, line
+
+
+def spans(tree: Tree, file: pathlib.Path) -> Iterator[tuple[int, str]]:
+    """The texts in backticks of a document, with their lines."""
+    for place, line in text_lines(tree, file):
+        yield from ((place, text) for text in SPAN.findall(line))
 
 
 def prose(tree: Tree, file: pathlib.Path) -> Iterator[tuple[int, str]]:
-    """The lines of a document without its blocks of code and what is in backticks."""
-    is_in_block = False
-    for place, line in enumerate(tree.lines(file), 1):
-        if line.startswith("```"):
-            is_in_block = not is_in_block
-        elif not is_in_block and not line.startswith("    "):
-            yield place, SPAN.sub("``", line)
+    """The lines of a document without what is in backticks."""
+    for place, line in text_lines(tree, file):
+        yield place, SPAN.sub("``", line)
 
 
 @functools.lru_cache(maxsize=None)
@@ -112,10 +113,15 @@ def dead_words(tree: Tree, text: str) -> list[str]:
     return dead
 
 
+def with_made(tree: Tree) -> list[pathlib.Path]:
+    """The documents, and docs/WRONG_BODIES.md, which is made of lines that a person wrote."""
+    made = [file for file in tree.files if tree.name(file) == "docs/WRONG_BODIES.md"]
+    return [*tree.documents, *made]
+
+
 def dead_names(tree: Tree) -> Iterator[str]:
     """Names in backticks that the repository has nowhere."""
-    made = [file for file in tree.files if tree.name(file) == "docs/WRONG_BODIES.md"]
-    for file in [*tree.documents, *made]:
+    for file in with_made(tree):
         for place, text in spans(tree, file):
             for path in PATH.findall(text):
                 if (tree.top / path.split("/")[0]).is_dir() and not is_path(tree, path):
@@ -124,13 +130,18 @@ def dead_names(tree: Tree) -> Iterator[str]:
                 yield f"{tree.name(file)}:{place}: `{word}` is nowhere in the repository"
 
 
+def faults_of_words(where: str, text: str) -> Iterator[str]:
+    """The words of FORBIDDEN that a text has."""
+    for pattern, better in FORBIDDEN.items():
+        if found := re.search(pattern, text):
+            yield f"{where}: '{found[0].strip()}': {better}"
+
+
 def forbidden_words(tree: Tree) -> Iterator[str]:
     """Words of FORBIDDEN, and sentences that begin with That and have no second verb."""
-    for file in tree.documents:
+    for file in with_made(tree):
         for place, line in prose(tree, file):
-            for pattern, better in FORBIDDEN.items():
-                if found := re.search(pattern, line):
-                    yield f"{tree.name(file)}:{place}: '{found[0].strip()}': {better}"
+            yield from faults_of_words(f"{tree.name(file)}:{place}", line)
             for sentence in THAT.findall(line):
                 if len(VERB.findall(sentence)) < 2 and not VERB.match(sentence, len("That ")):
                     yield f"{tree.name(file)}:{place}: '{sentence[:40]}': a sentence with a verb"
@@ -140,8 +151,8 @@ def sizes(tree: Tree) -> Iterator[str]:
     """Documents that together have more than MOST_BYTES."""
     counts = {tree.name(file): file.stat().st_size for file in tree.documents}
     if sum(counts.values()) > MOST_BYTES:
-        told = ", ".join(f"{name} {count}" for name, count in counts.items())
-        yield f"the documents have {sum(counts.values())} bytes, {MOST_BYTES} at most: {told}"
+        listed = ", ".join(f"{name} {count}" for name, count in counts.items())
+        yield f"the documents have {sum(counts.values())} bytes, {MOST_BYTES} at most: {listed}"
 
 
 @functools.cache

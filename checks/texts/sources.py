@@ -118,8 +118,8 @@ def near_names(tree: Tree) -> Iterator[str]:
             places[alike].setdefault(name, f"{tree.name(file)}:{place}")
     for names in places.values():
         if len(names) > 1:
-            told = ", ".join(f"{name} ({place})" for name, place in sorted(names.items()))
-            yield f"these names differ by a hyphen alone: {told}"
+            listed = ", ".join(f"{name} ({place})" for name, place in sorted(names.items()))
+            yield f"these names differ by a hyphen alone: {listed}"
 
 
 def names_of_two_crates(tree: Tree) -> Iterator[str]:

@@ -30,7 +30,7 @@ class Tree:
 
     @functools.cached_property
     def code(self) -> list[pathlib.Path]:
-        """The files of code, definitions and proofs, and what stands for them in wrong bodies; but
+        """The files of code, definitions and proofs, and their edits in wrong bodies; but
         for the rules of texts, which name what isn't to be named, and their tests.
         """
         return [

@@ -28,7 +28,7 @@ typedef struct work {
 } work;
 
 /* Built with UNDER_MUTEX, no two calls are made at once: so helgrind, which doesn't know the library's own lock, can
- * tell whether a call touches what another thread's does beside that lock. */
+ * find whether a call touches what another thread's does beside that lock. */
 #ifdef UNDER_MUTEX
 static pthread_mutex_t mutex = PTHREAD_MUTEX_INITIALIZER;
 static void begin_call(void) { pthread_mutex_lock(&mutex); }

@@ -128,7 +128,7 @@ static void the_config(void) {
     WANT(callauction_close(&auction) == CALLAUCTION_DONE);
 }
 
-/* A number that stands for nothing makes the struct no command, and what the tag doesn't need isn't read. */
+/* A number without a meaning makes the struct no command, and what the tag doesn't need isn't read. */
 static void no_commands(void) {
     static const callauction_command bad[] = {
         {.tag = 0},
@@ -222,7 +222,7 @@ static void every_reply(void) {
     WANT(callauction_close(&auction) == CALLAUCTION_DONE);
 }
 
-/* Many commands: the replies of one by one, up to the first error, and those behind stay. */
+/* Many commands: the replies of one by one, up to the first error, and those after stay. */
 static void many(void) {
     callauction_handle auction = {0};
     callauction_command commands[6] = {
@@ -299,7 +299,7 @@ static void the_trades(void) {
     WANT(callauction_close(&auction) == CALLAUCTION_DONE);
 }
 
-/* A copy stands where its original does, and each goes on by itself. */
+/* A copy is as its original, and each goes on by itself. */
 static void copies(void) {
     callauction_handle auction = {0}, copy = {0}, third = {0};
     callauction_reply here, there;

@@ -4,7 +4,7 @@
  * open: opens an auction, clones it and closes both; where memory is refused the call answers so, and nothing is kept.
  * day: the same, and between them commands, displays, resets and a clone over the clone, which ask for no memory.
  * list: opens an auction and lists its orders; where memory is refused, the call answers so, and writes nothing.
- * many: opens and closes so many times, and prints by how many KiB the process has grown since a tenth of them. */
+ * many: opens and closes as often as asked, and prints by how many KiB the process has grown since a tenth of them. */
 #include "callauction.h"
 #include <stdio.h>
 #include <stdlib.h>
@@ -54,7 +54,7 @@ static int opens(bool has_day) {
     return are_closed ? 0 : leave("not closed");
 }
 
-/* Whether a list was written with just so many orders, or none was, for want of memory. */
+/* Whether a list was written with exactly `wanted` orders, or none was, as memory was refused. */
 static bool is_list(uint32_t answer, const callauction_order *orders, size_t copied, size_t wanted) {
     callauction_order untouched;
     memset(&untouched, 0xAA, sizeof untouched);

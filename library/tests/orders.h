@@ -4,7 +4,7 @@
 #include "callauction.h"
 #include <stdio.h>
 
-/* The command that a record stands for; false for a record that stands for none. */
+/* The command of a record; false for a record that is none. */
 bool read_record(char *record, callauction_command *command);
 
 /* Prints the text of a reply, without an end of line. */

@@ -53,7 +53,7 @@ static callauction_command *read_all(FILE *from, size_t *count) {
     return commands;
 }
 
-/* How many trades these replies tell of. */
+/* How many trades these replies count. */
 static size_t trades_of(const callauction_reply *replies, size_t count) {
     size_t trades = 0;
     for (size_t i = 0; i < count; i++) trades += replies[i].trades;
@@ -81,7 +81,7 @@ static void look_again(callauction_handle *auction, const callauction_command *c
     free(rest);
 }
 
-/* The trades are read in pieces of three, and are those that the replies tell of, by their numbers too. */
+/* The trades are read in pieces of three, and are those that the replies count, by their numbers too. */
 static void look_at_trades(callauction_handle *auction, size_t wanted) {
     callauction_trade trades[3];
     size_t seen = 0, copied = 3;

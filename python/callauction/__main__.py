@@ -16,7 +16,7 @@ from typing import TYPE_CHECKING, Any, NoReturn
 
 import tqdm
 
-from callauction.grid import FrameError
+from callauction.cells import FrameError
 from callauction.program import OPTIONS, Day, ProgramError
 from callauction.statuses import BAD_DAY, BAD_FILE, DONE, FAILED
 from callauction.tables import book_at, books_of, journal_of
@@ -59,19 +59,20 @@ def main(words: list[str] | None = None) -> int:
         sys.stdout.flush()
         return status
     except ProgramError as fault:
-        return _told("\n".join([fault.text, *getattr(fault, "__notes__", [])]), fault.status)
+        return _fail("\n".join([fault.text, *getattr(fault, "__notes__", [])]), fault.status)
     except (OSError, MemoryError) as fault:
         # The rest of a text that nobody reads is given up.
         if isinstance(fault, BrokenPipeError):
             os.dup2(os.open(os.devnull, os.O_WRONLY), sys.stdout.fileno())
-        return _told(str(fault) or "out of memory", FAILED)
+        return _fail(str(fault) or "out of memory", FAILED)
     except _BAD_FILES as fault:
-        return _told(str(fault), BAD_FILE)
+        return _fail(str(fault), BAD_FILE)
     except ValueError as fault:
-        return _told(str(fault), BAD_DAY)
+        return _fail(str(fault), BAD_DAY)
 
 
-def _told(text: str, status: int) -> int:
+def _fail(text: str, status: int) -> int:
+    """Prints a fault as one line on standard error; answers the status."""
     print(f"callauction: {' / '.join(text.splitlines())}", file=sys.stderr)
     return status
 

@@ -5,9 +5,11 @@ from typing import Any, Self, cast
 
 import numpy
 
+from callauction import words
 from callauction._native import ffi, lib
 from callauction.arrays import COMMAND, ORDER, REPLY, TRADE, Shares, Structs, whole
 from callauction.errors import AuctionError, ClosedError, FullError, NoCommandError
+from callauction.limits import MOST_NUMBER
 from callauction.reading import (
     entered,
     error_of,
@@ -19,34 +21,8 @@ from callauction.reading import (
     price,
     read,
 )
-from callauction.words import (
-    Change,
-    Changed,
-    Command,
-    Config,
-    Delete,
-    Deleted,
-    Enter,
-    Entered,
-    Indicate,
-    Interrupted,
-    MarketOrders,
-    NoPrice,
-    OpenOrder,
-    OrderStatus,
-    Price,
-    ReadTrade,
-    Refused,
-    Reply,
-    ReplyTag,
-    Restriction,
-    Side,
-    Traded,
-    Uncross,
-    Uncrossed,
-)
+from callauction.words import Command, Config, MarketOrders, Reply, ReplyTag, Restriction, Side
 
-MOST = (1 << 32) - 1
 _TERMS = ("member", "quantity", "limit", "peak")
 _CHANGE = ("member", "id", "quantity", "limit", "has")
 _ID, _NUMBER, _MEMBER = ("member", "id"), ("member", "number"), ("member",)
@@ -75,13 +51,13 @@ def config_struct(
     one that is no integer or doesn't fit.
     """
     config = ffi.new("callauction_config *")
-    config.low = number("low", low, MOST)
-    config.high = number("high", high, MOST)
-    config.reference = number("reference", reference, MOST)
-    config.max_open = number("max_open", max_open, MOST)
-    config.max_calls = number("max_calls", max_calls, MOST)
+    config.low = number("low", low, MOST_NUMBER)
+    config.high = number("high", high, MOST_NUMBER)
+    config.reference = number("reference", reference, MOST_NUMBER)
+    config.max_open = number("max_open", max_open, MOST_NUMBER)
+    config.max_calls = number("max_calls", max_calls, MOST_NUMBER)
     config.has_range = range is not None
-    config.range = 0 if range is None else number("range", range, MOST)
+    config.range = 0 if range is None else number("range", range, MOST_NUMBER)
     return config
 
 
@@ -97,7 +73,7 @@ class Auction:
 
     `low` and `high` are the lowest and the highest tick, `reference` the first reference price,
     `max_open` how many orders may be open at a time, `max_calls` how many commands may be applied.
-    With a `range`, an uncross whose price lies more than so many ticks from the reference is
+    With a `range`, an uncross whose price is more than `range` ticks from the reference is
     interrupted once.
 
     As a context manager it is closed at the end; else when it is dropped. Members are numbered from
@@ -118,8 +94,8 @@ class Auction:
     __signature__ = _Signature()
 
     _own: Any
-    """The library's handle, and whether a call has it. It stands at one place, and closes what it
-    holds when it is dropped.
+    """The library's handle, and whether a call has it. It never moves, and closes what it holds
+    when it is dropped.
     """
 
     def __new__(cls, *_: object, **__: object) -> Self:
@@ -173,9 +149,10 @@ class Auction:
         restriction: Restriction = Restriction.NONE,
         *,
         check: bool = False,
-    ) -> Entered | Refused:
-        """Enters an order of so many shares, a market order without a limit, an iceberg order with
-        a peak. Raises TypeError or ValueError for a side that isn't Side.BID or Side.ASK.
+    ) -> words.Entered | words.Refused:
+        """Enters an order of `quantity` shares: a market order without a limit (a tick), an iceberg
+        order with a peak, the most shares that it shows. Raises TypeError or ValueError for a side
+        that isn't Side.BID or Side.ASK.
         """
         if side is not _BID and side is not _ASK:
             member_of("side", side, Side)
@@ -202,26 +179,30 @@ class Auction:
         limit: int | None = None,
         *,
         check: bool = False,
-    ) -> Changed | Refused:
+    ) -> words.Changed | words.Refused:
         """Gives the member's order with this id another open quantity and limit. It keeps its place
         in time where the limit stays and the quantity doesn't grow.
         """
         tick, has = (0, 0) if limit is None else (limit, _HAS_LIMIT)
         given = (member, id, quantity, tick, has)
         reply = self._applied(lib.python_change, _CHANGE, given, check)
-        return cast("Changed | Refused", reply)
+        return cast("words.Changed | words.Refused", reply)
 
-    def delete(self, member: int, id: int, *, check: bool = False) -> Deleted | Refused:
+    def delete(self, member: int, id: int, *, check: bool = False) -> words.Deleted | words.Refused:
         """Takes the member's order with this id out."""
         reply = self._applied(lib.python_delete, _ID, (member, id), check)
-        return cast("Deleted | Refused", reply)
+        return cast("words.Deleted | words.Refused", reply)
 
-    def order_status(self, member: int, id: int, *, check: bool = False) -> OpenOrder | Refused:
+    def order_status(
+        self, member: int, id: int, *, check: bool = False
+    ) -> words.OpenOrder | words.Refused:
         """What is open of the member's order with this id."""
         reply = self._applied(lib.python_order_status, _ID, (member, id), check)
-        return cast("OpenOrder | Refused", reply)
+        return cast("words.OpenOrder | words.Refused", reply)
 
-    def indicate(self, member: int, *, check: bool = False) -> Price | NoPrice | Refused:
+    def indicate(
+        self, member: int, *, check: bool = False
+    ) -> words.Price | words.NoPrice | words.Refused:
         """The indicative price, or the best bid and ask where there is none."""
         if type(member) is not int:
             (member,) = numbers(_MEMBER, (member,))
@@ -231,38 +212,40 @@ class Auction:
             raise fault_of(_MEMBER, (member,)) from None
         if found.tag == _PRICED:
             return price(found)
-        return cast("NoPrice | Refused", read(found, check))
+        return cast("words.NoPrice | words.Refused", read(found, check))
 
     def uncross(
         self, member: int = 0, *, check: bool = False
-    ) -> Uncrossed | Interrupted | Refused:
+    ) -> words.Uncrossed | words.Interrupted | words.Refused:
         """Determines the price and executes. The next call phase follows at once; after the closing
         auction the day is over.
         """
         reply = self._applied(lib.python_uncross, _MEMBER, (member,), check)
-        return cast("Uncrossed | Interrupted | Refused", reply)
+        return cast("words.Uncrossed | words.Interrupted | words.Refused", reply)
 
-    def read_trade(self, member: int, number: int, *, check: bool = False) -> Traded | Refused:
+    def read_trade(
+        self, member: int, number: int, *, check: bool = False
+    ) -> words.Traded | words.Refused:
         """The trade of the day with this number, from 1 on."""
         reply = self._applied(lib.python_read_trade, _NUMBER, (member, number), check)
-        return cast("Traded | Refused", reply)
+        return cast("words.Traded | words.Refused", reply)
 
     def apply(self, member: int, command: Command, *, check: bool = False) -> Reply:
         """Applies a command. Raises TypeError where it is none of Command."""
         match command:
-            case Enter(side, quantity, limit, peak, restriction):
+            case words.Enter(side, quantity, limit, peak, restriction):
                 return self.enter(member, side, quantity, limit, peak, restriction, check=check)
-            case Change(id, quantity, limit):
+            case words.Change(id, quantity, limit):
                 return self.change(member, id, quantity, limit, check=check)
-            case Delete(id):
+            case words.Delete(id):
                 return self.delete(member, id, check=check)
-            case OrderStatus(id):
+            case words.OrderStatus(id):
                 return self.order_status(member, id, check=check)
-            case Indicate():
+            case words.Indicate():
                 return self.indicate(member, check=check)
-            case ReadTrade(number):
+            case words.ReadTrade(number):
                 return self.read_trade(member, number, check=check)
-            case Uncross():
+            case words.Uncross():
                 return self.uncross(member, check=check)
         raise TypeError(f"command must be one of Command, not {type(command).__name__}")
 
@@ -276,7 +259,7 @@ class Auction:
         the interpreter is given up meanwhile: no thread may write either array then, or change its
         size.
 
-        Stops at the first struct that stands for no command (NoCommandError) and where `max_calls`
+        Stops at the first struct that is no command (NoCommandError) and where `max_calls`
         commands were applied (FullError). Their `applied` says how many were applied, and `replies`
         are the replies to those. Raises TypeError or ValueError for a bad array.
         """
@@ -299,11 +282,11 @@ class Auction:
 
     # ---- what is shown
 
-    def display(self) -> Price | NoPrice:
+    def display(self) -> words.Price | words.NoPrice:
         """As `indicate`, but without a member and not counted as a call; after the day too."""
         shown = ffi.new("callauction_reply *")
         self._call(lib.python_display, shown)
-        return cast("Price | NoPrice", read(shown))
+        return cast("words.Price | words.NoPrice", read(shown))
 
     def ladder(self) -> tuple[Shares, Shares]:
         """The shares bid and the shares offered by the orders that count, with a limit at each tick
@@ -385,7 +368,7 @@ class Auction:
     # ---- the whole auction
 
     def copy(self) -> Self:
-        """An auction of its own that stands where this one does. Raises MemoryError."""
+        """An auction of its own, a copy of this one as it is now. Raises MemoryError."""
         other = type(self).__new__(type(self))
         self._call(lib.python_clone, other._own)
         return other
@@ -428,7 +411,7 @@ class Auction:
     # ---- calls of the library
 
     def _call(self, function: Any, *arguments: Any) -> None:
-        """Calls the library on this handle. Raises what stands for its error."""
+        """Calls the library on this handle. Raises the exception of its error."""
         answer = function(self._own, *arguments)
         if answer:
             raise error_of(answer)

@@ -6,35 +6,18 @@ from typing import TYPE_CHECKING, Any, Self, cast
 
 import numpy
 
+from callauction import words
 from callauction._native import ffi, lib
 from callauction.arrays import ENTRY, TRADE, Shares, Structs
-from callauction.auction import MOST, config_of, config_struct
+from callauction.auction import config_of, config_struct
 from callauction.errors import RefusedError
+from callauction.limits import MOST_MEMBERS, MOST_NUMBER
 from callauction.reading import board_error_of, member_of, number, read
-from callauction.words import (
-    Change,
-    Command,
-    CommandTag,
-    Config,
-    Delete,
-    Enter,
-    Indicate,
-    MarketOrders,
-    NoPrice,
-    OrderStatus,
-    Price,
-    ReadTrade,
-    Refused,
-    Reply,
-    Restriction,
-    Side,
-    Uncross,
-)
+from callauction.words import Command, CommandTag, Config, MarketOrders, Reply, Restriction, Side
 
 if TYPE_CHECKING:
     from callauction.board_day import BoardDay
 
-MOST_MEMBERS = 64
 _MOST_SEEN = (1 << 63) - 1
 _AT_ONCE = 1024
 """How many trades or entries are copied by one call of the library."""
@@ -53,7 +36,7 @@ class Shown:
     """How many calls a board has had, and what is shown after them."""
 
     calls: int
-    display: Price | NoPrice
+    display: words.Price | words.NoPrice
 
 
 class Member:
@@ -90,7 +73,7 @@ class Member:
         receipt = ffi.new("callauction_receipt *")
         self._call(lib.python_board_call, _struct_of(command), receipt)
         reply = read(receipt.reply)
-        if check and isinstance(reply, Refused):
+        if check and isinstance(reply, words.Refused):
             raise RefusedError(reply.refusal)
         return Receipt(int(receipt.number), reply)
 
@@ -105,33 +88,33 @@ class Member:
         check: bool = False,
     ) -> Receipt:
         """Enters an order, as Auction.enter."""
-        return self.call(Enter(side, quantity, limit, peak, restriction), check=check)
+        return self.call(words.Enter(side, quantity, limit, peak, restriction), check=check)
 
     def change(
         self, id: int, quantity: int, limit: int | None = None, *, check: bool = False
     ) -> Receipt:
         """Changes an own order, as Auction.change."""
-        return self.call(Change(id, quantity, limit), check=check)
+        return self.call(words.Change(id, quantity, limit), check=check)
 
     def delete(self, id: int, *, check: bool = False) -> Receipt:
         """Takes an own order out."""
-        return self.call(Delete(id), check=check)
+        return self.call(words.Delete(id), check=check)
 
     def order_status(self, id: int, *, check: bool = False) -> Receipt:
         """What is open of an own order."""
-        return self.call(OrderStatus(id), check=check)
+        return self.call(words.OrderStatus(id), check=check)
 
     def indicate(self, *, check: bool = False) -> Receipt:
         """The indicative price, as a call; `look` shows it without one."""
-        return self.call(Indicate(), check=check)
+        return self.call(words.Indicate(), check=check)
 
     def read_trade(self, number: int, *, check: bool = False) -> Receipt:
         """The trade of the day with this number, from 1 on."""
-        return self.call(ReadTrade(number), check=check)
+        return self.call(words.ReadTrade(number), check=check)
 
     def uncross(self, *, check: bool = False) -> Receipt:
         """Determines the price and executes; for member 0 alone."""
-        return self.call(Uncross(), check=check)
+        return self.call(words.Uncross(), check=check)
 
     # ---- what is shown
 
@@ -141,7 +124,7 @@ class Member:
         """
         shown = ffi.new("callauction_shown *")
         self._call(lib.python_board_look, shown)
-        return Shown(int(shown.calls), cast("Price | NoPrice", read(shown.display)))
+        return Shown(int(shown.calls), cast("words.Price | words.NoPrice", read(shown.display)))
 
     def ladder(self) -> tuple[Shares, Shares, MarketOrders, int]:
         """The shares bid and offered by the orders that count, with a limit at each tick from low
@@ -156,13 +139,15 @@ class Member:
         return bids, asks, MarketOrders(market.bids, market.asks), int(calls[0])
 
     def trades(self, seen: int = 0) -> Structs:
-        """The trades of the day after the first `seen`: a new array of TRADE."""
+        """The trades of the day after the first `seen`: a new array of TRADE. Raises TypeError or
+        ValueError for a bad number.
+        """
         calls = ffi.new("uint32_t *")
         return self._copied(lib.python_board_trades, "callauction_trade[]", TRADE, seen, calls)
 
     def history(self, seen: int = 0) -> Structs:
-        """The entries of the board's history after the first `seen`: a new array of ENTRY, for who
-        writes them down while the day runs.
+        """The entries of the board's history after the first `seen`: a new array of ENTRY, for a
+        thread that writes them down while the day runs. Raises as trades.
         """
         return self._copied(lib.python_board_history, "callauction_entry[]", ENTRY, seen)
 
@@ -176,7 +161,7 @@ class Member:
     # ---- calls of the library
 
     def _call(self, function: Any, *arguments: Any) -> None:
-        """Calls the library for this member. Raises what stands for its error."""
+        """Calls the library for this member. Raises the exception of its error."""
         answer = function(self._own, self._number, *arguments)
         if answer:
             raise board_error_of(answer)
@@ -221,7 +206,7 @@ class Board:
         max_calls: int = 65536,
         range: int | None = None,
     ) -> None:
-        count = number("members", members, MOST)
+        count = number("members", members, MOST_NUMBER)
         if not 1 <= count <= MOST_MEMBERS:
             raise ValueError(f"members must be from 1 to {MOST_MEMBERS}, not {count}")
         config = config_struct(low, high, reference, max_open, max_calls, range)
@@ -296,7 +281,7 @@ def _struct_of(command: Command) -> Any:
     """
     made = ffi.new("callauction_command *")
     match command:
-        case Enter(side, quantity, limit, peak, restriction):
+        case words.Enter(side, quantity, limit, peak, restriction):
             member_of("side", side, Side)
             member_of("restriction", restriction, Restriction)
             if side is Side.NONE:
@@ -304,19 +289,19 @@ def _struct_of(command: Command) -> Any:
             made.tag, made.side, made.restriction = CommandTag.ENTER, side, restriction
             _set_terms(made, quantity, limit)
             if peak is not None:
-                made.has_peak, made.peak = 1, number("peak", peak, MOST)
-        case Change(id, quantity, limit):
-            made.tag, made.id = CommandTag.CHANGE, number("id", id, MOST)
+                made.has_peak, made.peak = 1, number("peak", peak, MOST_NUMBER)
+        case words.Change(id, quantity, limit):
+            made.tag, made.id = CommandTag.CHANGE, number("id", id, MOST_NUMBER)
             _set_terms(made, quantity, limit)
-        case Delete(id):
-            made.tag, made.id = CommandTag.DELETE, number("id", id, MOST)
-        case OrderStatus(id):
-            made.tag, made.id = CommandTag.ORDER_STATUS, number("id", id, MOST)
-        case Indicate():
+        case words.Delete(id):
+            made.tag, made.id = CommandTag.DELETE, number("id", id, MOST_NUMBER)
+        case words.OrderStatus(id):
+            made.tag, made.id = CommandTag.ORDER_STATUS, number("id", id, MOST_NUMBER)
+        case words.Indicate():
             made.tag = CommandTag.INDICATE
-        case ReadTrade(place):
-            made.tag, made.id = CommandTag.READ_TRADE, number("number", place, MOST)
-        case Uncross():
+        case words.ReadTrade(place):
+            made.tag, made.id = CommandTag.READ_TRADE, number("number", place, MOST_NUMBER)
+        case words.Uncross():
             made.tag = CommandTag.UNCROSS
         case _:
             raise TypeError(f"command must be one of Command, not {type(command).__name__}")
@@ -325,6 +310,6 @@ def _struct_of(command: Command) -> Any:
 
 def _set_terms(made: Any, quantity: int, limit: int | None) -> None:
     """Sets the quantity and the limit of a struct. Raises TypeError or ValueError."""
-    made.quantity = number("quantity", quantity, MOST)
+    made.quantity = number("quantity", quantity, MOST_NUMBER)
     if limit is not None:
-        made.has_limit, made.limit = 1, number("limit", limit, MOST)
+        made.has_limit, made.limit = 1, number("limit", limit, MOST_NUMBER)

@@ -9,6 +9,7 @@ import numpy
 import pandas
 
 from callauction.arrays import COMMAND, REPLY, Structs
+from callauction.limits import MOST_CALLS
 from callauction.program import Day
 from callauction.tables import journal_of
 from callauction.words import AuctionKind, CommandTag, NoPrice, Price, ReplyTag, Restriction, Side
@@ -16,10 +17,9 @@ from callauction.words import AuctionKind, CommandTag, NoPrice, Price, ReplyTag,
 if TYPE_CHECKING:
     from callauction.auction import Auction
 
-MOST_CALLS = 1_048_576
 MOST_LOOKS = 20_000
-"""How often the indicative price of a day is looked at: after each command of a day of so many, of
-a longer one after every second, third and so on.
+"""How often the indicative price of a day is looked at: after each command of a day of that
+many, of a longer one after every second, third and so on.
 """
 INDICATIVE = {
     "command": "int64",
@@ -155,8 +155,8 @@ def commands_of(journal: pandas.DataFrame) -> Structs:
 def references_of(journal: pandas.DataFrame, numbers: Iterable[int]) -> dict[int, int | None]:
     """The reference price before each of the commands with these numbers, which rise, in ticks.
 
-    The library is asked: an auction that stands there, and from which all orders are deleted, has
-    the reference as the price of two market orders. None where it takes no such orders: behind the
+    The library is asked: a copy of the auction at that place, all of whose orders are deleted, has
+    the reference as the price of two market orders. None where it takes no such orders: after the
     day's end, where one order alone may be open, or where a day has too many calls.
     """
     commands = commands_of(journal)

@@ -18,8 +18,8 @@ from callauction.written import fields_of, text_of
 def written_day(
     config: Config, members: int, entries: Iterable[tuple[int, Command, Reply]]
 ) -> Day:
-    """The journal of a day of so many members, opened with this config: its entries are a member, a
-    command and its reply each, in their order.
+    """The journal of a day of `members` members, opened with this config: each entry is a member,
+    a command and its reply, in their order.
     """
     most = "" if config.range is None else config.range
     numbers = (config.low, config.high, config.reference, members)

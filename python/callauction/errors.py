@@ -29,7 +29,7 @@ class RefusedError(AuctionError):
 
 
 class NotAppliedError(AuctionError):
-    """A command wasn't applied, and none behind it.
+    """A command wasn't applied, and none after it.
 
     `applied` says how many commands of the call were applied before it, and `replies` are their
     replies, an array of REPLY of that length (None where the call was of one command).
@@ -46,4 +46,4 @@ class FullError(NotAppliedError):
 
 
 class NoCommandError(NotAppliedError, ValueError):
-    """A struct of an array stands for no command."""
+    """A struct of an array is no command."""

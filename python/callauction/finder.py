@@ -8,7 +8,7 @@ VARIABLE = "CALLBOARD"
 HELD = pathlib.Path(__file__).with_name("bin") / "callboard"
 """Where a wheel of this package holds it."""
 BUILT = pathlib.Path(__file__).resolve().parents[2] / "crates/callboard/out/callboard"
-"""Where the repository builds it, beside which this package's sources stand."""
+"""Where it is built, in the repository that has this package's sources."""
 
 
 def program() -> str:

@@ -3,15 +3,15 @@
 The frame has a row for each event, in the order in which the board took them. Its columns are
 
 - `event`: `new`, `replace`, `cancel`, `uncross` (an auction ended) or `trade`;
-- `order`: the order's id there; `member`: who sent it, which `replace` and `cancel` may
+- `order`: the order's id; `member`: who sent it, which `replace` and `cancel` may
   leave out;
 - `side`: `bid` or `buy`, `ask` or `sell`; `price`: a decimal, missing for a market order;
-- `quantity`: shares, at `replace` what is open behind it, at `cancel` what is taken out where
+- `quantity`: shares, at `replace` what is open after it, at `cancel` what is taken out where
   that isn't all; `peak`: of an iceberg order;
 - `restriction`: `opening` or `closing`, where the order is for that auction alone;
 - `time`: any; `kept`: at `replace`, whether the place in time was kept, if that is known.
 
-What was published of an auction stands in the row `uncross`, as far as it is known: `price`,
+What was published of an auction is in the row `uncross`, as far as it is known: `price`,
 `quantity` (what was executed), `surplus` and its `side`, `trades` (how many) and `auction`
 (`opening`, `intraday`, `closing`, or `interrupted` where nothing was executed). A row `trade` has
 the ids of both orders in `bid` and `ask`, `quantity` and `price`, in the order in which they were
@@ -31,23 +31,23 @@ from typing import Any
 import pandas
 
 from callauction.auction import Auction
-from callauction.course import MOST_CALLS, Watch, references_of
-from callauction.reasons import Explanation, explain
-from callauction.grid import (
-    MOST_TICKS,
+from callauction.course import Watch, references_of
+from callauction.cells import FrameError, cell_of
+from callauction.limits import MOST_CALLS, MOST_MEMBERS, MOST_OPEN, MOST_TICKS
+from callauction.prices import (
     BadCellError,
-    FrameError,
     Grid,
-    cell_of,
     decimal_of,
     grid_of,
     tick_size_of,
     whole_of,
 )
 from callauction.program import Day
+from callauction.reasons import Explanation, explain
 from callauction.tables import audit_of, book_at, books_of, journal_of, trades_of
 from callauction.verdict.columns import OTHER_NAMES, refuse_unknown
 from callauction.words import (
+    AUCTIONS,
     Change,
     Command,
     Delete,
@@ -66,12 +66,11 @@ from callauction.words import (
 from callauction.written import fields_of, text_of
 
 EVENTS = ("new", "replace", "cancel", "uncross", "trade")
-SHARED = 63
+SHARED = MOST_MEMBERS - 1
 """The numbers that members have; more members share them. Number 0 is the operator's."""
-MOST_OPEN = 65_536
 SIDES = {"bid": Side.BID, "buy": Side.BID, "ask": Side.ASK, "sell": Side.ASK}
 RESTRICTIONS = {"opening": Restriction.OPENING_ONLY, "closing": Restriction.CLOSING_ONLY}
-AUCTIONS = ("opening", "intraday", "closing", "interrupted")
+RESULTS = (*AUCTIONS, "interrupted")
 COLUMNS = (
     "event",
     "order",
@@ -171,12 +170,12 @@ class Row:
 
 @dataclasses.dataclass(frozen=True)
 class Journal:
-    """A frame as a journal, and the maps back to its own ids, members, times and prices.
+    """A frame as a journal, and the maps back to the frame's ids, members, times and prices.
 
-    `text` is the journal; `grid` has the price of each tick; `orders` has by our id the order's id
-    there (`order`), its `member` there and the `number` that it has here, and the `row`; `entries`
-    has for each entry of the journal the `row`, its `time`, its `event`, and the `order` and the
-    `member` there. All tables name ids, members, prices and times as they are there.
+    `text` is the journal; `grid` has the price of each tick; `orders` has by the journal's id the
+    frame's `order` and `member`, the `number` of that member in the journal, and the `row`;
+    `entries` has for each entry of the journal the frame's `row`, `time`, `event`, `order` and
+    `member`. All tables have the frame's ids, members, prices and times.
     """
 
     text: str
@@ -237,19 +236,19 @@ class Journal:
 
     def audit(self) -> pandas.DataFrame:
         """The recorded results that aren't lawful: `entry`, its `row`, `time`, `event`, `order` and
-        `member`, and both texts, in ids and prices from there. `attrs` as of tables.audit_of.
-        Raises ProgramError.
+        `member`, and both texts, in the ids and prices of the frame. `attrs` are as of
+        tables.audit_of. Raises ProgramError.
         """
         found = audit_of(self.day())
         attrs = found.attrs
         for column in ("recorded", "lawful"):
-            found[column] = [self.told(text) for text in found[column]]
+            found[column] = [self.translated(text) for text in found[column]]
         joined = found.join(self.entries, on="entry")[[*AUDIT]]
         joined.attrs.update(attrs)
         return joined
 
-    def told(self, reply: str) -> str:
-        """The text of a reply in ids and prices from there."""
+    def translated(self, reply: str) -> str:
+        """The text of a reply in the ids and prices of the frame."""
         bests = _BESTS.fullmatch(reply)
         if bests:
             return f"no price bid {self._best(bests[1])} ask {self._best(bests[2])}"
@@ -260,7 +259,7 @@ class Journal:
         )
 
     def _order(self, id: int) -> Any:
-        """The order's id there; ours where there is none."""
+        """The frame's id of an order; the journal's where it has none."""
         return self.orders.at[id, "order"] if id in self.orders.index else id
 
     def _best(self, limit: str) -> str:
@@ -268,14 +267,14 @@ class Journal:
 
 
 AUDIT = ("entry", "row", "time", "event", "order", "member", "recorded", "lawful")
-"""The columns of an audit in the names from there."""
+"""The columns of an audit, in the ids and prices of the frame."""
 _BESTS = re.compile(r"no price bid (\d+|-) ask (\d+|-)")
 _TICK = re.compile(r"\b(price|at) (\d+)")
 _ENTERED = re.compile(r"\bentered (\d+)")
 _TRADE = re.compile(r"\btrade (\d+) (\d+)")
 
 
-# ---- the way there
+# ---- from the frame to the journal
 
 
 class _Conversion:
@@ -284,7 +283,7 @@ class _Conversion:
     def __init__(self, grid: Grid, auction: Auction) -> None:
         self.grid, self.auction = grid, auction
         self.orders: dict[Any, tuple[int, Any, object]] = {}
-        """By its id there an order's id here, its member there, and its row."""
+        """By the frame's id of an order: the journal's id, the frame's member, and the row."""
         self.numbers: dict[Any, int] = {}
         self.lines: list[str] = []
         self.entries: list[tuple[object, Any, str, Any, Any]] = []
@@ -341,14 +340,14 @@ class _Conversion:
         recorded = "" if kept is None else "changed kept" if kept else "changed moved"
         reply = self._write(row, member, command, recorded, order)
         if isinstance(reply, Refused) and not recorded:
-            # It was changed there: a text that is no lawful reply has the audit tell of it.
+            # The other system changed it: a text that is no lawful reply makes it a finding.
             self.lines[-1] += "changed"
 
     def _uncross(self, row: Row) -> None:
         """A price that is known with its volume and surplus is the reply to an ask before it, or,
         with the auction and its trades, that to the uncross.
         """
-        auction = row.word("auction", AUCTIONS) if row.get("auction") is not None else None
+        auction = row.word("auction", RESULTS) if row.get("auction") is not None else None
         price, trades = self._published(row), row.whole("trades")
         if price and auction == "interrupted":
             self._write(row, None, Uncross(), f"interrupted {price}")
@@ -383,7 +382,7 @@ class _Conversion:
         self._write(row, None, ReadTrade(self.trades), text)
 
     def _known(self, row: Row, column: str) -> tuple[Any, int, Any]:
-        """The id there of an order that was entered, its id here, and its member."""
+        """The frame's id of an order that was entered, the journal's id, and the member."""
         order = row.name(column)
         if order not in self.orders:
             raise row.fault(column, "is the id of no order before it")
@@ -422,7 +421,7 @@ def from_frame(
     `tick_size` is the step between two prices, `reference` the last price before the day; `low` and
     `high` are the lowest and the highest price, without them those of the orders and the reference;
     `range` is how far a price may lie from the reference before an uncross is interrupted. All are
-    decimals: a Decimal, a text, an int, or a float, which stands for the shortest decimal that
+    decimals: a Decimal, a text, an int, or a float, which means the shortest decimal that
     gives it. `ignore` names columns that are passed over, `*` each unknown one. `watch` is given
     the rows, such as tqdm.tqdm.
 

@@ -141,7 +141,7 @@ class Exercise:
 
 
 def moved(orders: Sequence[Order], place: int, limits: Sequence[int]) -> pandas.DataFrame:
-    """What the limit of an order, which stands at this place from 0 on, does to the price, the
+    """What the limit of the order at this place, from 0 on, does to the price, the
     volume and the surplus (MOVED); `<NA>` where there is no price.
     """
     rows = []
@@ -193,8 +193,8 @@ def draw_moved(
 
 def slide(orders: Sequence[Order], place: int, limits: Sequence[int]) -> None:
     """A slider that moves the limit of the order at this place, from 0 on, through `limits`: the
-    book, and price, volume and surplus against the limit. Without ipywidgets the picture stands
-    still.
+    book, and price, volume and surplus against the limit. Without ipywidgets the picture doesn't
+    move.
     """
     import matplotlib.pyplot as pyplot
 

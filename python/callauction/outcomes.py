@@ -1,7 +1,7 @@
-"""What became of the orders of a day, and which stood where before an uncross.
+"""What became of the orders of a day, and their queue before an uncross.
 
-A day is played by an Auction of the library, command by command; the places in time are those that
-its replies tell.
+A day is played by an Auction of the library, command by command; the places in time are those of
+its replies.
 """
 import dataclasses
 from typing import Protocol, TypeAlias
@@ -231,10 +231,10 @@ def _fill(order: _Order, quantity: int, tick: int) -> None:
 def _walked(day: Played) -> _Walk:
     """The walk over a day."""
     walk = _Walk(day.trades)
-    told = (
+    tags = (
         ReplyTag.ENTERED, ReplyTag.CHANGED, ReplyTag.DELETED, ReplyTag.UNCROSSED
     )  # fmt: skip
-    for place in numpy.flatnonzero(numpy.isin(day.replies["tag"], told)):
+    for place in numpy.flatnonzero(numpy.isin(day.replies["tag"], tags)):
         walk.take(int(place) + 1, day.commands[place], day.replies[place])
     return walk
 

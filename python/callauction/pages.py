@@ -97,7 +97,7 @@ def html_table(
     frame: pandas.DataFrame, caption: str, name: str, counts: Iterable[str] = ()
 ) -> str:
     """A table with a caption, whose first column heads its rows; in the columns `counts` thousands
-    are parted. A wide one scrolls, and says so on a narrow screen; a short one stands on one page
+    are parted. A wide one scrolls, and says so on a narrow screen; a short one is kept on one page
     of paper.
     """
     more = f" (the first {MOST_ROWS} of {len(frame):,})" if len(frame) > MOST_ROWS else ""
@@ -121,7 +121,7 @@ def html_table(
 
 
 def _kind(column: "pandas.Series") -> str:
-    """Words stand to the left, numbers to the right."""
+    """The class of a column: words go to the left, numbers to the right."""
     texts = {value for value in column if isinstance(value, str)} - {"", "market", "none"}
     return "" if all(text.replace(".", "", 1).isdigit() for text in texts) else ' class="text"'
 

@@ -5,9 +5,8 @@ import fractions
 import re
 from decimal import Decimal
 
-MOST_TICK = 1_000_000
-MOST_TICKS = 65_536
-MOST_NUMBER = 4_294_967_295
+from callauction.limits import MOST_NUMBER, MOST_TICK
+
 _PLAIN = re.compile(r"[+-]?[0-9]{1,30}(\.[0-9]{1,30})?", re.ASCII)
 _EXACT = decimal.Context(prec=80, traps=[decimal.Inexact, decimal.InvalidOperation])
 
@@ -17,7 +16,7 @@ class BadCellError(ValueError):
 
 
 def decimal_of(value: object) -> Decimal:
-    """The exact decimal of an int, a Decimal, a text such as `20.05`, or a float, which stands for
+    """The exact decimal of an int, a Decimal, a text such as `20.05`, or a float, which means
     the shortest decimal that gives it. Raises BadCellError.
     """
     if isinstance(value, float):

@@ -47,7 +47,7 @@ class BadDayError(ProgramError):
 
 
 class FailedError(ProgramError):
-    """The program is missing or couldn't be started, memory was wanting, or a read or a write
+    """The program is missing or couldn't be started, memory was refused, or a read or a write
     failed.
     """
 
@@ -139,8 +139,8 @@ def _answer(words: list[str], content: bytes) -> tuple[int, str]:
 
 
 def fault_of(text: str, status: int) -> ProgramError:
-    """The exception of a run that ended with this status and this line; a second line that tells
-    the likely cause is a note of it.
+    """The exception of a run that ended with this status and this line; a second line, which has
+    the likely cause, is a note of it.
     """
     if status == BAD_FILE:
         return BadFileError(text)

@@ -158,8 +158,8 @@ _READERS: tuple[Callable[[Any], Reply], ...] = (
 
 
 def read(reply: Any, check: bool = False) -> Reply:
-    """What a reply struct of the library says. Raises what stands for the error of one
-    that is no reply, and with `check` RefusedError for a refusal.
+    """What a reply struct of the library says. Raises the exception of the error that it has in
+    place of a reply, and with `check` RefusedError for a refusal.
     """
     if check and reply.tag == _REFUSED:
         raise RefusedError(Refusal(reply.refusal))
@@ -168,8 +168,8 @@ def read(reply: Any, check: bool = False) -> Reply:
 
 
 def not_entered(answer: int, check: bool) -> Refused:
-    """The refusal of an order, which this answer below 0 stands for. Raises what stands for an
-    error, and with `check` RefusedError.
+    """The refusal of an order by an answer below 0. Raises the exception of an error, and with
+    `check` RefusedError.
     """
     if answer <= -lib.PYTHON_ERROR:
         raise error_of(-lib.PYTHON_ERROR - answer)

@@ -17,7 +17,7 @@ MOST_NAMED = 6
 
 
 class Explanation(tuple[str, ...]):
-    """Sentences, one for each step that decided; as a text they stand below one another."""
+    """Sentences, one for each step that decided; as a text each has a line."""
 
     def __str__(self) -> str:
         return "\n".join(self)
@@ -164,11 +164,11 @@ def _decided(book: Book, price: "pandas.Series", reference: int | None) -> list[
             f"the {rule}, {name}, is the price."
         ]
     lower, upper, why = _kept(book)
-    told = "The reference" if reference is None else f"The reference, {book.named(reference)},"
+    subject = "The reference" if reference is None else f"The reference, {book.named(reference)},"
     if price["limit"] == upper:
-        return [why, f"{told} is at or above the higher of them, so {name} is the price."]
+        return [why, f"{subject} is at or above the higher of them, so {name} is the price."]
     if price["limit"] == lower:
-        return [why, f"{told} is at or below the lower of them, so {name} is the price."]
+        return [why, f"{subject} is at or below the lower of them, so {name} is the price."]
     return [why, f"The reference, {name}, lies between them, so it is the price."]
 
 

@@ -1,4 +1,4 @@
-"""An auction that keeps its record, and tells its tables and its reasons: see RecordedAuction."""
+"""An auction that keeps its record, with its tables and its reasons: see RecordedAuction."""
 import operator
 import threading
 from types import TracebackType
@@ -7,45 +7,17 @@ from typing import Self, cast
 import numpy
 import pandas
 
+from callauction import words
 from callauction.arrays import COMMAND, Shares, Structs, whole
 from callauction.auction import Auction
 from callauction.day_frames import DayTables, written_day
 from callauction.errors import NotAppliedError, RefusedError
+from callauction.limits import MOST_MEMBERS, MOST_NUMBER
 from callauction.program import Day
 from callauction.reading import number, reply_of
 from callauction.tables import orders_frame
-from callauction.words import (
-    Change,
-    Changed,
-    Command,
-    CommandTag,
-    Config,
-    Delete,
-    Deleted,
-    Enter,
-    Entered,
-    Indicate,
-    Interrupted,
-    MarketOrders,
-    NoPrice,
-    OpenOrder,
-    OrderStatus,
-    Price,
-    ReadTrade,
-    Refused,
-    Reply,
-    Restriction,
-    Side,
-    Traded,
-    Uncross,
-    Uncrossed,
-)
+from callauction.words import Command, CommandTag, Config, MarketOrders, Reply, Restriction, Side
 from callauction.written import command_of
-
-MEMBERS = 64
-MOST_NUMBER = (1 << 32) - 1
-"""The members of a journal, and its greatest number."""
-
 
 class RecordedAuction(DayTables):
     """An Auction with the record of its day, and what the program says of that record.
@@ -98,40 +70,49 @@ class RecordedAuction(DayTables):
         restriction: Restriction = Restriction.NONE,
         *,
         check: bool = False,
-    ) -> Entered | Refused:
+    ) -> words.Entered | words.Refused:
         """As Auction.enter."""
-        reply = self._applied(member, Enter(side, quantity, limit, peak, restriction), check)
-        return cast("Entered | Refused", reply)
+        reply = self._applied(member, words.Enter(side, quantity, limit, peak, restriction), check)
+        return cast("words.Entered | words.Refused", reply)
 
     def change(
         self, member: int, id: int, quantity: int, limit: int | None = None, *, check: bool = False
-    ) -> Changed | Refused:
+    ) -> words.Changed | words.Refused:
         """As Auction.change."""
-        reply = self._applied(member, Change(id, quantity, limit), check)
-        return cast("Changed | Refused", reply)
+        reply = self._applied(member, words.Change(id, quantity, limit), check)
+        return cast("words.Changed | words.Refused", reply)
 
-    def delete(self, member: int, id: int, *, check: bool = False) -> Deleted | Refused:
+    def delete(self, member: int, id: int, *, check: bool = False) -> words.Deleted | words.Refused:
         """As Auction.delete."""
-        return cast("Deleted | Refused", self._applied(member, Delete(id), check))
+        return cast("words.Deleted | words.Refused", self._applied(member, words.Delete(id), check))
 
-    def order_status(self, member: int, id: int, *, check: bool = False) -> OpenOrder | Refused:
+    def order_status(
+        self, member: int, id: int, *, check: bool = False
+    ) -> words.OpenOrder | words.Refused:
         """As Auction.order_status."""
-        return cast("OpenOrder | Refused", self._applied(member, OrderStatus(id), check))
+        reply = self._applied(member, words.OrderStatus(id), check)
+        return cast("words.OpenOrder | words.Refused", reply)
 
-    def indicate(self, member: int, *, check: bool = False) -> Price | NoPrice | Refused:
+    def indicate(
+        self, member: int, *, check: bool = False
+    ) -> words.Price | words.NoPrice | words.Refused:
         """As Auction.indicate."""
-        return cast("Price | NoPrice | Refused", self._applied(member, Indicate(), check))
+        reply = self._applied(member, words.Indicate(), check)
+        return cast("words.Price | words.NoPrice | words.Refused", reply)
 
-    def read_trade(self, member: int, number: int, *, check: bool = False) -> Traded | Refused:
+    def read_trade(
+        self, member: int, number: int, *, check: bool = False
+    ) -> words.Traded | words.Refused:
         """As Auction.read_trade."""
-        return cast("Traded | Refused", self._applied(member, ReadTrade(number), check))
+        reply = self._applied(member, words.ReadTrade(number), check)
+        return cast("words.Traded | words.Refused", reply)
 
     def uncross(
         self, member: int = 0, *, check: bool = False
-    ) -> Uncrossed | Interrupted | Refused:
+    ) -> words.Uncrossed | words.Interrupted | words.Refused:
         """As Auction.uncross."""
-        reply = self._applied(member, Uncross(), check)
-        return cast("Uncrossed | Interrupted | Refused", reply)
+        reply = self._applied(member, words.Uncross(), check)
+        return cast("words.Uncrossed | words.Interrupted | words.Refused", reply)
 
     def apply(self, member: int, command: Command, *, check: bool = False) -> Reply:
         """As Auction.apply."""
@@ -157,7 +138,7 @@ class RecordedAuction(DayTables):
         with self._lock:
             reply = self._auction.apply(member, command)
             self._record.append((member, command, reply))
-        if check and isinstance(reply, Refused):
+        if check and isinstance(reply, words.Refused):
             raise RefusedError(reply.refusal)
         return reply
 
@@ -171,7 +152,7 @@ class RecordedAuction(DayTables):
 
     # ---- what is shown
 
-    def display(self) -> Price | NoPrice:
+    def display(self) -> words.Price | words.NoPrice:
         """As Auction.display."""
         with self._lock:
             return self._auction.display()
@@ -221,7 +202,7 @@ class RecordedAuction(DayTables):
     # ---- the whole auction
 
     def copy(self) -> Self:
-        """An auction of its own that stands where this one does, with the same record."""
+        """A copy of this auction as it is now, with a copy of its record. Raises MemoryError."""
         other = object.__new__(type(self))
         with self._lock:
             other._auction = self._auction.copy()
@@ -253,15 +234,15 @@ class RecordedAuction(DayTables):
         with self._lock:
             config, record = self._auction.config, [*self._record]
         entries = ((operator.index(member), command, reply) for member, command, reply in record)
-        return written_day(config, MEMBERS, entries)
+        return written_day(config, MOST_MEMBERS, entries)
 
 
 def _look_at(member: object, command: Command) -> None:
     """Raises TypeError or ValueError for a member or a number that no journal has."""
-    number("member", member, MEMBERS - 1)
-    if isinstance(command, Enter | Change):
+    number("member", member, MOST_MEMBERS - 1)
+    if isinstance(command, words.Enter | words.Change):
         number("quantity", command.quantity, MOST_NUMBER)
-    if isinstance(command, Enter) and command.peak is not None:
+    if isinstance(command, words.Enter) and command.peak is not None:
         number("peak", command.peak, MOST_NUMBER)
 
 
@@ -273,7 +254,7 @@ def _look_through(commands: Structs) -> None:
     has_quantity = numpy.isin(commands["tag"], (CommandTag.ENTER, CommandTag.CHANGE))
     has_peak = (commands["tag"] == CommandTag.ENTER) & (commands["has_peak"] != 0)
     for name, most, is_used in (
-        ("member", MEMBERS - 1, numpy.ones(len(commands), bool)),
+        ("member", MOST_MEMBERS - 1, numpy.ones(len(commands), bool)),
         ("quantity", MOST_NUMBER, has_quantity),
         ("peak", MOST_NUMBER, has_peak),
     ):

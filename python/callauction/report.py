@@ -131,13 +131,13 @@ def _members(orders: pandas.DataFrame) -> Part:
     found = members_of(orders)
     if not len(found):
         return "Members", "<p>No order was entered.</p>"
-    told = (
+    note = (
         "<p>Better: how much better than their limits a member's limit orders traded, in ticks "
         "times shares.</p>"
     )
     caption = f"{counted(len(found), 'member')}: shares entered, bought and sold"
     counts = ("orders", "entered", "bought", "sold", "better")
-    return "Members", told + html_table(found, caption, "members", counts)
+    return "Members", note + html_table(found, caption, "members", counts)
 
 
 def _orders(orders: pandas.DataFrame) -> Part:
@@ -154,9 +154,9 @@ def _orders(orders: pandas.DataFrame) -> Part:
 def _gains(found: Gains) -> Part:
     """What the members gained."""
     caption = f"Gains of {counted(len(found.members), 'member')}, in ticks times shares"
-    told = f"<p>The members' {html.escape(str(found))}, in ticks times shares.</p>"
+    note = f"<p>The members' {html.escape(str(found))}, in ticks times shares.</p>"
     listed = found.members.assign(gain=found.members["gain"].map(shown))
-    return "Gains", told + html_table(listed, caption, "gains", ("bought", "sold"))
+    return "Gains", note + html_table(listed, caption, "gains", ("bought", "sold"))
 
 
 def _refused(journal: pandas.DataFrame) -> Part:
@@ -173,7 +173,7 @@ def _refused(journal: pandas.DataFrame) -> Part:
 
 def _config(journal: pandas.DataFrame) -> Part:
     """What the day was opened with."""
-    said = {
+    texts = {
         "low": "lowest tick",
         "high": "highest tick",
         "reference": "first reference price (ticks)",
@@ -184,6 +184,6 @@ def _config(journal: pandas.DataFrame) -> Part:
     }
     values = [journal.attrs[name] for name in DAY]
     frame = pandas.DataFrame(
-        {"what": said.values(), "value": [shown_cell(value, "none", True) for value in values]}
+        {"what": texts.values(), "value": [shown_cell(value, "none", True) for value in values]}
     )
     return "Config", html_table(frame, "What the day was opened with", "config")

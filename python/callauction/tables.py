@@ -184,7 +184,7 @@ def _typed(column: "pandas.Series", kind: str) -> "pandas.Series":
 
 
 def _recorded(day: Day, count: int) -> list[str]:
-    """The recorded replies of so many entries, empty where there is none. Raises ProgramError where
+    """The recorded replies of `count` entries, empty where there is none. Raises ProgramError where
     the file's records are other ones than the program reads.
     """
     rows = csv.reader(io.StringIO(day.content.decode("latin-1"), newline=""))

@@ -31,6 +31,11 @@ class AuctionKind(enum.IntEnum):
     CLOSING = 3
 
 
+AUCTIONS = tuple(kind.name.lower() for kind in AuctionKind)
+MARKET = "market"
+"""The words of files for the auctions, in their order, and for no limit."""
+
+
 class Refusal(enum.IntEnum):
     """Why a command was refused."""
 
@@ -89,7 +94,7 @@ class Config:
 
 @dataclasses.dataclass(frozen=True, slots=True)
 class Enter:
-    """A new order; with a peak it is an iceberg order, which shows so many shares at most."""
+    """A new order; with a peak it is an iceberg order, which shows at most `peak` shares."""
 
     side: Side
     quantity: int

@@ -1,37 +1,14 @@
 """Commands and replies as docs/FORMATS.md writes them: a command in its shortest form, a reply by
-the text behind its number.
+the text after its number.
 """
 from operator import index
 
 import numpy
 
+from callauction import words
 from callauction.arrays import COMMAND
-from callauction.words import (
-    Change,
-    Changed,
-    Command,
-    CommandTag,
-    Delete,
-    Deleted,
-    Enter,
-    Entered,
-    Indicate,
-    Interrupted,
-    NoPrice,
-    OpenOrder,
-    OrderStatus,
-    Price,
-    ReadTrade,
-    Refused,
-    Reply,
-    Restriction,
-    Side,
-    Traded,
-    Uncross,
-    Uncrossed,
-)
+from callauction.words import MARKET, Command, CommandTag, Reply, Restriction, Side
 
-MARKET = "market"
 _RESTRICTIONS = {
     Restriction.NONE: "",
     Restriction.OPENING_ONLY: "opening",
@@ -44,27 +21,27 @@ def _limit(limit: int | None) -> str:
 
 
 def fields_of(command: Command) -> str:
-    """The fields of a command behind its member, parted by commas. Raises TypeError where it is
+    """The fields of a command after its member, parted by commas. Raises TypeError where it is
     none of Command.
     """
     match command:
-        case Enter(side, quantity, limit, peak, restriction):
+        case words.Enter(side, quantity, limit, peak, restriction):
             fields = f"enter,{side.name.lower()},{index(quantity)},{_limit(limit)}"
             shown = "" if peak is None else f",{index(peak)}"
             if not restriction:
                 return fields + shown
             return f"{fields}{shown or ','},{_RESTRICTIONS[restriction]}"
-        case Change(id, quantity, limit):
+        case words.Change(id, quantity, limit):
             return f"change,{index(id)},{index(quantity)},{_limit(limit)}"
-        case Delete(id):
+        case words.Delete(id):
             return f"delete,{index(id)}"
-        case OrderStatus(id):
+        case words.OrderStatus(id):
             return f"status,{index(id)}"
-        case ReadTrade(number):
+        case words.ReadTrade(number):
             return f"trade,{index(number)}"
-        case Indicate():
+        case words.Indicate():
             return "ask"
-        case Uncross():
+        case words.Uncross():
             return "uncross"
     raise TypeError(f"command must be one of Command, not {type(command).__name__}")
 
@@ -82,26 +59,26 @@ def command_of(record: numpy.void) -> Command:
         case CommandTag.ENTER:
             peak = int(record["peak"]) if record["has_peak"] else None
             restriction = Restriction(record["restriction"])
-            return Enter(Side(record["side"]), quantity, limit, peak, restriction)
+            return words.Enter(Side(record["side"]), quantity, limit, peak, restriction)
         case CommandTag.CHANGE:
-            return Change(id, quantity, limit)
+            return words.Change(id, quantity, limit)
         case CommandTag.DELETE:
-            return Delete(id)
+            return words.Delete(id)
         case CommandTag.ORDER_STATUS:
-            return OrderStatus(id)
+            return words.OrderStatus(id)
         case CommandTag.READ_TRADE:
-            return ReadTrade(id)
+            return words.ReadTrade(id)
         case CommandTag.INDICATE:
-            return Indicate()
-    return Uncross()
+            return words.Indicate()
+    return words.Uncross()
 
 
-def _price(price: Price) -> str:
+def _price(price: words.Price) -> str:
     side = price.side.name.lower()
     return f"price {price.tick} volume {price.volume} surplus {price.surplus} {side}"
 
 
-def _uncrossed(reply: Uncrossed) -> str:
+def _uncrossed(reply: words.Uncrossed) -> str:
     kind = reply.auction.name.lower()
     if reply.price is None:
         return f"{kind} no price"
@@ -115,26 +92,26 @@ def _best(limit: int | None) -> str:
 def text_of(reply: Reply) -> str:
     """The text of a reply. Raises TypeError where it is none of Reply."""
     match reply:
-        case Entered(id):
+        case words.Entered(id):
             return f"entered {id}"
-        case Changed(kept):
+        case words.Changed(kept):
             return "changed kept" if kept else "changed moved"
-        case Deleted():
+        case words.Deleted():
             return "deleted"
-        case OpenOrder(side, quantity, limit, visible):
+        case words.OpenOrder(side, quantity, limit, visible):
             at = MARKET if limit is None else f"at {limit}"
             return f"order {side.name.lower()} {quantity} {at} visible {visible}"
-        case Price():
+        case words.Price():
             return _price(reply)
-        case NoPrice(bid, ask):
+        case words.NoPrice(bid, ask):
             return f"no price bid {_best(bid)} ask {_best(ask)}"
-        case Traded(bid, ask, quantity, tick):
+        case words.Traded(bid, ask, quantity, tick):
             return f"trade {bid} {ask} {quantity} at {tick}"
-        case Uncrossed():
+        case words.Uncrossed():
             return _uncrossed(reply)
-        case Interrupted(price):
+        case words.Interrupted(price):
             return f"interrupted {_price(price)}"
-        case Refused(refusal):
+        case words.Refused(refusal):
             name = refusal.name.title().replace("_", "")
             return f"refused {refusal.value} {name}"
     raise TypeError(f"reply must be one of Reply, not {type(reply).__name__}")

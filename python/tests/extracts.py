@@ -73,13 +73,13 @@ class Recorder:
         self.gone: list[int] = []
 
     def add(self, event: str, **cells: object) -> None:
-        """A row, some time behind the one before it."""
+        """A row, some time after the one before it."""
         self.seconds += self.chance.choice([0, 1, 1, 7])
         clock = divmod(self.seconds, 3600)
         minute, second = divmod(clock[1], 60)
-        told = {name: str(it) for name, it in cells.items() if it not in (None, "")}
+        given = {name: str(it) for name, it in cells.items() if it not in (None, "")}
         time = f"{clock[0]:02}:{minute:02}:{second:02}"
-        self.rows.append({"event": event, "time": time, **told})
+        self.rows.append({"event": event, "time": time, **given})
 
     def enter(self) -> None:
         chance, day = self.chance, self.day
@@ -152,7 +152,7 @@ class Recorder:
 
 
 def random_day(seed: int, most: int = 10) -> Extract:
-    """A whole day of three auctions, each with up to so many events before it."""
+    """A whole day of three auctions, each with up to `most` events before it."""
     chance = random.Random(seed)
     recorder = Recorder(chance)
     steps: list[Callable[[], None]] = [recorder.enter] * 6 + [recorder.replace, recorder.cancel]

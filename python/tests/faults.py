@@ -188,13 +188,13 @@ def uncross_before_its_orders(chance: random.Random, extract: Extract) -> Plante
 
 def _are_entries(rows: list[dict[str, Any]]) -> bool:
     """Whether these enter orders, and no more: what changes or deletes one, or is for one auction
-    alone, says another thing behind an uncross that came too early, which is a finding of its own.
+    alone, says another thing after an uncross that came too early, which is a finding of its own.
     """
     return all(row["event"] == "new" and not row.get("restriction") for row in rows)
 
 
 def _trades_of(extract: Extract, row: dict[str, Any], uncross: int) -> bool:
-    """Whether an order trades right behind an uncross."""
+    """Whether an order trades right after an uncross."""
     auction = extract.rows[uncross]["auction"]
     return any(
         row["order"] in (each["bid"], each["ask"])

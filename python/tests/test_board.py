@@ -42,7 +42,7 @@ DAY: dict[str, int] = {"low": 1, "high": 1000, "reference": 500, "max_open": 65_
 
 
 def trade(member: Member, calls: int) -> list[Receipt]:
-    """Makes so many calls with dice of its own: the receipts."""
+    """Makes `calls` calls with dice of its own: the receipts."""
     dice = random.Random(member.number)
     receipts: list[Receipt] = []
     last = 0

@@ -14,7 +14,7 @@ from checks.model.files import FileFault
 
 EXAMPLES = sorted((TOP / "examples").glob("*.csv"))
 PROGRAM = os.environ.get("CALLBOARD")
-"""The program that random files are given to, where python/test was told one."""
+"""The program that random files are given to, where python/test was given one."""
 
 
 def options_of(file: Path) -> Options:

@@ -8,7 +8,8 @@ import callauction as words
 import numpy
 import pandas
 import pytest
-from callauction.grid import BadCellError, FrameError, Grid, decimal_of, grid_of, whole_of
+from callauction.cells import FrameError
+from callauction.prices import BadCellError, Grid, decimal_of, grid_of, whole_of
 from callauction.journal import EVENTS, Journal, from_frame
 from callauction.program import Day
 from callauction.recording import RecordedAuction
@@ -96,9 +97,9 @@ def test_an_audit_names_what_is_unlawful_as_it_is_named_there() -> None:
     assert found.attrs == dict(entries=8, compared=4, unlawful=3, is_legal=False)
 
 
-def test_replies_are_told_in_the_names_from_there() -> None:
+def test_replies_are_translated_to_the_ids_and_prices_of_the_frame() -> None:
     journal = converted(ADLER_AND_BIRK)
-    for reply, told in (
+    for reply, text in (
         ("entered 2", "entered B4"),
         ("entered 9", "entered 9"),
         ("changed kept", "changed kept"),
@@ -111,7 +112,7 @@ def test_replies_are_told_in_the_names_from_there() -> None:
         ("opening no price", "opening no price"),
         ("refused 5 UnknownOrder", "refused 5 UnknownOrder"),
     ):
-        assert journal.told(reply) == told
+        assert journal.translated(reply) == text
 
 
 def test_what_is_published_becomes_the_reply_that_says_it() -> None:
@@ -290,8 +291,8 @@ def test_an_error_names_the_label_of_the_row() -> None:
     frame = adler_and_birk(price={3: "20.005"}).set_index("time")
     with pytest.raises(FrameError, match="^row 8:52:00: price '20.005'") as found:
         converted(frame)
-    told = found.value
-    assert (told.row, told.column, told.value) == ("8:52:00", "price", "20.005")
+    fault = found.value
+    assert (fault.row, fault.column, fault.value) == ("8:52:00", "price", "20.005")
 
 
 def test_an_order_behind_its_auction_is_an_error() -> None:
@@ -350,7 +351,7 @@ def test_a_column_may_stand_once() -> None:
 def recorded_elsewhere(auction: RecordedAuction) -> pandas.DataFrame:
     """The accepted events of a day as another system has them, with all that it published."""
     rows: list[dict[str, Any]] = []
-    told = 0
+    seen = 0
     for member, command, reply in auction._record:
         match command, reply:
             case words.Enter() as order, words.Entered(id):
@@ -363,10 +364,10 @@ def recorded_elsewhere(auction: RecordedAuction) -> pandas.DataFrame:
             case words.Uncross(), words.Uncrossed(kind, price, trades):
                 name = kind.name.lower()
                 rows.append(dict(event="uncross", auction=name, trades=trades) | published(price))
-                for row in auction.trades().iloc[told : told + trades].itertuples():
+                for row in auction.trades().iloc[seen : seen + trades].itertuples():
                     rows.append(dict(event="trade", bid=f"#{row.bid}", ask=f"#{row.ask}",
                                      quantity=row.quantity, price=cents(row.tick)))
-                told += trades
+                seen += trades
             case words.Uncross(), words.Interrupted(price):
                 rows.append(dict(event="uncross", auction="interrupted") | published(price))
     return pandas.DataFrame(rows, columns=sorted({name for row in rows for name in row}))

@@ -27,9 +27,9 @@ def test_a_solved_exercise() -> None:
 
 
 def test_what_is_missing_is_told() -> None:
-    told = SINGLE.check((ASK, 10, 203)).splitlines()
-    assert told[:2] == ["not yet:", "the price is 202, and not 201"]
-    assert "It is the one best limit, so 202 is the price, whatever its surplus." in told
+    answer = SINGLE.check((ASK, 10, 203)).splitlines()
+    assert answer[:2] == ["not yet:", "the price is 202, and not 201"]
+    assert "It is the one best limit, so 202 is the price, whatever its surplus." in answer
     assert Exercise(kept=[(BID, 5, 190)], price=200).check((ASK, 5, 200)).splitlines()[:2] == [
         "not yet:", "there is no price"
     ]
@@ -38,8 +38,8 @@ def test_what_is_missing_is_told() -> None:
 
 
 def test_a_book_that_is_kept_cant_be_replaced() -> None:
-    told = "not yet: add 1 to the 3 orders, not 2"
-    assert SINGLE.check((BID, 5, 201), (ASK, 5, 201)) == told
+    answer = "not yet: add 1 to the 3 orders, not 2"
+    assert SINGLE.check((BID, 5, 201), (ASK, 5, 201)) == answer
     assert SINGLE.check() == "not yet: add 1 to the 3 orders, not 0"
     assert SINGLE.check((ASK, 150, 201), reference=190) == "not yet: keep the reference, 200"
     assert SINGLE.check((ASK, 0, 201)) == "not yet: order 4 is refused, BAD_QUANTITY"
@@ -58,8 +58,8 @@ def test_a_price_off_all_limits() -> None:
     wanted = Exercise(kept=tie, more=0, is_off_limits=True)
     assert wanted.check(reference=145) == wanted.check(reference=162) == "solved"
     for reference, price in ((144, 144), (200, 163), (100, 144)):
-        told = wanted.check(reference=reference)
-        assert told.splitlines()[1] == f"the price, {price}, is the limit of an order"
+        answer = wanted.check(reference=reference)
+        assert answer.splitlines()[1] == f"the price, {price}, is the limit of an order"
 
 
 def test_executed_shares_and_pairs() -> None:
@@ -78,9 +78,9 @@ def test_an_interrupted_uncross_executes_nothing() -> None:
     wanted = Exercise(kept=kept, range=5, executed={1: 300, 3: 300}, quantity=500)
     for limit in (203, 204, 205):
         assert wanted.check((BID, 500, limit)) == "solved"
-    told = wanted.check((BID, 500, 206)).splitlines()
-    assert "the uncross is interrupted" in told
-    assert "order 1 executes 0 shares, and not 300" in told
+    answer = wanted.check((BID, 500, 206)).splitlines()
+    assert "the uncross is interrupted" in answer
+    assert "order 1 executes 0 shares, and not 300" in answer
 
 
 # ---- the slider

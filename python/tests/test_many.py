@@ -173,7 +173,7 @@ def has_its_flag(row: numpy.void, name: str) -> bool:
 
 
 def command_in(row: numpy.void) -> words.Command | None:
-    """The command that a struct stands for, by the header, or None."""
+    """The command of a struct, by the header, or None."""
     tag = int(row["tag"])
     if tag == CommandTag.ENTER:
         is_flagged = has_its_flag(row, "limit") and has_its_flag(row, "peak")

@@ -30,7 +30,7 @@ def ran(path: Path) -> nbformat.NotebookNode:
         read.cells.append(nbformat.v4.new_code_cell(code))  # type: ignore[no-untyped-call]
     place = {"metadata": {"path": str(path.parent)}}
     client = NotebookClient(read, timeout=300, kernel_name="python3", resources=place)
-    # It wants the state of a slider with its opening, and this ipywidgets tells it later.
+    # It wants the state of a slider with its opening, and this ipywidgets sends it later.
     opened: list[object] = []
     client.comm_open_handlers["jupyter.widget"] = lambda message: opened.append(message)
     client.execute()
@@ -112,7 +112,7 @@ def test_each_part_shows_its_rule_alone(
           "price=Price(tick=203"]),
     (18, ["gain 700 of 1,100 possible, efficiency 63.6%"]),
 ])
-def test_the_execution_is_as_it_is_told(
+def test_the_execution_is_as_the_text_says(
     price: nbformat.NotebookNode, number: int, texts_of_part: list[str]
 ) -> None:
     shown = part(price, number)
@@ -121,12 +121,12 @@ def test_the_execution_is_as_it_is_told(
 
 
 @pytest.mark.filterwarnings("ignore")
-def test_a_lesson_draws_what_it_tells_of(price: nbformat.NotebookNode) -> None:
+def test_a_lesson_draws_what_it_describes(price: nbformat.NotebookNode) -> None:
     assert pictures(price) >= 17
     assert price.metadata["widgets_opened"], "the slider of part 8"
     assert "python3-ipywidgets" not in part(price, 8)
-    told = "\n".join(cell.source for cell in price.cells)
-    assert told.count("**The board's choice.**") == 4
+    text = "\n".join(cell.source for cell in price.cells)
+    assert text.count("**The board's choice.**") == 4
 
 
 @pytest.mark.filterwarnings("ignore")

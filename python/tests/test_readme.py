@@ -1,4 +1,4 @@
-"""The ten lines of README.md run, and print what stands there."""
+"""The ten lines of README.md run, and print what it says."""
 import re
 from pathlib import Path
 

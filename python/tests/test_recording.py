@@ -10,7 +10,8 @@ import pytest
 from arrayed import array_of
 from callauction import Auction, FullError, NoCommandError, RefusedError, Side
 from callauction.program import Day
-from callauction.recording import MOST_NUMBER, RecordedAuction
+from callauction.limits import MOST_NUMBER
+from callauction.recording import RecordedAuction
 from callauction.tables import audit_of
 from callauction.written import command_of, fields_of, text_of
 from days import EXAMPLES, auctions, by_the_rules, commands, day_of, form_of

@@ -232,8 +232,8 @@ def test_faults_are_one_line(
 ) -> None:
     monkeypatch.chdir(tmp_path)
     assert main(words) == status
-    told = capsys.readouterr()
-    assert text in told.err and told.err.count("\n") == 1 and not told.out
+    printed = capsys.readouterr()
+    assert text in printed.err and printed.err.count("\n") == 1 and not printed.out
     assert not [*tmp_path.iterdir()]
 
 

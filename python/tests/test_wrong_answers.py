@@ -365,8 +365,8 @@ def test_a_fault_is_one_line(
     if words[0] != "audit":
         pytest.importorskip("callauction._native")
     assert main(words) == status
-    told = capsys.readouterr()
-    assert told.err.count("\n") == 1 and line in told.err and not told.out, told.err
+    printed = capsys.readouterr()
+    assert printed.err.count("\n") == 1 and line in printed.err and not printed.out, printed.err
 
 
 def test_other_bytes_are_one_line(

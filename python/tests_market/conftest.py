@@ -101,7 +101,7 @@ def keys(tmp_path_factory: pytest.TempPathFactory) -> Keys:
 
 @contextlib.contextmanager
 def cluster(workers: int, keys: Keys) -> Iterator[Client]:
-    """A client of a scheduler with so many workers, processes of this machine, by TLS."""
+    """A client of a scheduler with `workers` workers, processes of this machine, by TLS."""
     settings = {
         "distributed.worker.multiprocessing-method": "forkserver",
         "distributed.scheduler.http.routes": [],
@@ -192,7 +192,7 @@ def words_of(*words: object) -> list[str]:
 
 
 def command(*words: object, program: object, before: list[str] = []) -> Ran:
-    """A run of the command line, behind these words."""
+    """A run of the command line, after these words."""
     return subprocess.run(
         [*before, *words_of(*words)],
         env=environment(program),

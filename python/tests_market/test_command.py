@@ -167,9 +167,9 @@ def test_wrong_words(
         found: object = callauction.market.__main__.main()
     except SystemExit as end:
         found = end.code
-    told = capsys.readouterr()
-    assert (found, told.out) == (status, "")
-    assert text in told.err.splitlines()[-1]
+    printed = capsys.readouterr()
+    assert (found, printed.out) == (status, "")
+    assert text in printed.err.splitlines()[-1]
 
 
 def test_no_program(tmp_path: pathlib.Path) -> None:

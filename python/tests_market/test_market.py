@@ -33,10 +33,10 @@ def test_each_row_is_that_of_the_rules(found: Any) -> None:
 
 def test_columns_have_the_types_that_are_said(found: Any) -> None:
     assert list(found.columns) == list(market.COLUMNS)
-    told = {name: str(dtype) for name, dtype in found.dtypes.items()}
-    assert told["instrument"] == told["fault"] == told["opening_side"] == "string"
-    assert told["seconds"] == "float64"
-    assert told["entries"] == told["closing_surplus"] == told["first_unlawful"] == "Int64"
+    types = {name: str(dtype) for name, dtype in found.dtypes.items()}
+    assert types["instrument"] == types["fault"] == types["opening_side"] == "string"
+    assert types["seconds"] == "float64"
+    assert types["entries"] == types["closing_surplus"] == types["first_unlawful"] == "Int64"
     good = found[found.fault.isna()]
     assert (good.seconds > 0).all() and found[found.fault.notna()].seconds.isna().all()
 
@@ -62,8 +62,8 @@ def test_each_form_tells_its_columns(
     expected = [row for row in rules.rows_of(TEXTS) if "fault" not in row][:12]
     paths = write(tmp_path, {row["instrument"]: TEXTS[row["instrument"]] for row in expected})
     names = ASKED[what] | {"instrument"}
-    told = [{name: row[name] for name in row if name in names} for row in expected]
-    assert columns(market.run(paths, what, crew)) == told
+    wanted = [{name: row[name] for name in row if name in names} for row in expected]
+    assert columns(market.run(paths, what, crew)) == wanted
 
 
 def test_what_is_printed_is_kept(crew: Client | None, tmp_path: pathlib.Path) -> None:

@@ -49,7 +49,7 @@ def again(harmful: pathlib.Path) -> set[str]:
 
 
 def wait_for(log: pathlib.Path, count: int) -> None:
-    """Waits until a log has the rows of so many slow files."""
+    """Waits until a log has the rows of `count` slow files."""
     until(lambda: log.exists() and log.read_text().count("slow") >= count)
 
 
@@ -140,7 +140,7 @@ FORGED: dict[str, tuple[list[int], Callable[[str], str], str]] = {
 
 @pytest.mark.parametrize("what", FORGED)
 def test_a_forged_log(what: str, harmful: pathlib.Path, tmp_path: pathlib.Path) -> None:
-    places, forge, told = FORGED[what]
+    places, forge, text = FORGED[what]
     texts = LAWFUL | {"E": DAY + DONE, "F": DAY + DONE}
     write(tmp_path / "journals", texts)
     output = tmp_path / "result.csv"
@@ -157,7 +157,7 @@ def test_a_forged_log(what: str, harmful: pathlib.Path, tmp_path: pathlib.Path) 
     log.write_text("".join(lines), encoding="latin-1")
     ran = command(*words, "--resume", program=harmful)
     assert (ran.returncode, output.read_bytes()) == (0, good)
-    assert ran.stderr.startswith(f"market: {log}: line ") and told in ran.stderr
+    assert ran.stderr.startswith(f"market: {log}: line ") and text in ran.stderr
     assert ran.stderr.count("\n") == 1
     kept = {"a line twice": 1, "no end": 3}.get(what, 0)
     assert again(harmful) == set(names[2 + kept :])
@@ -254,12 +254,12 @@ def test_an_interrupted_run(name: str, harmful: pathlib.Path, tmp_path: pathlib.
         wait_for(log, 1)
         those = psutil.Process(child.pid).children()
         child.send_signal(getattr(signal, f"SIG{name}"))
-        _, told = child.communicate(timeout=SECONDS)
+        _, error = child.communicate(timeout=SECONDS)
         if name == "INT":
             assert not any(process.is_running() for process in those)
     if name == "INT":
         assert child.returncode == 130
-        assert told == f"market: broken off: {log} has what was found; --resume\n"
+        assert error == f"market: broken off: {log} has what was found; --resume\n"
     assert child.returncode != 0 and not output.exists()
 
 
@@ -283,16 +283,16 @@ def scheduler(keys: Keys, folder: pathlib.Path) -> Iterator[tuple[str, subproces
     """A scheduler with a worker, by the commands of docs/MARKET.md: its address and its process."""
     tls = ["--tls-ca-file", keys.cert, "--tls-cert", keys.cert, "--tls-key", keys.key]
     common = [*tls, "--host", LOOPBACK, "--no-dashboard", "--dashboard-address", f"{LOOPBACK}:0"]
-    told = folder / "scheduler.json"
+    place = folder / "scheduler.json"
     dask = [sys.executable, "-W", "ignore", "-m", "dask"]
-    words = [*dask, "scheduler", "--protocol", "tls", "--port", "0", "--scheduler-file", str(told)]
+    words = [*dask, "scheduler", "--protocol", "tls", "--port", "0", "--scheduler-file", str(place)]
     env = environment(os.environ["CALLBOARD"])
     with contextlib.ExitStack() as stack:
         null = subprocess.DEVNULL
         first = subprocess.Popen([*words, *common], env=env, stdout=null, stderr=null)
         stack.callback(end, first)
-        until(lambda: told.exists() and told.read_text().endswith("}"))
-        address = str(json.loads(told.read_text())["address"])
+        until(lambda: place.exists() and place.read_text().endswith("}"))
+        address = str(json.loads(place.read_text())["address"])
         words = [*dask, "worker", address, *common, "--nthreads", "1", "--nworkers", "2"]
         words += ["--local-directory", str(folder)]
         stack.callback(end, subprocess.Popen(words, env=env, stdout=null, stderr=null))
@@ -320,8 +320,8 @@ def test_a_scheduler_that_dies(
             with started(*away, program=harmful) as child:
                 wait_for(tmp_path / "result.csv.log", 1)
                 first.kill()
-                told = child.communicate(timeout=SECONDS)
-    assert (child.returncode, *told) == (3, "", "market: the scheduler is lost\n")
+                printed = child.communicate(timeout=SECONDS)
+    assert (child.returncode, *printed) == (3, "", "market: the scheduler is lost\n")
     assert not output.exists()
     ran = command(*words, output, "--resume", program=harmful)
     assert ran.returncode == 4 and closing(ran.stdout)["taken over"] >= 1

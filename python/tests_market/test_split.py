@@ -247,7 +247,7 @@ def test_bad_files_of_tables(tmp_path: pathlib.Path) -> None:
 
 
 def peak_of_split(rows_of_table: int, program: str, folder: pathlib.Path) -> int:
-    """The peak memory, in KiB, of splitting a table of so many rows."""
+    """The peak memory, in KiB, of splitting a table of this many rows."""
     table, figures = folder / "table.csv", folder / "figures"
     places = numpy.arange(rows_of_table)
     frame = pandas.DataFrame({"instrument": places % 50, "member": places % 4, "command": "enter"})

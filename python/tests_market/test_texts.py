@@ -81,13 +81,13 @@ def test_what_is_no_result(tmp_path: pathlib.Path) -> None:
 
 def test_cells_are_read_as_they_were_written() -> None:
     row = Row("5", entries=0, opening_price=7, opening_side="none", seconds=0.25, fault="a,b")
-    told = [str(cell) for cell in rows.cells(row, rows.COLUMNS)]
-    assert told[:2] == ["5", "0"] and told[2] == ""
-    assert Row(*map(rows.read_cell, rows.COLUMNS, told)) == row
+    fields = [str(cell) for cell in rows.cells(row, rows.COLUMNS)]
+    assert fields[:2] == ["5", "0"] and fields[2] == ""
+    assert Row(*map(rows.read_cell, rows.COLUMNS, fields)) == row
 
 
 def blocks(text: bytes, size: int) -> forms.Blocks:
-    """The text as it comes in reads of so many bytes."""
+    """The text as it comes in reads of `size` bytes."""
 
     class Slow(io.BytesIO):
         def read(self, _: int | None = -1) -> bytes:

@@ -31,7 +31,7 @@ def is_lawful(journal: str) -> bool:
 
 
 def day_of(journal: str) -> Day:
-    """The day behind a journal."""
+    """The day that a journal records."""
     given = files.journal(journal)
     day = opened(given.options)
     for call in given.calls:

@@ -40,7 +40,7 @@ def shown(points: Points) -> list[tuple[str | None, int]]:
 
 
 def kill(venue: Served, folder: pathlib.Path, points: int) -> None:
-    """Kills a venue whose log has so many points by then."""
+    """Kills a venue whose log has `points` points by then."""
     until(lambda: (folder / "venue" / LOG).read_text().count('"kind":"point"') == points)
     venue.child.kill()
     venue.child.wait()

@@ -54,8 +54,8 @@ class Keeper:
         return sum(self.killed.values())
 
     def is_waited_for(self, answered: int) -> bool:
-        """Whether an answer is due after so many kills: on a slow machine the program might else
-        never come to one, which ends the day. So many were answered up to now.
+        """Whether an answer is due after these kills: on a slow machine the program might else
+        never come to one, which ends the day. `answered` were answered up to now.
         """
         if answered > self.answered:
             self.answered, self.since = answered, self.kills()
@@ -106,7 +106,7 @@ class Robot:
             await asyncio.gather(*(self.send(client, keeper, done) for _ in range(AT_ONCE)))
 
     async def send(self, client: AsyncClient, keeper: Keeper, done: asyncio.Event) -> None:
-        """Sends one order after the other, so many a kill."""
+        """Sends one order after the other, ORDERS_A_KILL a kill."""
         while not done.is_set():
             if self.sent >= ORDERS_A_KILL * (keeper.kills() + 1):
                 await asyncio.sleep(0.01)

@@ -13,7 +13,7 @@ Fates = list[tuple[str, bool]]
 @dataclasses.dataclass
 class Played:
     """Runs of a program that refuses members once `most` entries are there, and ends in each run
-    after so many of its messages; and what truly became of each message.
+    after some of its messages; and what truly became of each message.
     """
 
     runs: list[Run]

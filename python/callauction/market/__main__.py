@@ -74,7 +74,7 @@ def arguments() -> argparse.ArgumentParser:
 def main() -> int:
     """Runs the command line of a market; answers the status."""
     asked = arguments().parse_args()
-    logging.disable(logging.CRITICAL)  # Dask tells of lost workers there, and rows do here
+    logging.disable(logging.CRITICAL)  # Dask logs lost workers; here rows name them
     for stream in (sys.stdout, sys.stderr):
         if isinstance(stream, io.TextIOWrapper):
             stream.reconfigure(errors="backslashreplace")

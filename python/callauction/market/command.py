@@ -7,7 +7,7 @@ import re
 import sys
 import time
 from collections.abc import Iterable, Iterator
-from typing import TYPE_CHECKING, Any
+from typing import TYPE_CHECKING, NoReturn
 
 from tqdm import tqdm
 
@@ -31,7 +31,7 @@ SECURE, PLAIN = "tls://", "tcp://"
 ADDRESS = re.compile(r"t(?:ls|cp)://[^/\s]+:\d{1,5}")
 
 
-def tell(fault: object) -> None:
+def warn(fault: object) -> None:
     """A line on standard error."""
     print(f"market: {line_of(str(fault))}", file=sys.stderr)
 
@@ -135,7 +135,7 @@ def request_of(asked: argparse.Namespace) -> Request:
 # ---- the run
 
 
-def show(files: dict[str, str], taken: int) -> Any:
+def show(files: dict[str, str], taken: int) -> "tqdm[NoReturn]":
     """A progress bar on standard error, if that is a terminal."""
     is_shown = sys.stderr.isatty()
     return tqdm(total=len(files), initial=taken, unit=" instruments", disable=not is_shown)
@@ -165,7 +165,7 @@ def run_market(asked: argparse.Namespace, files: dict[str, str], rows: list[Row]
         if log:
             stack.enter_context(log.begun(taken))
             for fault in log.faults:
-                tell(f"{log.path}: {fault}")
+                warn(f"{log.path}: {fault}")
         bar = stack.enter_context(show(files, len(taken)))
         done = {each.row.instrument for each in taken}
         left = [path for instrument, path in files.items() if instrument not in done]
@@ -193,19 +193,19 @@ def examine(asked: argparse.Namespace) -> int:
         expected = read_list(asked.expect) if asked.expect else None
         security_of(asked)
     except (MarketError, OSError) as fault:
-        tell(fault)
+        warn(fault)
         return BAD_DAY
     try:
         summary = run_market(asked, *compared_with(files, expected))
     except InUse as fault:
-        tell(fault)
+        warn(fault)
         return BAD_DAY
     except (MarketError, OSError) as fault:
-        tell(fault)
+        warn(fault)
         return FAILED
     except KeyboardInterrupt:
         kept = f": {log_path(asked.output)} has what was found; --resume" if asked.output else ""
-        tell(f"broken off{kept}")
+        warn(f"broken off{kept}")
         return BROKEN_OFF
     print("\n".join(summary.lines()))
     return summary.status()
@@ -218,13 +218,13 @@ def split_table(asked: argparse.Namespace) -> int:
             asked.table, asked.by, days=asked.days, ignore=asked.ignore, folder=asked.into
         )
     except TableError as fault:
-        tell(fault)
+        warn(fault)
         return BAD_FILE
     except InUse as fault:
-        tell(fault)
+        warn(fault)
         return BAD_DAY
     except OSError as fault:
-        tell(fault)
+        warn(fault)
         return FAILED
     print(f"instruments {len(paths)}")
     return DONE

@@ -60,7 +60,7 @@ def lock_of(result: pathlib.Path) -> pathlib.Path:
 
 
 def with_end(path: pathlib.Path, end: str) -> pathlib.Path:
-    """The path with this end behind its whole name."""
+    """The path with this end after its whole name."""
     return path.with_name(path.name + end)
 
 
@@ -74,8 +74,8 @@ def locked(result: pathlib.Path) -> Iterator[None]:
     try:
         os.ftruncate(file, 0)
         user, now = user_of(os.getuid()), datetime.datetime.now().astimezone()
-        told = f"process {os.getpid()} of {user} on {socket.gethostname()} since {now:%F %T %z}"
-        os.write(file, told.encode())
+        owner = f"process {os.getpid()} of {user} on {socket.gethostname()} since {now:%F %T %z}"
+        os.write(file, owner.encode())
         yield
     finally:
         with contextlib.suppress(FileNotFoundError):
@@ -93,9 +93,9 @@ def take_lock(path: pathlib.Path, result: pathlib.Path) -> int:
             if is_at(path, file):
                 return file
         except BlockingIOError:
-            told = line_of(os.pread(file, 1_000, 0).decode("utf-8", "replace"))
+            owner = line_of(os.pread(file, 1_000, 0).decode("utf-8", "replace"))
             os.close(file)
-            raise InUse(f"{result} is in use by {told or 'another run'}") from None
+            raise InUse(f"{result} is in use by {owner or 'another run'}") from None
         os.close(file)  # a run that ended meanwhile removed it
 
 

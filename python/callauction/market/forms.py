@@ -4,7 +4,8 @@ import re
 from collections.abc import Callable, Iterator
 from typing import Any, Protocol
 
-from callauction.market.rows import AUCTIONS, OVER
+from callauction.market.rows import OVER
+from callauction.words import AUCTIONS
 
 BLOCK = 1 << 18
 """How many bytes of the program's output are looked at together."""
@@ -31,8 +32,8 @@ UNCROSS = re.compile(
 ENDINGS = [f": {auction} ".encode() for auction in AUCTIONS]
 """What the line of the uncross that ends this auction has in it, and no other line."""
 
-Said = dict[str, Any]
-"""Some columns of a row."""
+Columns = dict[str, Any]
+"""Some columns of a row by their names."""
 Blocks = Iterator[bytes]
 """The program's output, some whole lines at a time."""
 
@@ -41,7 +42,7 @@ class Readable(Protocol):
     """Where output is read from: some bytes at a time, none at its end."""
 
     def read(self, size: int, /) -> bytes:
-        """At most so many bytes, none at the end."""
+        """At most `size` bytes, none at the end."""
 
 
 class OutputFault(Exception):
@@ -55,7 +56,7 @@ class Form:
     """
 
     words: tuple[str, ...]
-    read: Callable[[Blocks], Said]
+    read: Callable[[Blocks], Columns]
     suffix: str
     shares: int = 1
 
@@ -78,7 +79,7 @@ def line_at(block: bytes, place: int) -> bytes:
     return block[block.rfind(b"\n", 0, place) + 1 : block.find(b"\n", place) + 1]
 
 
-def read_audit(blocks: Blocks) -> Said:
+def read_audit(blocks: Blocks) -> Columns:
     """The counts, and the number of the first entry that differs. Raises OutputFault."""
     first, last = ends_of(blocks, AUDIT_END)
     return read_counts(last) | read_first(first)
@@ -93,7 +94,7 @@ def ends_of(blocks: Blocks, count: int) -> tuple[bytes, bytes]:
     return first, last
 
 
-def read_counts(text: bytes) -> Said:
+def read_counts(text: bytes) -> Columns:
     """The counts of an audit. Raises OutputFault."""
     counts = AUDIT.fullmatch(text)
     if not counts:
@@ -101,13 +102,13 @@ def read_counts(text: bytes) -> Said:
     return dict(zip(("entries", "compared", "unlawful"), map(int, counts.groups())))
 
 
-def read_first(block: bytes) -> Said:
+def read_first(block: bytes) -> Columns:
     """The number of the entry that the first line of an audit says to differ, if it does."""
     difference = DIFFERENCE.match(block)
     return {"first_unlawful": int(difference[1]) if difference else None}
 
 
-def read_results(blocks: Blocks) -> Said:
+def read_results(blocks: Blocks) -> Columns:
     """What an audit says, what the auctions that ended gave, and which auction the day is in.
     Raises OutputFault.
     """
@@ -115,24 +116,24 @@ def read_results(blocks: Blocks) -> Said:
     found = RESULTS.search(last)
     if not found:
         raise OutputFault("the program printed no audit with results")
-    said = read_counts(found[1]) | read_first(first) | {"auctions": 0, "trades": 0}
+    columns = read_counts(found[1]) | read_first(first) | {"auctions": 0, "trades": 0}
     for line in found[2].splitlines(keepends=True):
         if not INTERRUPTED.match(line):
             uncross = read_uncross(line)
-            said["auctions"] += 1
-            said["trades"] += uncross.pop("trades")
-            said |= uncross
+            columns["auctions"] += 1
+            columns["trades"] += uncross.pop("trades")
+            columns |= uncross
     day = (found[3] or found[4]).decode()
-    if day != (*AUCTIONS, OVER)[said["auctions"]]:
+    if day != (*AUCTIONS, OVER)[columns["auctions"]]:
         raise OutputFault("the program printed another day than its results")
-    return said | {"day": day}
+    return columns | {"day": day}
 
 
-def read_lines(blocks: Blocks) -> Said:
+def read_lines(blocks: Blocks) -> Columns:
     """How many entries there are, what the auctions that ended gave, and which auction the day is
     in. Raises OutputFault.
     """
-    said: Said = {"auctions": 0, "trades": 0}
+    columns: Columns = {"auctions": 0, "trades": 0}
     last = b""
     for block in blocks:
         last = block
@@ -140,14 +141,14 @@ def read_lines(blocks: Blocks) -> Said:
             place = block.find(ending)
             if place >= 0:
                 found = read_uncross(line_at(block, place))
-                said["auctions"] += 1
-                said["trades"] += found.pop("trades")
-                said |= found
-    day = (*AUCTIONS, OVER)[said["auctions"]]
-    return said | {"entries": read_number(last) if last else 0, "day": day}
+                columns["auctions"] += 1
+                columns["trades"] += found.pop("trades")
+                columns |= found
+    day = (*AUCTIONS, OVER)[columns["auctions"]]
+    return columns | {"entries": read_number(last) if last else 0, "day": day}
 
 
-def read_uncross(line: bytes) -> Said:
+def read_uncross(line: bytes) -> Columns:
     """What the line of an uncross that ended an auction says. Raises OutputFault."""
     found = UNCROSS.fullmatch(line)
     if not found:
@@ -155,8 +156,9 @@ def read_uncross(line: bytes) -> Said:
     if not found["price"]:
         return {"trades": 0}
     auction = found["auction"].decode()
-    said: Said = {f"{auction}_{name}": int(found[name]) for name in ("price", "volume", "surplus")}
-    return said | {f"{auction}_side": found["side"].decode(), "trades": int(found["trades"])}
+    names = ("price", "volume", "surplus")
+    columns: Columns = {f"{auction}_{name}": int(found[name]) for name in names}
+    return columns | {f"{auction}_side": found["side"].decode(), "trades": int(found["trades"])}
 
 
 def read_number(block: bytes) -> int:
@@ -167,15 +169,15 @@ def read_number(block: bytes) -> int:
     return int(found[1])
 
 
-def read_trades(blocks: Blocks) -> Said:
-    """How many trades there are: the records behind the header. Raises OutputFault."""
+def read_trades(blocks: Blocks) -> Columns:
+    """How many trades there are: the records after the header. Raises OutputFault."""
     records = sum(block.count(b"\n") for block in blocks)
     if records == 0:
         raise OutputFault("the program printed no table")
     return {"trades": records - 1}
 
 
-def read_nothing(blocks: Blocks) -> Said:
+def read_nothing(blocks: Blocks) -> Columns:
     """No columns: the output is for keeping."""
     for _ in blocks:
         pass

@@ -18,7 +18,7 @@ HEADER = [*COLUMNS, "worker", "size", "sha256", "check"]
 
 
 def check_of(before: str, fields: Iterable[object]) -> str:
-    """The check of a line with these fields behind a line with this check."""
+    """The check of a line with these fields after a line with this check."""
     text = before + record_of(fields)
     return hashlib.sha256(text.encode()).hexdigest()
 
@@ -71,10 +71,10 @@ class Log:
         are the same byte for byte. Raises OSError where the log can't be read.
         """
         known = self.read() if self.path.exists() else {}
-        told = [(path, known[name]) for name, path in files.items() if name in known]
+        candidates = [(path, known[name]) for name, path in files.items() if name in known]
         with concurrent.futures.ThreadPoolExecutor() as pool:
-            current = pool.map(lambda it: is_current(*it), told)
-            return [found for (_, found), is_same in zip(told, current) if is_same]
+            current = pool.map(lambda it: is_current(*it), candidates)
+            return [found for (_, found), is_same in zip(candidates, current) if is_same]
 
     @contextlib.contextmanager
     def begun(self, taken: Iterable[Found]) -> Iterator[None]:
@@ -118,9 +118,10 @@ def fields_of(found: Found) -> list[object]:
 
 def found_in(fields: list[str]) -> Found:
     """What the fields of a record say that has its check. Raises ValueError."""
-    told = dict(zip(HEADER, fields))
-    row = Row(**{name: read_cell(name, told[name]) for name in COLUMNS})
-    return Found(row, told["worker"], int(told["size"]) if told["size"] else None, told["sha256"])
+    values = dict(zip(HEADER, fields))
+    row = Row(**{name: read_cell(name, values[name]) for name in COLUMNS})
+    size = int(values["size"]) if values["size"] else None
+    return Found(row, values["worker"], size, values["sha256"])
 
 
 def is_current(path: str, found: Found) -> bool:

@@ -6,12 +6,15 @@ import os
 import pathlib
 import typing
 from collections.abc import Iterable
-from typing import Any
+from typing import TYPE_CHECKING, Any
 
 from callauction.market.files import whole
 from callauction.market.names import guarded, unguarded
+from callauction.words import AUCTIONS
 
-AUCTIONS = ("opening", "intraday", "closing")
+if TYPE_CHECKING:
+    import pandas
+
 OVER = "over"
 """The state of a day whose closing auction ended."""
 
@@ -139,7 +142,7 @@ def row_of(record: list[str]) -> Row:
     return Row(**{name: read_cell(name, cell) for name, cell in zip(WRITTEN, record)})
 
 
-def frame(rows: Iterable[Row]) -> Any:
+def frame(rows: Iterable[Row]) -> "pandas.DataFrame":
     """A pandas frame of rows, in the order of their instruments: integers as Int64, texts as
     string, both with <NA> for None, seconds as float64.
     """

@@ -1,7 +1,7 @@
 """The runs of a market, from Python. See run and audit."""
 import os
 from collections.abc import Iterable, Sequence
-from typing import TYPE_CHECKING, Any
+from typing import TYPE_CHECKING
 
 from callauction import finder
 from callauction.market.expected import compared_with
@@ -12,6 +12,7 @@ from callauction.market.task import Request
 from callauction.market.workers import Cluster, MarketError, Threads, Workers
 
 if TYPE_CHECKING:
+    import pandas
     from distributed import Client
 
 AUDIT = ("results",)
@@ -46,7 +47,7 @@ def forms_of(what: str | Sequence[str]) -> tuple[str, ...]:
 
 
 def _crew_of(client: "Client | None", workers: int | None) -> Workers:
-    """Who does the work: the workers of a client, or so many threads of this process."""
+    """Who does the work: the workers of a client, or this many threads of this process."""
     if client is None:
         return Threads(workers)
     return Cluster(client)
@@ -63,7 +64,7 @@ def run(
     memory: int | None = None,
     seconds: int | None = None,
     program: Path | None = None,
-) -> Any:
+) -> "pandas.DataFrame":
     """What the program says of each file: a pandas frame of Row's columns, a row an instrument, in
     their order.
 
@@ -102,7 +103,7 @@ def audit(
     memory: int | None = None,
     seconds: int | None = None,
     program: Path | None = None,
-) -> Any:
+) -> "pandas.DataFrame":
     """Which recorded replies of each journal are unlawful, how many were compared, and the prices
     of its auctions: run with the form of AUDIT.
     """

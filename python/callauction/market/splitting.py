@@ -10,12 +10,24 @@ import os
 import pathlib
 import shutil
 import tempfile
-from collections.abc import Collection, Iterable, Iterator
+from collections.abc import Callable, Collection, Iterable, Iterator, Sequence
 from operator import itemgetter
-from typing import IO, Any
+from typing import IO, TYPE_CHECKING, TypeAlias, cast
 
 from callauction.market.files import locked
 from callauction.market.names import file_of
+from callauction.words import MARKET
+
+if TYPE_CHECKING:
+    import dask.dataframe
+    import pandas
+
+Table: TypeAlias = (
+    "str | os.PathLike[str] | pandas.DataFrame | dask.dataframe.DataFrame | Iterable[Table]"
+)
+"""The path of a CSV or Parquet file, a frame, or several of these."""
+Picker = Callable[[Sequence[str]], Iterable[str]]
+"""What picks the fields of a record from a row's cells."""
 
 DAY = {
     "low": "1",
@@ -41,16 +53,15 @@ CELLS = (
 )
 """The columns of the table beside that of the instruments."""
 NEEDED = ("member", "command")
-MARKET = "market"
 SPECIAL = ',"\r\n'
 """What a field is quoted for."""
-OPENERS: dict[str, Any] = {".gz": gzip.open, ".bz2": bz2.open, ".xz": lzma.open}
+OPENERS: dict[str, Callable[..., IO[str]]] = {".gz": gzip.open, ".bz2": bz2.open, ".xz": lzma.open}
 """What opens a file with this end of its name."""
 ROWS = 100_000
 """How many rows are read and written together, where the table doesn't come in partitions."""
 
 
-def picked(*names: str) -> Any:
+def picked(*names: str) -> Picker:
     """What picks the fields of a record from a row's cells."""
     return itemgetter(*map(CELLS.index, ("member", "command", *names, "reply")))
 
@@ -77,22 +88,24 @@ class TableError(Exception):
 # ---- what is read
 
 
-def partitions_of(table: Any) -> Iterator[Any]:
+def partitions_of(table: Table) -> "Iterator[pandas.DataFrame]":
     """The pandas frames that a table consists of, one at a time, in their order."""
     if isinstance(table, str | os.PathLike):
         yield from frames_of(pathlib.Path(table))
     elif hasattr(table, "npartitions"):
-        for place in range(table.npartitions):
-            yield table.get_partition(place).compute()
+        of_dask = cast("dask.dataframe.DataFrame", table)
+        for place in range(of_dask.npartitions):
+            yield of_dask.get_partition(place).compute()
     elif hasattr(table, "iloc"):
-        for begin in range(0, len(table), ROWS):
-            yield table.iloc[begin : begin + ROWS]
+        frame = cast("pandas.DataFrame", table)
+        for begin in range(0, len(frame), ROWS):
+            yield frame.iloc[begin : begin + ROWS]
     else:
         for part in table:
             yield from partitions_of(part)
 
 
-def frames_of(path: pathlib.Path) -> Iterator[Any]:
+def frames_of(path: pathlib.Path) -> "Iterator[pandas.DataFrame]":
     """The frames of a file: of Parquet by its row groups, else of CSV with a header. Raises
     OSError, and TableError where the file is bad or Parquet can't be read here.
     """
@@ -107,9 +120,9 @@ def frames_of(path: pathlib.Path) -> Iterator[Any]:
         raise TableError(f"{path}: {' '.join(str(fault).split())}") from fault
 
 
-def frames_of_csv(path: pathlib.Path) -> Iterator[Any]:
+def frames_of_csv(path: pathlib.Path) -> "Iterator[pandas.DataFrame]":
     """The frames of a CSV file, whose cells are texts. A byte order mark, blank lines, and commas
-    behind a row say nothing. Raises OSError, ValueError, csv.Error, and TableError for a row that
+    after a row say nothing. Raises OSError, ValueError, csv.Error, and TableError for a row that
     is longer than the header.
     """
     import pandas
@@ -128,7 +141,7 @@ def frames_of_csv(path: pathlib.Path) -> Iterator[Any]:
             begin += len(some)
 
 
-def checked_names(names: list[Any], where: str) -> None:
+def checked_names(names: Sequence[object], where: str) -> None:
     """Raises TableError where a column has no name, or two have the same."""
     for place, name in enumerate(names):
         if not name:
@@ -138,7 +151,11 @@ def checked_names(names: list[Any], where: str) -> None:
 
 
 def checked_columns(
-    frame: Any, needed: Collection[str], known: Collection[str], ignore: Collection[str], what: str
+    frame: "pandas.DataFrame",
+    needed: Collection[str],
+    known: Collection[str],
+    ignore: Collection[str],
+    what: str,
 ) -> None:
     """Raises TableError where a frame lacks a column, has one twice, or has one that says nothing
     here and isn't to be ignored.
@@ -156,7 +173,7 @@ def checked_columns(
         raise TableError(f"{what}: {fault}") from fault
 
 
-def texts(column: Any) -> list[str]:
+def texts(column: "pandas.Series") -> list[str]:
     """The cells of a column as texts: see text_of."""
     values = column.tolist()
     try:
@@ -166,7 +183,7 @@ def texts(column: Any) -> list[str]:
     return list(values)
 
 
-def text_of(value: Any) -> str:
+def text_of(value: object) -> str:
     """A cell as a text. What is missing is empty, and a whole number has no point: pandas makes a
     column of floats of integers with gaps.
     """
@@ -175,8 +192,8 @@ def text_of(value: Any) -> str:
     return "" if value is None or str(value) in ("<NA>", "NaT") else str(value)
 
 
-def fields(frame: Any, name: str) -> list[str]:
-    """The fields of a column as they stand in records: those of a column that isn't there are
+def fields(frame: "pandas.DataFrame", name: str) -> list[str]:
+    """The fields of a column as records have them: those of a column that isn't there are
     empty, and an order without a limit is a market order.
     """
     found = texts(frame[name]) if name in frame else [""] * len(frame)
@@ -195,7 +212,7 @@ def quoted(text: str) -> str:
     return out.getvalue()
 
 
-def records_of(frame: Any, by: str) -> Iterator[tuple[str, str]]:
+def records_of(frame: "pandas.DataFrame", by: str) -> Iterator[tuple[str, str]]:
     """The instrument of each row, and its entry in the shortest form."""
     rows = zip(*(fields(frame, name) for name in CELLS))
     for instrument, row in zip(texts(frame[by]), rows):
@@ -205,7 +222,7 @@ def records_of(frame: Any, by: str) -> Iterator[tuple[str, str]]:
         yield instrument, ",".join(pick(row)) + "\n"
 
 
-def days_of(days: Any, by: str, ignore: Collection[str]) -> dict[str, str]:
+def days_of(days: Table, by: str, ignore: Collection[str]) -> dict[str, str]:
     """The day record of each instrument that has a row in this table. Raises TableError."""
     found: dict[str, str] = {}
     for frame in partitions_of(days):
@@ -220,8 +237,8 @@ def days_of(days: Any, by: str, ignore: Collection[str]) -> dict[str, str]:
 
 def day_record(numbers: Iterable[str]) -> str:
     """The day record with these numbers, of which empty ones are the program's defaults."""
-    told = (number or default for number, default in zip(numbers, DAY.values()))
-    return ",".join(["day", *map(quoted, told)]) + "\n"
+    filled = (number or default for number, default in zip(numbers, DAY.values()))
+    return ",".join(["day", *map(quoted, filled)]) + "\n"
 
 
 # ---- what is written
@@ -257,7 +274,7 @@ class Journals:
         """A journal, open at its end. Raises OSError."""
         return open(self.begun / name, "a", encoding="utf-8", errors="surrogateescape")
 
-    def check(self, frame: Any) -> None:
+    def check(self, frame: "pandas.DataFrame") -> None:
         """Raises TableError where a frame has other columns, or a second header."""
         checked_columns(frame, (self.by, *NEEDED), CELLS, self.ignore, "the table")
         members = texts(frame["member"])
@@ -266,7 +283,7 @@ class Journals:
             raise TableError(f"the table: row {row} has 'member' as member, as a header")
         self.rows += len(members)
 
-    def add(self, frame: Any) -> None:
+    def add(self, frame: "pandas.DataFrame") -> None:
         """Adds the entries of a frame. Raises TableError, OSError."""
         self.check(frame)
         entries: dict[str, list[str]] = collections.defaultdict(list)
@@ -287,10 +304,10 @@ class Journals:
 
 
 def split(
-    table: Any,
+    table: Table,
     by: str = "instrument",
     *,
-    days: Any = None,
+    days: "Table | None" = None,
     ignore: Collection[str] = (),
     folder: str | os.PathLike[str] = ".",
 ) -> list[str]:
@@ -307,16 +324,16 @@ def split(
 
     The journals take their places in `folder`, and those of files with the same names, when all
     are whole; at an error nothing is left of them. What a field says is no matter here: the program
-    tells what is bad. Raises TableError, InUse where another split or run writes to the folder, and
-    OSError where something can't be read or written.
+    refuses what is bad. Raises TableError, InUse where another split or run writes to the folder,
+    and OSError where something can't be read or written.
     """
     place = pathlib.Path(folder)
     place.mkdir(parents=True, exist_ok=True)
     with locked(place):
-        told = None if days is None else days_of(days, by, ignore)
+        openings = None if days is None else days_of(days, by, ignore)
         begun = pathlib.Path(tempfile.mkdtemp(prefix=".callauction-", dir=place))
         try:
-            journals = Journals(begun, told, by, ignore)
+            journals = Journals(begun, openings, by, ignore)
             for frame in partitions_of(table):
                 journals.add(frame)
             return journals.finish(place)

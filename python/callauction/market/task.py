@@ -20,9 +20,9 @@ from callauction.market.forms import (
     BLOCK,
     FORMS,
     Blocks,
+    Columns,
     Form,
     OutputFault,
-    Said,
     blocks_of,
     read_nothing,
 )
@@ -36,12 +36,12 @@ GOOD = {DONE, UNLAWFUL}
 NO_MEMORY = "out of memory"
 """What the program says where it gets no memory."""
 LEAST_MEMORY, MEMORY_OF_BYTE = 64 * MIB, 8
-"""The address space that a run may have: so many bytes, and so many for each byte of its file, and
-as many times that as its form has shares.
+"""The address space that a run may have: the first in bytes, and the second for each byte of its
+file, times the shares of its form.
 """
 LEAST_SECONDS, BYTES_OF_MINUTE = 60, 4 * MIB
-"""How long a run may take: so many seconds, and a minute for each so many bytes of its file, which
-are some 100,000 entries.
+"""How long a run may take: the first in seconds, and a minute for each 4 MiB of its file, which are
+some 100,000 entries.
 """
 
 
@@ -63,7 +63,7 @@ class Request:
     """Whether the file's SHA-256 is asked for."""
 
     def for_size(self, size: int, form: Form) -> "Request":
-        """The request with the limits for a run in this form on a file of so many bytes."""
+        """The request with the limits for a run in this form on a file of `size` bytes."""
         memory = self.memory or form.shares * (LEAST_MEMORY + MEMORY_OF_BYTE * size)
         seconds = self.seconds or LEAST_SECONDS + 60 * (size // BYTES_OF_MINUTE)
         return dataclasses.replace(self, memory=memory, seconds=seconds)
@@ -162,17 +162,19 @@ def fault_of(status: int, errors: bytes, request: Request) -> str:
     return line_of(lines[0])
 
 
-def read_run(output: Output, form: Form, keep: IO[bytes] | None) -> tuple[Said | OutputFault, int]:
+def read_run(
+    output: Output, form: Form, keep: IO[bytes] | None
+) -> tuple[Columns | OutputFault, int]:
     """What a run's output says, or how it is wrong, and the run's status. Raises OSError where it
     can't be kept, ProgramFault where it takes too long.
     """
     blocks = blocks_of(output)
     try:
-        said: Said | OutputFault = form.read(written(blocks, keep) if keep else blocks)
+        found: Columns | OutputFault = form.read(written(blocks, keep) if keep else blocks)
     except OutputFault as fault:
-        said = fault
+        found = fault
         read_nothing(blocks)  # so that it ends with its own status
-    return said, output.wait()
+    return found, output.wait()
 
 
 def written(blocks: Blocks, out: IO[bytes]) -> Blocks:
@@ -190,7 +192,7 @@ def words_of(form: Form, request: Request) -> list[str]:
 
 def run_form(
     form: Form, file: IO[bytes], keep: IO[bytes] | None, request: Request, children: Children
-) -> Said:
+) -> Columns:
     """Runs the program on an open file: what its output says. Raises ProgramFault, OutputFault,
     and OSError where its output can't be kept.
     """
@@ -198,13 +200,13 @@ def run_form(
     with tempfile.TemporaryFile() as errors:
         with children.started(words_of(form, request), file, errors) as child:
             output = Output(child, request.seconds or LEAST_SECONDS)
-            said, status = read_run(output, form, keep)
+            found, status = read_run(output, form, keep)
         if status not in GOOD:
             errors.seek(0)
             raise ProgramFault(fault_of(status, errors.read(BLOCK), request))
-    if isinstance(said, OutputFault):
-        raise said
-    return said
+    if isinstance(found, OutputFault):
+        raise found
+    return found
 
 
 @contextlib.contextmanager
@@ -245,20 +247,20 @@ def examine_file(path: str, request: Request, worker: str, children: Children) -
         before = stamp(file)
         size = before[0]
         digest = digest_of(file) if request.is_logged else ""
-        said: Said = {}
+        columns: Columns = {}
         begin = time.perf_counter()
         for name in request.forms:
             form = FORMS[name]
             limited = request.for_size(size, form)
             with keeper(path, form, request) as keep:
                 found = run_form(form, file, keep, limited, children)
-            if any(said.get(column, value) != value for column, value in found.items()):
+            if any(columns.get(column, value) != value for column, value in found.items()):
                 raise OutputFault("the program's forms don't agree")
-            said |= found
+            columns |= found
         seconds = time.perf_counter() - begin
         if stamp(file) != before:
             raise ProgramFault("the file was changed meanwhile")
-    return Found(Row(instrument_of(path), seconds=seconds, **said), worker, size, digest)
+    return Found(Row(instrument_of(path), seconds=seconds, **columns), worker, size, digest)
 
 
 def examine(
@@ -276,8 +278,8 @@ def examine(
         except (ProgramFault, OutputFault) as fault:
             found.append(Found(Row(instrument_of(path), fault=str(fault)), worker))
         except OSError as fault:
-            told = fault.strerror or line_of(str(fault))
-            found.append(Found(Row(instrument_of(path), fault=told), worker))
+            text = fault.strerror or line_of(str(fault))
+            found.append(Found(Row(instrument_of(path), fault=text), worker))
     return found
 
 

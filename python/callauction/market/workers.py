@@ -89,7 +89,7 @@ class Threads:
 
 
 def batches_of(files: list[str], threads: int) -> list[list[str]]:
-    """The files in tasks, for so many threads: the largest first, and small ones together."""
+    """The files in tasks, for `threads` threads: the largest first, and small ones together."""
     sized = largest_first(files)
     share = sum(size + START for size, _ in sized) / (SHARES * threads)
     batches: list[list[str]] = []
@@ -111,15 +111,15 @@ class Cluster:
 
     def digest(self, path: str | None) -> str:
         """The digest of the program, which all workers have. Raises MarketError."""
-        told = self.client.run(finder.digest, path, on_error="return")
-        for worker, answer in sorted(told.items()):
+        digests = self.client.run(finder.digest, path, on_error="return")
+        for worker, answer in sorted(digests.items()):
             if isinstance(answer, Exception):
                 raise MarketError(f"the worker {worker} has no program: {answer}")
-        if not told:
+        if not digests:
             raise MarketError("there is no worker")
-        if len(set(told.values())) != 1:
+        if len(set(digests.values())) != 1:
             raise MarketError("the workers have different programs")
-        return str(next(iter(told.values())))
+        return str(next(iter(digests.values())))
 
     def results(self, files: list[str], request: Request) -> Iterator[list[Found]]:
         """Where workers ended under a task, Dask starts it again elsewhere, and gives it up after

@@ -58,8 +58,8 @@ def book(
     tick_size: object = None,
     ax: Axes | None = None,
 ) -> Axes:
-    """Draws a book: demand and supply as steps, each of which stands at a limit, where the higher
-    of its ends holds; the executable volume at each limit; the best limits, the auction price with
+    """Draws a book: demand and supply as steps at the limits, where the higher end of each
+    holds; the executable volume at each limit; the best limits, the auction price with
     its volume and surplus, and the reference.
 
     `auction` is a RecordedAuction or a table of books (tables.BOOK). The book is the one before the
@@ -252,14 +252,15 @@ def _label(
 ) -> None:
     """What the picture shows, and in which units."""
     command, auction = found["command"].iloc[0], found["auction"].iloc[0]
-    axes.set_title(f"{auction}, before command {command}\n{_told(levels, named)}", loc="left")
+    words = _words_of_price(levels, named)
+    axes.set_title(f"{auction}, before command {command}\n{words}", loc="left")
     axes.set_xlabel(f"limit ({unit})")
     axes.set_ylabel("quantity (shares)")
     whole_steps(axes.yaxis, thousands)
     axes.spines[["top", "right"]].set_visible(False)
 
 
-def _told(levels: pandas.DataFrame, named: Namer) -> str:
+def _words_of_price(levels: pandas.DataFrame, named: Namer) -> str:
     """The auction price of a book in words."""
     for _, price in levels[levels["rule"] != ""].iterrows():
         side = "" if price["side"] == "none" else f" {price['side']}"

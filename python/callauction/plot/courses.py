@@ -192,7 +192,7 @@ def _draw_words(
 
 
 def _places(axes: Axes, calls: list[int], words: list[str]) -> list[tuple[str, int, float]]:
-    """Of each word the edge that stands at its line, its row, and where it ends, in points."""
+    """Of each word the edge that is at its line, its row, and where it ends, in points."""
     low, high = axes.get_xlim()
     width, _ = points(axes)
     ends: list[float] = []

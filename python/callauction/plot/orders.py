@@ -1,4 +1,4 @@
-"""Pictures of orders: who stands where in a queue, and who trades with whom."""
+"""Pictures of orders: their queue, and who trades with whom."""
 import itertools
 
 import pandas
@@ -21,11 +21,10 @@ from callauction.plot.parts import (
     whole_steps,
 )
 from callauction.program import Day
-from callauction.words import Side
+from callauction.words import MARKET, Side
 
 MOST_QUEUED = 40
 """How many orders of a queue are drawn."""
-MARKET = "market"
 COLORS = {"bid": DEMAND, "ask": SUPPLY}
 WORDS = 8.0
 """The size of the words within bars, in points."""
@@ -47,7 +46,7 @@ def queue(
     that was this command; without one it is an uncross now. At most MOST_QUEUED orders are drawn,
     around the last one that is executed. With a `tick_size` limits are prices. Draws on `ax`, or on
     a new figure, and answers the axes. Raises ProgramError, and ValueError where the command was no
-    uncross, or nobody stands there.
+    uncross, or the queue is empty.
     """
     named = namer_of(None, tick_size)
     found = queue_of(day, command)

@@ -8,10 +8,10 @@ import pandas
 from matplotlib.axes import Axes
 from matplotlib.ticker import FixedLocator, FuncFormatter, MaxNLocator
 
-from callauction.grid import Grid, tick_size_of
+from callauction.prices import Grid, tick_size_of
 
 DEMAND, SUPPLY, VOLUME, PRICE, REFERENCE = "#0069a6", "#b34700", "#00735a", "#000000", "#5c5c5c"
-"""Colours that people with any eyes tell apart, each of a contrast of 4.5 or more to white."""
+"""Colours that people with any eyes can distinguish, each of a contrast of 4.5 or more to white."""
 PALE = {DEMAND: "#bcdcf0", SUPPLY: "#f6d3bd", VOLUME: "#a8d9c9"}
 """Their pale kin, for areas behind lines."""
 SIZE = (6.0, 4.4)

@@ -16,10 +16,11 @@ from typing import Any, Self, TypeVar
 
 import aiohttp
 
+from callauction.words import MARKET
+
 Json = dict[str, Any]
 Price = str | Decimal
 T = TypeVar("T")
-MARKET = "market"
 FIRST_PAUSE, MOST_PAUSE = 0.05, 1.0
 FINAL = ("bad_token",)
 """Errors of a hello after which no other one would do."""

@@ -1,6 +1,6 @@
 """What a venue is opened with: a file in TOML, or defaults for all that it leaves out.
 
-Prices are decimal texts in the file and ticks behind it; lengths of time are seconds.
+Prices are decimal texts in the file and ticks after it; lengths of time are seconds.
 """
 import dataclasses
 import pathlib
@@ -9,10 +9,9 @@ import tomllib
 from decimal import Decimal
 from typing import Any, Self
 
+from callauction.limits import MOST_MEMBERS
 from callauction.prices import BadCellError, Grid, decimal_of, tick_size_of
 
-MOST_MEMBERS = 63
-"""Members of one instrument: there are 64 numbers, and number 0 is the operator's."""
 MOST_QUANTITY = 1_000_000_000
 MOST_SECONDS = 86_400
 INSTRUMENT_NAME = re.compile(r"[A-Za-z0-9][A-Za-z0-9_-]{0,23}")
@@ -47,7 +46,7 @@ class Instrument:
     def words(self) -> list[str]:
         """The program's options for this day."""
         numbers = {name: getattr(self, name) for name in ("low", "high", "reference")}
-        numbers |= {"members": MOST_MEMBERS + 1, "open": self.open, "calls": self.calls}
+        numbers |= {"members": MOST_MEMBERS, "open": self.open, "calls": self.calls}
         if self.range is not None:
             numbers["range"] = self.range
         return [word for name, value in numbers.items() for word in (f"--{name}", str(value))]

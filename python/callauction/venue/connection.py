@@ -15,7 +15,7 @@ from callauction.venue.messages import MessageError
 from callauction.venue.recovery import Entry
 from callauction.venue.venue import Venue
 
-MOST_OPEN = 256
+MOST_UNANSWERED = 256
 """Messages of a connection that aren't answered yet, or whose answer it hasn't taken."""
 HELLO_SECONDS = 10.0
 TOO_FAST_SECONDS = 0.1
@@ -57,7 +57,7 @@ class Connection:
         self._answers: collections.deque[shown.Json] = collections.deque()
         self._shown: dict[str, shown.Json] = {}
         self._wakes = asyncio.Event()
-        self._room = asyncio.Semaphore(MOST_OPEN)
+        self._room = asyncio.Semaphore(MOST_UNANSWERED)
         self._code: str | None = None
 
     # ---- what it is sent
@@ -78,7 +78,7 @@ class Connection:
         self._wakes.set()
 
     async def _write(self) -> None:
-        """Sends what there is, as fast as it is taken."""
+        """Sends the waiting messages, as fast as they are taken."""
         while self._code is None:
             self._wakes.clear()
             while self._answers:
@@ -124,9 +124,9 @@ class Connection:
         if message.type is not WSMsgType.TEXT:
             return False
         try:
-            said = messages.read(message.data)
-            self.topics = messages.topics_of(said)
-            self.role, self.member = self._venue.role_of(messages.text_of(said, "token"))
+            hello = messages.read(message.data)
+            self.topics = messages.topics_of(hello)
+            self.role, self.member = self._venue.role_of(messages.text_of(hello, "token"))
         except MessageError as fault:
             await self._socket.send_str(packed(error_of(fault, None)))
             await self._socket.close(code=WSCloseCode.POLICY_VIOLATION, message=fault.code.encode())
@@ -138,15 +138,15 @@ class Connection:
         """Takes a message, for whose answer there is room: whether it didn't come too fast."""
         number = None
         try:
-            said = messages.read(text)
-            if isinstance(found := said.get("number"), int):
+            given = messages.read(text)
+            if isinstance(found := given.get("number"), int):
                 number = found
-            if self.member is None or said["type"] not in messages.ORDER_FIELDS:
+            if self.member is None or given["type"] not in messages.ORDER_FIELDS:
                 raise MessageError("not_allowed")
             if not self.member.bucket.takes():
                 raise MessageError("too_fast")
-            terms = self._venue.instrument_of(said.get("instrument")).terms
-            order = messages.order_of(terms, said)
+            terms = self._venue.instrument_of(given.get("instrument")).terms
+            order = messages.order_of(terms, given)
             answer, is_again = self._venue.submit(self.member, order)
         except MessageError as fault:
             self.answer(error_of(fault, number))

@@ -72,7 +72,7 @@ def members_of(instrument: Instrument) -> bytes:
 
 
 def named(table: bytes, instrument: Instrument) -> bytes:
-    """The program's table of trades, with the names of both members behind each row."""
+    """The program's table of trades, with the names of both members after each row."""
     rows = list(csv.DictReader(io.StringIO(table.decode("ascii"))))
     text = io.StringIO()
     first = table.decode("ascii").partition("\n")[0].split(",")

@@ -154,7 +154,7 @@ class Engine:
             await asyncio.sleep(PAUSE)
 
     def _begin(self, process: Process, count: int) -> None:
-        """Writes that a run begins after so many entries, and what is sent to it first; then sends
+        """Writes that a run begins after `count` entries, and what is sent to it first; then sends
         that.
         """
         self._turn += 1

@@ -11,7 +11,7 @@ Fills = Iterable[tuple[str, int, int]]
 
 @dataclasses.dataclass(frozen=True)
 class Value:
-    """What a member was handed out: it may buy (`bid`) or sell (`ask`) so many shares, each of
+    """What a member was handed out: it may buy (`bid`) or sell (`ask`) `quantity` shares, each of
     which is worth this, in ticks, or costs it.
     """
 

@@ -50,7 +50,7 @@ HEADERS = {
     "Cache-Control": "no-store",
 }
 JOIN_RATE, JOIN_BURST = 2.0, 40
-"""Wrong codes and joins of one address: so many a second, and so many at once."""
+"""Wrong codes and joins of one address: how many a second, and how many at once."""
 
 
 @dataclasses.dataclass
@@ -156,8 +156,8 @@ class Site:
         bucket = self._joins.setdefault(request.remote or "", Bucket(JOIN_RATE, JOIN_BURST))
         if not bucket.takes():
             raise MessageError("too_fast")
-        said = await body_of(request)
-        code, name = messages.text_of(said, "code"), messages.text_of(said, "name", "")
+        body = await body_of(request)
+        code, name = messages.text_of(body, "code"), messages.text_of(body, "name", "")
         member, token = await self._venue.join(code, name)
         return answered({"name": member.name, "token": token})
 
@@ -191,8 +191,8 @@ class Site:
             first = request.query.get("first", "1")
             if not first.isdecimal() or len(first) > 10:
                 raise MessageError("bad_message", "first is no number of a trade")
-            behind = instrument.trades[max(0, int(first) - 1) :]
-            return answered(shown.trades_of(instrument, behind, False))
+            later = instrument.trades[max(0, int(first) - 1) :]
+            return answered(shown.trades_of(instrument, later, False))
         raise web.HTTPNotFound
 
     # ---- the operator
@@ -206,9 +206,9 @@ class Site:
     async def _operator(self, request: web.Request) -> web.Response:
         """Does what the operator asks for."""
         self._check_operator(request)
-        said = await body_of(request)
+        body = await body_of(request)
         try:
-            return answered(await teaching.done(self._venue, said))
+            return answered(await teaching.done(self._venue, body))
         except PhaseError as fault:
             raise MessageError("bad_phase", str(fault)) from None
 

@@ -10,6 +10,7 @@ import time
 from collections.abc import Callable, Iterable
 from typing import Any, Self
 
+from callauction.limits import MOST_MEMBERS
 from callauction.venue import config, views
 from callauction.venue.gains import Value
 from callauction.venue.log import Log
@@ -109,7 +110,7 @@ class Instrument:
         """
         if member not in self.numbers:
             number = len(self.numbers) + 1
-            if number > config.MOST_MEMBERS:
+            if number >= MOST_MEMBERS:
                 raise MessageError("instrument_full")
             self.give_number(member, number)
             self._log.note(kind="number", instrument=self.terms.name, member=member, number=number)
@@ -171,7 +172,7 @@ class Instrument:
         self._keep_point(point)
 
     def _uncrossed(self, entry: Entry) -> None:
-        """The phase behind an uncross."""
+        """The phase after an uncross."""
         self.state = self.state.replied(entry.reply)
         if not entry.reply.startswith("refused"):
             self.results.append(entry.reply)

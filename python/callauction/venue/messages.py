@@ -7,15 +7,16 @@ import json
 import re
 from typing import Any
 
-from callauction.prices import MOST_NUMBER, BadCellError, decimal_of
+from callauction.limits import MOST_NUMBER
+from callauction.prices import BadCellError, decimal_of
 from callauction.venue.config import Instrument
+from callauction.words import MARKET
 
 MOST_BYTES = 4096
 MOST_MESSAGE = (1 << 53) - 1
 """The greatest number of a message: the greatest whole number that every JSON reader keeps."""
 SIDES = ("bid", "ask")
 RESTRICTIONS = ("", "opening", "closing")
-MARKET = "market"
 PRICE = re.compile(r"[0-9]{1,30}(\.[0-9]{1,30})?")
 TOPICS = ("states", "orders", "fills", "trades")
 ORDER_FIELDS = {
@@ -58,7 +59,7 @@ class MessageError(ValueError):
 @dataclasses.dataclass(frozen=True, slots=True)
 class Order:
     """A message that becomes a command: its number, its instrument, and the rest of its record
-    behind the member.
+    after the member.
     """
 
     number: int
@@ -145,7 +146,7 @@ def order_of(instrument: Instrument, message: dict[str, Any]) -> Order:
 
 
 def entered(instrument: Instrument, message: dict[str, Any]) -> str:
-    """The record of a new order behind its member, in its shortest form. Raises MessageError."""
+    """The record of a new order after its member, in its shortest form. Raises MessageError."""
     side, only = text_of(message, "side"), text_of(message, "only", "")
     if side not in SIDES:
         raise MessageError("bad_message", "side is bid or ask")

@@ -7,8 +7,8 @@ import re
 from typing import Any, Self
 
 from callauction.venue.config import Plan
+from callauction.words import AUCTIONS
 
-AUCTIONS = ("opening", "intraday", "closing")
 OVER = "over"
 UNCROSSED = re.compile(r"(opening|intraday|closing) (?:price|no price)")
 
@@ -107,7 +107,7 @@ class State:
         return self._with_end(Phase.EXTENDED, now, seconds, 0, 0.0)
 
     def replied(self, reply: str) -> Self:
-        """The state behind the program's reply to an uncross: an interruption goes on as an
+        """The state after the program's reply to an uncross: an interruption goes on as an
         extended call without an end yet, a refusal changes nothing.
         """
         if reply.startswith("interrupted"):
@@ -121,7 +121,7 @@ class State:
     def _with_end(
         self, phase: Phase, now: float, seconds: int, random_end: int, drawn: float
     ) -> Self:
-        """A call of so many seconds, and at most so many more."""
+        """A call of `seconds` seconds, and at most `random_end` more."""
         if not seconds:
             return type(self)(phase, self.auction)
         ends = now + seconds

@@ -56,7 +56,7 @@ class Pipe:
             self._go_on()
 
     def _go_on(self) -> None:
-        """Writes what there is room for."""
+        """Writes as much as the pipe takes."""
         loop = asyncio.get_running_loop()
         while self._blocks:
             try:
@@ -133,7 +133,7 @@ class Process:
         return self._child.pid
 
     def send(self, records: Sequence[str], answer: Sequence[Answer]) -> None:
-        """Sends records, and calls what stands for each with its answer."""
+        """Sends records, and gives each answer to the function of its record."""
         self._answers.extend(answer)
         self._pipe.write(records)
 
@@ -151,12 +151,12 @@ class Process:
         """Takes the answers until the program ends."""
         output, errors = self._child.stdout, self._child.stderr
         assert output is not None and errors is not None
-        said = asyncio.create_task(errors.read(MOST_ERROR))
+        error = asyncio.create_task(errors.read(MOST_ERROR))
         while block := await output.read(BLOCK):
             *lines, self._rest = (self._rest + block).split(b"\n")
             for line in lines:
                 self._take(line.decode("ascii", "replace"))
-        self._error = await said
+        self._error = await error
         self._pipe.close()
         self.has_ended = True
         self._on_end(self._fault(await self._child.wait()))

@@ -46,12 +46,12 @@ class Message:
     record: str
 
 
-def entries_of(path: pathlib.Path, behind: int = 0, count: int | None = None) -> list[Entry]:
-    """The entries of a journal behind these, whole lines alone, so many at most. Raises OSError."""
+def entries_of(path: pathlib.Path, known: int = 0, count: int | None = None) -> list[Entry]:
+    """The whole lines of a journal after `known` entries, at most `count`. Raises OSError."""
     with open(path, encoding="ascii") as file:
-        lines = file.read().split("\n")[1 + behind : -1]
+        lines = file.read().split("\n")[1 + known : -1]
     found = []
-    for place, line in enumerate(lines[:count], behind + 1):
+    for place, line in enumerate(lines[:count], known + 1):
         record, _, reply = line.rpartition(",")
         found.append(Entry(place, record, reply))
     return found

@@ -91,7 +91,7 @@ def own_addresses() -> set[str]:
     return found
 
 
-def told(venue: Venue, address: Address, port: int, entries: int) -> list[str]:
+def lines_of_address(venue: Venue, address: Address, port: int, entries: int) -> list[str]:
     """The lines that say where the venue is."""
     anywhere = address.host in ("0.0.0.0", "::")
     reached = sorted(own_addresses()) if anywhere else [address.host]
@@ -134,7 +134,7 @@ async def serve(venue: Venue, program: str, address: Address) -> None:
             except OSError as fault:
                 raise AddressError(f"can't listen on {address.host}: {fault.strerror}") from None
             port = runner.addresses[0][1]
-            print("\n".join(told(venue, address, port, entries)), flush=True)
+            print("\n".join(lines_of_address(venue, address, port, entries)), flush=True)
             sys.stdout.flush()
             await stopped.wait()
             venue.dismiss()

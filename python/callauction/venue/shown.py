@@ -100,7 +100,7 @@ def money_of(instrument: Instrument, ticks: int) -> str:
 
 
 def gained(given: Given, fills: Iterable[Fill]) -> int:
-    """What fills gain behind the time at which a value was given, in ticks times shares."""
+    """What fills gain after the time at which a value was given, in ticks times shares."""
     later = (it for it in fills if it.trade > given.since)
     return gain_of(given.value, ((it.side, it.quantity, it.tick) for it in later))
 

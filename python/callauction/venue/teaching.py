@@ -20,28 +20,28 @@ STEPS = {
 }
 
 
-async def done(venue: Venue, said: dict[str, Any]) -> shown.Json:
+async def done(venue: Venue, message: dict[str, Any]) -> shown.Json:
     """Does what is asked for. Raises MessageError and PhaseError."""
-    word = text_of(said, "do")
+    word = text_of(message, "do")
     if word == "resume":
         venue.resume()
         return {"done": word}
     if word == "show":
-        venue.show_on_beamer(text_of(said, "shows"))
+        venue.show_on_beamer(text_of(message, "shows"))
         return {"done": word}
     if word == "code":
-        return {"done": word, "code": new_code_of(venue, text_of(said, "member"))}
-    instrument = venue.instrument_of(said.get("instrument"))
+        return {"done": word, "code": new_code_of(venue, text_of(message, "member"))}
+    instrument = venue.instrument_of(message.get("instrument"))
     if word == "give":
-        give(venue, instrument, said)
+        give(venue, instrument, message)
         return {"done": word}
     venue.check_running()
-    if (seen := said.get("phase")) is not None and seen != str(instrument.state.phase):
+    if (seen := message.get("phase")) is not None and seen != str(instrument.state.phase):
         raise PhaseError(f"the phase is {instrument.state.phase} and no longer {seen}")
     if word == "uncross":
         return {"done": word, "reply": await instrument.uncross()}
     if word == "extend":
-        instrument.extend(number_of(said, "seconds", 1, MOST_SECONDS))
+        instrument.extend(number_of(message, "seconds", 1, MOST_SECONDS))
     elif word in STEPS:
         STEPS[word](instrument)
     else:
@@ -59,17 +59,17 @@ def new_code_of(venue: Venue, name: str) -> str:
     return code
 
 
-def give(venue: Venue, instrument: Instrument, said: dict[str, Any]) -> None:
+def give(venue: Venue, instrument: Instrument, message: dict[str, Any]) -> None:
     """Gives each member the value that is named, or one by chance: half of them buy, half sell, at
     prices of a range. Raises MessageError.
     """
     terms = instrument.terms
-    values = said.get("values")
+    values = message.get("values")
     if values is None:
-        low, high = (value_tick(terms, said, name) for name in ("low", "high"))
+        low, high = (value_tick(terms, message, name) for name in ("low", "high"))
         if low > high:
             raise MessageError("bad_message", "low is above high")
-        quantity = number_of(said, "quantity", 1, terms.most_quantity)
+        quantity = number_of(message, "quantity", 1, terms.most_quantity)
         names = [member.name for member in venue.members.all]
         venue.give_values(instrument, by_chance(names, low, high, quantity))
         return
@@ -85,9 +85,9 @@ def give(venue: Venue, instrument: Instrument, said: dict[str, Any]) -> None:
     venue.give_values(instrument, given)
 
 
-def value_tick(terms: Terms, said: dict[str, Any], name: str) -> int:
+def value_tick(terms: Terms, message: dict[str, Any], name: str) -> int:
     """The tick of a price of a message. Raises MessageError."""
-    found = tick_of(terms, text_of(said, name))
+    found = tick_of(terms, text_of(message, name))
     if not found.isdecimal():
         raise MessageError("bad_price")
     return int(found)

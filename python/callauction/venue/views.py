@@ -4,6 +4,8 @@ import re
 from collections.abc import Sequence
 from typing import Self
 
+from callauction.words import MARKET
+
 PRICE = re.compile(r"price (\d+) volume (\d+) surplus (\d+) (bid|ask|none)")
 BEST = re.compile(r"no price bid (\d+|-) ask (\d+|-)")
 DAY = re.compile(r"show day (\w+) reference (\d+) calls (\d+) left (\d+)$")
@@ -87,7 +89,7 @@ class OpenOrder:
 
 def limit_of(text: str) -> int | None:
     """A tick, or None for a market order."""
-    return None if text == "market" else int(text)
+    return None if text == MARKET else int(text)
 
 
 def levels_of(lines: Sequence[str]) -> list[Level]:

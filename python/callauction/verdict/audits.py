@@ -7,13 +7,14 @@ from typing import BinaryIO
 
 import pandas
 
-from callauction.grid import BadCellError, Grid, decimal_of, tick_size_of
+from callauction.prices import BadCellError, Grid, decimal_of, tick_size_of
 from callauction.verdict.columns import EVENT_COLUMNS, ColumnError, refuse_unknown
-from callauction.verdict.events import AUCTIONS, BadRow, Extract, New, Published, Replace, events_of
+from callauction.verdict.events import BadRow, Extract, New, Published, Replace, events_of
 from callauction.verdict.findings import Verdict, verdict_of
 from callauction.verdict.judging import Judge
 from callauction.verdict.reading import ExtractError, Reading, Table, read_table
 from callauction.verdict.replay import Rules
+from callauction.words import AUCTIONS
 
 BOOK_COLUMNS = (
     "order",
@@ -51,7 +52,7 @@ def audit_events(
     `reference` is the last price before the day, `tick_size` the step between two prices, of which
     each limit is a multiple (None where it depends on the price), `range` how far a price may lie
     from the reference before an uncross is interrupted, `low` and `high` the bounds of limits. All
-    are decimals: a Decimal, a text, an int, or a float, which stands for the shortest decimal that
+    are decimals: a Decimal, a text, an int, or a float, which means the shortest decimal that
     gives it. `auctions` are those that the day holds, in their order.
 
     A row that can't be read, or that the rules refuse, is listed in the verdict, and the others are

@@ -13,7 +13,7 @@ from callauction.program import Day
 from callauction.statuses import DONE
 from callauction.verdict.columns import EVENT_COLUMNS, ColumnError, likely
 from callauction.verdict.coverage import Coverage
-from callauction.verdict.events import AUCTIONS, EVENTS, Extract, events_of, plain_frame
+from callauction.verdict.events import EVENTS, Extract, events_of, plain_frame
 from callauction.verdict.findings import STATUSES, Verdict
 from callauction.verdict.instruments import (
     TERMS,
@@ -33,6 +33,7 @@ from callauction.verdict.reading import (
     Table,
     read_table,
 )
+from callauction.words import AUCTIONS
 
 _RECORD = re.compile(rb"(?:\xef\xbb\xbf)?\"?(?:day\"?,\"?\d|\d+\"?,)")
 """How a journal or an order file begins; an extract begins with the names of its columns."""

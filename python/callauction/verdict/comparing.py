@@ -71,7 +71,7 @@ Value = Trade | Fill | Decimal | NoPrice | int | str | None
 def compared_items(published: Published, result: Result) -> dict[str, Difference | None]:
     """The items that were published, each with how it differs from the lawful one. One fault is one
     difference: what follows from a price where there is none, or from none where there is one, is
-    not told again.
+    not listed again.
     """
     found: dict[str, Difference | None] = {}
     row = (published.row.label,)

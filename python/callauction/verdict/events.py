@@ -7,14 +7,15 @@ from decimal import Decimal
 
 import pandas
 
-from callauction.grid import BadCellError, cell_of, decimal_of, whole_of
+from callauction.cells import cell_of
+from callauction.prices import BadCellError, decimal_of, whole_of
 from callauction.verdict import times
 from callauction.verdict.reading import Reading, Table
+from callauction.words import AUCTIONS
 
 EVENTS = ("new", "replace", "cancel", "uncross", "trade", "fill")
 SIDES = {"bid": "bid", "buy": "bid", "ask": "ask", "sell": "ask"}
 SURPLUS_SIDES = {**SIDES, "none": "none"}
-AUCTIONS = ("opening", "intraday", "closing")
 INTERRUPTED = "interrupted"
 RESTRICTIONS = ("opening", "closing")
 NO_PRICE_WORDS = ("none", "no price")
@@ -75,7 +76,7 @@ class Replace:
 
 @dataclasses.dataclass(frozen=True, slots=True)
 class Cancel:
-    """An order is taken out, or so many of its shares."""
+    """An order is taken out, or `quantity` of its shares."""
 
     row: Row
     order: str
@@ -85,7 +86,7 @@ class Cancel:
 
 @dataclasses.dataclass(frozen=True, slots=True)
 class Published:
-    """An uncross with what was published of it; None stands for what wasn't."""
+    """An uncross with what was published of it; None is what wasn't."""
 
     row: Row
     price: Decimal | NoPrice | None = None
@@ -405,7 +406,7 @@ def _ordered(
     rows: list[tuple[Row, dict[str, object]]], frame: pandas.DataFrame, reading: Reading
 ) -> list[tuple[Row, dict[str, object]]]:
     """The rows by time, then sequence, then place, where that is asked; a row without a time stays
-    behind the one above it.
+    after the one above it.
     """
     if not reading.sort:
         return rows

@@ -294,7 +294,7 @@ def _of_queue(context: Context, difference: Difference) -> Iterator[str]:
 
 
 def _before(context: Context, early: OpenOrder, late: OpenOrder) -> str:
-    """That an order stands before another, and why."""
+    """The sentence that an order comes before another, and why."""
     if early.price == late.price:
         at = "at market" if early.price is None else f"at {context.price(early.price)}"
         return f"{_entered(early)} stands before {_entered(late)} {at}"

@@ -106,7 +106,7 @@ class Verdict:
     def queue(self, finding: Finding, around: int = AROUND) -> pandas.DataFrame:
         """The orders of both sides in their priority around those of a finding, with the shares
         that were recorded as executed and those that are lawful: the columns are queue.COLUMNS.
-        `around` is how many orders are shown before and behind.
+        `around` is how many orders are shown before and after.
         """
         context, difference = finding._of
         return queue_of(context.judged, self.names.keys, difference.orders, around)

@@ -11,9 +11,9 @@ from callauction.program import ProgramError
 from callauction.verdict.audits import audit_events
 from callauction.verdict.columns import ColumnError, refuse_unknown
 from callauction.verdict.coverage import PLURALS
-from callauction.verdict.events import AUCTIONS
 from callauction.verdict.findings import STATUSES, Verdict
 from callauction.verdict.reading import ExtractError, Reading, Table, read_table
+from callauction.words import AUCTIONS
 
 TERMS = ("reference", "tick_size", "range", "low", "high", "auctions")
 """What a day is opened with: the columns of a table of days beside that of the instruments."""

@@ -6,8 +6,8 @@ import re
 
 from callauction.program import Day
 from callauction.verdict.coverage import Coverage
-from callauction.verdict.events import AUCTIONS
 from callauction.verdict.findings import INCOMPLETE, LAWFUL, STATUSES, UNLAWFUL
+from callauction.words import AUCTIONS
 
 _COUNT = re.compile(r"(entries|compared|unlawful) (\d+)")
 _PLACES = [f"in {auction}" for auction in AUCTIONS] + ["day over"]

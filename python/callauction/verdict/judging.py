@@ -2,7 +2,7 @@
 
 Where a recorded result isn't the lawful one, what comes next may follow the one or the other: an
 engine goes on from what it did, a fault of the record alone changes nothing. Both are tried, and
-the day with the fewest differences is told, so one fault is one finding.
+the day with the fewest differences is taken, so one fault is one finding.
 """
 import collections
 import dataclasses
@@ -72,7 +72,7 @@ class State:
 class Judged:
     """An uncross with what was published of it, and how that differs from what the rules give.
 
-    `replayed` is None for an uncross behind the day's end. `items` has the items that were
+    `replayed` is None for an uncross after the day's end. `items` has the items that were
     published.
     """
 
@@ -84,8 +84,8 @@ class Judged:
     traded: tuple[Traded, ...] = ()
     filled: tuple[Filled, ...] = ()
     is_ended: bool = False
-    """Whether the auction is over behind the uncross."""
-    behind: State | None = None
+    """Whether the auction is over after the uncross."""
+    next_state: State | None = None
     """What the next call phase begins with."""
 
 
@@ -234,7 +234,7 @@ class Judge:
     # ---- an uncross on a path
 
     def _behind(self, number: int, published: Published, path: Path) -> Iterator[Path]:
-        """The courses behind an uncross."""
+        """The courses after an uncross."""
         traded = (*path.traded, *self.traded.get(number, ()))
         filled = (*path.filled, *self.filled.get(number, ()))
         path = dataclasses.replace(path, traded=(), filled=())
@@ -253,7 +253,7 @@ class Judge:
             yield from self._skipping(moment, due.index(published.auction, ended + 1))
 
     def _courses(self, moment: Moment) -> list[Path]:
-        """The courses behind an uncross at its moment, or at the one at which all that was
+        """The courses after an uncross at its moment, or at the one at which all that was
         published of it is lawful.
         """
         found = [*self._variants(moment)]
@@ -280,7 +280,7 @@ class Judge:
             yield dataclasses.replace(course, judged=(*course.judged[:-1], both))
 
     def _variants(self, moment: Moment) -> Iterator[Path]:
-        """The courses behind an uncross: first as it is recorded, where it is recorded whether it
+        """The courses after an uncross: first as it is recorded, where it is recorded whether it
         was interrupted and that isn't lawful; then as is lawful.
         """
         state = moment.path.state
@@ -307,7 +307,7 @@ class Judge:
         return replay(phase, self.extract.total_quantity, state.executed)
 
     def _interrupted(self, moment: Moment, replayed: Replay) -> Path:
-        """The course behind an uncross that was interrupted; its trades come at the next one."""
+        """The course after an uncross that was interrupted; its trades come at the next one."""
         items = compared_items(moment.published, replayed.result)
         state = moment.path.state
         following = State(replayed.book, state.reference, state.executed, True, state.ended)
@@ -319,7 +319,7 @@ class Judge:
     def _executed(
         self, moment: Moment, replayed: Replay, wrong: Difference | None
     ) -> Iterator[Path]:
-        """The courses behind an uncross that ended its auction; `wrong` is what is different of it
+        """The courses after an uncross that ended its auction; `wrong` is what is different of it
         as such.
         """
         moment, published = self._with_named(moment), moment.published
@@ -390,7 +390,7 @@ class Judge:
         ]
         return dataclasses.replace(
             path,
-            judged=(*path.judged, dataclasses.replace(judged, behind=state)),
+            judged=(*path.judged, dataclasses.replace(judged, next_state=state)),
             state=state,
             taken=path.taken + len(moment.events),
             bad_rows=(*path.bad_rows, *refused),
@@ -436,7 +436,7 @@ class Judge:
     # ---- what is open next
 
     def _next_states(self, moment: Moment, replayed: Replay) -> Iterator[State]:
-        """The states behind an uncross, the recorded one first: by the recorded fills and the
+        """The states after an uncross, the recorded one first: by the recorded fills and the
         recorded price where there are any, and by the lawful ones.
         """
         published, state = moment.published, moment.path.state
@@ -463,7 +463,7 @@ class Judge:
     def _state(
         self, moment: Moment, replayed: Replay, reference: Decimal, fills: dict[str, int]
     ) -> State:
-        """The state behind an uncross with these fills: what isn't executed stays, but for orders
+        """The state after an uncross with these fills: what isn't executed stays, but for orders
         of the ended auction alone.
         """
         left = [
@@ -480,7 +480,7 @@ class Judge:
     # ---- an uncross at a wrong moment
 
     def _later_orders(self, moment: Moment) -> list[int]:
-        """The places of rows behind the uncross that entered orders of its recorded trades."""
+        """The places of rows after the uncross that entered orders of its recorded trades."""
         moment = self._with_named(moment)
         named = {self.names.key(order) for it in moment.traded for order in (it.bid, it.ask)}
         named |= {self.names.key(fill.order) for fill in moment.filled}
@@ -489,7 +489,7 @@ class Judge:
         return [it.place for it in owners if it is not None and it.place > place]
 
     def _at_another_moment(self, moment: Moment, later: list[int]) -> list[Path]:
-        """The courses behind the uncross at the moment, between those beside it, at which all that
+        """The courses after the uncross at the moment, between those beside it, at which all that
         was published of it is lawful; none where there is no such moment.
         """
         events = self._until_next(moment)
@@ -514,11 +514,11 @@ class Judge:
         return []
 
     def _until_next(self, moment: Moment) -> tuple[OrderEvent, ...]:
-        """The events of orders behind the last uncross and before the next one."""
+        """The events of orders after the last uncross and before the next one."""
         rest = self.orders[moment.path.taken :]
-        behind = self.uncrosses[moment.number + 1 : moment.number + 2]
-        if behind:
-            rest = [event for event in rest if event.row.place < behind[0].row.place]
+        later = self.uncrosses[moment.number + 1 : moment.number + 2]
+        if later:
+            rest = [event for event in rest if event.row.place < later[0].row.place]
         return tuple(rest)
 
     # ---- trades that were looked for at another uncross
@@ -583,7 +583,7 @@ def _agrees(published: Published, shown: Indicated) -> bool:
 
 
 def _wrong_moment(moment: Moment, event: OrderEvent) -> Difference:
-    """The difference of an uncross that is lawful behind an event and stands elsewhere."""
+    """The difference of an uncross that is lawful after an event and is recorded elsewhere."""
     before = [each for each in moment.events]
     recorded = f"behind row {before[-1].row.label}" if before else "before all orders"
     row = (moment.published.row.label,)

@@ -13,7 +13,7 @@ from callauction.verdict.events import Cancel, New, Replace
 from callauction.verdict.judging import Judged, Judgement
 from callauction.verdict.names import Names
 from callauction.verdict.queue import recorded_fills
-from callauction.verdict.replay import GONE, OpenOrder, OrderEvent, Replay, Rules, behind
+from callauction.verdict.replay import GONE, OpenOrder, OrderEvent, Replay, Rules, order_after
 
 ORDERS = {
     "order": "object",
@@ -57,11 +57,11 @@ class _Order:
     def row(self, recorded: int | None) -> tuple[object, ...]:
         """Its row, with the shares that are recorded of it."""
         at = self.at
-        told = pandas.NA if recorded is None else recorded
+        recorded_shares = pandas.NA if recorded is None else recorded
         better = None if at.price is None else self.better
         return (
-            at.order, at.member, at.side, self.quantity, at.price, self.traded, told, better,
-            at.quantity, self.became,
+            at.order, at.member, at.side, self.quantity, at.price, self.traded, recorded_shares,
+            better, at.quantity, self.became,
         )  # fmt: skip
 
 
@@ -87,17 +87,17 @@ class _Course:
         if judged.is_ended and price is not None:
             for key, shares in replayed.fills.items():
                 self.orders[key].execute(shares, replayed.orders[key].price, price)
-        if judged.is_ended and judged.behind is not None:
-            done = judged.behind.executed
+        if judged.is_ended and judged.next_state is not None:
+            done = judged.next_state.executed
             fills = {key: shares - self.executed.get(key, 0) for key, shares in done.items()}
             self._end(judged.auction, replayed.fills if is_last else fills)
-            self.executed, self.ended = done, judged.behind.ended
+            self.executed, self.ended = done, judged.next_state.ended
 
     def take(self, events: Iterable[OrderEvent]) -> None:
         """The events of a call phase that aren't refused."""
         done = self.executed if self.total_quantity else {}
         for event in events:
-            following = behind(event, self.open, done)
+            following = order_after(event, self.open, done)
             if following is None:
                 continue
             key = following.key
@@ -119,7 +119,7 @@ class _Course:
                 self._close(key, "lapsed" if rest else "executed", rest)
 
     def _close(self, key: str, became: str, rest: int) -> None:
-        """An order isn't open any more, with so many shares left of it."""
+        """An order isn't open any more, with `rest` shares left of it."""
         order = self.orders[key]
         order.at, order.became = dataclasses.replace(self.open[key], quantity=rest), became
         del self.open[key]

@@ -186,7 +186,7 @@ def _members(orders: pandas.DataFrame) -> Part:
     found = members_of(orders)
     if not len(found):
         return "Members", "<p>No order was entered.</p>"
-    told = (
+    note = (
         "<p>Bought, sold: lawful shares. Better: how much better than their limits a member's "
         "limit orders traded, in prices times shares.</p>"
     )
@@ -194,7 +194,7 @@ def _members(orders: pandas.DataFrame) -> Part:
     found["member"] = found["member"].where(found["member"] != "", "not recorded")
     caption = f"{counted(len(found), 'member')}: shares entered, bought and sold"
     counts = ("orders", "entered", "bought", "sold")
-    return "Members", told + html_table(found, caption, "members", counts)
+    return "Members", note + html_table(found, caption, "members", counts)
 
 
 def _orders(orders: pandas.DataFrame, rules: Rules) -> Part:

@@ -25,7 +25,7 @@ time is, `price` its limit (None is a market order's), `open` its open shares be
 `recorded` and `lawful` the shares that were executed of it (`<NA>` where nothing was recorded).
 """
 AROUND = 5
-"""How many orders are shown before and behind those that a finding is of."""
+"""How many orders are shown before and after those that a finding is of."""
 
 
 def recorded_fills(judged: Judged, keys: dict[str, str]) -> dict[str, int]:

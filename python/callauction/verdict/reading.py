@@ -54,7 +54,7 @@ class Reading:
     order is a fault.
     """
     quantity: Literal["open", "total"] = "open"
-    """What the quantity of a replace is: open behind it, or with what was executed before."""
+    """What the quantity of a replace is: open after it, or with what was executed before."""
     sort: bool = False
     """Whether rows are sorted by time, then by sequence, then as they come."""
     ignore: Collection[str] = ()

@@ -12,11 +12,12 @@ from decimal import Decimal
 
 import pandas
 
+from callauction.limits import MOST_CALLS, MOST_OPEN, MOST_TICKS
 from callauction.program import Day
 from callauction.tables import BOOK, table_of
-from callauction.verdict.events import AUCTIONS, Cancel, New, Replace
+from callauction.verdict.events import Cancel, New, Replace
+from callauction.words import AUCTIONS
 
-MOST_OPEN, MOST_CALLS, MOST_TICKS = 65_536, 1_048_576, 65_536
 MEMBER, OPERATOR = 1, 0
 """All orders are one member's: whose an order is decides no price and no fill."""
 GONE = -1
@@ -275,7 +276,7 @@ class _Writing:
         self._add(f"{fields},{peak},{order.restriction}", event, order)
 
     def write(self, event: OrderEvent, order: OpenOrder) -> None:
-        """Writes an event of an order, which is given as it is behind the event."""
+        """Writes an event of an order, which is given as it is after the event."""
         match event:
             case New():
                 self.enter(order, event)
@@ -297,7 +298,7 @@ class _Writing:
     def content(self, asks: bool = False) -> bytes:
         """The journal: the auctions before this one pass over an empty book, then come the lines
         and the uncross, and questions for each trade that there may be. With `asks` the indicative
-        price is asked for behind each line, and nothing is uncrossed.
+        price is asked for after each line, and nothing is uncrossed.
         """
         phase, ticks = self.phase, self.ticks
         span = ""
@@ -368,7 +369,7 @@ def _written(
         writing.enter(dataclasses.replace(order, peak=peak), None)
     done = executed if total_quantity else {}
     for event in events:
-        following = behind(event, writing.open, done)
+        following = order_after(event, writing.open, done)
         if following is None:
             writing.closed.append(event)
         else:
@@ -376,10 +377,10 @@ def _written(
     return writing
 
 
-def behind(
+def order_after(
     event: OrderEvent, open_orders: dict[str, OpenOrder], executed: dict[str, int]
 ) -> OpenOrder | None:
-    """An event's order as it is behind the event, with the quantity GONE where it isn't open any
+    """An event's order as it is after the event, with the quantity GONE where it isn't open any
     more. None where no such order is open.
     """
     if isinstance(event, New):
@@ -458,7 +459,7 @@ def _result(text: str, trades: Sequence[str], keys: dict[int, str], writing: _Wr
 
 @dataclasses.dataclass(frozen=True, slots=True)
 class Indicated:
-    """What would have been the result behind an event: price, volume and surplus."""
+    """What would have been the result after an event: price, volume and surplus."""
 
     price: Decimal | None
     volume: int
@@ -469,7 +470,7 @@ def indicated(
     replayed: Replay, executed: dict[str, int], total: bool
 ) -> list[tuple[OrderEvent, Indicated]]:
     """The events of a phase that aren't refused, each with the result that there would have been
-    behind it. Raises ProgramError.
+    after it. Raises ProgramError.
     """
     phase = replayed.phase
     refused = {id(each.event) for each in replayed.refused}

@@ -12,7 +12,7 @@ let terms = [], chosen = "", connection = null, changing = null, name = "";
 const term = () => terms.find((it) => it.name === chosen);
 const shown = (kind) => said[kind][chosen];
 
-function tell(words, isBad = false) {
+function say(words, isBad = false) {
   find("news").textContent = words;
   find("news").className = isBad ? "bad" : "";
 }
@@ -90,8 +90,8 @@ function take(message) {
     chosen ||= terms[0].name;
     find("title").textContent = document.title = message.title;
     find("instrument").replaceChildren(...terms.map((it) => new Option(it.title, it.name, false, it.name === chosen)));
-    tell(text("connected"));
-  } else if (type === "away") tell(text("away"), true);
+    say(text("connected"));
+  } else if (type === "away") say(text("away"), true);
   else if (type === "answer") takeAnswer(message);
   else if (type === "error") takeError(message);
   else if (type === "state") said.states[message.instrument] = message;
@@ -101,12 +101,12 @@ function take(message) {
 
 function takeAnswer({ reply }) {
   const [word, , refusal] = reply.split(" ");
-  if (word === "refused") tell(text(refusal), true);
-  else tell(text(reply === "changed moved" ? "changed_moved" : word));
+  if (word === "refused") say(text(refusal), true);
+  else say(text(reply === "changed moved" ? "changed_moved" : word));
 }
 
 function takeError({ error }) {
-  tell(errorText(error), true);
+  say(errorText(error), true);
   if (error === "bad_token") leave();
 }
 
@@ -132,7 +132,7 @@ function sendOrder(event) {
   const quantity = Number(find("quantity").value.trim());
   const limit = find("market").checked ? "market" : find("price").value.trim().replace(",", ".");
   if (!Number.isInteger(quantity) || quantity < 0 || !limit) {
-    tell(text("e_bad_message"), true);
+    say(text("e_bad_message"), true);
     return;
   }
   const order = { instrument: chosen, quantity, price: limit };
@@ -152,7 +152,7 @@ async function join(event) {
     localStorage.setItem(KEPT, found.token);
     begin(found.token);
   } catch (fault) {
-    tell(fault.code ? errorText(fault.code) : text("away"), true);
+    say(fault.code ? errorText(fault.code) : text("away"), true);
   }
 }
 

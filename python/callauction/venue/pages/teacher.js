@@ -11,7 +11,7 @@ let terms = [], chosen = "", members = [], codes = {}, token = "";
 
 const term = () => terms.find((it) => it.name === chosen);
 
-function tell(words, isBad = false) {
+function say(words, isBad = false) {
   find("news").textContent = words;
   find("news").className = isBad ? "bad" : "";
 }
@@ -73,9 +73,9 @@ function take(message) {
     find("title").textContent = document.title = message.title;
     find("instrument").replaceChildren(...terms.map((it) => new Option(it.title, it.name, false, it.name === chosen)));
     [find("low").value, find("high").value] = [term().low, term().high];
-    tell(text("connected"));
-  } else if (type === "away") tell(text("away"), true);
-  else if (type === "error") tell(errorText(message.error), true);
+    say(text("connected"));
+  } else if (type === "away") say(text("away"), true);
+  else if (type === "error") say(errorText(message.error), true);
   else if (type === "members") ({ members, codes } = message);
   else if (type === "beamer") find("showing").querySelector(`[value=${message.shows}]`).checked = true;
   else if (type in said) said[type][message.instrument] = message;
@@ -85,16 +85,16 @@ function take(message) {
 async function act(body) {
   try {
     await ask("/api/operator", token, { instrument: chosen, ...body });
-    tell(text("done"));
+    say(text("done"));
   } catch (fault) {
-    tell(fault.code ? errorText(fault.code) : text("away"), true);
+    say(fault.code ? errorText(fault.code) : text("away"), true);
   }
 }
 
 async function download(kind) {
   const answer = await fetch(`/api/download/${kind}/${chosen}`, { headers: { Authorization: `Bearer ${token}` } });
   if (!answer.ok) {
-    tell((await answer.json()).text, true);
+    say((await answer.json()).text, true);
     return;
   }
   const link = document.createElement("a");

@@ -1,34 +1,10 @@
-"""What is in a cell of a frame; prices as exact decimals and as ticks are those of prices.py."""
+"""What is in a cell of a frame."""
 from decimal import Decimal
 from typing import Any
 
 import pandas
 
-from callauction.prices import (
-    MOST_NUMBER,
-    MOST_TICK,
-    MOST_TICKS,
-    BadCellError,
-    Grid,
-    decimal_of,
-    grid_of,
-    tick_size_of,
-    whole_of,
-)
-
-__all__ = [
-    "MOST_NUMBER",
-    "MOST_TICK",
-    "MOST_TICKS",
-    "BadCellError",
-    "FrameError",
-    "Grid",
-    "cell_of",
-    "decimal_of",
-    "grid_of",
-    "tick_size_of",
-    "whole_of",
-]
+from callauction.prices import BadCellError
 
 
 class FrameError(ValueError):
@@ -42,7 +18,7 @@ class FrameError(ValueError):
 
 
 def _shown(value: object) -> str:
-    """A value as an error tells it: nothing for a missing one, and no float for a whole number."""
+    """A value as an error shows it: nothing for a missing one, and no float for a whole number."""
     if isinstance(value, Decimal):
         return f"{value} "
     if pandas.api.types.is_scalar(value) and pandas.isna(value):
