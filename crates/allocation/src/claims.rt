@@ -82,6 +82,37 @@ fn consider(claims: &mut Vec<Claim>, claimants: Claimants, found: Option<Stamped
     }
 }
 
+// Adds the claim of the order at a place to those of its side, if there is one and it takes part.
+fn consider_side(
+    bids: &mut Vec<Claim>,
+    asks: &mut Vec<Claim>,
+    bidders: Claimants,
+    askers: Claimants,
+    found: Option<Stamped>,
+)
+    requires bidders { bidders.side ≡ Bid }
+    requires askers { askers.side ≡ Ask }
+    requires bids_room { vec_len bids.old + length (option_to_list found) ≤ vec_capacity bids.old }
+    requires asks_room { vec_len asks.old + length (option_to_list found) ≤ vec_capacity asks.old }
+    requires stamp { IfSome found (λ s. s.stamp < 2 ^ 31) }
+    requires quantity { IfSome found (λ s. s.order.quantity < 2 ^ 32) }
+    ensures bids { bids.new.items ≡ bids.old.items ++ claims_of bidders (option_to_list found) }
+    ensures asks { asks.new.items ≡ asks.old.items ++ claims_of askers (option_to_list found) }
+    ensures narrow { AreNarrow (option_to_list found) }
+    ensures few_bids { vec_len bids.new ≤ vec_len bids.old + length (option_to_list found) }
+    ensures few_asks { vec_len asks.new ≤ vec_len asks.old + length (option_to_list found) }
+    ensures bids_capacity { vec_capacity bids.new ≡ vec_capacity bids.old }
+    ensures asks_capacity { vec_capacity asks.new ≡ vec_capacity asks.old }
+{
+    let Some(stamped) = found else {
+        return;
+    };
+    match stamped.order.side {
+        Side::Bid => consider(bids, bidders, found),
+        Side::Ask => consider(asks, askers, found),
+    }
+}
+
 // Puts the claims in rank order. One look at each tells whether they are already.
 fn put_in_order(claims: &mut Vec<Claim>)
     ensures in_order { AreInOrder claims.new.items }
@@ -120,9 +151,7 @@ pub(crate) fn rank_sides(
     bids.clear();
     asks.clear();
     for place in 0..orders.places() {
-        let found = orders.at(place);
-        consider(bids, bidders, found);
-        consider(asks, askers, found);
+        consider_side(bids, asks, bidders, askers, orders.at(place));
     }
     put_in_order(bids);
     put_in_order(asks);

@@ -15,10 +15,15 @@ use Rattle.auction_terms.specs.Ladder.{LadderView}
 use Rattle.auction.specs.OpenOrders.{IsOpenIn}
 use Rattle.auction.specs.LadderBook.{LadderBookView, ladder_book_view}
 
--- by a look-up
-pub found_from : (id : ℕ) (line : List Stamped) (got : Option Order) (o : Order)
-    → got ≡ option_map (λ s. s.order) (open_order line id) → got ≡ Some o → order_with id (orders_of line) ≡ Some o
-found_from id line got o is some = sym (is ∙ order_of_open id line) ∙ some
+-- the line has it too
+pub some_open : (id : ℕ) (line : List Stamped) (o : Order) → order_with id (orders_of line) ≡ Some o
+    → IsSome (open_order line id)
+some_open id line o found = grind (arith, common_steps, (order_of_open id line))
+
+-- as it was given
+pub found_given : (id : ℕ) (line : List Stamped) (given o : Order) → order_with id (orders_of line) ≡ Some o
+    → IfSome (open_order line id) (λ s. given ≡ s.order) → order_with id (orders_of line) ≡ Some given
+found_given id line given o found is = grind (arith, common_steps, (order_of_open id line))
 
 -- an open order that is seen so
 pub seen_open : (orders : Orders) (ladder : LadderView) (kind : AuctionKind) (now : LadderBookView) (o : Order)

@@ -13,11 +13,12 @@ use Rattle.allocation.proofs.claims.rank_sides.Goals as goal
 abbrev claimants : Side → AuctionKind → ℕ → Claimants
 claimants side kind price = record { side = side; kind = kind; price = price }
 
-pub consider-requires-clause-room : goal.consider-requires-clause-room
-consider-requires-clause-room c = grind (arith, common_steps, present_more, length-append, present_few, length-walk)
+pub consider_side-requires-clause-bids_room : goal.consider_side-requires-clause-bids_room
+consider_side-requires-clause-bids_room c =
+    grind (arith, common_steps, present_more, length-append, present_few, length-walk)
 
-pub consider-requires-in-loop-place-clause-room : goal.consider-requires-in-loop-place-clause-room
-consider-requires-in-loop-place-clause-room c =
+pub consider_side-requires-clause-asks_room : goal.consider_side-requires-clause-asks_room
+consider_side-requires-clause-asks_room c =
     grind (arith, common_steps, present_more, length-append, present_few, length-walk)
 
 pub loop-place-preserved : goal.loop-place-preserved

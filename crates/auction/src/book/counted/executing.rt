@@ -18,8 +18,7 @@ impl LadderBook {
         requires { IsExecutable fill self.old.book.orders }
         ensures { self.new.book ≡ record self.old.book { orders = book_after_fill fill self.old.book.orders } }
     {
-        let order = self.orders.get(fill.id).unwrap();
-        self.orders.reduce(fill.id, fill.quantity);
+        let order = self.orders.reduce(fill.id, fill.quantity);
         take(&mut self.ladder, self.kind, order, fill.quantity);
     }
 
