@@ -113,6 +113,9 @@ def test_a_forbidden_word(tmp_path: pathlib.Path, text: str) -> None:
     ("library/a.c", "/* It stands\n * there. */\n"),
     ("library/a.hpp", "int tells = 0;  // it tells of it\n"),
     ("library/build", "#!/usr/bin/env bash\ntells=0  # it tells of it\n"),
+    ("crates/terms/src/a.rt", "/// It takes so\n/// many.\npub fn tells() {}\n"),
+    ("crates/terms/src/b.rt", "const A: u8 = b'\"'; // It tells of it.\nconst B: &str = \"\";\n"),
+    ("crates/terms/src/tests/c.rt", 'const A: &str = "// it stands"; // It tells of it.\n'),
 ])
 def test_a_forbidden_word_of_a_comment(tmp_path: pathlib.Path, name: str, text: str) -> None:
     assert len(faults_of(comments.forbidden_comments, planted(tmp_path, **{name: text}))) == 1

@@ -1,5 +1,5 @@
-"""The comments of the repository's scripts and libraries, and the rule for their words: the crates
-aside, they have no word that documents.FORBIDDEN lists.
+"""The comments of the repository's scripts, libraries and sources, and the rule for their words:
+definitions and proofs aside, they have no word that documents.FORBIDDEN lists.
 """
 import ast
 import io
@@ -13,6 +13,16 @@ from checks.texts.tree import OTHERS, Tree
 
 OF_C = re.compile(r"/\*.*?\*/|(?<!:)//[^\n]*", re.DOTALL)
 OF_SHELLS = re.compile(r"(?:^|(?<=\s))#[^\n]*", re.MULTILINE)
+OF_RATTLE = re.compile(
+    r"""
+    "(?:[^"\\]|\\.)*"  # a text, or a byte string
+    | '(?:[^'\\\n]|\\[^\n])'  # a character
+    | (?<=\n)[ ]*//[^\n]*(?:\n[ ]*//[^\n]*)*  # a block of comments, each alone on its line
+    | //[^\n]*  # a comment after code
+    """,
+    re.DOTALL | re.VERBOSE,
+)
+MARK = re.compile(r"^[ ]*//[/!]?", re.MULTILINE)
 
 
 def of_python(text: str) -> Iterator[tuple[int, str]]:
@@ -31,18 +41,30 @@ def of_others(text: str, comment: re.Pattern[str]) -> Iterator[tuple[int, str]]:
         yield text.count("\n", 0, found.start()) + 1, found[0]
 
 
+def of_rattle(text: str) -> Iterator[tuple[int, str]]:
+    """The comments of a text in Rattle without their marks, those on lines that follow each other
+    as one, with their lines.
+    """
+    text = "\n" + text
+    for found in OF_RATTLE.finditer(text):
+        if found[0].lstrip().startswith("//"):
+            yield text.count("\n", 0, found.start()), MARK.sub("", found[0])
+
+
 def comments(tree: Tree, file: pathlib.Path) -> Iterator[tuple[int, str]]:
     """The comments and docstrings of a file, with the lines where they begin."""
     text = tree.text(file)
     if file.suffix in OTHERS:
         return of_others(text, OF_C)
+    if file.suffix == ".rt":
+        return of_rattle(text)
     return of_python(text) if file in tree.python else of_others(text, OF_SHELLS)
 
 
 def forbidden_comments(tree: Tree) -> Iterator[str]:
     """Comments and docstrings with words of FORBIDDEN."""
-    for file in [*tree.python, *tree.others]:
-        if not any(faults_of_words("", " ".join(tree.text(file).split()))):
+    for file in [*tree.python, *tree.others, *tree.sources]:
+        if not any(faults_of_words("", " ".join(MARK.sub("", tree.text(file)).split()))):
             continue  # most files: to parse each would take seconds
         for place, text in comments(tree, file):
             words = " ".join(SPAN.sub("``", text).split())

@@ -9,7 +9,7 @@ ghost use Rattle.allocation.specs.Claim.{claims_of, claimed_by, orders_in_auctio
 use auction_terms::{AuctionKind, Limit, Side, Stamped};
 use order_book::Orders;
 
-/// What an eligible order asks for, in shares, behind what ranks it.
+/// What an eligible order asks for, in shares, after what ranks it.
 #[derive(Clone, Copy)]
 pub(crate) struct Claim {
     /// Its place on its side: the lesser number goes first.
@@ -113,7 +113,7 @@ fn consider_side(
     }
 }
 
-// Puts the claims in rank order. One look at each tells whether they are already.
+// Puts the claims in rank order. One look at each shows whether they are already.
 fn put_in_order(claims: &mut Vec<Claim>)
     ensures in_order { AreInOrder claims.new.items }
     ensures permutation { IsPermutation claims.old.items claims.new.items }

@@ -10,7 +10,7 @@ use auction_terms::{Order, Side, Stamped};
 use order_book::Orders;
 use std::alloc::{AllocError, Global};
 
-/// An open order, behind what ranks it.
+/// An open order, after what ranks it.
 #[derive(Clone, Copy)]
 pub struct RankedOrder {
     /// Its place on its side: the lesser number goes first.
@@ -62,7 +62,7 @@ fn consider(
 }
 
 /// Lists the open orders of a side in priority, of all members or of one: also those that wait for another auction. The
-/// only error is want of memory.
+/// only error is that memory is refused.
 pub fn in_priority(
     alloc: Global,
     orders: &Orders,

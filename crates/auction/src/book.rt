@@ -64,7 +64,8 @@ fn append(tape: &mut Vec<Trade>, trades: &[Trade])
 }
 
 impl Book {
-    /// No orders, with room for all that the config allows, in the opening auction. Only want of memory makes it fail.
+    /// No orders, with room for all that the config allows, in the opening auction. It fails only where memory is
+    /// refused.
     pub(crate) fn open(alloc: Global, config: Config) -> Result<Book, AllocError>
         requires { open_fault config ≡ None }
         ensures { IfOk result (λ b. b ≡ no_orders config) }

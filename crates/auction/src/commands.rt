@@ -89,7 +89,7 @@ fn is_bad_limit(config: Config, limit: Limit) -> bool
 
 impl DayState {
     /// The day at its opening: no orders, no trades, the reference of the config, with room for all that the day can
-    /// bring. Only want of memory makes it fail.
+    /// bring. It fails only where memory is refused.
     pub(crate) fn open(alloc: Global, config: Config) -> Result<DayState, AllocError>
         requires { open_fault config ≡ None }
         ensures { IfOk result (λ d. d ≡ opening config) }

@@ -15,8 +15,8 @@ impl Auction {
         self.calls = 0;
     }
 
-    /// An auction of its own that stands where this one does: what is done to one isn't seen in the other. Only want of
-    /// memory makes it fail.
+    /// An auction of its own, a copy of this one as it is now: what is done to one isn't seen in the other. It fails
+    /// only where memory is refused.
     pub fn copied(&self, alloc: Global) -> Result<Auction, AllocError>
         ensures { IfOk result (λ copy. copy ≡ self.now) }
     {

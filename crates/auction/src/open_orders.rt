@@ -12,7 +12,7 @@ impl Auction {
     /// place in time first. Orders that wait for another auction are among them, also after the day. Each comes with
     /// the shares that it shows and those that the trades of the day executed of it.
     ///
-    /// The only error is want of memory.
+    /// The only error is that memory is refused.
     pub fn open_orders(
         &self,
         alloc: Global,
@@ -26,7 +26,7 @@ impl Auction {
     /// The orders that an uncross now would take out because they are for its auction alone, in priority, with what
     /// would be left of them then: none after the day, and where the uncross would be interrupted.
     ///
-    /// The only error is want of memory.
+    /// The only error is that memory is refused.
     pub fn expiring_orders(&self, alloc: Global) -> Result<Vec<OpenOrder>, AllocError>
         ensures { IfOk result (λ listed. listed.items ≡ orders_expiring self.now.config self.now.state) }
     {

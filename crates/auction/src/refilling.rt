@@ -16,8 +16,8 @@ impl Auction {
             && mine.max_calls == theirs.max_calls
     }
 
-    /// Makes another auction of the same limits stand where this one does, whatever it was: config, orders, trades and
-    /// calls are the same then. What is done to one isn't seen in the other. It takes no memory.
+    /// Copies this auction into another of the same limits, whatever that was: config, orders, trades and calls are the
+    /// same then. What is done to one isn't seen in the other. It takes no memory.
     pub fn copy_into(&self, other: &mut Auction)
         requires { limits.has_same_limits self.now.config other.old.config ≡ true }
         ensures { other.new ≡ self.now }

@@ -9,7 +9,7 @@ use crate::structs::{AuctionCommand, AuctionReply};
 use auction::Auction;
 
 /// Applies the command, writes the reply, and answers `DONE`. Else it changes nothing, and answers `NO_COMMAND` for a
-/// struct that stands for none, `FULL` where as many were applied as may be.
+/// struct that is none, `FULL` where as many were applied as may be.
 pub(crate) fn apply_one(
     auction: &mut Auction,
     command: &AuctionCommand,

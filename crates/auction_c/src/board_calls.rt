@@ -31,8 +31,8 @@ use std::alloc::Global;
 /// Opens a board with as many members as there are handles: each handle then holds the member with its place's number,
 /// from 0.
 ///
-/// Where a handle holds a member already it answers `IN_USE`. Else it answers `NO_CONFIG` for a struct that stands for
-/// no config, then `BAD_CAPACITY` for more than 255 handles, then `BAD_BOUNDS`, `BAD_REFERENCE` or `BAD_CAPACITY`, the
+/// Where a handle holds a member already it answers `IN_USE`. Else it answers `NO_CONFIG` for a struct that is no
+/// config, then `BAD_CAPACITY` for more than 255 handles, then `BAD_BOUNDS`, `BAD_REFERENCE` or `BAD_CAPACITY`, the
 /// first that holds, and `NO_MEMORY` only where none does.
 #[unsafe(no_mangle)]
 pub extern "C" fn callauction_board_open(
@@ -64,8 +64,8 @@ pub extern "C" fn callauction_board_open(
 
 /// Calls a command of the handle's member on its board, and writes its receipt. The struct's `member` isn't read.
 ///
-/// It answers `NO_COMMAND` for a struct that stands for no command, `BUSY` where another call had the board at each
-/// try, `CLOSED`, `FULL`, `BEHIND` or `OVERTAKEN`.
+/// It answers `NO_COMMAND` for a struct that is no command, `BUSY` where another call had the board at each try,
+/// `CLOSED`, `FULL`, `BEHIND` or `OVERTAKEN`.
 #[unsafe(no_mangle)]
 pub extern "C" fn callauction_board_call(
     member: &mut AuctionMember,

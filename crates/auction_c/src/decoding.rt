@@ -1,11 +1,11 @@
-//! What the structs that come from C stand for.
+//! What the structs that come from C mean.
 ghost use Rattle.std.specs.Prelude.{◌≡◌};
 ghost use Rattle.auction_c.specs.Decoding as decoded_as;
 
 use crate::structs::{AuctionCommand, AuctionConfig};
 use auction_terms::{Command, Config, Limit, Restriction, Side};
 
-/// The number that stands for all members.
+/// The number that means all members.
 pub const ALL_MEMBERS: u32 = 256;
 
 fn range_in(flag: u32, range: u32) -> Option<Option<u32>>
@@ -20,7 +20,7 @@ fn range_in(flag: u32, range: u32) -> Option<Option<u32>>
     }
 }
 
-/// The config that a struct stands for, if it stands for one.
+/// The config that a struct is, if it is one.
 pub(crate) fn config_in(config: &AuctionConfig) -> Option<Config>
     ensures { result ≡ decoded_as.config_in config.now }
 {
@@ -79,7 +79,7 @@ fn peak_in(flag: u8, peak: u64) -> Option<Option<u64>>
     }
 }
 
-/// Whose orders a number stands for: those of a member, or of all.
+/// Whose orders a number means: those of a member, or of all.
 pub(crate) fn decoded_member(member: u32) -> Option<Option<u8>>
     ensures { result ≡ decoded_as.decoded_member member }
 {
@@ -92,7 +92,7 @@ pub(crate) fn decoded_member(member: u32) -> Option<Option<u8>>
     }
 }
 
-/// The command that a struct stands for, if it stands for one.
+/// The command that a struct is, if it is one.
 pub(crate) fn command_in(command: &AuctionCommand) -> Option<Command>
     ensures { result ≡ decoded_as.command_in command.now }
 {

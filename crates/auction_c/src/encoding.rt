@@ -205,7 +205,7 @@ pub(crate) fn trade_out(trade: Trade) -> AuctionTrade
     }
 }
 
-/// A config as C reads it. It stands for this config.
+/// A config as C reads it. It reads back as this config.
 pub(crate) fn config_out(config: Config) -> AuctionConfig
     ensures value { result ≡ encoded_as.config_out config }
     ensures reads_back { decoded_as.config_in result ≡ Some config }

@@ -44,7 +44,7 @@ fn command_tagged(member: u8, tag: u8, id: u32) -> AuctionCommand
     }
 }
 
-/// A member's command as C reads it. It stands for this command.
+/// A member's command as C reads it. It reads back as this command.
 pub(crate) fn command_out(member: u8, command: Command) -> AuctionCommand
     ensures member { result.member ≡ member }
     ensures reads_back { decoded_as.command_in result ≡ Some command }
@@ -90,7 +90,7 @@ pub(crate) fn command_out(member: u8, command: Command) -> AuctionCommand
     }
 }
 
-/// An entry of a history as C reads it. It stands for this entry.
+/// An entry of a history as C reads it. It reads back as this entry.
 pub(crate) fn entry_out(entry: Entry) -> AuctionEntry
     ensures { IsEntry entry result }
 {

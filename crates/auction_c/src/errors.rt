@@ -29,7 +29,7 @@ pub const IN_USE: u32 = 5;
 /// The handle holds no auction.
 pub const NO_AUCTION: u32 = 6;
 
-/// The struct stands for no command.
+/// The struct is no command.
 pub const NO_COMMAND: u32 = 7;
 
 /// As many commands were applied or recorded as may be.
@@ -38,7 +38,7 @@ pub const FULL: u32 = 8;
 /// An array has another length than the call wants.
 pub const BAD_LENGTH: u32 = 9;
 
-/// The struct stands for no config.
+/// The struct is no config.
 pub const NO_CONFIG: u32 = 10;
 
 /// Another call has the board: try again.

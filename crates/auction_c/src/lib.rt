@@ -54,9 +54,9 @@ pub use structs::{
 
 /// Opens an auction, which the handle then holds: no orders, no trades, no calls, the reference of the config.
 ///
-/// Where the handle holds one already it answers `IN_USE`. Else it answers `NO_CONFIG` for a struct that stands for no
-/// config, then the first fault of the config, `BAD_BOUNDS`, `BAD_REFERENCE` or `BAD_CAPACITY`, and `NO_MEMORY` only
-/// where it has none.
+/// Where the handle holds one already it answers `IN_USE`. Else it answers `NO_CONFIG` for a struct that is no config,
+/// then the first fault of the config, `BAD_BOUNDS`, `BAD_REFERENCE` or `BAD_CAPACITY`, and `NO_MEMORY` only where it
+/// has none.
 #[unsafe(no_mangle)]
 pub extern "C" fn callauction_open(
     alloc: Global,
@@ -87,8 +87,8 @@ pub extern "C" fn callauction_open(
 
 /// Applies a command and writes its reply.
 ///
-/// It answers `NO_COMMAND` for a struct that stands for no command, and `FULL` where as many were applied as may be. A
-/// command that the auction refuses is no error: its reply says so.
+/// It answers `NO_COMMAND` for a struct that is no command, and `FULL` where as many were applied as may be. A command
+/// that the auction refuses is no error: its reply says so.
 #[unsafe(no_mangle)]
 pub extern "C" fn callauction_apply(
     handle: &mut AuctionHandle,
@@ -253,7 +253,7 @@ pub extern "C" fn callauction_reset(handle: &mut AuctionHandle) -> u32
     DONE
 }
 
-/// Makes the other handle hold an auction of its own that stands where this one does. Where it holds an auction of the
+/// Makes the other handle hold an auction of its own, a copy of this one as it is now. Where it holds an auction of the
 /// same bounds and room already, that one is written over, and no memory is taken.
 ///
 /// Where the other handle holds an auction of other bounds or room it answers `IN_USE`; where it holds none,

@@ -1,7 +1,7 @@
-//! The views of an auction: records that ask what stands, and are no calls.
+//! The views of an auction: records that ask what the state is, and are no calls.
 //!
-//! `is_view` says whether a record is a view, `view_of` reads it, and `put_view` puts its text behind a text that is
-//! kept. A view changes nothing.
+//! `is_view` says whether a record is a view, `view_of` reads it, and `put_view` appends its text to a kept text. A
+//! view changes nothing.
 #![tactic(auto)]
 
 mod ladder;

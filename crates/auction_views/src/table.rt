@@ -26,7 +26,7 @@ fn put_heading(text: &mut KeptText, name: &str, lines: usize) -> Result<(), Allo
     Ok(())
 }
 
-/// Puts the line of a limit behind a text.
+/// Appends the line of a limit to a text.
 fn put_row(text: &mut KeptText, row: LadderRow) -> Result<(), AllocError>
     ensures { OnOk result (kept_text text.new ≡ kept_text text.old ++ ladder_line row) }
 {
@@ -44,7 +44,7 @@ fn put_rows(text: &mut KeptText, rows: &[LadderRow]) -> Result<(), AllocError>
     Ok(())
 }
 
-/// Puts the table of a ladder behind a text.
+/// Appends the table of a ladder to a text.
 pub(crate) fn put_ladder(text: &mut KeptText, rows: &[LadderRow]) -> Result<(), AllocError>
     ensures { OnOk result (kept_text text.new
         ≡ kept_text text.old ++ table_text (codes "ladder") (map ladder_line rows.now)) }
@@ -72,7 +72,7 @@ fn put_trade_lines(text: &mut KeptText, tape: &[Trade], from: usize) -> Result<(
     Ok(())
 }
 
-/// Puts the table of the trades behind so many of the first ones behind a text.
+/// Appends the table of the trades after the first `before` ones to a text.
 pub(crate) fn put_trades(text: &mut KeptText, tape: &[Trade], before: u32) -> Result<(), AllocError>
     ensures { OnOk result (kept_text text.new
         ≡ kept_text text.old ++ table_text (codes "trades") (trade_lines before (drop before tape.now))) }
@@ -99,7 +99,7 @@ fn put_order_lines(text: &mut KeptText, listed: &[OpenOrder]) -> Result<(), Allo
     Ok(())
 }
 
-/// Puts the table of open orders behind a text.
+/// Appends the table of open orders to a text.
 pub(crate) fn put_orders(text: &mut KeptText, listed: &[OpenOrder]) -> Result<(), AllocError>
     ensures { OnOk result (kept_text text.new
         ≡ kept_text text.old ++ table_text (codes "orders") (map order_line listed.now)) }

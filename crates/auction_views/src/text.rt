@@ -75,8 +75,7 @@ fn put_day(text: &mut KeptText, auction: &Auction) -> Result<(), AllocError>
     Ok(())
 }
 
-/// Puts the text of a view behind a text that is kept, and leaves the auction as it was. The error is that memory is
-/// refused.
+/// Appends the text of a view to a kept text, and leaves the auction as it was. The error is that memory is refused.
 ///
 /// - `Display`: `show price 200 volume 300 surplus 200 bid`, or `show no price bid 199 ask -`, also after the day.
 /// - `Day`: `show day opening reference 200 calls 5 left 65531`; after the day `over` in place of the auction.

@@ -9,7 +9,7 @@ ghost use Rattle.auction_views.specs.View.{trades_before, view_about, view_of};
 use csv::ByteRecord;
 use order_file::{RecordFault, count_within, number_of};
 
-/// What is asked for. A view shows it as it stands.
+/// What is asked for. A view shows it as it is.
 #[derive(Clone, Copy, Debug, PartialEq, Eq)]
 pub enum View {
     /// The indicative price, or the best bid and ask.
@@ -18,7 +18,7 @@ pub enum View {
     Day,
     /// The ladder of the orders that count.
     Ladder,
-    /// The trades behind so many of the day's first ones.
+    /// The trades after the day's first `before` ones.
     Trades { before: u32 },
     /// The open orders, or those of one member.
     Orders { member: Option<u8> },
@@ -119,7 +119,7 @@ fn asked_member_at(members: u8, fields: &ByteRecord) -> Result<Option<u8>, Recor
     }
 }
 
-/// The view of a subject: the number of fields is looked at first, then the field behind the word.
+/// The view of a subject: the number of fields is looked at first, then the field after the word.
 #[tactic(auto, unfolding(crate::specs::View::view_about))]
 fn view_about(subject: Subject, fields: &ByteRecord, members: u8) -> Result<View, RecordFault>
     ensures { result ≡ view_about members subject (fields_of fields.now) }

@@ -8,7 +8,7 @@ use auction::{Auction, OpenFault};
 use auction_terms::{Config, MAX_MEMBERS};
 use std::alloc::Global;
 
-// Whether a board may have so many members.
+// Whether a board may have this number of members.
 fn fits(members: u8) -> bool
     ensures { result ≡ not (has_bad_members members) }
 {

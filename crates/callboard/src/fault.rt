@@ -17,8 +17,7 @@ use std::fmt::{Display, Formatter};
 pub enum Fault {
     /// The input has a fault, of which this is the first.
     File(FileFault),
-    /// No auction or board can be opened with this config and so many members, or the board's day can't
-    /// begin.
+    /// No auction or board can be opened with this config and number of members, or the board's day can't begin.
     Open(OpenFault),
     /// Memory was refused to the scripts, to the members' calls, to the audit or to a listing.
     NoMemory,
@@ -105,9 +104,8 @@ fn open_status(fault: OpenFault) -> u8
 }
 
 impl Fault {
-    /// The status that the program ends with: 1 for a bad file, 2 for bounds, a reference, limits or
-    /// a number of members that no board has, 3 for want of memory, a floor that wasn't closed, and a
-    /// read or a write that failed.
+    /// The status that the program ends with: 1 for a bad file, 2 for bounds, a reference, limits or a number of
+    /// members that no board has, 3 for refused memory, a floor that wasn't closed, and a read or a write that failed.
     pub fn status(self) -> u8
         ensures { result ≡ status_of self }
     {

@@ -38,7 +38,7 @@ fn entry_of(call: &Call, reply: &Reply) -> Entry
     }
 }
 
-/// Puts an entry behind the others.
+/// Appends an entry to the others.
 fn keep_whole(entries: &mut Vec<Entry>, entry: Entry) -> Result<(), AllocError>
     ensures { OnOk result (entries.new.items ≡ entries.old.items ++ entry ∷ []) }
 {
@@ -99,7 +99,8 @@ impl Kept {
         }
     }
 
-    /// Keeps what stands at the end of the input, as all its calls have come. The error is that memory is refused.
+    /// Keeps what the auction holds at the input's end, as all its calls have come. The error is that memory is
+    /// refused.
     pub fn close(&mut self, alloc: Global, auction: &mut Auction) -> Result<(), AllocError>
         ensures form { form_kept self.new ≡ form_kept self.old }
         ensures kept { (entries : List Entry) → KeepsEntries self.old auction.old entries

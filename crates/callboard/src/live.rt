@@ -33,7 +33,7 @@ fn as_session(ended: Result<Ending, LiveFault>) -> Result<Ending, SessionFault>
 /// or the fault of a bad one, goes to `out`. The last `reserve` calls of the day are member 0's.
 ///
 /// At the end all that was read is answered; where a write failed or memory was refused, all but the last 65,536 bytes
-/// or less, of which a beginning is. That a device is read on only then, `live_session` promises.
+/// or less, of which a beginning is. `live_session` promises that a device is read on only then.
 pub fn run_session<'a, R: Source, O: Sink>(
     alloc: Global,
     reader: &'a mut R,

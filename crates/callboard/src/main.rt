@@ -82,8 +82,8 @@ impl OpensJournal<Tracked<Opened>> for Files<'_> {
 }
 
 /// Runs the program on the process's words and its ends, each of which is waited for, and counts its failures in a
-/// ledger of its own. `rt` stands for the same runtime where the program waits and starts threads. The status is one
-/// that `serve` answers; no clause says of which words and ends, since none says what a process is given.
+/// ledger of its own. `rt` is the same runtime where the program waits and starts threads. The status is one that
+/// `serve` answers; no clause says of which words and ends, since none says what a process is given.
 fn run_program<I: Ledger, O: Ledger, E: Ledger, T: Wait + Threads + Sync>(
     host: &HostRuntime,
     rt: &T,

@@ -32,7 +32,7 @@ pub struct OrderRun {
 }
 
 /// Applies the calls of a block's records, which come after the auction's so far, and keeps their entries; or answers
-/// the first fault, which may be want of memory.
+/// the first fault, which may be that memory is refused.
 pub fn keep_block(
     alloc: Global,
     blocks: &Blocks,

@@ -67,7 +67,7 @@ fn bounds_of(day: DayHeader) -> Bounds {
     }
 }
 
-/// Writes the line of a fault of this day's config, and behind it one with what is wrong with its bounds or its
+/// Writes the line of a fault of this day's config, and after it one with what is wrong with its bounds or its
 /// reference, if anything is.
 pub(crate) fn write_open_fault<E: Sink>(
     err: &mut E,
@@ -100,7 +100,7 @@ fn write_cause<E: Sink>(alloc: Global, err: &mut E, fault: Fault, start: &[u8], 
     }
 }
 
-/// Writes the line of a fault, and behind it one with its likely cause in an input that begins so, where there is one.
+/// Writes the line of a fault, and after it one with its likely cause in an input that begins so, where there is one.
 fn write_input_fault<E: Sink>(
     alloc: Global,
     err: &mut E,
@@ -243,10 +243,9 @@ fn write_run_fault<E: Sink>(
     }
 }
 
-/// Runs the program on these words, the first being its name, and answers its status: 0 done, or the
-/// help that was asked for, 1 a bad input, 2 a bad command line or bounds, a reference or limits that no
-/// auction has, 3 want of memory, a read or a write that failed, or a floor that couldn't be closed, 4 a
-/// journal of an unlawful day.
+/// Runs the program on these words, the first being its name, and answers its status: 0 done, or the help that was
+/// asked for, 1 a bad input, 2 a bad command line or bounds, a reference or limits that no auction has, 3 refused
+/// memory, a read or a write that failed, or a floor that couldn't be closed, 4 a journal of an unlawful day.
 ///
 /// What it prints goes to `out`, the help too; a fault is one line on `err`, and for a bad command line the text of
 /// `clap`, in either case with a line more where its likely cause is known. Where the input or the command line is bad,

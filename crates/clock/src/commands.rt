@@ -64,7 +64,7 @@ pub fn fill(auction: &mut Auction) {
     }
 }
 
-/// Applies so many commands, and after each finds what is shown where that is wanted, as a board does.
+/// Applies `count` commands, and after each finds what is shown where that is wanted, as a board does.
 pub fn apply_many(auction: &mut Auction, count: u32, is_shown: bool) -> u32 {
     let mut id = 0;
     for k in 0..count {

@@ -11,13 +11,13 @@ use std::sync::atomic::Ordering::SeqCst;
 /// What a member does while it is measured.
 #[derive(Clone, Copy, Debug, PartialEq, Eq)]
 pub enum MeasuredTask {
-    /// So many calls.
+    /// This many calls.
     Call(u32),
-    /// Calls until a member that looks is done, with so many pauses of the processor after each.
+    /// Calls until a member that looks is done, with `pauses` pauses of the processor after each.
     CallOn { pauses: u32 },
-    /// So many looks.
+    /// This many looks.
     Look(u32),
-    /// So many looks at what the lock keeps.
+    /// This many looks at what the lock keeps.
     LookUnderLock(u32),
 }
 

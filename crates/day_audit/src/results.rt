@@ -1,4 +1,4 @@
-//! The results of a day: what its uncrosses came to, and where the day stands.
+//! The results of a day: what its uncrosses came to, and the auction that it is in, if any.
 
 ghost use Rattle.std.specs.Prelude.{◌≡◌, ◌≤◌, ◌+◌, ◌++◌, length, OnOk};
 ghost use Rattle.auction_terms.specs.Auxiliary.RunningAuction.{opened_auction};

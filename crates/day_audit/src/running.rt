@@ -155,11 +155,11 @@ pub fn audit_journal<R: Source, S: Sink>(
         ↔ (R.failures reader.old < R.failures reader.new) }
     // A write failed.
     ensures write_failed { IsErrOf result AuditFault.WriteFailed ↔ (S.failures writer.old < S.failures writer.new) }
-    // Else, want of memory aside, it is the audit of what the journal says.
+    // Else, refused memory aside, it is the audit of what the journal says.
     ensures audit { IfSome (R.left reader.old) (λ bytes.
         IsAuditOf results (S.written writer.old) (S.written writer.new) (journal bytes) result) }
     ensures kept { IfErr result (KeepsText (S.written writer.old) (S.written writer.new)) }
-    // However long the journal is, at most so many bytes are taken.
+    // However long the journal is, at most `MAX_JOURNAL_BYTES + 1` bytes are taken.
     ensures taken { TakesAtMost (MAX_JOURNAL_BYTES + 1) (R.left reader.old) (R.left reader.new) }
 {
     let journal = match read_journal(alloc, reader) {

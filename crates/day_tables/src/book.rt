@@ -32,7 +32,7 @@ use tick_ladder::Ladder;
 /// A table that is printed, with its numbers tick by tick from the lowest tick on.
 #[derive(Clone, Copy)]
 pub(crate) struct Table<'a> {
-    /// The number of the command before which it stands.
+    /// The number of the command that it comes before.
     pub command: u64,
     pub kind: AuctionKind,
     pub market_bids: u64,
@@ -322,7 +322,7 @@ fn price_shown(display: Display) -> Option<u32>
     }
 }
 
-/// What a table is told by beside its ladder: the number of the command before which it stands, the current auction,
+/// What a table is printed from beside its ladder: the number of the command that it comes before, the current auction,
 /// and the tick of the price, if there is one.
 #[derive(Clone, Copy)]
 pub(crate) struct Heading {
@@ -468,7 +468,7 @@ fn print_book_tables<S: Sink>(
 ///   bid and offered with that limit, demand, supply, volume and surplus there in shares, the surplus's side, 1 for a
 ///   best limit and else 0, and at the price the rule that decides it.
 ///
-/// It fails with the first fault of the config, for want of memory, or at a failing write. Where it isn't a write that
+/// It fails with the first fault of the config, for refused memory, or at a failing write. Where it isn't a write that
 /// fails nothing is printed.
 pub fn print_book<S: Sink>(
     alloc: Global,

@@ -125,7 +125,7 @@ fn no_shares(alloc: Global, ticks: usize) -> Result<Vec<u64>, AllocError>
 }
 
 impl Curves {
-    /// Room for so many ticks.
+    /// Room for `ticks` ticks.
     pub(crate) fn open(alloc: Global, ticks: usize) -> Result<Curves, AllocError>
         ensures { IfOk result (HasRoomForTicks ticks) }
     {

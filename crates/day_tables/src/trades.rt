@@ -48,7 +48,7 @@ fn entering_members(alloc: Global, entries: &[Entry]) -> Result<Vec<u8>, AllocEr
     Ok(members)
 }
 
-/// Adds the auction that a reply tells of, once for each trade that it made.
+/// Adds the auction that a reply names, once for each trade that it made.
 fn add_auctions(auctions: &mut Vec<AuctionKind>, reply: Reply) -> Result<(), AllocError>
     ensures { OnOk result (auctions.new.items ≡ auctions.old.items ++ auctions_of_reply reply) }
 {
@@ -178,7 +178,7 @@ fn replay(auction: &mut Auction, entries: &[Entry])
 /// the auction that made it, the bid's id and the member that entered it, the ask's id and member, the quantity in
 /// shares and the tick.
 ///
-/// It fails with the first fault of the config, for want of memory, or at a failing write. Where it isn't a write that
+/// It fails with the first fault of the config, for refused memory, or at a failing write. Where it isn't a write that
 /// fails nothing is printed.
 pub fn print_trades<S: Sink>(
     alloc: Global,

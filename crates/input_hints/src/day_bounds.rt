@@ -77,7 +77,7 @@ pub fn bounds_hint(bounds: Bounds) -> Option<BoundsHint>
     None
 }
 
-/// The bounds and the reference that a journal's first record tells, or the others.
+/// The bounds and the reference that a journal's first record says, or the others.
 fn bounds_in(first: &ByteRecord, others: Bounds) -> Bounds
     ensures { result ≡ bounds_in (fields_of first.now) others }
 {

@@ -21,7 +21,7 @@ pub enum Hint {
     Header,
     /// The field begins or ends with a space or a tab.
     Spaces,
-    /// The field is a word that may stand there, but for capital letters.
+    /// The field is a word that may be there, but for capital letters.
     Capitals,
     /// The field is `buy` or `sell`, in place of `bid` or `ask`.
     BuyOrSell,

@@ -13,7 +13,7 @@ use csv::{ByteRecord, Reader};
 use order_file::{FileFault, RecordFault, next_row, number_of, reader_of};
 use std::alloc::{AllocError, Global};
 
-/// Reads the record behind so many others, and says whether there is one.
+/// Reads the record after `before` others, and says whether there is one.
 fn read_behind(
     rows: &mut Reader<&[u8]>,
     row: &mut ByteRecord,
@@ -40,7 +40,7 @@ fn read_behind(
     Ok(found)
 }
 
-/// The record behind so many others of a text, if there is one.
+/// The record after `before` others of a text, if there is one.
 fn row_at(alloc: Global, text: &[u8], before: u64) -> Result<Option<ByteRecord>, AllocError>
     ensures { IfOk result (λ row. option_map (λ r. fields_of r) row ≡ row_in before (rows_of text.now)) }
 {
@@ -55,7 +55,7 @@ fn row_at(alloc: Global, text: &[u8], before: u64) -> Result<Option<ByteRecord>,
 }
 
 /// The record with a number, from 1, of an input that begins so, if it is whole: where more of the input may follow,
-/// another record has to stand behind it.
+/// another record has to follow it.
 pub(crate) fn whole_row(
     alloc: Global,
     start: &[u8],
@@ -79,7 +79,7 @@ fn small(number: u32) -> Option<u8>
     None
 }
 
-/// The terms of the day that a journal's first record tells, or the others.
+/// The terms of the day that a journal's first record says, or the others.
 fn terms_in(first: &ByteRecord, others: DayTerms) -> DayTerms
     ensures { result ≡ terms_in (fields_of first.now) others }
 {
@@ -127,9 +127,9 @@ fn hint_of_row(
     hint_of_record(alloc, fault, number, &row, terms_in(&first, terms))
 }
 
-/// The likely cause of this fault of an input that begins so, where one is certain enough and its record stands in
-/// that beginning. A journal's own day takes the place of `terms`; its replies are not looked into. The error is that
-/// memory is refused.
+/// The likely cause of this fault of an input that begins so, where one is certain enough and its record is in that
+/// beginning. A journal's own day takes the place of `terms`; its replies are not looked into. The error is that memory
+/// is refused.
 #[tactic(auto, unfolding(crate::specs::InputHints::hint_in))]
 pub fn hint_of(
     alloc: Global,

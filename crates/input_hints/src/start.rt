@@ -44,7 +44,7 @@ impl Start {
         &self.bytes[..self.len]
     }
 
-    /// Puts bytes behind those that are kept.
+    /// Appends bytes to those that are kept.
     fn put(&mut self, text: &[u8])
         requires { length self.old + length text.now ≤ ROOM }
         ensures { self.new ≡ self.old ++ text.now }

@@ -8,7 +8,7 @@ ghost use Rattle.input_hints.specs.declared.start.TheConstants.{ROOM};
 use crate::start::Start;
 use byte_streams::{Source, SourceFailed};
 
-/// A source that tells how its bytes began.
+/// A source that says how its bytes began.
 pub trait KeepsStart: Source {
     // The first bytes that were read.
     ghost begun: { Self → List ℕ };

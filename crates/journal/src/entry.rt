@@ -35,7 +35,7 @@ fn is_all_printable(text: &[u8]) -> bool
     text.iter().all(|byte| is_printable(*byte))
 }
 
-/// Whether this may stand for a reply.
+/// Whether this may be the text of a reply.
 #[tactic(auto, unfolding(crate::specs::EntryRecord::is_reply_text))]
 fn is_reply_text(text: &[u8]) -> bool
     ensures { result ≡ is_reply_text text.now }
@@ -75,8 +75,8 @@ fn call_with(
     })
 }
 
-/// Takes the last field of a record off, and puts it behind the texts; answers whether it may stand for a reply. The
-/// fault is want of memory.
+/// Takes the last field of a record off, and appends it to the texts; answers whether it may be the text of a reply.
+/// The only fault is that memory is refused.
 fn take_reply(row: &mut ByteRecord, texts: &mut ByteRecord) -> Result<bool, FileFault>
     requires { partial_of texts.old ≡ [] }
     ensures fine { IfOk result (λ fine. fine ≡ is_reply_text (reply_of_fields (fields_of row.old))) }
@@ -96,7 +96,7 @@ fn take_reply(row: &mut ByteRecord, texts: &mut ByteRecord) -> Result<bool, File
     Ok(fine)
 }
 
-/// The call of a record, or the record's first fault, with its number; the text of the reply is put behind the texts.
+/// The call of a record, or the record's first fault, with its number; the text of the reply is appended to the texts.
 /// The record is used up.
 pub(crate) fn call_of(
     row: &mut ByteRecord,

@@ -15,7 +15,7 @@ use byte_streams::{Sink, WriteFailed};
 use printed_lines::{KeptText, Printer};
 use std::alloc::AllocError;
 
-/// Keeps the line of an entry behind those of the entries before it. The error is that memory is refused.
+/// Keeps the line of an entry after those of the entries before it. The error is that memory is refused.
 pub fn keep_entry(lines: &mut KeptText, entry: Entry) -> Result<(), AllocError>
     ensures { (entries : List Entry) → HasEntryLines (kept_text lines.old) entries
         → OnOk result (HasEntryLines (kept_text lines.new) (entries ++ entry ∷ [])) }

@@ -15,18 +15,18 @@ pub fn gives_day()
     ensures { GivesDay }
 {}
 
-/// Replies with the same text are the same, and each text of a reply can stand in a record.
+/// Replies with the same text are the same, and each text of a reply can be in a record.
 pub fn reply_texts_are_unique()
     ensures apart { AreUniqueTexts }
     ensures texts { AreFieldTexts }
 {}
 
-/// A legal history's journal tells the replay's replies.
+/// A legal history's journal has the replay's replies.
 pub fn legal_has_replay_texts()
     ensures { LegalHasReplayTexts }
 {}
 
-/// A history whose journal tells the replay's replies is legal.
+/// A history whose journal has the replay's replies is legal.
 pub fn replay_is_legal()
     ensures { ReplayIsLegal }
 {}
@@ -37,7 +37,7 @@ pub fn file_calls_fit()
     ensures journals { JournalCallsFit }
 {}
 
-/// What a run is given, by a journal or by an order file, can stand in a journal.
+/// What a run is given, by a journal or by an order file, can be in a journal.
 pub fn run_input_fits()
     ensures { RunInputFits }
 {}

@@ -97,7 +97,7 @@ fn put_ending(page: &mut Page, restriction: Restriction, peak: Option<u64>)
     }
 }
 
-/// Puts a word and a number behind it.
+/// Puts a word and a number after it.
 fn put_lone(page: &mut Page, word: &str, number: u32)
     requires { length page.old + length word.now + 21 ≤ ROOM }
     ensures text { page.new ≡ page.old ++ (word.now ++ (44 ∷ decimal number)) }
@@ -135,7 +135,7 @@ fn put_change(page: &mut Page, id: u32, limit: Limit, quantity: u64)
     put_terms(page, quantity, limit);
 }
 
-/// Puts the fields of a command behind those of its member.
+/// Puts the fields of a command after those of its member.
 fn put_command(page: &mut Page, command: Command)
     requires { length page.old + 82 ≤ ROOM }
     ensures text { page.new ≡ page.old ++ comma_fields (command_fields command) }

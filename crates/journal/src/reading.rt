@@ -32,7 +32,7 @@ pub struct Journal {
     pub texts: ByteRecord,
 }
 
-/// The calls and replies of the records that a reader has left, behind that of this day.
+/// The calls and replies of the records that a reader has left, after that of this day.
 fn entries_from(
     alloc: Global,
     rows: &mut Reader<&[u8]>,
@@ -113,15 +113,15 @@ pub fn journal_of(alloc: Global, bytes: &[u8]) -> Result<Journal, FileFault>
 pub fn read_journal<R: Source>(alloc: Global, reader: &mut R) -> Result<Journal, FileFault>
     // A read failed.
     ensures failed { IsErrOf result FileFault.ReadFailed ↔ (R.failures reader.old < R.failures reader.new) }
-    // Else, want of memory aside, it is what the bytes say.
+    // Else, refused memory aside, it is what the bytes say.
     ensures answer { IfSome (R.left reader.old) (λ bytes. GivesWanted recorded result (journal bytes)) }
     // It is never more calls than may be applied, each of one of the members.
     ensures few { IfOk result (λ j. length j.calls.items ≤ j.day.config.max_calls) }
     ensures below { IfOk result (λ j. All (IsBelow j.day.members) j.calls.items) }
-    // There are as many texts, each of which may stand for a reply.
+    // There are as many texts, each of which may be that of a reply.
     ensures even { IfOk result (λ j. length (fields_of j.texts) ≡ length j.calls.items) }
     ensures texts { IfOk result (λ j. All IsReplyText (fields_of j.texts)) }
-    // However long the file is, at most so many bytes are taken.
+    // However long the file is, at most `MAX_JOURNAL_BYTES + 1` bytes are taken.
     ensures taken { TakesAtMost (MAX_JOURNAL_BYTES + 1) (R.left reader.old) (R.left reader.new) }
 {
     let bytes = bytes_of(alloc, reader, MAX_JOURNAL_BYTES)?;

@@ -91,12 +91,12 @@ pub fn read_run_input<R: Source>(
 ) -> Result<RunInput, FileFault>
     // A read failed.
     ensures failed { IsErrOf result FileFault.ReadFailed ↔ (R.failures reader.old < R.failures reader.new) }
-    // Else, want of memory aside, it is what the bytes give.
+    // Else, refused memory aside, it is what the bytes give.
     ensures answer { IfSome (R.left reader.old) (λ bytes. GivesWanted day_with_calls result (run_input day bytes)) }
     // It is never more calls than may be applied, each of one of the members.
     ensures few { IfOk result (λ g. length g.calls.items ≤ g.day.config.max_calls) }
     ensures below { IfOk result (λ g. All (IsBelow g.day.members) g.calls.items) }
-    // However long the input is, at most so many bytes are taken.
+    // However long the input is, at most `MAX_JOURNAL_BYTES + 1` bytes are taken.
     ensures taken { TakesAtMost (MAX_JOURNAL_BYTES + 1) (R.left reader.old) (R.left reader.new) }
 {
     let bytes = bytes_of(alloc, reader, MAX_JOURNAL_BYTES)?;

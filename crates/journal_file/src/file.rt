@@ -1,14 +1,14 @@
 //! A journal's file in the file system.
 //!
-//! What is assumed of it stands here and nowhere else. No contract can say what a file gives or takes: `Tracked` notes
-//! each call, and the clauses of a `Device` speak of a real disk only if
+//! What is assumed of it is written here and nowhere else. No contract can say what a file gives or takes: `Tracked`
+//! notes each call, and the clauses of a `Device` speak of a real disk only if
 //! 1. what `open` has read is on the disk, since the file was synced before, and its name, since the folder was; a sync
 //!    that failed in an earlier process isn't taken back by the kernel's copies of its pages;
 //! 2. nobody else writes the file: it is locked, but a lock is only advice;
 //! 3. `write_all_at` inside the file leaves after a crash each byte of its range as it was or as it was written, and
 //!    all others as they were: so does each disk that finishes a sector which it has begun, and the range was written
 //!    before, so that no block is given to the file then;
-//! 4. `set_len` leaves after a crash some length between the old and the new one, and zeros behind the old end;
+//! 4. `set_len` leaves after a crash some length between the old and the new one, and zeros after the old end;
 //! 5. after a `sync_data` that succeeds a crash leaves what a read returns. With `Syncing::Never` no such call is made,
 //!    and a crash is then the program's alone, after which the kernel still has what was written.
 
@@ -55,7 +55,7 @@ impl From<io::Error> for OpenFileFault {
     }
 }
 
-/// Writes zeros from the old length to the new one, so that blocks stand ready for the bytes that come.
+/// Writes zeros from the old length to the new one, so that blocks are ready for the bytes that come.
 fn fill(file: &File, from: u64, to: u64) -> io::Result<()> {
     let zeros = [0u8; ZEROS_AT_ONCE];
     let mut at = from;
@@ -92,7 +92,7 @@ impl RawFile for Opened {
     }
 }
 
-/// The file, made if it is missing. A link or a device that stands at the name isn't opened.
+/// The file, made if it is missing. A link or a device of that name isn't opened.
 fn open_or_make(rt: &HostRuntime, path: &str) -> io::Result<File> {
     match OpenOptions::new()
         .read(true)

@@ -1,5 +1,5 @@
-//! A text of lines that are on the disk before they are answered. Behind it the file has room: NULs, which no line has.
-//! Lines are written over the room, so that a crash leaves each byte as it was written or NUL, and the first NUL tells
+//! A text of lines that are on the disk before they are answered. After it the file has room: NULs, which no line has.
+//! Lines are written over the room, so that a crash leaves each byte as it was written or NUL, and the first NUL shows
 //! how far they came.
 
 ghost use Rattle.std.specs.Prelude.{◌≡◌, ◌<◌, ◌≤◌, ◌^◌, ◌+◌, ◌++◌, List, ℕ, length, OnOk, IsErrOf, take};
@@ -11,8 +11,8 @@ use crate::device::{Device, DeviceError};
 
 const MAX_BYTES: usize = 1 << 60;
 
-/// A file whose committed lines end at `end`, and which has room for so many bytes behind them. Room is made for
-/// `spare` bytes more than are needed.
+/// A file whose committed lines end at `end`, and which has room for `room` bytes after them. Room is made for `spare`
+/// bytes more than are needed.
 #[derive(Drop)]
 pub struct CommittedLines<D: Device> {
     pub device: D,
@@ -92,7 +92,7 @@ impl<D: Device> CommittedLines<D> {
         self.put(lines)
     }
 
-    /// Makes room for more than so many bytes: behind a line that a crash tears there is a NUL.
+    /// Makes room for more than `count` bytes: after a line that a crash tears there is a NUL.
     fn make_room(&mut self, count: usize) -> Result<(), DeviceError>
         requires { IsSettled D.seen D.may_leave self.old }
         ensures room { OnOk result (count < self.new.room) }
@@ -179,7 +179,7 @@ impl<D: Device> CommittedLines<D> {
     }
 }
 
-/// Cuts a file that a crash may have left behind its last whole line, where its lines end, as it was read.
+/// Cuts a file that a crash may have left, after its last whole line, where its lines end, as it was read.
 /// It may crash too.
 pub fn recover<D: Device>(device: &mut D, end: usize) -> Result<(), DeviceError>
     // After a restart, what is read is what is on the disk.
@@ -207,7 +207,7 @@ pub fn recover<D: Device>(device: &mut D, end: usize) -> Result<(), DeviceError>
     repair(device, end)
 }
 
-/// Cuts a file behind its last whole line, where its lines end.
+/// Cuts a file after its last whole line, where its lines end.
 fn repair<D: Device>(device: &mut D, end: usize) -> Result<(), DeviceError>
     // After a restart, what is read is what is on the disk.
     requires end { end ≡ length (committed (D.seen device.old)) }

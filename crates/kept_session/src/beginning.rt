@@ -29,7 +29,7 @@ pub struct Begun<D: Device> {
     pub auction: Auction,
 }
 
-/// Cuts a file behind its last whole line, where its lines end, and makes a journal of it.
+/// Cuts a file after its last whole line, where its lines end, and makes a journal of it.
 fn repair<D: Device + Drop>(device: D, end: usize) -> Result<CommittedLines<D>, DeviceError>
     requires end { end ≡ length (committed (D.seen device)) }
     requires durable { IsOnlyOutcome (D.seen device) (D.may_leave device) }
@@ -73,7 +73,7 @@ fn keep_day<D: Device>(
 /// those that were read, and the auction was opened for the day.
 ///
 /// A file without a whole line gets the record of the day. Else its lines have to be a journal of this day with lawful
-/// replies, whose entries the auction then has had, and what a crash may have left behind them is cut off. Before that
+/// replies, whose entries the auction then has had, and what a crash may have left after them is cut off. Before that
 /// is known, the file stays as it was.
 pub fn begin<D: Device + Drop>(
     alloc: Global,

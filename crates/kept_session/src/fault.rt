@@ -19,7 +19,7 @@ pub enum ResumeFault {
     File(FileFault),
     /// It is the journal of this other day.
     AnotherDay(DayHeader),
-    /// The reply of an entry isn't the lawful one; what was recorded stands behind it.
+    /// The reply of an entry isn't the lawful one; what was recorded comes after it.
     Unlawful(UnlawfulEntry, Vec<u8>),
 }
 

@@ -13,7 +13,7 @@ use printed_lines::{LONGEST_LINE, Page, ROOM};
 pub enum BadRecord {
     /// Its line has more than `MAX_RECORD_BYTES` bytes.
     TooLong,
-    /// A quote stands open at the end of its line.
+    /// A quote is open at the end of its line.
     OpenQuote,
     /// The input ended before the end of its line.
     CutOff,
@@ -58,7 +58,7 @@ fn put_bad_record(page: &mut Page, fault: BadRecord)
     }
 }
 
-/// Puts a likely cause on the page, behind a colon.
+/// Puts a likely cause on the page, after a colon.
 fn put_cause(page: &mut Page, cause: Option<Hint>)
     requires { length page.old + 80 ≤ ROOM }
     ensures text { page.new ≡ page.old ++ cause_words cause }

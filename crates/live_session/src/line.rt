@@ -22,7 +22,7 @@ pub(crate) fn first_line_end(bytes: &[u8]) -> Option<usize>
     memchr2(b'\n', b'\r', bytes)
 }
 
-/// Puts the bytes that come next behind those of a line, as many as a record may have and one more.
+/// Appends the next bytes to those of a line, as many as a record may have and one more.
 pub(crate) fn add_to_line(line: &mut Vec<u8>, bytes: &[u8]) -> Result<(), AllocError>
     ensures { length line.old.items ≤ MAX_RECORD_BYTES + 1
         → OnOk result (line.new.items ≡ take (MAX_RECORD_BYTES + 1) (line.old.items ++ bytes.now)) }
@@ -51,7 +51,7 @@ fn without_mark(line: &[u8]) -> &[u8]
     line
 }
 
-/// Puts a line behind a text of records.
+/// Appends a line to a text of records.
 pub(crate) fn put_record(text: &mut Vec<u8>, line: &[u8]) -> Result<(), AllocError>
     ensures { OnOk result (text.new.items ≡ (text.old.items ++ strip_bom line.now) ++ 10 ∷ []) }
 {

@@ -24,7 +24,7 @@ pub const ROOM_OF_A_READ: usize = 65_536;
 ///
 /// Before the device is read, the answers to all lines that have ended are written (`reads`), and before they are
 /// written, the entries of their calls are committed (`writes`). A session ends with its input, at the first read,
-/// commit or write that fails, or for want of memory.
+/// commit or write that fails, or where memory is refused.
 pub fn run_live<C: Conversation>(
     alloc: Global,
     talk: &mut C,

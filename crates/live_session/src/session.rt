@@ -15,7 +15,7 @@ use std::alloc::{AllocError, Global};
 #[derive(Drop)]
 pub(crate) struct Session {
     pub(crate) responder: Responder,
-    // Whole lines that are to be answered, behind a line end.
+    // Whole lines that are to be answered, after a line end.
     waiting: Vec<u8>,
     // The line at hand: as many of its bytes as a record may have, and one more.
     line: Vec<u8>,
@@ -48,7 +48,7 @@ impl Session {
         Ok(())
     }
 
-    /// Answers a line that isn't read as a record, behind those before it.
+    /// Answers a line that isn't read as a record, after those before it.
     fn refuse_line(&mut self, alloc: Global, fault: BadRecord) -> Result<(), AllocError>
         ensures { RefusesLine self.old self.new fault result }
     {
@@ -58,7 +58,7 @@ impl Session {
         Ok(())
     }
 
-    /// Has a line wait behind those before it.
+    /// Has a line wait after those before it.
     fn keep_line(&mut self) -> Result<(), AllocError>
         ensures { KeepsLine self.old self.new result }
     {

@@ -5,18 +5,18 @@ ghost use Rattle.csv.specs.Machine.{ends_at_end, in_field, start_record, step};
 ghost use Rattle.csv.specs.Reading.{default_config};
 ghost use Rattle.live_session.specs.Spot.{state_of};
 
-/// Where in a record a byte stands.
+/// Where in a record a byte is.
 #[derive(Clone, Copy, PartialEq, Eq)]
 pub(crate) enum Spot {
     /// Before a record.
     RecordStart,
-    /// Behind a carriage return that ended one.
+    /// After a carriage return that ended one.
     AfterReturn,
-    /// At the start of a field behind a comma.
+    /// At the start of a field after a comma.
     FieldStart,
     InField,
     InQuotes,
-    /// Behind a quote in quotes, which ends them, or is the first of two that stand for one.
+    /// After a quote in quotes, which ends them, or is the first of two that mean one.
     AfterQuote,
 }
 
@@ -46,7 +46,7 @@ fn between(byte: u8) -> Spot
 }
 
 impl Spot {
-    /// The next spot, behind this byte.
+    /// The next spot, after this byte.
     #[inline(always)]
     pub(crate) fn after(self, byte: u8) -> Spot
         ensures { state_of result ≡ (step default_config (state_of self) byte).0 }
@@ -78,7 +78,7 @@ impl Spot {
         }
     }
 
-    /// Whether a record stands open here.
+    /// Whether a record is open here.
     #[inline(always)]
     pub(crate) fn is_open(self) -> bool
         ensures { result ≡ ends_at_end (state_of self) }

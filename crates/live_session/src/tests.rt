@@ -17,7 +17,7 @@ const TERMS: SessionTerms = SessionTerms {
     reserve: 0,
 };
 
-/// An auction of so many commands.
+/// An auction of `max_calls` commands.
 fn auction_of(alloc: Global, max_calls: u32) -> Result<Auction, OpenFault> {
     Auction::open(
         alloc,

@@ -86,8 +86,8 @@ struct Gathering<K: BoardIdentity> {
     kept: Option<Member<K>>,
 }
 
-// Joins the shares and writes down each member's count. The first member with the late number that has seen more
-// than so many calls is kept back.
+// Joins the shares and writes down each member's count. The first member with the late number that has seen more than
+// `end` calls is kept back.
 fn gather<K: BoardIdentity>(
     mut counts: Vec<u32>,
     mut joined: Share<K>,
@@ -129,7 +129,7 @@ fn gather<K: BoardIdentity>(
 ///
 /// The history is one of the plain auction of one thread, replies, prices, volumes and surpluses included; it has
 /// exactly as many entries as the members' counts add up to, and each member's count is the one that it brought. For
-/// every member, the calls of its number in the history are its own calls, each at the place that its receipt told,
+/// every member, the calls of its number in the history are its own calls, each at the place that its receipt names,
 /// and all that it had seen is a beginning of the history's calls.
 pub fn close<K: BoardIdentity, R: Wait>(
     board: Board<K>,

@@ -87,7 +87,7 @@ const NO_ENTRY: Entry = Entry {
     reply: Reply::Deleted,
 };
 
-// Room for so many entries. Each is written once, so that the system has given its pages before the first call.
+// Room for `max_calls` entries. Each is written once, so that the system has given its pages before the first call.
 fn take_history(alloc: Global, max_calls: u32) -> Result<Vec<Entry>, AllocError>
     ensures { IfOk result (λ h. (h.items ≡ []) × (max_calls ≤ vec_capacity h)) }
 {

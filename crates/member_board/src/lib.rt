@@ -1,8 +1,8 @@
 //! The call auction board: members call commands on it at once, one lock orders them, and looks take no lock.
 //!
-//! What the crate promises stands at `close`: whatever commands were called, the history that was kept under the lock
+//! What the crate promises is said at `close`: whatever commands were called, the history that was kept under the lock
 //! is one of the plain auction of one thread, it has as many entries as the members' ledger adds up to, and what each
-//! member was told or shown is an account of that one history.
+//! member was answered or shown is an account of that one history.
 //!
 //! - `fresh`: opening a board, and beginning its day with one member for each number.
 //! - `member`: a member's calls and looks.

@@ -84,12 +84,12 @@ impl<K: BoardIdentity> Member<K> {
 
     /// Calls a command on the board. It waits for the lock, and for readers of the copy that is next.
     ///
-    /// A recorded call stands in the history after all that this member had seen and calls of others only; its receipt
-    /// has its place there and the auction's reply at that place; the member's own calls are the ones before and this
-    /// one. After a fault nothing was recorded, and the member is as it was, except that at `HistoryFull` it has seen
-    /// the whole history, of at least `max_calls` entries. A member that has seen so many calls gets no other fault but
-    /// `Behind`, which comes only where the member has seen more than the history has, or counted other calls than the
-    /// history has of it.
+    /// A recorded call is in the history after all that this member had seen and calls of others only; its receipt has
+    /// its place there and the auction's reply at that place; the member's own calls are the ones before and this one.
+    /// After a fault nothing was recorded, and the member is as it was, except that at `HistoryFull` it has seen the
+    /// whole history, of at least `max_calls` entries. A member that has seen at least `max_calls` calls gets no other
+    /// fault but `Behind`, which comes only where the member has seen more than the history has, or counted other calls
+    /// than the history has of it.
     pub fn call<R: Wait>(
         &mut self,
         board: &Board<K>,

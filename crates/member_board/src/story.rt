@@ -2,7 +2,7 @@
 //! It exists in the proofs alone. What is kept at run time is its length.
 //!
 //! The floor adds to it under its lock; members and copies hold beginnings of it. Of two beginnings the shorter one
-//! begins the longer, so what a member has seen can be held against what another was told.
+//! begins the longer, so what a member has seen can be compared with what another was shown.
 ghost use Rattle.std.specs.Prelude.{◌≡◌, ◌+◌, ◌<◌, ◌≤◌, ◌^◌, ◌++◌, ◌∷◌, [], length, MatchBool};
 ghost use mathlib.Core.List.{IsPrefix};
 ghost use Rattle.board_terms.specs.Stories.{newest_name};

@@ -102,7 +102,7 @@ impl Latest {
         }
     }
 
-    // The copies show so many calls by now. Where no member looks, nobody is told.
+    // Stores that the copies show `calls` calls by now, if any member looks.
     pub(crate) fn store_if_watched(&self, calls: u32) {
         if self.is_watched.load(SeqCst) {
             self.calls.store(calls, SeqCst);
@@ -111,7 +111,7 @@ impl Latest {
 }
 
 /// A member's watch over what the copies show. It begins with the member's first look, which reads a copy: what that
-/// may miss is shown after it, and so is told.
+/// may miss is shown after it, and so is stored.
 #[derive(Drop)]
 struct Watch {
     latest: Arc<Latest>,
@@ -119,7 +119,7 @@ struct Watch {
 }
 
 impl Watch {
-    // Whether the copies may show more than so many calls.
+    // Whether the copies may show more than `calls` calls.
     fn may_find_more(&mut self, calls: u32) -> bool
         ensures first { self.old.is_on ≡ false → IsTrue result }
         ensures watches { IsTrue self.new.is_on }
@@ -201,7 +201,7 @@ pub(crate) struct Viewer<K: BoardIdentity> {
 }
 
 impl<K: BoardIdentity> Viewer<K> {
-    // What a copy shows, where there is one and it may have more than so many calls. It takes no lock and no memory.
+    // What a copy shows, where there is one and it may have more than `calls` calls. It takes no lock and no memory.
     pub(crate) fn find_after(&mut self, calls: u32) -> Option<Snapshot<K>> {
         if self.watch.may_find_more(calls) {
             replace_with(&mut self.reader, (), read::<K>)
@@ -252,7 +252,7 @@ impl<K: BoardIdentity> Copies<K>
 where
     Version<K>: Absorb<Update<K>, State = ()>,
 {
-    // Two copies of what is shown at first, and room for so many readers.
+    // Two copies of what is shown at first, and room for `readers` readers.
     pub(crate) fn open(
         alloc: Global,
         opening: &Snapshot<K>,

@@ -1,4 +1,4 @@
-//! Gates, which stand before and after each call.
+//! Gates, which run before and after each call.
 
 use std::sync::Wait;
 

@@ -56,7 +56,7 @@ struct RunRoom<K: BoardIdentity> {
     ghost rest_fit: { (rest.items ≡ []) × (length tasks.items ≤ vec_capacity rest) },
 }
 
-// Room for so many members, with none of them.
+// Room for `n` members, with none of them.
 fn take_run_room<K: BoardIdentity>(alloc: Global, n: usize) -> Result<RunRoom<K>, AllocError>
     ensures tasks { IfOk result (λ s. (s.tasks.items ≡ []) × (n ≤ vec_capacity s.tasks)) }
     ensures handles { IfOk result (λ s. n ≤ vec_capacity s.handles) }

@@ -41,8 +41,8 @@ impl Orders {
         self.stamps = 0;
     }
 
-    /// Open orders of its own: the same ones, at the same places in time and of the walk, with as much room. Only want
-    /// of memory makes it fail.
+    /// Open orders of its own: the same ones, at the same places in time and of the walk, with as much room. It fails
+    /// only where memory is refused.
     pub fn copied(&self, alloc: Global) -> Result<Orders, AllocError>
         ensures { IfOk result (λ o. o ≡ self.now) }
     {

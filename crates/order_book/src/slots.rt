@@ -22,7 +22,7 @@ pub(crate) fn with_keys(orders: Slab<PackedOrder>) -> Result<Slab<PackedOrder>, 
     Ok(orders)
 }
 
-/// No orders, with room for `room` of them. Only want of memory makes it fail.
+/// No orders, with room for `room` of them. It fails only where memory is refused.
 pub(crate) fn open_slots(alloc: Global, room: usize) -> Result<Slab<PackedOrder>, AllocError>
     ensures empty { IfOk result (λ slots. slots.slots ≡ []) }
     ensures room { IfOk result (λ slots. room ≤ slots.capacity) }
@@ -55,7 +55,7 @@ pub(crate) fn open_at(orders: &Slab<PackedOrder>, keys: &[u32], id: u32) -> (usi
     (key, orders[key].stamped())
 }
 
-/// Puts an order in the place of the one that stands there.
+/// Puts an order in the place of the one that is there.
 pub(crate) fn put(orders: &mut Slab<PackedOrder>, key: usize, stamped: Stamped)
     requires key { ContainsKey orders.old key }
     requires stamp { stamped.stamp < 2 ^ 32 }

@@ -31,7 +31,7 @@ const PIECE: usize = 32_768;
 
 /// An input, of which whole lines are held, as many as a block has, and the beginning of the next one.
 ///
-/// A line ends where no quote stands before it in its block. An input is held whole from the first block on that has a
+/// A line ends where no quote is before it in its block. An input is held whole from the first block on that has a
 /// quote, or no line end.
 #[derive(Drop)]
 pub struct Blocks {
@@ -95,7 +95,7 @@ fn read_on<R: Source>(
     Ok(false)
 }
 
-// How many bytes at the front are whole lines after the first byte, if there are any and no quote stands in them.
+// How many bytes at the front are whole lines after the first byte, if there are any and no quote is in them.
 fn whole_lines(bytes: &[u8]) -> Option<usize>
     ensures { IfSome result (λ whole. (1 < whole) × (whole ≤ length bytes.now)
         × (slice_index bytes.now (whole - 1) ≡ 10) × All (λ c. c ≢ 34) (take (whole - 1) bytes.now)) }
@@ -204,8 +204,8 @@ fn begun_with(alloc: Global, start: &[u8]) -> Result<Vec<u8>, FileFault>
 
 impl Blocks {
     /// The first block of an input of which these bytes at the start were read, and which may have `most` bytes in all:
-    /// if more than so many are found, it is `FileFault::TooLong`, a read that fails `ReadFailed`, and where memory is
-    /// refused it is `NoMemory`. A byte order mark at the start is passed over.
+    /// if more are found, it is `FileFault::TooLong`, a read that fails `ReadFailed`, and where memory is refused it is
+    /// `NoMemory`. A byte order mark at the start is passed over.
     pub fn open<R: Source>(
         alloc: Global,
         start: &[u8],
@@ -234,7 +234,7 @@ impl Blocks {
         })
     }
 
-    /// A reader of the records of this block, with none read yet. The fault is want of memory.
+    /// A reader of the records of this block, with none read yet. The only fault is that memory is refused.
     pub(crate) fn rows(&self, alloc: Global) -> Result<Reader<&[u8]>, FileFault>
         ensures memory { IfErr result (λ e. e ≡ FileFault.NoMemory) }
         ensures reader { IfOk result (λ r. IsRecordReader r × (rows_left r ≡ block_rows self.now)) }
@@ -243,7 +243,7 @@ impl Blocks {
     }
 
     /// The calls of the records of this block, of which none was read yet: they come after `count` others, and there
-    /// may be `max_calls` of both, each of one of `members` members. The fault is want of memory.
+    /// may be `max_calls` of both, each of one of `members` members. The only fault is that memory is refused.
     pub fn calls(
         &self,
         alloc: Global,

@@ -87,7 +87,7 @@ pub fn bytes_of<R: Source>(alloc: Global, reader: &mut R, most: usize) -> Result
     bytes_after(Vec::new(alloc), reader, most)
 }
 
-/// The next record of a file, and whether there was one. The fault is want of memory.
+/// The next record of a file, and whether there was one. The only fault is that memory is refused.
 #[inline]
 pub fn next_row(reader: &mut Reader<&[u8]>, row: &mut ByteRecord) -> Result<bool, FileFault>
     requires { IsRecordReader reader.old }
@@ -121,7 +121,7 @@ fn all_calls(alloc: Global, calls: &mut Calls<'_>) -> Result<Vec<Call>, FileFaul
 }
 
 /// A reader of the records of a file, with none read yet. It is given a row of headers, so that it keeps no copies of
-/// the first record. The fault is want of memory.
+/// the first record. The only fault is that memory is refused.
 pub fn reader_of<'a>(alloc: Global, bytes: &'a [u8]) -> Result<Reader<&'a [u8]>, FileFault>
     ensures memory { IfErr result (λ e. e ≡ FileFault.NoMemory) }
     ensures reader { IfOk result (λ r. IsRecordReader r

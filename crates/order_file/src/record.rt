@@ -182,7 +182,7 @@ fn change_of(fields: &ByteRecord) -> Result<Command, RecordFault>
     })
 }
 
-/// The number that stands alone behind the command word.
+/// The number that alone follows the command word.
 #[tactic(auto, unfolding(crate::specs::Record::lone_number))]
 #[inline(always)]
 fn lone_number(fields: &ByteRecord) -> Result<u32, RecordFault>

@@ -6,7 +6,7 @@ use csv::ByteRecord;
 use std::alloc::{AllocError, Global};
 use std::test::Fail;
 
-// So many times this line.
+// This line, `count` times.
 fn lines(alloc: Global, line: &[u8], count: u32) -> Result<Vec<u8>, AllocError> {
     let mut text = Vec::new(alloc);
     for _ in 0..count {

@@ -69,7 +69,7 @@ fn near_limit(ladder: &Ladder, around: &Around) -> Candidate
     }
 }
 
-/// The crossing, if something stands there.
+/// The crossing, if its place has bids or asks.
 fn limit_here(ladder: &Ladder, crossing: Crossing) -> Candidate
     requires { IsCrossingOf ladder.now crossing }
     ensures { IsCandidate ladder.now (here_at ladder.now crossing.place) result }

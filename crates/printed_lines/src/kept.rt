@@ -10,8 +10,8 @@ use crate::printer::Printer;
 use byte_streams::{Sink, WriteFailed};
 use std::alloc::{AllocError, Global};
 
-/// Text that is kept until it is printed: what stood on full pages, and the page that is being filled. A line is kept
-/// by `make_room`, and then by what is put on the page.
+/// Text that is kept until it is printed: what was on full pages, and the page that is being filled. A line is kept by
+/// `make_room`, and then by what is put on the page.
 #[derive(Drop)]
 pub struct KeptText {
     pub full: Vec<u8>,
@@ -29,7 +29,7 @@ impl KeptText {
         }
     }
 
-    /// Moves what stands on the page behind the full ones. The error is that memory is refused.
+    /// Moves what is on the page to the end of the full ones. The error is that memory is refused.
     pub fn turn_page(&mut self) -> Result<(), AllocError>
         ensures text { kept_text self.new ≡ kept_text self.old }
         ensures page { IfOk result (λ _. self.new.page ≡ []) }

@@ -45,7 +45,7 @@ impl Page {
         }
     }
 
-    /// How many bytes stand on the page.
+    /// How many bytes are on the page.
     #[inline(always)]
     pub fn len(&self) -> usize
         ensures { result ≡ length self.now }
@@ -53,7 +53,7 @@ impl Page {
         self.len
     }
 
-    /// What stands on the page.
+    /// What is on the page.
     pub fn as_slice(&self) -> &[u8]
         ensures { result.now ≡ self.now }
     {
@@ -67,14 +67,14 @@ impl Page {
         self.len = 0;
     }
 
-    /// Whether this text stands on the page, and nothing else.
+    /// Whether this text is on the page, and nothing else.
     pub(crate) fn is_text(&self, text: &[u8]) -> bool
         ensures { result ≡ bytes_eq text.now self.now }
     {
         text == self.as_slice()
     }
 
-    /// Puts bytes behind what stands on the page.
+    /// Appends bytes to the page.
     #[inline(always)]
     pub fn put_bytes(&mut self, text: &[u8])
         requires { length self.old + length text.now ≤ ROOM }
@@ -86,7 +86,7 @@ impl Page {
         self.len = len + text.len();
     }
 
-    /// Puts text behind what stands on the page.
+    /// Appends text to the page.
     #[inline(always)]
     pub fn put(&mut self, text: &str)
         requires { length self.old + length text.now ≤ ROOM }
@@ -96,7 +96,7 @@ impl Page {
         self.put_bytes(text.as_bytes());
     }
 
-    /// Puts a number behind what stands on the page, in decimal digits without leading zeros.
+    /// Appends a number to the page, in decimal digits without leading zeros.
     #[inline(always)]
     pub fn put_number(&mut self, number: u64)
         requires { length self.old + LONGEST_NUMBER ≤ ROOM }

@@ -30,7 +30,7 @@ impl<'a, S: Sink> Printer<'a, S> {
         }
     }
 
-    /// Writes what stands on the page, all of it, or at a failure a beginning. The page is then empty.
+    /// Writes what is on the page, all of it, or at a failure a beginning. The page is then empty.
     pub fn flush(&mut self) -> Result<(), WriteFailed>
         ensures printed { Prints S.Sink self.old self.new result [] }
         ensures page { self.new.page ≡ [] }
@@ -40,7 +40,7 @@ impl<'a, S: Sink> Printer<'a, S> {
         written
     }
 
-    /// Writes what stands on the page where there is no room for one more line, of `LONGEST_LINE` bytes.
+    /// Writes what is on the page where there is no room for one more line, of `LONGEST_LINE` bytes.
     #[inline(always)]
     pub fn make_room(&mut self) -> Result<(), WriteFailed>
         ensures printed { Prints S.Sink self.old self.new result [] }
@@ -53,7 +53,7 @@ impl<'a, S: Sink> Printer<'a, S> {
         }
         Ok(())
     }
-    /// Writes what stands on the page, and then this text, of any length, or at a failure a beginning. The page is then
+    /// Writes what is on the page, and then this text, of any length, or at a failure a beginning. The page is then
     /// empty.
     pub fn print_whole(&mut self, text: &[u8]) -> Result<(), WriteFailed>
         ensures { Prints S.Sink self.old self.new result text.now }

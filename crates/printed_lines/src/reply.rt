@@ -53,7 +53,7 @@ pub(crate) fn put_display(page: &mut Page, display: &Display)
     }
 }
 
-/// Puts what stands behind an order's open quantity on the page: its limit, and its visible quantity.
+/// Puts what follows an order's open quantity on the page: its limit, and its visible quantity.
 fn put_limit(page: &mut Page, limit: Limit, visible: u64)
     requires { length page.old + 60 ≤ ROOM }
     ensures text { page.new ≡ page.old ++ words_text (limit_words limit ++ (decimal visible ∷ [])) }

@@ -4,7 +4,7 @@ use crate::Patient;
 use std::io::{Error, ErrorKind, Read, Result, Write};
 use std::process::Abort;
 
-/// An end that isn't ready so many times, and then reads or takes one byte.
+/// An end that isn't ready `times` times, and then reads or takes one byte.
 #[derive(Drop)]
 struct Late {
     times: u8,

@@ -74,7 +74,7 @@ fn refusal_code(refusal: Refusal) -> u8
     refusal.number()
 }
 
-/// The code of a reply that is said by its code, behind entries of which the last has this id.
+/// The code of a reply that is said by its code, after entries of which the last has this id.
 #[tactic(auto, unfolding(crate::specs::ReplyList::brief_reply))]
 #[inline]
 fn brief_code(entered: u32, reply: &Reply) -> Option<u8>
@@ -100,7 +100,7 @@ fn ends_with(others: &[Reply], reply: &Reply) -> bool
     }
 }
 
-/// The code of a reply that is kept whole: it is put behind the others, but where it is the last of them already.
+/// The code of a reply that is kept whole: it is appended to the others, but where it is the last of them already.
 fn other_code(others: &mut Vec<Reply>, reply: &Reply) -> Result<u8, AllocError>
     ensures said { IfOk result (λ code. (entered : ℕ)
         → reply_of_code others.new.items entered (length others.old.items) code ≡ reply.now) }
@@ -115,7 +115,7 @@ fn other_code(others: &mut Vec<Reply>, reply: &Reply) -> Result<u8, AllocError>
     Ok(OTHER)
 }
 
-/// The code of a reply behind these others, which may grow by it, and entries of which the last has this id.
+/// The code of a reply after these others, which may grow by it, and entries of which the last has this id.
 #[inline]
 fn code_of(others: &mut Vec<Reply>, entered: u32, reply: &Reply) -> Result<u8, AllocError>
     ensures said { IfOk result (λ code.
@@ -186,7 +186,7 @@ fn other_at(others: &[Reply], place: usize) -> Reply
     }
 }
 
-/// The last of so many of the others, or a deletion where there is none.
+/// The last of the first `shown` others, or a deletion where there is none.
 #[inline]
 fn last_of(others: &[Reply], shown: usize) -> Reply
     ensures { result ≡ get_or (replies.Deleted ∷ others.now) shown replies.Deleted }
@@ -197,7 +197,7 @@ fn last_of(others: &[Reply], shown: usize) -> Reply
     other_at(others, shown - 1)
 }
 
-/// The reply that a code says behind so many of the others, and entries of which the last has this id.
+/// The reply that a code says after the first `shown` others, and entries of which the last has this id.
 #[tactic(auto, unfolding(crate::specs::ReplyList::reply_of_code))]
 #[inline]
 fn reply_of_code(others: &[Reply], entered: u32, shown: usize, code: u8) -> Reply
@@ -225,7 +225,7 @@ impl ReplyList {
         }
     }
 
-    /// One more reply, behind the others. Where memory is refused, the list is as it was.
+    /// One more reply, after the others. Where memory is refused, the list is as it was.
     #[inline]
     pub fn push(&mut self, reply: &Reply) -> Result<(), AllocError>
         ensures pushed { OnOk result (self.new ≡ self.old ++ reply.now ∷ []) }

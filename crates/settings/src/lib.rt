@@ -78,12 +78,11 @@ fn settings_of<'a>(matches: &ArgMatches<'a>, task: Task) -> Settings<'a>
 
 /// Reads the command line: `words` is the program's name and then its words.
 ///
-/// Prices are in ticks. Each number is the one that its option gives, or the option's default, and
-/// is in its option's range; what two options say together is for the auction to judge. An error is
-/// clap's own: its text for the help that was asked for, for words that are none of these options, a
-/// number out of its range or a form that there is not, and for want of memory. Where none of these
-/// is so, it is that options don't go together: that `--audit` doesn't stand alone, or that `--live`
-/// doesn't, or that `--results` was given without `--audit`, or `--reserve`, `--journal` or `--sync`
+/// Prices are in ticks. Each number is the one that its option gives, or the option's default, and is in its option's
+/// range; what two options say together is for the auction to judge. An error is clap's own: its text for the help that
+/// was asked for, for words that are none of these options, a number out of its range or a form that there is not, and
+/// for refused memory. Where none of these is so, it is that options don't go together: that `--audit` isn't alone, or
+/// that `--live` isn't, or that `--results` was given without `--audit`, or `--reserve`, `--journal` or `--sync`
 /// without `--live`, or `--sync` without `--journal`.
 pub fn settings<'a>(alloc: Global, words: &'a [&'a str]) -> Result<Settings<'a>, WordsFault>
     ensures refused { IfErr result (RefusesWords (texts words.now)) }

@@ -173,7 +173,7 @@ fn flag_option<'a>(alloc: Global, name: &'a str, help: &'a str) -> Arg<'a>
         .value_parser(value_parser!(bool))
 }
 
-/// An option with a word, which `value` stands for in the help.
+/// An option with a word, which the help calls `value`.
 fn word_option<'a>(alloc: Global, name: &'a str, value: &'a str, help: &'a str) -> Arg<'a>
     ensures rule { rule_of result ≡ word name.entry.now }
     ensures local { result.global ≡ false }
@@ -185,7 +185,7 @@ fn word_option<'a>(alloc: Global, name: &'a str, value: &'a str, help: &'a str) 
         .action(ArgAction::Set)
 }
 
-/// The command with these options too. The error is want of memory.
+/// The command with these options too. The error is that memory is refused.
 fn with_numbers<'a>(
     alloc: Global,
     mut command: Command<'a>,
@@ -203,7 +203,7 @@ fn with_numbers<'a>(
 
 /// The command with all its options: the numbers in ticks, orders, calls and members, each with its range, the two
 /// flags of the members' floor, what is printed, the audit and its results, the answers as records come, and where and
-/// how these are kept. The error is want of memory.
+/// how these are kept. The error is that memory is refused.
 pub fn callboard<'a>(alloc: Global) -> Result<Command<'a>, Error>
     ensures options { IfOk result (λ c. app_of c ≡ callboard) }
     ensures memory { IfErr result (λ e. kind_of e ≡ ErrorKind.OutOfMemory) }

@@ -192,11 +192,11 @@ impl SharedMember {
 
     /// Calls a command on the board, if no other call has the lock.
     ///
-    /// A recorded call stands in the history after all that this member had seen and calls of others only; its receipt
-    /// has its place there and the auction's reply at that place; the member's own calls are the ones before and this
-    /// one. After a fault nothing was recorded, and the member is as it was, except that at `HistoryFull` it has seen
-    /// the whole history, of at least `max_calls` entries. `Behind` comes only where the history isn't full, and the
-    /// member has seen more than it has, or counted other calls than it has of the member.
+    /// A recorded call is in the history after all that this member had seen and calls of others only; its receipt has
+    /// its place there and the auction's reply at that place; the member's own calls are the ones before and this one.
+    /// After a fault nothing was recorded, and the member is as it was, except that at `HistoryFull` it has seen the
+    /// whole history, of at least `max_calls` entries. `Behind` comes only where the history isn't full, and the member
+    /// has seen more than it has, or counted other calls than it has of the member.
     pub fn call(&mut self, command: Command) -> Result<Receipt, BoardFault>
         ensures board { self.new.board ≡ self.old.board }
         ensures call { IfOk result (λ r. CallsOnce self.old.board.config self.old.view self.new.view command r) }

@@ -29,7 +29,7 @@ const NO_ENTRY: Entry = Entry {
     reply: Reply::Deleted,
 };
 
-// Room for so many entries, written once.
+// Room for `max_calls` entries, written once.
 fn take_history(alloc: Global, max_calls: u32) -> Result<Vec<Entry>, AllocError>
     ensures { IfOk result (λ h. (h.items ≡ []) × (max_calls ≤ vec_capacity h)) }
 {
@@ -38,7 +38,7 @@ fn take_history(alloc: Global, max_calls: u32) -> Result<Vec<Entry>, AllocError>
     Ok(history)
 }
 
-// So many copies that show nothing.
+// `count` copies that show nothing.
 fn no_copies(
     alloc: Global,
     day: &Day,

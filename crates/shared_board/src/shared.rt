@@ -114,7 +114,7 @@ impl Shared {
         }
     }
 
-    /// The newest copy, unless it shows just so many calls.
+    /// The newest copy, unless it shows just `seen` calls.
     pub(crate) fn newest(&self, seen: u32) -> Result<Option<Snapshot>, Unwatched>
         ensures { IfOk result (λ found. IfSome found (λ v. IsSnapshotOf self.now.floor v.front v.shown)) }
     {

@@ -17,7 +17,7 @@ impl Ladder {
         self.market_asks = 0;
     }
 
-    /// A ladder of its own with the same quantities at the same ticks. Only want of memory makes it fail.
+    /// A ladder of its own with the same quantities at the same ticks. It fails only where memory is refused.
     pub fn copied(&self, alloc: Global) -> Result<Ladder, AllocError>
         ensures { IfOk result (λ ladder. ladder ≡ self.now) }
     {

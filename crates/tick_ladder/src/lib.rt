@@ -39,7 +39,7 @@ pub struct Ladder {
     low: u32,
     bids: Quantities,
     asks: Quantities,
-    // 1 where bids or asks stand.
+    // 1 where there are bids or asks.
     present: Quantities,
     market_bids: u64,
     market_asks: u64,
@@ -57,7 +57,7 @@ impl Model for Ladder {
     ghost invariant = { λ a. IsLadder (ladder_view a) };
 }
 
-/// 1 where bids or asks stand, else 0.
+/// 1 where there are bids or asks, else 0.
 fn flag(bids: u64, asks: u64) -> u64
     ensures { result ≡ flag_of bids asks }
 {
@@ -76,7 +76,8 @@ fn tick_at(low: u32, place: Option<usize>) -> Option<u32>
 }
 
 impl Ladder {
-    /// An empty ladder with the ticks from `low` to `high`, both of them included. Only want of memory makes it fail.
+    /// An empty ladder with the ticks from `low` to `high`, both of them included. It fails only where memory is
+    /// refused.
     pub fn open(alloc: Global, low: u32, high: u32) -> Result<Ladder, AllocError>
         requires ordered { low ≤ high }
         requires bounded { high ≤ MAX_TICK }
@@ -126,7 +127,7 @@ impl Ladder {
         self.asks.places()
     }
 
-    /// 1 at each tick where bids or asks stand, and else 0, from the lowest tick on.
+    /// 1 at each tick with bids or asks, and else 0, from the lowest tick on.
     pub fn present(&self) -> &[u64]
         ensures value { result.now ≡ self.now.present }
         ensures sound { IsLadder self.now }
@@ -144,8 +145,8 @@ impl Ladder {
         }
     }
 
-    /// The best limit of a side: the highest tick where bids stand, the lowest where asks stand. In a book of orders
-    /// with shares left, whose ladder this is, it is the highest limit of a bid, the lowest of an ask.
+    /// The best limit of a side: the highest tick with bids, the lowest with asks. In a book of orders with shares
+    /// left, whose ladder this is, it is the highest limit of a bid, the lowest of an ask.
     pub fn best(&self, side: Side) -> Option<u32>
         ensures value { result ≡ best_tick self.now side }
         ensures book { (book : List Order) → AreOpen book → IsLadderOf self.now book → result ≡ best_limit book side }
@@ -174,7 +175,7 @@ impl Ladder {
         self.asks.at(place)
     }
 
-    /// The last place before `end` where an order stands.
+    /// The last place before `end` that has an order.
     pub fn last_before(&self, end: usize) -> Option<usize>
         requires { end ≤ length self.now.bids }
         ensures { IsLastBefore self.now end result }
@@ -182,7 +183,7 @@ impl Ladder {
         self.present.last_before(end)
     }
 
-    /// The first place from `start` on where an order stands.
+    /// The first place from `start` on that has an order.
     pub fn first_from(&self, start: usize) -> Option<usize>
         requires { start ≤ length self.now.bids }
         ensures { IsFirstFrom self.now start result }
@@ -209,7 +210,7 @@ impl Ladder {
         self.put(side, limit, quantity_at + quantity);
     }
 
-    /// Takes shares away that stand at a side and limit.
+    /// Takes shares away from a side and limit.
     pub fn take(&mut self, side: Side, limit: Limit, quantity: u64)
         requires in_bounds { IsInBounds self.old limit }
         requires stands { quantity ≤ quantity_in self.old side limit }
@@ -219,7 +220,7 @@ impl Ladder {
         self.put(side, limit, quantity_at - quantity);
     }
 
-    /// The shares that stand at a side and limit.
+    /// The shares at a side and limit.
     fn quantity_at(&self, side: Side, limit: Limit) -> u64
         requires { IsInBounds self.now limit }
         ensures value { result ≡ quantity_in self.now side limit }
@@ -233,7 +234,7 @@ impl Ladder {
         }
     }
 
-    /// Makes so many shares stand at a side and limit.
+    /// Sets the shares at a side and limit to `quantity`.
     fn put(&mut self, side: Side, limit: Limit, quantity: u64)
         requires in_bounds { IsInBounds self.old limit }
         requires fits { total_quantity self.old + quantity ≤ MAX_TOTAL + quantity_in self.old side limit }

@@ -76,7 +76,7 @@ impl Quantities {
         blank(&mut self.groups);
     }
 
-    /// The same numbers, with sums of their own. Only want of memory makes it fail.
+    /// The same numbers, with sums of their own. It fails only where memory is refused.
     pub fn copied(&self, alloc: Global) -> Result<Quantities, AllocError>
         ensures { IfOk result (λ t. t ≡ self.now) }
     {

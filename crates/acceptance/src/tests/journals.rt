@@ -163,7 +163,7 @@ fn records_of_calls_have_faults(rt: HostRuntime) {
     }
 }
 
-/// A journal of one call whose recorded reply has so many bytes.
+/// A journal of one call whose recorded reply has `length` bytes.
 fn with_reply(alloc: Global, length: usize) -> Result<Option<FileFault>, Fail> {
     let mut text = Vec::new(alloc);
     text.extend_from_slice(b"day,1,9,5,3,4,9,\n0,ask,".as_slice())?;

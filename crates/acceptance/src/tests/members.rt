@@ -86,7 +86,7 @@ fn asks(alloc: Global, times: usize) -> Result<Vec<Command>, AllocError>
     Vec::from_elem(alloc, Command::Indicate, times)
 }
 
-// A script of so many questions for each member.
+// A script of `times` questions for each member.
 fn scripts<K: BoardIdentity>(
     alloc: Global,
     members: &[Member<K>],
@@ -127,7 +127,7 @@ fn back<K: BoardIdentity>(
     members
 }
 
-// No closing stands for scripts that weren't played as told.
+// No closing is given for scripts that weren't played as asked.
 fn played_and_closed<K: BoardIdentity + Send + Sync, G: Gate + Sync, R: Wait + Threads + Sync>(
     rt: &R,
     alloc: Global,

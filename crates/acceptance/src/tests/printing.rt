@@ -83,7 +83,7 @@ audit legal
     assert_eq!(rt; from_utf8(text.as_slice()).unwrap_or("?"), wanted);
 }
 
-/// So many lines, which are more than a page.
+/// `count` lines, which are more than a page.
 fn many_lines<L: Ledger>(alloc: Global, blank: Blank, count: u64) -> Vec<u8>
     requires name { blank.name ≡ L.name }
     requires parts { blank.parts ≡ L.parts }

@@ -10,7 +10,7 @@ use std::alloc::{AllocError, Global};
 use std::process::Abort;
 use std::test::Fail;
 
-/// So many numbers, all the same but the last.
+/// `length` numbers, all the same but the last.
 fn numbers(alloc: Global, length: usize, number: u64, last: u64) -> Result<Vec<u64>, AllocError>
     ensures { IfOk result (λ v. size v.items ≡ length) }
 {

@@ -7,14 +7,14 @@ use std::alloc::{AllocError, Global};
 use std::process::Abort;
 use std::test::Fail;
 
-/// So many ones.
+/// `length` ones.
 fn ones(alloc: Global, length: usize) -> Result<Vec<u64>, AllocError>
     ensures { IfOk result (λ v. v.items ≡ replicate length 1) }
 {
     vec![in alloc; 1; length]
 }
 
-/// The sums of so many ones, from the front over a start and from the back over 0, and all together.
+/// The sums of `length` ones, from the front over a start and from the back over 0, and all together.
 #[tactic(auto, using(lane_prefix::proofs::RunningSumLaws::sum_ones))]
 fn sums_of_ones(rt: &impl Abort, alloc: Global, start: u64, length: usize) -> Result<(), Fail>
     requires few { length ≤ 65536 }

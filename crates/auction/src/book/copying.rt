@@ -15,7 +15,7 @@ impl Book {
         self.counted.reset();
     }
 
-    /// The same orders, in a book of its own, with a desk for so many. Only want of memory makes it fail.
+    /// The same orders, in a book of its own, with a desk for `max_open`. It fails only where memory is refused.
     pub(crate) fn copied(&self, alloc: Global, max_open: u32) -> Result<Book, AllocError>
         requires { self.now.max_open ≤ max_open }
         ensures { IfOk result (λ b. b ≡ self.now) }

@@ -49,7 +49,8 @@ impl Model for LadderBook {
 }
 
 impl LadderBook {
-    /// No orders, with room for all that the config allows, in the opening auction. Only want of memory makes it fail.
+    /// No orders, with room for all that the config allows, in the opening auction. It fails only where memory is
+    /// refused.
     pub(super) fn open(alloc: Global, config: Config) -> Result<LadderBook, AllocError>
         requires { open_fault config ≡ None }
         ensures { IfOk result (λ b. b.book ≡ no_orders config) }

@@ -33,7 +33,7 @@ impl DayState {
         self.extended = false;
     }
 
-    /// The same day, with orders and trades of its own. Only want of memory makes it fail.
+    /// The same day, with orders and trades of its own. It fails only where memory is refused.
     pub(crate) fn copied(&self, alloc: Global) -> Result<DayState, AllocError>
         ensures { IfOk result (λ d. d ≡ self.now) }
     {

@@ -29,7 +29,7 @@ fn list_restricted(
 
 impl DayState {
     /// The orders that an uncross now would take out, as they are for its auction alone, in priority, with what would
-    /// be left of them. Only want of memory makes it fail.
+    /// be left of them. It fails only where memory is refused.
     #[tactic(auto, unfolding(auction_terms::specs::Priority::orders_expiring))]
     pub(crate) fn expiring_orders(&self, alloc: Global) -> Result<Vec<OpenOrder>, AllocError>
         ensures { IfOk result (λ listed.

@@ -108,7 +108,7 @@ fn list_side(
 }
 
 /// The open orders in priority, the bids before the asks, of all members or of one, each with what these trades
-/// executed of it. Only want of memory makes it fail.
+/// executed of it. It fails only where memory is refused.
 pub(super) fn list_orders(
     alloc: Global,
     book: &Book,
@@ -135,7 +135,7 @@ pub(super) fn list_orders(
 
 impl DayState {
     /// The open orders in priority, the bids before the asks, of all members or of one, each with what was executed of
-    /// it. Only want of memory makes it fail.
+    /// it. It fails only where memory is refused.
     #[tactic(auto, unfolding(auction_terms::specs::Priority::orders_in_priority))]
     pub(crate) fn open_orders(
         &self,

@@ -1,4 +1,4 @@
-//! `OrderStatus`: an order as it stands.
+//! `OrderStatus`: an order as it is.
 ghost use Rattle.std.specs.Prelude.{◌≡◌};
 ghost use Rattle.auction_terms.specs.Day as day;
 ghost use Rattle.auction.specs.AuctionState.{outcome};

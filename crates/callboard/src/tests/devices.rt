@@ -161,7 +161,7 @@ fn printed_by<I: Ledger, O: Ledger, T: AllocGlobal + Wait + Threads + Sync>(
     }
 }
 
-/// A run that reads and writes `step` bytes at a time, so many times.
+/// A run that reads `reads` times and writes `writes` times, `step` bytes at a time.
 pub(super) fn run_devices<T: AllocGlobal + Wait + Threads + Sync>(
     rt: &T,
     words: &[&str],
@@ -185,7 +185,7 @@ pub(super) fn run_devices<T: AllocGlobal + Wait + Threads + Sync>(
     printed_by::<Brand, Brand, T>(rt, blanks, words, giver, taker)
 }
 
-/// What a failing device ends with: status 3, this line, and so much of the output as was taken.
+/// What a failing device ends with: status 3, this line, and as much of the output as was taken.
 pub(super) fn ends_with<T: Abort>(rt: &T, written: &Printed, line: &str, taken: Option<&[u8]>) {
     assert_eq!(rt; written.status, 3);
     assert_eq!(rt; from_utf8(written.err.as_slice()).unwrap_or("?"), line);

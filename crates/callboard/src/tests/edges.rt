@@ -360,7 +360,7 @@ static BOUNDS: [(&str, &str, &str, Wrong); 28] = [
     ("20", "10", "15", Wrong::Order),
 ];
 
-/// What is told of these bounds and this reference on standard error.
+/// What standard error says of these bounds and this reference.
 fn told(
     alloc: Global,
     low: &str,

@@ -1,4 +1,4 @@
-//! The likely cause of a fault, told behind it.
+//! The likely cause of a fault, printed after it.
 
 use super::{PLAIN, Row, each_gives, run};
 use std::str::from_utf8;

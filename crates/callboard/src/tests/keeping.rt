@@ -31,7 +31,7 @@ const DAY: &str = "day,1,1000,200,4,4096,65536,\n";
 
 const MANY_CALLS: usize = 1_000;
 
-/// A file in memory that belongs to somebody else, and fails for good after so many calls.
+/// A file in memory that belongs to somebody else, and fails for good after `calls_left` calls.
 #[derive(Drop)]
 struct Held<'a> {
     bytes: &'a mut Vec<u8>,
@@ -86,7 +86,7 @@ impl<'a> OpensJournal<Tracked<Held<'a>>> for Held<'a> {
     }
 }
 
-/// What a session on this file, which fails after so many calls, comes to.
+/// What a session on this file, which fails after `calls_left` calls, comes to.
 fn kept_on<T: AllocGlobal + Wait + Threads + Sync>(
     rt: &T,
     words: &[&str],

@@ -8,7 +8,7 @@ use std::thread::Threads;
 
 pub(super) const LIVE: &[&str] = &["callboard", "--live"];
 
-/// What stands beside `--live` and doesn't go with it.
+/// What is given beside `--live` and doesn't go with it.
 const MIXED: [&[&str]; 5] = [
     &["callboard", "--live", "--floor"],
     &["callboard", "--history", "--live"],
@@ -113,7 +113,7 @@ fn live_goes_with_lines_alone(rt: HostRuntime) {
     );
 }
 
-/// The lines of the records that are complete in so many bytes of the input.
+/// The lines of the records that are complete in the first `bytes` bytes of the input.
 fn lines_within(bytes: usize) -> Option<&'static [u8]> {
     let whole = INPUT
         .bytes()
@@ -127,7 +127,7 @@ fn lines_within(bytes: usize) -> Option<&'static [u8]> {
     LINES.as_bytes().get(..length)
 }
 
-/// What so many writes of 8 bytes take, where each line begins with a write of its own.
+/// What `writes` writes of 8 bytes take, where each line begins with a write of its own.
 fn taken_by(writes: usize) -> Option<&'static [u8]> {
     let mut left = writes;
     let mut length = 0usize;

@@ -4,8 +4,8 @@ ghost use Rattle.std.specs.Prelude.{None};
 
 use super::*;
 
-/// Hands out a good record, then a line of this byte, of so many bytes, and a good record again, and keeps the last
-/// bytes of what is answered.
+/// Hands out a good record, then a line of `left` bytes, each `byte`, and a good record again, and keeps the last bytes
+/// of what is answered.
 #[derive(Drop)]
 struct LongLine {
     front: &'static [u8],

@@ -4,7 +4,7 @@ ghost use Rattle.std.specs.Prelude.{None};
 
 use super::*;
 
-/// A line up to the byte that ends it, what comes behind it, its answer, and whether it is a call.
+/// A line up to the byte that ends it, what comes after it, its answer, and whether it is a call.
 #[derive(Drop)]
 struct Row {
     line: &'static str,
@@ -222,7 +222,7 @@ impl Conversation for Table {
     }
 }
 
-/// A session whose device hands out so many bytes a read answers each row in its turn.
+/// A session whose device hands out `step` bytes a read answers each row in its turn.
 fn answers_in_turn<T: Abort + AllocGlobal>(rt: &T, step: usize) -> Result<(), OpenFault> {
     let mut table = Table::new(step);
     let terms = SessionTerms {

@@ -16,7 +16,7 @@ impl LadderBook {
         self.kind = AuctionKind::Opening;
     }
 
-    /// The same orders, in a book of its own with as much room. Only want of memory makes it fail.
+    /// The same orders, in a book of its own with as much room. It fails only where memory is refused.
     pub(in crate::book) fn copied(&self, alloc: Global) -> Result<LadderBook, AllocError>
         ensures { IfOk result (λ b. b.book ≡ self.now.book) }
     {

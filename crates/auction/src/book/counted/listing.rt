@@ -8,8 +8,8 @@ use allocation::{Listed, RankedOrder, in_priority};
 use std::alloc::{AllocError, Global};
 
 impl LadderBook {
-    /// The open orders of a side in priority, of all members or of one: also those that don't count now. Only want of
-    /// memory makes it fail.
+    /// The open orders of a side in priority, of all members or of one: also those that don't count now. It fails only
+    /// where memory is refused.
     pub(in crate::book) fn in_priority(
         &self,
         alloc: Global,
