@@ -121,6 +121,12 @@ def test_a_forbidden_word_of_a_comment(tmp_path: pathlib.Path, name: str, text: 
     assert len(faults_of(comments.forbidden_comments, planted(tmp_path, **{name: text}))) == 1
 
 
+@pytest.mark.parametrize("text", ["-- it takes so\n-- many\n", "data X where\n  -- it stands\n"])
+def test_a_forbidden_word_of_a_proof(tmp_path: pathlib.Path, text: str) -> None:
+    tree = planted(tmp_path, **{"crates/terms/proofs/Laws.antt": text})
+    assert len(faults_of(comments.forbidden_comments_of_proofs, tree)) == 1
+
+
 def test_documents_that_are_too_long(tmp_path: pathlib.Path) -> None:
     tree = planted(tmp_path, **{"README.md": "a" * documents.MOST_BYTES})
     assert len(faults_of(documents.sizes, tree)) == 1

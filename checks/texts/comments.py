@@ -1,5 +1,5 @@
-"""The comments of the repository's scripts, libraries and sources, and the rule for their words:
-definitions and proofs aside, they have no word that documents.FORBIDDEN lists.
+"""The comments of the repository's scripts, libraries, sources, definitions and proofs, and the rule
+for their words: they have no word that documents.FORBIDDEN lists.
 """
 import ast
 import io
@@ -71,4 +71,20 @@ def forbidden_comments(tree: Tree) -> Iterator[str]:
             yield from faults_of_words(f"{tree.name(file)}:{place}", words)
 
 
-RULES = [forbidden_comments]
+# ---- definitions and proofs
+
+OF_ANTT = re.compile(r"^ *--[^\n]*(?:\n *--[^\n]*)*", re.MULTILINE)
+MARK_OF_ANTT = re.compile(r"^ *--", re.MULTILINE)
+
+
+def forbidden_comments_of_proofs(tree: Tree) -> Iterator[str]:
+    """Comments of definitions and proofs with words of FORBIDDEN: lines that follow each other are
+    one comment.
+    """
+    for file in [*tree.specs, *tree.proofs]:
+        for place, text in of_others(tree.text(file), OF_ANTT):
+            words = SPAN.sub("``", " ".join(MARK_OF_ANTT.sub("", text).split()))
+            yield from faults_of_words(f"{tree.name(file)}:{place}", words)
+
+
+RULES = [forbidden_comments, forbidden_comments_of_proofs]

@@ -132,7 +132,7 @@ exact_claim x y h =
     ap (λ r. made r x.quantity x.id) (h (λ c. c.rank)) ∙ ap (λ q. made y.rank q x.id) (h (λ c. c.quantity))
     ∙ ap (λ i. made y.rank y.quantity i) (h (λ c. c.id))
 
--- what one look at each tells
+-- what one look at each says
 pub in_order_if : (claims : List Claim) (told : Bool)
     → IsAllAdjacentAnswer (λ x y b. b ≡ is_le (nat_cmp x.rank y.rank)) claims told → told ≡ true → AreInOrder claims
 in_order_if claims true all e = λ k d low high. grind (arith, common_steps, nat_tests, (all k d high))

@@ -127,7 +127,7 @@ executed_more : (side : Side) (id : ℕ) (tape : List Trade) (t : Trade)
 executed_more side id tape t =
     grind (arith, common_steps, filter-append, sum_by-append, sum_by-cons)
 
--- the table, where it tells two rules apart from no id of it
+-- rules that agree at each id of the table give the same table
 same_below : (f g : ℕ → ℕ) (a n : ℕ) → ((t : ℕ) → t < a + n → f t ≡ g t) → tick_values f a n ≡ tick_values g a n
 same_below f g a zero h = refl
 same_below f g a (suc n) h =
@@ -173,7 +173,7 @@ All-take P zero xs all = All-nil P
 All-take P (suc n) [] all = All-nil P
 All-take P (suc n) (x ∷ xs) all = All-cons P x (take n xs) (All-head P x xs all) (All-take P n xs (All-tail P x xs all))
 
--- so many trades don't overflow
+-- the first `k` trades don't overflow
 pub executed_fits : (tape : List Trade) (side : Side) (last k : ℕ) (id : ℕ) → AreSmall tape
     → k ≤ 3 * MAX_OPEN_ORDERS
     → get_or (executed_by_id (take k tape) side last) id 0 ≤ 3 * MAX_OPEN_ORDERS * MAX_QUANTITY

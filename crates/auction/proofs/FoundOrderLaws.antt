@@ -30,7 +30,7 @@ pub seen_open : (orders : Orders) (ladder : LadderView) (kind : AuctionKind) (no
     → ladder_book_view orders ladder kind ≡ now → IsOpenIn now.book.orders o → IsOpenIn (orders_of orders.line) o
 seen_open orders ladder kind now o e is = subst (λ (b : LadderBookView). IsOpenIn b.book.orders o) (sym e) is
 
--- an open order stands in the line
+-- an open order is in the line
 pub open_in_line : (o : Order) (line : List Stamped) → IsOpenIn (orders_of line) o → IsSome (open_order line o.id)
 open_in_line o line is = grind (arith, common_steps, (order_of_open o.id line))
 
@@ -43,7 +43,7 @@ pub open_is : (P : Order → Type 0) (o : Order) (line : List Stamped) → IsOpe
     → IfSome (open_order line o.id) (λ s. P s.order) → P o
 open_is P o line is h = grind (arith, common_steps, (order_of_open o.id line))
 
--- what stands at a place of a walk is open
+-- an order at a place of a walk is open
 pub found_is_open : (s : Stamped) (line : List Stamped) → open_order line s.order.id ≡ Some s
     → IsOpenIn (orders_of line) s.order
 found_is_open s line e = sym (order_of_open s.order.id line) ∙ ap (option_map (λ (s : Stamped). s.order)) e

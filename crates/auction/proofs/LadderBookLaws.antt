@@ -79,7 +79,7 @@ module _ {low n : ℕ} {kind : AuctionKind} {book : List Order} {ladder : Ladder
   pub kept_tick : (id : ℕ) (o : Order) → order_with id book ≡ Some o → IsTickOf low n o.limit
   kept_tick id o e = all_found (HasTick low n) id book o was.within e
 
-  -- the part of an order that leaves stands in the ladder
+  -- the part of an order that leaves is in the ladder
   pub kept_stands : (f : Fill) (o : Order) → order_with f.id book ≡ Some o → f.quantity ≤ o.quantity
       → participates_in kind o ≡ true → f.quantity ≤ quantity_in ladder o.side o.limit
   kept_stands f o e within c =

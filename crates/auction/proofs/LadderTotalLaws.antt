@@ -1,4 +1,4 @@
--- What stands in the ladder of a book, at one limit and in all.
+-- What is in the ladder of a book, at one limit and in all.
 use Rattle.std.proofs.Common.{◌≡◌, ℕ, zero, suc, ◌+◌, ◌≤◌, Bool, true, false, cond, ◌&&◌, List, [], ◌∷◌, sum, sum_by}
 use Rattle.std.proofs.Common.{refl, ap, arith, nat_eq}
 use Rattle.std.proofs.lemmas.Bool.Decides.{nat_tests}
@@ -32,7 +32,7 @@ at_limit : (low n : ℕ) (book : List Order) (side : Side) (limit : Limit) (q : 
 unfolding ladder_of
 at_limit low n book side limit q tick stands sums = grind (arith, common_steps, at_spread, stands, cond-same)
 
--- an order of the book stands at its limit
+-- the ladder has an order of the book at its limit
 pub quantity_in-least : (low n : ℕ) (old new : List Order) (o : Order) → IsTickOf low n o.limit → HasOrderMore o old new
     → o.quantity ≤ quantity_in (ladder_of low n new) o.side o.limit
 unfolding by_order by_market
@@ -103,7 +103,7 @@ unfolding on
 both_sides [] = refl
 both_sides (o ∷ book) = grind (arith, common_steps, sum_by-cons, on, (both_sides book))
 
--- no more stands in the ladder than in the book
+-- the ladder has no more than the book
 pub all_within : (low n : ℕ) (book : List Order) → total_quantity (ladder_of low n book) ≤ quantity_of book
 unfolding ladder_of
 all_within low n book =

@@ -61,7 +61,7 @@ abbrev pub ladder_with : AuctionKind → Order → LadderView → LadderView
 ladder_with kind order ladder =
     if participates_in kind order then with_added ladder order.side order.limit order.quantity else ladder
 
--- the ladder with so much less of an order, if that counts
+-- the ladder with `quantity` less of an order, if that counts
 abbrev pub ladder_less : AuctionKind → Order → ℕ → LadderView → LadderView
 ladder_less kind order quantity ladder =
     if participates_in kind order then with_removed ladder order.side order.limit quantity else ladder
@@ -73,7 +73,7 @@ with_closing (Some s) ladder =
     if is_restricted_to Closing s.order.restriction then with_added ladder s.order.side s.order.limit s.order.quantity
     else ladder
 
--- so many shares more are no more than a ladder holds
+-- `quantity` more shares are no more than a ladder holds
 abbrev pub FitsIn : LadderView → ℕ → Type 0
 FitsIn ladder quantity = total_quantity ladder + quantity ≤ MAX_TOTAL
 
@@ -84,15 +84,15 @@ pub record HasAllOrders (book : LadderBookView) : Type 0 where
   pub orders : orders_of book.line ≡ book.book.orders
   pub places : IsLineOf (present book.slots) book.line
 
--- what stands at a place stood there before
+-- what is at a place was there before
 abbrev pub AddsNoOrder : LadderBookView → LadderBookView → Type 0
 AddsNoOrder old new = (place : ℕ) → IfSome (slot_at new.slots place) (λ s. slot_at old.slots place ≡ Some s)
 
--- no order with this id stands at a place
+-- no order with this id is at a place
 abbrev pub HasNoOrderWith : ℕ → LadderBookView → Type 0
 HasNoOrderWith id book = (place : ℕ) → IfSome (slot_at book.slots place) (λ s. s.order.id ≢ id)
 
--- no order for this auction alone stands at the place
+-- no order for this auction alone is at the place
 abbrev pub HasNoRestrictedAt : LadderBookView → ℕ → Type 0
 HasNoRestrictedAt book place =
     IfSome (slot_at book.slots place) (λ s. is_restricted_to book.book.kind s.order.restriction ≡ false)

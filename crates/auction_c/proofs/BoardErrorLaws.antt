@@ -6,7 +6,7 @@ use Rattle.shared_board.specs.declared.member.BoardFault.TheVariants.{Busy, Clos
 use Rattle.auction_c.specs.declared.errors.TheConstants.{BEHIND}
 use Rattle.auction_c.specs.Calling.{board_fault_number}
 
--- a fault with this number tells how the member is behind
+-- a fault with this number says how the member is behind
 pub number_behind : (f : BoardFault) → board_fault_number f ≡ BEHIND
     → (h : ℕ) × (k : ℕ) × (f ≡ CallRefused (Behind h k))
 number_behind Busy e = absurd (omega (arith, e))

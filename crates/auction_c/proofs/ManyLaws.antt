@@ -13,7 +13,7 @@ use Rattle.auction_c.specs.Decoding.{command_in}
 use Rattle.auction_c.specs.Calling.{ApplyResult, ApplyAllResult, apply_command, apply_decoded, apply_struct}
 use Rattle.auction_c.specs.Calling.{apply_structs, nothing_applied, one_more}
 
--- after the first i, whose replies stand at the head of replies
+-- after the first i, whose replies are at the head of replies
 abbrev pub so_far : ℕ → List AuctionReply → ApplyAllResult → ApplyAllResult
 so_far i replies rest = record {
   error = rest.error;

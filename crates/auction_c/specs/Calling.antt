@@ -61,7 +61,7 @@ abbrev pub apply_decoded : RunningAuction → ℕ → Option Command → Auction
 apply_decoded a member None before = not_applied NO_COMMAND a before
 apply_decoded a member (Some command) before = apply_command a member command before
 
--- the command that the struct stands for
+-- the command in the struct
 abbrev pub apply_struct : RunningAuction → AuctionCommand → AuctionReply → ApplyResult
 apply_struct a c before = apply_decoded a c.member (command_in c) before
 
@@ -107,7 +107,7 @@ ticks_of config = config.high + 1 - config.low
 abbrev pub ladder_now : RunningAuction → LadderView
 ladder_now a = ladder_over a.config (current_orders a.state)
 
--- arrays of these lengths for so many ticks
+-- arrays of these lengths for `ticks` ticks
 abbrev pub ladder_error : ℕ → ℕ → ℕ → ℕ
 ladder_error ticks bids asks = if nat_eq bids ticks && nat_eq asks ticks then DONE else BAD_LENGTH
 

@@ -1,4 +1,4 @@
--- What the structs that come from C stand for.
+-- What the structs that come from C mean.
 use Rattle.std.specs.Prelude.{ℕ, ◌==◌, nat_lt, ◌&&◌, if◌then◌else◌, Option, Some, None, option_and_then, option_map}
 use Rattle.auction_terms.specs.declared.Config.{Config}
 use Rattle.auction_terms.specs.declared.Side.{Side}
@@ -29,7 +29,7 @@ config_with c range = record {
   range = range;
 }
 
--- the config that a struct stands for, if it stands for one
+-- the config in a struct, if there is one
 abbrev pub config_in : AuctionConfig → Option Config
 config_in c = option_map (config_with c) (flagged_in c.has_range c.range)
 
@@ -61,7 +61,7 @@ enter_in c =
 abbrev pub change_in : AuctionCommand → Option Command
 change_in c = option_and_then (λ limit. Some (Change c.id limit c.quantity)) (limit_in c.has_limit c.limit)
 
--- the command that a struct stands for, if it stands for one
+-- the command in a struct, if there is one
 abbrev pub command_in : AuctionCommand → Option Command
 command_in c =
     if c.tag == 1 then enter_in c
@@ -73,7 +73,7 @@ command_in c =
     else if c.tag == 7 then Some Uncross
     else None
 
--- whose orders a number stands for: a member's, or all
+-- whose orders a number means: a member's, or all
 abbrev pub decoded_member : ℕ → Option (Option ℕ)
 decoded_member member =
     if nat_lt member ALL_MEMBERS then Some (Some member) else if member == ALL_MEMBERS then Some None else None

@@ -1,4 +1,4 @@
--- Demand falls and supply rises with the price, and neither changes where no limit stands. So the most volume is at a
+-- Demand falls and supply rises with the price, and neither changes where there is no limit. So the most volume is at a
 -- limit.
 use Rattle.std.proofs.Common.{◌≡◌, ℕ, ◌<◌, ◌≤◌, cond, ◌&&◌, not, List, [], ◌∷◌, All, ◌⊎◌, inl, inr, refl, arith}
 use Rattle.std.proofs.lemmas.Bool.{cases_lt}
@@ -45,7 +45,7 @@ pub supply_rises : (book : List Order) (p q : ℕ) → p ≤ q → supply book p
 supply_rises [] p q h = omega (arith, supply-nil p)
 supply_rises (order ∷ book) p q h = search (arith, supply-cons, (supply_rises book p q h))
 
--- no limit stands from p on and below q
+-- there is no limit from p on and below q
 pub demand_same : (book : List Order) (p q : ℕ) → p ≤ q → All (λ l. (l < p) ⊎ (q ≤ l)) (limits book)
     → demand book p ≡ demand book q
 demand_same [] p q h clear = omega (arith, demand-nil p, demand-nil q)
@@ -59,7 +59,7 @@ demand_same (order ∷ book) p q h clear =
       demand_same book p q h parts.1,
     )
 
--- no limit stands above p and up to q
+-- there is no limit above p and up to q
 pub supply_same : (book : List Order) (p q : ℕ) → p ≤ q → All (λ l. (l ≤ p) ⊎ (q < l)) (limits book)
     → supply book p ≡ supply book q
 supply_same [] p q h clear = omega (arith, supply-nil p, supply-nil q)

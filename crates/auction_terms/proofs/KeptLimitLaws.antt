@@ -158,7 +158,7 @@ pub ask_amounts : (book : List Order) (p : ℕ) → has_ask_surplus book p ≡ t
 unfolding has_ask_surplus
 ask_amounts book p ask = ltb-true (demand book p) (supply book p) ask
 
--- no limit stands strictly between the kept limits of a book with a surplus
+-- no limit is strictly between the kept limits of a book with a surplus
 clear_between : (book : List Order) (leaders : Leaders) (low high : ℕ) → 0 < leaders.surplus
     → IsKeptLimit book leaders (has_bid_surplus book) low → IsKeptLimit book leaders (has_ask_surplus book) high
     → (q : ℕ)

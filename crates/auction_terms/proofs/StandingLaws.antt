@@ -1,4 +1,4 @@
--- Where orders of a side have their limits, their quantities stand.
+-- The quantities of a side are where its orders have their limits.
 use Rattle.std.proofs.Common.{◌≡◌, ℕ, ◌+◌, ◌<◌, Bool, true, cond, ◌&&◌, List, [], ◌∷◌, filter, All, arith, zero-add}
 use Rattle.std.proofs.lemmas.Bool.{eq-eqb}
 use Rattle.std.proofs.lemmas.List.Elements.{All-head, All-tail}
@@ -36,14 +36,14 @@ quantity_there : (b : Bool) (limit : Limit) (t q rest : ℕ) (ts : List ℕ) →
     → has t (cond b (with_limit limit ts) ts) ≡ true → 0 < cond (b && is_at t limit) q 0 + rest
 quantity_there b limit t q rest ts some ih e = grind (arith, common_steps, has-cases, eq-eqb)
 
--- where a quantity of the side stands, one of its orders has its limit
+-- where the side has a quantity, one of its orders has its limit
 pub standing_limit : (s : Side) (book : List Order) (t : ℕ) → 0 < quantity_at s book t
     → has t (limits (filter (is_on s) book)) ≡ true
 standing_limit s [] t some = absurd (omega arith)
 standing_limit s (o ∷ book) t some =
     grind (arith, common_steps, limits-with, (standing_limit s book t))
 
--- and where an order with something left has its limit, a quantity stands
+-- and where an order with something left has its limit, there is a quantity
 pub limit_standing : (s : Side) (book : List Order) (t : ℕ) → All (λ o. 0 < o.quantity) book
     → has t (limits (filter (is_on s) book)) ≡ true → 0 < quantity_at s book t
 unfolding limits

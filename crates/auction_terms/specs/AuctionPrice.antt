@@ -54,7 +54,7 @@ clamp_between None high r = high
 clamp_between (Some low) None r = Some low
 clamp_between (Some low) (Some high) r = Some (if nat_le high r then high else (if nat_le r low then low else r))
 
--- whether market orders stand on both sides
+-- whether both sides have market orders
 abbrev pub has_market_orders : List Order → Bool
 has_market_orders book =
     nat_lt 0 (quantity_of (filter (λ order. is_bid order && is_market order.limit) book))

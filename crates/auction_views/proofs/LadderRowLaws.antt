@@ -41,7 +41,7 @@ place-end view now all place none e = sym (append-nil now) ∙ rw none at e
 
 -- ---- what they are
 
--- a row where the flag stands
+-- a row where the flag is set
 place-flagged : (b : Bool) (row : LadderRow) → cond (eqb (cond b 1 0) 0) [] (row ∷ []) ≡ cond b (row ∷ []) []
 place-flagged true row = refl
 place-flagged false row = refl

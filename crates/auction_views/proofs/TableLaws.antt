@@ -15,7 +15,7 @@ pub trades-by-one : IsListText (λ before trade. trade_line (before + 1) trade)
 unfolding trade_lines
 trades-by-one = record { none = λ before. refl; more = λ before trade trades. refl }
 
--- one more was put behind a text
+-- one more was put after a text
 pub line-put : {X : Type 0} (one : ℕ → X → List ℕ) (texts : ℕ → List X → List ℕ) → IsListText one texts
     → (xs : List X) (now after all : List ℕ) (i : ℕ) (d : X)
     → now ++ texts i (drop i xs) ≡ all → i < length xs → after ≡ now ++ one i (get_or xs i d)
@@ -40,7 +40,7 @@ unfolding trade_lines
 line-count before [] = refl
 line-count before (trade ∷ trades) = ap suc (line-count (before + 1) trades)
 
--- there is a line for each trade behind so many of the first ones
+-- there is a line for each trade after the first `before`
 pub trades_counted : (before : ℕ) (tape : List Trade)
     → length (trade_lines before (drop before tape)) ≡ length tape - before
 trades_counted before tape = line-count before (drop before tape) ∙ length-drop before tape

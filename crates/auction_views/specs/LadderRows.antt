@@ -41,7 +41,7 @@ market_rows_in view =
     if (view.market_bids == 0) && (view.market_asks == 0) then []
     else record { limit = Market; bid = view.market_bids; ask = view.market_asks } ∷ []
 
--- what stands at a place, counted from the lowest tick
+-- what is at a place, counted from the lowest tick
 abbrev pub rows_at : LadderView → ℕ → List LadderRow
 rows_at view place =
     if slice_index view.present place == 0 then []

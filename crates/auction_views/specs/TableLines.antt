@@ -41,7 +41,7 @@ order_line listed =
     ∷ limit_word listed.order.limit ∷ decimal listed.order.quantity ∷ decimal listed.visible ∷ decimal listed.filled
     ∷ restriction_word listed.order.restriction ∷ [])
 
--- the lines of trades that come after so many others
+-- the lines of trades after the first `before`
 unfoldable pub trade_lines : ℕ → List Trade → List (List ℕ)
 trade_lines before [] = []
 trade_lines before (trade ∷ trades) = trade_line (before + 1) trade ∷ trade_lines (before + 1) trades

@@ -1,5 +1,5 @@
 -- A record that asks for a view, or its first fault: the word comes first, then the number of fields, then the field
--- behind it.
+-- after it.
 use Rattle.std.specs.Prelude.{ℕ, ◌-◌, ◌==◌, Bool, false, List, Option, Some, None, option_and_then, ok_or, codes}
 use Rattle.std.specs.Prelude.{nat_lt, if◌then◌else◌, Result, Ok, Err}
 use Rattle.std.specs.Option.{option_map_or}

@@ -1,4 +1,4 @@
--- What a call and a look tell.
+-- What a call and a look report.
 use Rattle.std.specs.Prelude.{◌≡◌, ◌≢◌, ℕ, ◌+◌, ◌<◌, ◌≤◌, ◌⊎◌, List, [], ◌∷◌, ◌++◌, All, length}
 use mathlib.Core.List.{IsPrefix}
 use Rattle.auction_terms.specs.declared.Config.{Config}

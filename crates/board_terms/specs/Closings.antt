@@ -41,7 +41,7 @@ IsLateFault behind c n members fault =
     (m : MemberView) × (seen : ℕ) × (closing : Closing) × (fault ≡ behind m seen closing)
     × IsLate c n members m seen closing
 
--- some member with this number has seen more than so many calls
+-- some member with this number has seen more than `end` calls
 abbrev pub HasLate : ℕ → ℕ → List MemberView → Type 0
 HasLate k end members = (m : MemberView) × Contains members m × (m.number ≡ k) × (end < length m.seen)
 

@@ -1,4 +1,4 @@
--- The rule of the story, and what its steps tell.
+-- The rule of the story, and what its steps report.
 use Rattle.std.specs.Prelude.{ℕ, ◌≡◌, ◌==◌, true, List, [], ◌∷◌, ◌++◌, length, MatchBool}
 use Rattle.logbook.specs.Pages.{Cell, Step, View, Book, Named}
 use Rattle.auction_terms.specs.declared.Call.{Call}

@@ -16,7 +16,7 @@ takes_some (Err e) = false
 abbrev pub failures_after : Bool → ℕ → ℕ
 failures_after well before = if well then before else before + 1
 
--- at most so many bytes were taken
+-- at most `most` bytes were taken
 abbrev pub TakesAtMost : ℕ → Option (List ℕ) → Option (List ℕ) → Type 0
 TakesAtMost most old new = (bytes : List ℕ) × Consumes old new bytes × (length bytes ≤ most)
 

@@ -40,7 +40,7 @@ calls-twice auction front calls = grind (arith, common_steps, states-twice, leng
 pub no_calls : (auction : RunningAuction) → auction ≡ after_calls auction []
 no_calls auction = grind (arith, common_steps)
 
--- a block's calls come behind those of the blocks before
+-- a block's calls come after those of the blocks before
 pub block-after : (auction now new : RunningAuction) (front calls : List Call) → now ≡ after_calls auction front
     → new ≡ after_calls now calls → new ≡ after_calls auction (front ++ calls)
 block-after auction now new front calls is more =
@@ -58,7 +58,7 @@ block-follows kept auction now new before front calls is h =
     ∙ ap (λ es. before ++ es) (sym (entries-twice auction.config auction.state front calls))) in
     subst (KeepsEntries kept new) same h
 
--- they are what the block's records give, behind those
+-- they are what the block's records give, after those
 pub block-calls : (members : ℕ) (auction now : RunningAuction) (front calls : List Call) (rows : Rows)
     → auction ≡ opened_auction auction.config → now ≡ after_calls auction front
     → calls_after members now.config.max_calls now.calls rows ≡ Ok calls

@@ -49,7 +49,7 @@ pub called_on : (old now new : RunningAuction) (front : List Call) (call : Call)
 called_on old now new front call put is =
     put ∙ ap (λ a. auction_after_call a call) is ∙ auction_after_call-more old front call
 
--- its entry stands behind those before it
+-- its entry comes after those before it
 pub entries-more : (config : Config) (state : State) (front : List Call) (call : Call)
     → entries_from config state (front ++ call ∷ []) ≡ entries_from config state front
     ++ entry_of_call call (step config (state_after config state front) call).1 ∷ []
@@ -87,12 +87,12 @@ call-next calls front i d is h =
 pub call-end : (calls front : List Call) (i : ℕ) → front ++ drop i calls ≡ calls → length calls ≤ i → front ≡ calls
 call-end calls front i is h = sym (append-nil front) ∙ rw (drop_all i calls h) at is
 
--- what was put behind the others, where memory wasn't refused
+-- what was put after the others, where memory wasn't refused
 pub was_put : {E P : Type 0} (r : Result (Unit {0}) E) → is_err r ≡ false → OnOk r P → P
 was_put (Ok u) e h = h
 was_put (Err f) e h = absurd cc
 
--- what was kept before a call, and then its reply, is what is kept of the auction behind it
+-- what was kept before a call, and then its reply, is what is kept of the auction after it
 pub kept-answered : {E : Type 0} (r s : Result (Unit {0}) E) (between kept : Kept) (old mid new : RunningAuction)
     (call : Call) (reply : Reply) (entries : List Entry) → is_err r ≡ false → is_err s ≡ false → mid ≡ old
     → new ≡ auction_after_call mid call → reply ≡ (step mid.config mid.state call).1
@@ -238,7 +238,7 @@ pub journal_said : (form : Form) (day : DayHeader) (bytes : List ℕ) (j : Recor
 unfolding run_input_of
 journal_said form day bytes j r e keeps = rw e keeps
 
--- want of memory alone stands for want of memory
+-- what may come of refused memory may come in any case
 keeps-none : (form : Form) (r : Result KeptDay Fault) (said : Result DayWithCalls FileFault)
     → KeepsDay form (Err faults.NoMemory) r → KeepsDay form said r
 keeps-none form (Ok kept) said h = absurd (cc (h.1))

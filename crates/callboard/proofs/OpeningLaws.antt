@@ -14,7 +14,7 @@ use Rattle.callboard.specs.declared.fault.Fault.TheVariants as fault
 use Rattle.callboard.specs.FileRun.{OpensUnless}
 use Rattle.callboard.specs.PlayedDay.{IsOfDay}
 
--- the fault is that of the config, or want of memory where it has none
+-- the fault is that of the config, or refused memory where it has none
 pub refused-for : {X : Type 0} (o : Option OpenFault) (r : Result X OpenFault) (f : OpenFault) → r ≡ Err f
     → IfSome o (λ fault. r ≡ Err fault) → (o ≡ None → f ≡ NoMemory) → f ≡ unwrap_or o NoMemory
 refused-for None r f is refused memory = memory refl

@@ -78,7 +78,7 @@ same-fit members calls others same fits =
     calls-fit members others (λ member. subst (λ (cs : List Command). AllByRecursion (FitsCommand members member) cs)
     (sym (same member)) (commands-fit members member calls fits))
 
--- ---- an entry for each call, with a reply that a journal tells
+-- ---- an entry for each call, with a reply that a journal says
 
 entries-fit : (members : ℕ) (entries : List Entry) → AllByRecursion (FitsCall members) (calls_of entries)
     → AreWide entries → AllByRecursion (FitsJournal members) entries

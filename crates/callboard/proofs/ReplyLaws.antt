@@ -18,7 +18,7 @@ pub reply-done : (left rest : List Reply) (front all : List ℕ) (place : ℕ) (
 reply-done left rest front all place next e is =
     append_assoc front _ _ ∙ reply-next left rest front all place next e is
 
--- and so many are left
+-- and the rest of the `count` are left
 pub reply-count : (left rest : List Reply) (place count : ℕ) (next : Reply) → place + length left ≡ count
     → left ≡ next ∷ rest → (place + 1) + length rest ≡ count
 reply-count left rest place count next e is = let longer = rw is at e in omega (arith, longer)

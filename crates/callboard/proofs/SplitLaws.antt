@@ -55,7 +55,7 @@ from_none : (xs : List Call) → length (calls_of_from 0 xs) ≡ length xs
 from_none [] = refl
 from_none (x ∷ xs) = all_by x (calls_of_from 0 xs) xs (nat_le 0 x.member) refl (from_none xs)
 
--- all calls are of one of so many numbers, or of one from there on
+-- all calls are of a number below `n`, or of one from there on
 pub sum_counts : (n : ℕ) (xs : List Call) → sum (calls_of_members n xs) + length (calls_of_from n xs) ≡ length xs
 sum_counts zero xs = omega (arith, from_none xs)
 sum_counts (suc n) xs =

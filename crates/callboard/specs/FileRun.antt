@@ -55,7 +55,7 @@ pub record Job : Type 1 where
   pub Text : Given → Finish → List ℕ → Type 0
   pub Faults : Fault → Type 0
 
--- It was opened where there is no reason against it, and was refused for the first, or for want of memory.
+-- It was opened where there is no reason against it, and was refused for the first, or for refused memory.
 abbrev pub OpensUnless : {X : Type 0} → Option OpenFault → Result X Fault → Type 0
 OpensUnless reason (Err (fault.File f)) = Unit {0}
 OpensUnless reason (Err (fault.Open f)) = f ≡ unwrap_or reason NoMemory
@@ -69,7 +69,7 @@ WritesOfInput job ends run_input (Err fault.WriteFailed) =
     (finish : Finish) × (text : List ℕ) × job.Text run_input finish text × AppendsBeginning ends.old ends.new text
 WritesOfInput job ends run_input (Err f) = Unit {0}
 
--- By what the input says: a fault of it comes first, and want of memory aside it is the first that the input has; else
+-- By what the input says: a fault of it comes first, and refused memory aside it is the first that the input has; else
 -- what was given was opened, and written of.
 abbrev pub WritesByInput : (job : Job) → Ends → Result job.Given FileFault → RunResult → Type 0
 WritesByInput job ends said (Err (fault.File f)) = FailsAsWanted f said

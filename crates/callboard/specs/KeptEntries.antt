@@ -38,7 +38,7 @@ form_kept (Journal lines) = forms.Listing listing.Journal
 form_kept (Trades entries) = forms.Listing listing.Trades
 form_kept (Book book) = forms.Listing listing.Book
 
--- What is kept is of these entries, after which the auction stands: their replies, their lines in the journal, all of
+-- What is kept is of these entries, after which this is the auction: their replies, their lines in the journal, all of
 -- them, or the tables before the uncrosses among them.
 abbrev pub KeepsEntries : Kept → RunningAuction → List Entry → Type 0
 KeepsEntries (Lines replies) auction entries = replies ≡ map reply_in entries
@@ -68,8 +68,8 @@ after_calls auction calls = record {
   calls = auction.calls + length calls;
 }
 
--- The calls that were wanted came to the auction, and their entries are kept behind those before them; or there was
--- the fault that was wanted.
+-- The calls that were wanted came to the auction, and their entries are kept after those before them; or there was the
+-- fault that was wanted.
 abbrev pub KeepsCalls : (List Entry → Type 0) → List Entry → RunningAuction → RunningAuction
     → Result (Unit {0}) FileFault → Result (List Call) FileFault → Type 0
 KeepsCalls AreKept before old new (Ok u) wanted =

@@ -26,7 +26,7 @@ use Rattle.callboard.specs.Status.{file_status, open_status}
 use Rattle.callboard.specs.declared.keeping.KeptFault.{KeptFault}
 use Rattle.callboard.specs.declared.keeping.KeptFault.TheVariants as kept
 
--- 1 for a fault of the file, 2 for another day, 4 for a reply that isn't the lawful one, 3 for want of memory
+-- 1 for a fault of the file, 2 for another day, 4 for a reply that isn't the lawful one, 3 for refused memory
 abbrev pub resume_status : ResumeFault → ℕ
 resume_status (resume.File f) = file_status f
 resume_status (resume.AnotherDay day) = 2
@@ -86,7 +86,7 @@ abbrev pub EndsWithStatus : Result Ending LiveFault → Bool → ℕ → Type 0
 EndsWithStatus ended true status = status ≡ session_status (as_session ended)
 EndsWithStatus ended false status = status ≡ 3
 
--- A journal was cut behind its lines, unless a commit had failed or the file did.
+-- A journal was cut after its lines, unless a commit had failed or the file did.
 pub record HasClosed {D : Type 0} (device : Ghosts D) (ended : Result Ending LiveFault) (old new : D) (is_closed : Bool)
     : Type 0 where
   pub leaves : (ended ≡ Err CommitFailed → ⊥)
@@ -127,7 +127,7 @@ pub record HasRunKeptSession {D : Type 0} (files : JournalFiles D) (file : Journ
   pub closing : HasClosed files.device ended last.device closed.device is_closed
   pub status_is : EndsWithStatus ended is_closed status
 
--- What came of a session of this day, with so many calls for the operator, whose commands are kept in this file.
+-- What came of a session of this day, with `reserve` calls for the operator, whose commands are kept in this file.
 pub record RunsKeptSession {D : Type 0} (files : JournalFiles D) (file : JournalFile) (day : DayHeader) (reserve : ℕ)
     (ends : Ends) (status : ℕ) : Type 0 where
   pub came : HasNotBegunSession files file day ends status ⊎ HasRunKeptSession files file day reserve ends status

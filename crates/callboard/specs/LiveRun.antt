@@ -64,7 +64,7 @@ pub record HasNotOpenedDay (day : DayHeader) (ends : Ends) (fault : OpenFault) :
   pub none_read : ends.ReadFailed → ⊥
   pub none_written : ends.WriteFailed → ⊥
 
--- what came of a session of this day, with so many calls for the operator
+-- what came of a session of this day, with `reserve` calls for the operator
 abbrev pub RunsLive : DayHeader → ℕ → Ends → SessionResult → Type 0
 RunsLive day reserve ends (Ok ending) =
     (open_fault day.config ≡ None)

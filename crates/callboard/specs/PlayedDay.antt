@@ -30,7 +30,7 @@ is_refused_memory (Some run.NoThread) = false
 abbrev pub is_kept_open : Option RunFault → List PlayedScript → Bool
 is_kept_open refused played = lacks_thread refused || list_any (λ (p : PlayedScript). is_some p.fault) played
 
--- why the day isn't to be closed after a run, if there is a reason: what keeps it open comes before want of memory
+-- why the day isn't to be closed after a run, if there is a reason: what keeps it open comes before refused memory
 abbrev pub fault_after : Option RunFault → List PlayedScript → Option Fault
 fault_after refused played =
     if is_kept_open refused played then Some fault.NotClosed

@@ -52,7 +52,7 @@ day_of_settings s = record { config = s.config; members = s.members }
 abbrev pub ServesSettings : {D : Type 0} → JournalFiles D → Settings → Ends → ℕ → Type 0
 ServesSettings files s = DoesTask files (day_of_settings s) s.journal s.task
 
--- 0 where the words ask for help, 3 for want of memory, and 2 where the words are wrong
+-- 0 where the words ask for help, 3 for refused memory, and 2 where the words are wrong
 abbrev pub words_status : ErrorKind → ℕ
 words_status DisplayHelp = 0
 words_status DisplayVersion = 0
@@ -69,8 +69,8 @@ pub record AnswersWords (words : List Text) (ends : Ends) (status : ℕ) : Type 
   pub none_read : ends.ReadFailed → ⊥
   pub write_failed : ends.WriteFailed → status ≡ 3
 
--- The words ask for an audit that doesn't stand alone, for answers as records come that don't, or for what goes with
--- either without it. The status is 2; nothing is printed, and nothing is read.
+-- The words ask for an audit that isn't alone, for answers as records come that aren't, or for what goes with either
+-- without it. The status is 2; nothing is printed, and nothing is read.
 pub record RefusesMix (words : List Text) (ends : Ends) (status : ℕ) : Type 0 where
   pub refused : RefusesWords words AuditNotAlone
       ⊎ (RefusesWords words LiveNotAlone ⊎ (RefusesWords words ResultsWithoutAudit

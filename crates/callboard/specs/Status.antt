@@ -13,13 +13,13 @@ use Rattle.callboard.specs.declared.fault.Finish.TheVariants.{Lawful, Unlawful}
 abbrev pub RunResult : Type 0
 RunResult = Result Finish Fault
 
--- 1 for a bad file, 3 for a read that failed and want of memory
+-- 1 for a bad file, 3 for a failed read and for refused memory
 abbrev pub file_status : FileFault → ℕ
 file_status file.ReadFailed = 3
 file_status file.NoMemory = 3
 file_status f = 1
 
--- 2 for bounds, a reference or limits that no auction has, 3 for want of memory
+-- 2 for bounds, a reference or limits that no auction has, 3 for refused memory
 abbrev pub open_status : OpenFault → ℕ
 open_status opening.NoMemory = 3
 open_status f = 2

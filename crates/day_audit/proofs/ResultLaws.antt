@@ -49,7 +49,7 @@ pub state_at_end-end : (config : Config) (state : State) (calls : List Call) (be
     → state_at_end config state calls before ≡ state
 state_at_end-end config state calls before h = rw (drop_all before calls h) refl
 
--- the next call's line comes behind those that were printed
+-- the next call's line comes after those that were printed
 pub lines-next : (auction : RunningAuction) (config : Config) (calls : List Call) (front all : List ℕ) (before : ℕ)
     (d : Call) (reply : Reply) → before < length calls → auction.config ≡ config
     → reply ≡ (step auction.config auction.state (get_or calls before d)).1

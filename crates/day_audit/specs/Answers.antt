@@ -27,7 +27,7 @@ answers (text ∷ texts) (reply ∷ replies) = answer_of text reply ∷ answers 
 abbrev pub answers_in : RecordedDay → List Answer
 answers_in j = answers j.texts (replay j.day.config j.calls).1
 
--- the same from where an auction stands
+-- the same from where an auction is
 abbrev pub answers_from : RunningAuction → List Call → List (List ℕ) → List Answer
 answers_from auction calls texts = answers texts (replies_from auction.config auction.state calls)
 

@@ -24,7 +24,7 @@ difference number a Unlawful = difference_line number a
 difference number a Lawful = []
 difference number a Silent = []
 
--- the lines of the entries after so many others
+-- the lines of the entries after the first `before`
 unfoldable pub differences : ℕ → List Answer → List ℕ
 differences before [] = []
 differences before (a ∷ rest) = difference (before + 1) a (finding_of a) ++ differences (before + 1) rest

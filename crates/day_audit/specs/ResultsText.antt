@@ -1,4 +1,4 @@
--- The results of a day, which an audit prints behind its own lines where they are wanted.
+-- The results of a day, which an audit prints after its own lines where they are wanted.
 use Rattle.std.specs.Prelude.{ℕ, ◌+◌, Bool, true, false, if◌then◌else◌, List, [], ◌∷◌, ◌++◌, Option, Some, None, codes}
 use Rattle.auction_terms.specs.declared.AuctionKind.{AuctionKind}
 use Rattle.auction_terms.specs.declared.Call.{Call}
@@ -15,7 +15,7 @@ use Rattle.day_audit.specs.AuditText.{audit_text}
 abbrev pub uncross_line : ℕ → Reply → List ℕ
 uncross_line number reply = if is_uncross_reply reply then line number reply else []
 
--- the lines of the uncrosses among replies that come after so many others
+-- the lines of the uncrosses among replies after the first `before`
 unfoldable pub uncross_lines : ℕ → List Reply → List ℕ
 uncross_lines before [] = []
 uncross_lines before (reply ∷ replies) = uncross_line (before + 1) reply ++ uncross_lines (before + 1) replies
@@ -25,7 +25,7 @@ abbrev pub current_auction_line : Option AuctionKind → List ℕ
 current_auction_line None = codes "day over\n"
 current_auction_line (Some kind) = codes "in " ++ (kind_word kind ++ codes "\n")
 
--- the lines of the uncrosses of a day with these calls, and where the day stands after them
+-- the lines of the uncrosses of a day with these calls, and where the day is after them
 abbrev pub results_text : Config → List Call → List ℕ
 results_text config calls =
     uncross_lines 0 (replay config calls).1 ++ current_auction_line (replay config calls).0.auction

@@ -129,7 +129,7 @@ holds-kept (Err e) old new auction entries curves tables is = tt
 
 -- ---- the tables, one by one
 
--- ladders with so many ticks
+-- ladders with `n` ticks
 abbrev pub AreLong : ℕ → List KeptTable → Type 0
 AreLong n tables = AllByRecursion (λ (table : KeptTable). length table.ladder.bids ≡ n) tables
 

@@ -1,4 +1,4 @@
--- The rule that is told of a book says what its price is.
+-- The rule that is given for a book says what its price is.
 use Rattle.std.proofs.Common.{◌≡◌, ℕ, Bool, true, false, cond, eqb, List, [], ◌∷◌, All, Some, None, inl, inr, refl, sym}
 use Rattle.std.proofs.Common.{ap, ◌∙◌, subst, arith}
 use Rattle.std.specs.List.{list_all}

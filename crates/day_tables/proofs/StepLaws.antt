@@ -1,4 +1,4 @@
--- What a step tells of the next id and of the tape.
+-- What a step reports of the next id and of the tape.
 use Rattle.std.proofs.Common.{◌≡◌, ℕ, ◌+◌, ◌==◌, nat_le, not, ok_or, if◌then◌else◌, Bool, true, false, [], length}
 use Rattle.std.proofs.Common.{replicate, Option, Some, None, MatchOption, Result, Ok, Err, IfOk, refl, sym, ap, ◌∙◌}
 use Rattle.std.proofs.Common.{length-append, arith}
@@ -28,7 +28,7 @@ use Rattle.auction_terms.specs.Day.{end_without_price, end_at_price, end_call_ph
 use Rattle.auction_terms.specs.Day.{decide, state_with_reply, step}
 use Rattle.day_tables.specs.TradeTable.{entered_id, auctions_of_reply}
 
--- the next id rises by one with each order that is entered under it, and the tape grows by the trades that are told
+-- the next id rises by one with each order that is entered under it, and the tape grows by the reported trades
 pub record IsReported (old new : State) (r : Reply) : Type 0 where
   pub ids : MatchOption (entered_id r) (new.next_id ≡ old.next_id) (λ id. (id ≡ old.next_id)
       × (new.next_id ≡ old.next_id + 1))
@@ -47,7 +47,7 @@ step-quiet old new r no_id no_trade ids tape = record {
   tape = rw (no_trade, tape) (no_more (length old.tape));
 }
 
--- an outcome that tells so, where the command is accepted
+-- an outcome that reports so, where the command is accepted
 record IsReportedBy (old : State) (o : Outcome) : Type 0 where
   told : IfOk o (IsReportedIn old)
 

@@ -280,7 +280,7 @@ table_of_trades config entries members kinds tape legal by_place by_trade is =
     legal) 0
     (trade_auctions entries) (replay config (calls_of entries)).0.tape))
 
--- ---- each trade is told
+-- ---- each trade is reported
 
 auctions_cons : (entry : Entry) (entries : List Entry)
     → trade_auctions (entry ∷ entries) ≡ auctions_of_reply entry.reply ++ trade_auctions entries
@@ -299,7 +299,7 @@ trades-printed_from config state (entry ∷ entries) h =
     ∙ length-append (auctions_of_reply entry.reply) (trade_auctions entries) in
     omega (arith, grown, rest, parts)
 
--- a lawful history tells an auction for each trade of its tape
+-- a lawful history reports an auction for each trade of its tape
 pub trades-printed : (config : Config) (entries : List Entry) → IsLegal config entries
     → length (trade_auctions entries) ≡ length (replay config (calls_of entries)).0.tape
 trades-printed config entries legal =

@@ -99,7 +99,7 @@ table_before config command state =
 abbrev pub text_before : Config → ℕ → State → Reply → List ℕ
 text_before config command state answer = if is_uncross_reply answer then table_before config command state else []
 
--- the tables before the uncrosses among entries that come after so many others, and the one at their end
+-- the tables before the uncrosses among entries after the first `before`, and the one at their end
 unfoldable pub tables_after : Config → ℕ → State → List Entry → List ℕ
 tables_after config before state [] = table_before config (before + 1) state
 tables_after config before state (entry ∷ entries) =

@@ -26,7 +26,7 @@ tables_of config entries = tables_after config 0 (opening_state config) entries
 abbrev pub HasRoomFor : Config → KeptBook → Type 0
 HasRoomFor config book = HasRoomForTicks (config.high + 1 - config.low) book.curves
 
--- The tables before the uncrosses among these entries are kept, after which the auction stands: whatever comes then,
+-- The tables before the uncrosses among these entries are kept, after which this is the auction: whatever comes then,
 -- its tables are those that follow.
 pub record HasTablesSoFar (book : KeptBook) (auction : RunningAuction) (entries : List Entry) : Type 0 where
   pub room : HasRoomFor auction.config book

@@ -1,4 +1,4 @@
--- What the table of the current auction is told by.
+-- What the table of the current auction is printed from.
 use Rattle.std.specs.Prelude.{◌≡◌, ℕ, Some}
 use Rattle.auction_terms.specs.declared.Config.{Config}
 use Rattle.auction_terms.specs.Day.{State, display}

@@ -10,7 +10,7 @@ use Rattle.day_tables.specs.declared.curves.Curves.{Curves}
 use Rattle.day_tables.specs.declared.rule.Rule.{Rule}
 use Rattle.day_tables.specs.DecidingRule.{rule_of}
 
--- room for so many ticks
+-- room for `ticks` ticks
 pub record HasRoomForTicks (ticks : ℕ) (curves : Curves) : Type 0 where
   pub demands : length curves.demands.items ≡ ticks
   pub supplies : length curves.supplies.items ≡ ticks

@@ -21,7 +21,7 @@ PrintsTable sink old new (Ok done) text = Prints sink old new (Ok done) text
 PrintsTable sink old new (Err (Write failed)) text = Prints sink old new (Err failed) text
 PrintsTable sink old new (Err (Open fault)) text = new ≡ old
 
--- no auction was opened for want of memory alone, if at all
+-- if no auction was opened, memory was refused
 abbrev pub IsOnlyNoMemory : TableFault → Type 0
 IsOnlyNoMemory (Open fault) = fault ≡ NoMemory
 IsOnlyNoMemory (Write failed) = Unit {0}

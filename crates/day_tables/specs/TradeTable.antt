@@ -69,7 +69,7 @@ trade_record member number kind trade =
     ∷ decimal trade.bid ∷ member_word (member trade.bid) ∷ decimal trade.ask ∷ member_word (member trade.ask)
     ∷ decimal trade.quantity ∷ decimal trade.tick ∷ [])
 
--- the records of trades that come after so many others, each with its auction
+-- the records of trades after the first `before`, each with its auction
 unfoldable pub trade_records : (ℕ → Option ℕ) → ℕ → List AuctionKind → List Trade → List ℕ
 trade_records member before [] tape = []
 trade_records member before (kind ∷ kinds) [] = []

@@ -33,7 +33,7 @@ bounds_or (Some low) None reference others = others
 bounds_or (Some low) (Some high) None others = others
 bounds_or (Some low) (Some high) (Some reference) others = record { low = low; high = high; reference = reference }
 
--- the bounds and the reference that a journal's first record tells, or the others
+-- the bounds and the reference that a journal's first record says, or the others
 abbrev pub bounds_in : List (List ℕ) → Bounds → Bounds
 bounds_in first others =
     if is_of_day first

@@ -16,7 +16,7 @@ use Rattle.input_hints.specs.declared.start.TheConstants.{ROOM}
 abbrev pub rows_of : List ℕ → List (List (List ℕ))
 rows_of text = records default_config (strip_bom text)
 
--- the record behind so many others
+-- the record after the first `before`
 abbrev pub row_in : ℕ → List (List (List ℕ)) → Option (List (List ℕ))
 row_in before [] = None
 row_in zero (row ∷ rows) = Some row
@@ -26,7 +26,7 @@ row_in (suc before) (row ∷ rows) = row_in before rows
 abbrev pub may_go_on : List ℕ → Bool
 may_go_on start = length start == ROOM
 
--- the record with a number, from 1, if it is whole: where more may follow, another one has to stand behind it
+-- the record with a number, from 1, if it is whole: where more may follow, another one has to come after it
 abbrev pub whole_row : ℕ → List ℕ → Option (List (List ℕ))
 whole_row number start =
     if may_go_on start && not (is_some (row_in number (rows_of start))) then None
@@ -41,7 +41,7 @@ terms_or (Some low) None members others = others
 terms_or (Some low) (Some high) None others = others
 terms_or (Some low) (Some high) (Some members) others = record { members = members; low = low; high = high }
 
--- the terms of the day that a journal's first record tells, or the others
+-- the terms of the day that a journal's first record says, or the others
 abbrev pub terms_in : List (List ℕ) → DayTerms → DayTerms
 terms_in first others =
     if is_of_day first

@@ -152,7 +152,7 @@ word_for Indicate = word.Indicate
 word_for (ReadTrade number) = word.ReadTrade
 word_for Uncross = word.Uncross
 
--- the member and the command word are read back, whatever stands behind
+-- the member and the command word are read back, whatever comes after
 pub head-read : (members member : ℕ) (command : Command) (behind : List (List ℕ)) → members < 2 ^ 32 → member < members
     → start_of_entry members (decimal member ∷ (command_fields command ++ behind)) ≡ Ok (record {
       member = member;
@@ -175,7 +175,7 @@ head-read members member (ReadTrade number) behind small below =
 head-read members member Uncross behind small below =
     let lt : nat_lt member members ≡ true = search rules in rw (decimal-number member (omega arith), lt) refl
 
--- a command is read back from its fields, whatever stands before them
+-- a command is read back from its fields, whatever comes before them
 pub command-read : (first : List ℕ) (command : Command) → FitsRecord command
     → command_of (word_for command) (first ∷ command_fields command) ≡ Ok command
 unfolding command_of change_of lone_number count_within field_as field_at

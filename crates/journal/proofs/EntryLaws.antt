@@ -212,7 +212,7 @@ pub run_input-journal : (day : DayHeader) (bytes : List ℕ) (j : RecordedDay) �
 unfolding run_input_of
 run_input-journal day bytes j e = rw e refl
 
--- want of memory alone stands for want of memory
+-- what may be given for refused memory may be given in any case
 gives-none : {X Y : Type 0} (view : X → Y) (r : Result X FileFault) (wanted : Result Y FileFault)
     → GivesWanted view r (Err file.NoMemory) → GivesWanted view r wanted
 gives-none view (Ok x) wanted h = absurd (cc h)

@@ -33,7 +33,7 @@ use Rattle.journal.specs.JournalText.{recorded_call_by}
 use Rattle.journal.specs.JournalPromises.{HasUniqueText, LegalHasReplayTexts, ReplayIsLegal}
 use Rattle.journal.proofs.ReplyTextLaws.{reply-same}
 
--- ---- each reply of the replay is told
+-- ---- each reply of the replay is printed in full
 
 abbrev IsFullyPrintedOutcome : Outcome → Type 0
 IsFullyPrintedOutcome (Ok done) = IsFullyPrinted done.1

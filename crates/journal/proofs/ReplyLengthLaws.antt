@@ -84,7 +84,7 @@ reply-short (reply.Interrupted p) h = omega (arith, price-short p h)
 reply-short (reply.Refused r) h =
     simp length-append (omega (arith, short (refusal_number r) (refusal-wide r), name-short r))
 
--- the text of a reply can stand in a field without quotes
+-- the text of a reply can be in a field without quotes
 pub reply-fits : (r : Reply) → IsWideReply r → IsFieldText (reply_text r)
 unfolding is_reply_text
 reply-fits r h =

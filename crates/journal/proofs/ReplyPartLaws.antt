@@ -112,7 +112,7 @@ refusal_by n =
     else if n == 8 then refused.NoSuchTrade
     else refused.PastAuction
 
--- the price whose word stands just before the words that are given
+-- the price whose word comes just before the words that are given
 abbrev price_from : List (List ℕ) → Price
 price_from ws = record { tick = value_at ws 0; volume = value_at ws 2; surplus = value_at ws 4; side = side_at ws 5 }
 

@@ -1,4 +1,4 @@
--- The texts of replies tell them apart, and have no mark of a record's format in them.
+-- Replies differ in their texts, which have no mark of a record's format in them.
 use Rattle.std.proofs.Common.{◌≡◌, ◌<◌, ◌++◌, ◌∷◌, ◌∙◌, [], ℕ, List, Option, Some, None, true, false, refl, sym, ap}
 use Rattle.std.proofs.Common.{arith, length}
 use Rattle.std.specs.Prelude.{IfSome, decimal, codes}
@@ -134,7 +134,7 @@ reply-some (reply.Uncrossed kind trades price) = kind-some kind _
 reply-some (reply.Interrupted p) = omega arith
 reply-some (reply.Refused r) = omega arith
 
--- the text of a reply can stand in a field without quotes
+-- the text of a reply can be in a field without quotes
 pub reply-plain : (r : Reply) → IsWideReply r → IsPlain (reply_text r)
 reply-plain r h = rw (text-spaced r) (spaced-plain (reply_parts r) (parts-letters r h))
 

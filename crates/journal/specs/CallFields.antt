@@ -31,7 +31,7 @@ enter_ending Unrestricted (Some peak) = decimal peak ∷ []
 enter_ending OpeningOnly peak = number_field peak ∷ codes "opening" ∷ []
 enter_ending ClosingOnly peak = number_field peak ∷ codes "closing" ∷ []
 
--- the command word and what stands behind it
+-- the command word and what comes after it
 abbrev pub command_fields : Command → List (List ℕ)
 command_fields (Enter side restriction limit quantity peak) =
     codes "enter" ∷ side_field side ∷ decimal quantity ∷ limit_field limit ∷ enter_ending restriction peak

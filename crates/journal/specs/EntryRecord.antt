@@ -33,7 +33,7 @@ recorded_call_fields recording = call_fields recording.call ++ recording.text �
 abbrev pub is_printable : ℕ → Bool
 is_printable b = nat_le 32 b && nat_le b 126
 
--- what may stand for a reply
+-- what may be recorded as a reply
 unfoldable pub is_reply_text : List ℕ → Bool
 is_reply_text text = nat_le (length text) MAX_REPLY && list_all is_printable text
 

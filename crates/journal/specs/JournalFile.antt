@@ -23,7 +23,7 @@ pub record RecordedDay : Type 0 where
 abbrev pub recorded_day : DayHeader → List RecordedCall → RecordedDay
 recorded_day day recording = record { day = day; calls = map call_part recording; texts = map reply_part recording }
 
--- What the records say that come after the day's and after so many others; the day's is record 1.
+-- What the records say that come after the day's and after `before` others; the day's is record 1.
 unfoldable pub recorded_calls_after : ℕ → ℕ → ℕ → List (List (List ℕ)) → Result (List RecordedCall) FileFault
 recorded_calls_after members max_calls before [] = Ok []
 recorded_calls_after members max_calls before (row ∷ rows) =

@@ -19,7 +19,7 @@ use Rattle.journal.specs.WideReplies.{IsFullyPrinted, IsWideReply}
 use Rattle.journal.specs.declared.day.DayHeader.{DayHeader}
 use Rattle.journal.specs.declared.reading.TheConstants.{MAX_JOURNAL_BYTES}
 
--- a reply's text, or none, that can stand in a field without quotes
+-- a reply's text, or none, that can be in a field without quotes
 pub record IsFieldText (text : List ℕ) : Type 0 where
   pub reply : is_reply_text text ≡ true
   pub plain : IsPlain text
@@ -57,7 +57,7 @@ GivesDay =
 
 -- ---- replies and their texts
 
--- each number is below 2 ^ 64, and no trades are told of an auction without a price
+-- each number is below 2 ^ 64, and no trades are reported of an auction without a price
 abbrev pub HasUniqueText : Reply → Type 0
 HasUniqueText r = IsWideReply r × IsFullyPrinted r
 
@@ -65,7 +65,7 @@ HasUniqueText r = IsWideReply r × IsFullyPrinted r
 abbrev pub AreUniqueTexts : Type 0
 AreUniqueTexts = (r s : Reply) → HasUniqueText r → HasUniqueText s → reply_text r ≡ reply_text s → r ≡ s
 
--- there is a text to each reply, and it can stand in a field without quotes
+-- there is a text to each reply, and it can be in a field without quotes
 abbrev pub AreFieldTexts : Type 0
 AreFieldTexts = (r : Reply) → IsWideReply r → (0 < length (reply_text r)) × IsFieldText (reply_text r)
 
@@ -75,7 +75,7 @@ AreFieldTexts = (r : Reply) → IsWideReply r → (0 < length (reply_text r)) ×
 abbrev pub HasReplayTexts : Config → List RecordedCall → Type 0
 HasReplayTexts config recording = map reply_part recording ≡ map reply_text (replay config (map call_part recording)).1
 
--- a legal history's journal tells the replay's replies
+-- a legal history's journal says the replay's replies
 abbrev pub LegalHasReplayTexts : Type 0
 LegalHasReplayTexts = (config : Config) (entries : List Entry) → IsLegal config entries
     → HasReplayTexts config (map recorded_call_by entries)
@@ -102,7 +102,7 @@ JournalCallsFit =
     (members : ℕ) (fields : List (List ℕ)) (recording : RecordedCall) → recorded_call_of members fields ≡ Ok recording
     → FitsRecord recording.call.command
 
--- a call of one of so many members that a record can hold
+-- a call of one of `members` members that a record can hold
 abbrev pub FitsCall : ℕ → Call → Type 0
 FitsCall members call = (call.member < members) × FitsRecord call.command
 
@@ -112,7 +112,7 @@ pub record FitsRunInput (g : DayWithCalls) : Type 0 where
   pub calls : AllByRecursion (FitsCall g.day.members) g.calls
   pub few : length g.calls ≤ g.day.config.max_calls
 
--- whatever a run is given can stand in a journal
+-- a journal can hold whatever a run is given
 abbrev pub RunInputFits : Type 0
 RunInputFits =
     (day : DayHeader) (bytes : List ℕ) (g : DayWithCalls) → FitsDay day → run_input day bytes ≡ Ok g → FitsRunInput g

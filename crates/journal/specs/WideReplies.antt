@@ -1,4 +1,4 @@
--- The replies whose texts tell them apart.
+-- Replies of which no two have one text.
 use Rattle.std.specs.Prelude.{◌≡◌, ℕ, ◌<◌, ◌^◌, List, Option, Some, None, IfSome}
 use Rattle.std.specs.List.{AllByRecursion}
 use Rattle.auction_terms.specs.declared.Entry.{Entry}
@@ -48,7 +48,7 @@ abbrev pub IsFullyPrintedUncross : ℕ → Option Price → Type 0
 IsFullyPrintedUncross trades None = trades ≡ 0
 IsFullyPrintedUncross trades (Some p) = Unit {0}
 
--- no trades are told of an auction without a price, as its text doesn't say how many
+-- no trades are reported of an auction without a price, as its text doesn't say how many
 abbrev pub IsFullyPrinted : Reply → Type 0
 IsFullyPrinted (reply.Entered id) = Unit {0}
 IsFullyPrinted (reply.Changed kept) = Unit {0}

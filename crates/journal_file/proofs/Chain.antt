@@ -1,4 +1,4 @@
--- One commit behind others.
+-- One commit after others.
 use Rattle.std.proofs.Common.{◌≡◌, ℕ, zero, suc, ◌+◌, List, [], ◌∷◌, ◌++◌, length, take, refl, sym, ◌∙◌, ap}
 use Rattle.std.proofs.Common.{append_assoc, arith}
 use Rattle.std.proofs.lemmas.List.{take_all}
@@ -39,7 +39,7 @@ chain moment left_since base old new text first second file is whole before now 
     before now
     (λ c. begun_first text first second c) (λ c. begun_both text first second c file is whole)
 
--- a run that keeps the lines, behind others
+-- a run that keeps the lines, after others
 same-lines : (text before file c : List ℕ) → file ≡ text ++ before → committed before ≡ before → committed c ≡ file
     → IsBegun text before c
 same-lines text before file c is whole same = (

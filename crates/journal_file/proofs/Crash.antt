@@ -113,11 +113,11 @@ module _ (file : List ℕ) where
           ∙ drop_past text (replicate room 0) (end + length lines) (length lines) (omega (arith, ends_at))
           ∙ drop-replicate (length lines) room 0)
 
--- whole lines and room stand for the lines
+-- whole lines and room mean the lines
 pub committed-text : (text : List ℕ) (room : ℕ) → committed text ≡ text → committed (text ++ replicate room 0) ≡ text
 committed-text text room whole = committed-end text (replicate room 0) whole (has_line-replicate room)
 
--- whole lines behind whole lines
+-- whole lines after whole lines
 pub committed-both : (file lines : List ℕ) → committed lines ≡ lines
     → committed (committed file ++ lines) ≡ committed file ++ lines
 committed-both file lines whole =

@@ -20,7 +20,7 @@ committed-line (b ∷ line) rest inside =
     line-goes-on b (line ++ 10 ∷ rest) (line_found (b ∷ line) rest inside)
     ∙ ap (λ (l : List ℕ). b ∷ l) (committed-line line rest inside.2)
 
--- a beginning ends in the line or behind it
+-- a beginning ends in the line or after it
 ends_where : (k : ℕ) (line rest : List ℕ) → (take k (line ++ 10 ∷ rest) ≡ take k line)
     ⊎ ((m : ℕ) × (take k (line ++ 10 ∷ rest) ≡ line ++ 10 ∷ take m rest))
 ends_where zero line rest = inl refl

@@ -1,4 +1,4 @@
--- What texts of lines and room stand for.
+-- What texts of lines and room mean.
 use Rattle.std.proofs.Common.{◌≡◌, ◌≢◌, ◌⊎◌, inl, inr, ℕ, zero, suc, ◌<◌, Bool, true, false, List, [], ◌∷◌, ◌++◌}
 use Rattle.std.proofs.Common.{length, take, drop, get_or, replicate, refl, sym, ◌∙◌, ap, arith}
 use Rattle.std.proofs.lemmas.Bool.{cases_eq}
@@ -58,7 +58,7 @@ has_line-take (suc n) (b ∷ xs) none = elim (kind b) [
       line-other b (take n xs) some other ∙ has_line-take n xs (sym (line-other b xs some other) ∙ none)
 ]
 
--- behind whole lines what is behind them stands for itself
+-- what comes after whole lines means what it means alone
 pub committed-append : (text rest : List ℕ) → committed text ≡ text → committed (text ++ rest) ≡ text ++ committed rest
 committed-append [] rest whole = refl
 committed-append (b ∷ text) rest whole = elim (bool_cases (has_line (b ∷ text))) [
@@ -73,7 +73,7 @@ pub has_line-replicate : (n : ℕ) → has_line (replicate n 0) ≡ false
 has_line-replicate zero = refl
 has_line-replicate (suc n) = line-nul 0 (replicate n 0) refl
 
--- room behind a torn line adds nothing
+-- room after a torn line adds nothing
 pub has_line-room : (xs : List ℕ) (n : ℕ) → has_line xs ≡ false → has_line (xs ++ replicate n 0) ≡ false
 has_line-room [] zero none = refl
 has_line-room [] (suc n) none = line-nul 0 (replicate n 0) refl
@@ -84,7 +84,7 @@ has_line-room (b ∷ xs) n none = elim (kind b) [
       line-other b (xs ++ replicate n 0) some other ∙ has_line-room xs n (sym (line-other b xs some other) ∙ none)
 ]
 
--- a file is its whole lines, and an end that stands for nothing
+-- a file is its whole lines, and an end that means nothing
 pub record FileParts (file : List ℕ) : Type 0 where
   pub end : List ℕ
   pub split : file ≡ committed file ++ end
@@ -135,7 +135,7 @@ committed-twice (b ∷ xs) = elim (bool_cases (has_line (b ∷ xs))) [
   | inr none ↦ ap committed (ends (b ∷ xs) none) ∙ sym (ends (b ∷ xs) none)
 ]
 
--- whatever lies behind whole lines, if it has no line
+-- whatever comes after whole lines, if it has no line
 pub committed-end : (text end : List ℕ) → committed text ≡ text → has_line end ≡ false → committed (text ++ end) ≡ text
 committed-end text end whole none =
     committed-append text end whole ∙ ap (λ (l : List ℕ). text ++ l) (ends end none) ∙ append-nil text

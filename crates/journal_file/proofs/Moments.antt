@@ -20,7 +20,7 @@ module _ {D : Type 0} (moment : D → ℕ) (left_since : D → ℕ → List ℕ 
         (time.nothing_else t c (omega (arith, le, so_far.later)) left);
   }
 
-  -- One run behind another. What each leaves has R.
+  -- One run after another. What each leaves has R.
   pub then : (old mid new : D) (P Q R : List ℕ → Type 0) → LeavesOnly moment left_since old mid P
       → LeavesOnly moment left_since mid new Q
       → ((c : List ℕ) → P c → R c) → ((c : List ℕ) → Q c → R c) → LeavesOnly moment left_since old new R

@@ -8,7 +8,7 @@ use Rattle.memchr.specs.Find.{IsFirstByte, IsLastByte, is_byte}
 use Rattle.journal_file.specs.Committed.{has_line, committed}
 use Rattle.journal_file.proofs.Lines.{line-nul, line-end, line-other, line-goes-on, ends}
 
--- these many bytes have no NUL, and behind them is one or the end
+-- the first `n` bytes have no NUL, and after them is one or the end
 pub record IsTextBeforeNul (n : ℕ) (xs : List ℕ) : Type 0 where
   pub fits : n ≤ length xs
   pub some : (k : ℕ) → k < n → slice_index xs k ≢ 0

@@ -17,7 +17,7 @@ pub record IsTorn (at : ℕ) (bytes old new : List ℕ) : Type 0 where
   pub each : (k : ℕ) → k < length bytes → (get_or new (at + k) 0 ≡ get_or old (at + k) 0)
       ⊎ (get_or new (at + k) 0 ≡ get_or bytes k 0)
 
--- the first bytes of a file, and behind its end zeros
+-- the first bytes of a file, and after its end zeros
 abbrev pub resized : ℕ → List ℕ → List ℕ
 resized len old = take len old ++ replicate (len - length old) 0
 
@@ -49,7 +49,7 @@ pub record LeavesOnly {D : Type 0} (moment : D → ℕ) (left_since : D → ℕ 
   -- for a run that began earlier
   pub before : (t : ℕ) (c : List ℕ) → t ≤ moment old → left_since new t c → left_since old t c ⊎ P c
 
--- `Failed` is told only where the disk has failed since, and `Full` isn't told
+-- `Failed` is reported only where the disk has failed since, and `Full` isn't
 pub record HasCause {T : Type 0} (before now : ℕ) (result : Result T DeviceError) : Type 0 where
   pub later : before ≤ now
   pub failed : IsErrOf result Failed → before < now

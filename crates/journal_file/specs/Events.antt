@@ -40,7 +40,7 @@ abbrev pub left_by : List Event → List ℕ → Type 0
 left_by [] c = c ≡ []
 left_by ((call, at, done, bytes) ∷ older) c = left_after call at done bytes (seen_of older) (left_by older) c
 
--- what a crash might have left since so many calls were made
+-- what a crash might have left since `t` calls were made
 abbrev pub left_from : ℕ → List Event → List ℕ → Type 0
 left_from t [] c = left_by [] c
 left_from t (event ∷ older) c = left_by (event ∷ older) c ⊎ ((t ≤ length older) × left_from t older c)

@@ -150,7 +150,7 @@ module _ {D : Type 0} (seen : D → List ℕ) (moment : D → ℕ) (left_since :
     lacks-day day old new lines device_error.Full is end failed full leaves =
         omega (arith, end, full refl, ap length is)
 
-    -- behind what was repaired
+    -- after what was repaired
     lacks-behind : (old mid : D) (lines : List ℕ) (error : DeviceError) → AddsLines seen moment left_since old mid []
         → faults old ≤ faults mid → LacksLines seen moment left_since faults mid lines error
         → LacksLines seen moment left_since faults old lines error

@@ -13,7 +13,7 @@ use Rattle.kept_session.specs.declared.fault.UnlawfulEntry.{UnlawfulEntry}
 module _ (texts : List (List ℕ)) (items calls : List Call) (text : List ℕ) (auction : RunningAuction) (before : ℕ)
     (d : Call) (is : items ≡ calls) (text_is : text ≡ unwrap_or (field_at texts before) []) (lt : before < length items)
   where
-    -- the entry that comes next, and those behind it
+    -- the entry that comes next, and those after it
     next : replayed before texts auction (drop before calls)
         ≡ (replayed_one auction (get_or items before d) text (before + 1)
         >>= λ now. replayed (before + 1) texts now (drop (before + 1) calls))

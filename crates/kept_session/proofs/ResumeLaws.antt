@@ -12,7 +12,7 @@ use Rattle.kept_session.specs.declared.fault.ResumeFault.{ResumeFault}
 use Rattle.kept_session.specs.declared.fault.ResumeFault.TheVariants as resume_fault
 use Rattle.kept_session.specs.declared.fault.UnlawfulEntry.{UnlawfulEntry}
 
--- an unlawful entry, told with what was recorded
+-- an unlawful entry, reported with what was recorded
 pub told : (day : DayHeader) (j : RecordedDay) (entry : UnlawfulEntry) (f : ResumeFault) → j.day ≡ day
     → replayed 0 j.texts (opened_auction day.config) j.calls ≡ Err entry → IsFaultOfEntry j entry f
     → IsResumedAfter day j (Err f)

@@ -34,19 +34,19 @@ pub record HasBegun {D : Type 0} (seen : D → List ℕ) (may_leave : D → List
       → IsResumedFrom day (journal_of (committed (seen old))) (Ok auction)
       × AddsLines seen moment left_since old journal.device []
 
--- the lines that a session begins with, behind those that its file has
+-- the lines that a session begins with, after those that its file has
 abbrev pub opening_lines : DayHeader → List ℕ → List ℕ
 opening_lines day [] = journal_text day []
 opening_lines day (byte ∷ lines) = []
 
--- The file failed while these lines came behind those that it had; a crash leaves those, and the first of these.
+-- The file failed while these lines came after those that it had; a crash leaves those, and the first of these.
 pub record HasFailed {D : Type 0} (seen : D → List ℕ) (moment : D → ℕ) (left_since : D → ℕ → List ℕ → Type 0)
     (faults : D → ℕ) (old : D) (lines : List ℕ) : Type 0 where
   pub last : D
   pub failed : faults old < faults last
   pub leaves : LeavesOnly moment left_since old last (IsBegun (committed (seen old)) lines)
 
--- why these lines didn't come behind those of a file: it failed, or has no room for so many
+-- why these lines didn't come after those of a file: it failed, or has no room for them
 abbrev pub LacksLines : {D : Type 0} → (D → List ℕ) → (D → ℕ) → (D → ℕ → List ℕ → Type 0) → (D → ℕ) → D → List ℕ
     → DeviceError → Type 0
 LacksLines seen moment left_since faults old lines device_error.Failed =

@@ -60,7 +60,7 @@ module _ {D : Type 0} (seen : D → List ℕ) (moment : D → ℕ) (left_since :
         → IsSameOrLater seen moment left_since faults journal journal calls calls is_broken is_broken
     same journal calls is_broken = inl (record { journal = refl; calls = refl; broken = refl })
 
-    -- of lines that came behind others
+    -- of lines that came after others
     later-cause : (a b c : D) (first second : List ℕ) → committed (seen b) ≡ committed (seen a) ++ first
         → faults a ≤ faults b → IsCauseOfFailure seen faults b c second
         → IsCauseOfFailure seen faults a c (first ++ second)

@@ -26,7 +26,7 @@ AreWholeLines =
     (day : DayHeader) (entries : List Entry) → FitsDay day → AllByRecursion (FitsJournal day.members) entries
     → committed (journal_text day entries) ≡ journal_text day entries
 
--- Of a session that goes on with a journal a crash leaves the journal of its first entries, behind those from before.
+-- Of a session that goes on with a journal a crash leaves the journal of its first entries, after those from before.
 abbrev pub LeavesFirstEntries : Type 0
 LeavesFirstEntries =
     (day : DayHeader) (before entries : List Entry) (file : List ℕ) → FitsDay day

@@ -16,7 +16,7 @@ replayed_one auction call text number =
     then Ok (auction_after_call auction call)
     else Err (record { number = number; lawful = (step auction.config auction.state call).1 })
 
--- After these calls, which come after so many others and to which these texts were recorded; or the first entry whose
+-- After these calls, which come after `before` others and to which these texts were recorded; or the first entry whose
 -- text isn't that of the lawful reply.
 unfoldable pub replayed : ℕ → List (List ℕ) → RunningAuction → List Call → Result RunningAuction UnlawfulEntry
 replayed before texts auction [] = Ok auction

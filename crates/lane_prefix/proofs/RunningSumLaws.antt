@@ -53,7 +53,7 @@ sum_take_le i xs = sum_by-take-le (λ n. n) xs i
 pub sum_drop_le : (i : ℕ) (xs : List ℕ) → sum (drop i xs) ≤ sum xs
 sum_drop_le i xs = omega (arith, sum_by-take-drop (λ n. n) xs i)
 
--- what stands from a chunk on, after the chunk was written
+-- what is there from a chunk on, after the chunk was written
 pub drop_put_chunk : (i : ℕ) (xs ys : List ℕ) → i + length ys ≤ length xs
     → drop i (put_chunk i xs ys) ≡ ys ++ drop (i + length ys) xs
 drop_put_chunk i xs ys room = grind (arith, common_steps, length-take-le, put_chunk_is, drop-append_seam, drop-drop)

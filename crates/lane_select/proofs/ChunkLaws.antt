@@ -73,7 +73,7 @@ zip_one f at x a b out room sa sb done is =
     ∙ ap (λ l. zip2 f (take at a) (take at b) ++ zip2 f (chunk at 1 a) l) (sym (chunk_one at b (omega arith)))
     ∙ zip2_more f at 1 a b (omega arith) (omega arith)
 
--- what stands from the end of a chunk on, after the chunk was written
+-- what is there from the end of a chunk on, after the chunk was written
 pub drop_after_chunk : (i : ℕ) (xs ys : List ℕ) → i + length ys ≤ length xs → drop (i + length ys) (put_chunk i xs ys)
     ≡ drop (i + length ys) xs
 drop_after_chunk i xs ys room =

@@ -2,7 +2,7 @@
 use Rattle.std.specs.Prelude.{◌≡◌, ◌≢◌, ℕ, ◌+◌, ◌<◌, ◌≤◌, List, [], ◌∷◌, length, slice_index, max, min, eqb}
 use Rattle.std.specs.Prelude.{nat_lt, if◌then◌else◌}
 
--- a flag stands at the place
+-- there is a flag at the place
 abbrev pub IsFlagged : List ℕ → ℕ → Type 0
 IsFlagged flags k = slice_index flags k ≡ 1
 
@@ -39,7 +39,7 @@ abbrev pub least : List ℕ → ℕ
 least [] = 18446744073709551615
 least (x ∷ xs) = min x (least xs)
 
--- no flag stands from i to before j
+-- there is no flag from i to before j
 abbrev pub NoFlagIn : List ℕ → ℕ → ℕ → Type 0
 NoFlagIn fs i j = (k : ℕ) → i ≤ k → k < j → slice_index fs k ≢ 1
 

@@ -82,7 +82,7 @@ first-line-end bytes None h = no-end bytes (λ k lt is. h k (omega arith) lt is)
 first-line-end bytes (Some place) h =
     (h.0.high, h.1, no-end-before bytes place (omega (arith, h.0.high)) (λ k lt is. h.0.before k (omega arith) lt is))
 
--- the bytes before a place, the one there, and those behind it
+-- the bytes before a place, the one there, and those after it
 pub split-there : (bytes : List ℕ) (place : ℕ) → place < length bytes
     → take place bytes ++ slice_index bytes place ∷ drop 1 (drop place bytes) ≡ bytes
 split-there [] place lt = absurd (omega arith)

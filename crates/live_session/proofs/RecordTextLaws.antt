@@ -1,4 +1,4 @@
--- The records of texts, one behind the other.
+-- The records of texts, one after the other.
 use Rattle.std.proofs.Common.{◌≡◌, ◌⊎◌, inl, inr, ℕ, List, [], ◌∷◌, ◌++◌, Option, Some, None, Bool, true, false, ◌==◌}
 use Rattle.std.proofs.Common.{refl, ap, sym, ◌∙◌}
 use Rattle.std.proofs.lemmas.Bool.{true≢false}
@@ -60,7 +60,7 @@ start-does s c between e = by_return (c == 13) (c == 10) (c == 34) refl refl ref
     by_return false false true q r p = inl (st.InQuoted, act.Skip, tt, refl, refl, e ∙ rw (q, r, p) refl)
     by_return false false false q r p = in-field-does s c (e ∙ rw (q, r, p) refl)
 
--- behind a carriage return a byte does what it does before a record
+-- after a carriage return a byte does what it does before a record
 step-between : (c : ℕ) → step default_config st.AfterCr c ≡ step default_config st.StartRecord c
 step-between c = by_return (c == 13) (c == 10) refl refl
   where
@@ -204,7 +204,7 @@ line-end-first x = by_first_bytes x
     by_first_bytes (b ∷ []) = passed (b ∷ [])
     by_first_bytes (b ∷ c ∷ rest) = passed (b ∷ c ∷ rest)
 
--- ---- texts one behind the other
+-- ---- texts one after the other
 
 pub state-append : (s : State) (x y : List ℕ) → line_state_after s (x ++ y) ≡ line_state_after (line_state_after s x) y
 unfolding line_state_after

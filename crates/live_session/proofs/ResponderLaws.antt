@@ -69,7 +69,7 @@ line-read terms start lines is =
 
 -- ---- lines that wait
 
--- those behind a line end
+-- those after a line end
 pub waiting-answered : (terms : SessionTerms) (start : RunningAuction) (lines : Lines) (applied : Answered)
     (items text : List ℕ)
     → items ≡ 10 ∷ text → after_records terms applied (records default_config text) ≡ answered_lines terms start lines
@@ -248,7 +248,7 @@ pub ending-bad : (faults : List BadRecord) (fault : BadRecord) → SomeBad ≡ e
 ending-bad [] fault = refl
 ending-bad (f ∷ fs) fault = refl
 
--- ---- the same answers, told otherwise
+-- ---- the same answers, said otherwise
 
 pub adds-as : {E : Type 0} (old new : Responder) (result : Result (Unit {0}) E)
     (after same : SessionTerms → Answered → Answered)

@@ -213,7 +213,7 @@ module _ {C : Type 0} (c : Ghosts C) (terms : SessionTerms) (start : RunningAuct
   module _ (responder : Responder) (answers : Answered) (just : HasJustRead c terms start base now heard bytes)
       (gathers : Gathers responder terms answers before.text before.entries) (becomes_on : (d : C) → c.Becomes now d
       → c.Becomes base d) where
-    -- the lines of the entries that are gathered, behind those before
+    -- the lines of the entries that are gathered, after those before
     entry-lines : call_lines 0 before.entries ++ kept_text responder.entries ≡ call_lines 0 answers.entries
     entry-lines =
         ap (λ (t : List ℕ). call_lines 0 before.entries ++ t) gathers.lines.0
@@ -350,7 +350,7 @@ gathers-emptied old new terms answers given committed h e = record {
   lines = rw e.entries holds-none;
 }
 
--- what was heard behind what was answered
+-- what was heard after what was answered
 pub heard-more : (session : Session) (terms : SessionTerms) (start : RunningAuction) (heard bytes given : List ℕ)
     (committed : List Entry)
     → HasAnsweredAll session terms start (lines_once_read (lines_of heard) bytes) given committed

@@ -21,7 +21,7 @@ bad_record_words bad.TooLong = codes "record too long"
 bad_record_words bad.OpenQuote = codes "quote not closed"
 bad_record_words bad.CutOff = codes "cut off"
 
--- the likely cause, behind a colon
+-- the likely cause, after a colon
 abbrev pub cause_words : Option Hint → List ℕ
 cause_words None = []
 cause_words (Some cause) = codes ": " ++ hint_text cause

@@ -12,7 +12,7 @@ use Rattle.live_session.specs.declared.line.TheConstants.{MAX_RECORD_BYTES}
 use Rattle.live_session.specs.declared.session.Session.{Session}
 use Rattle.live_session.specs.declared.terms.SessionTerms.{SessionTerms}
 
--- These lines have come. Whole ones among them may be waiting to be answered, behind a line end, before which no byte
+-- These lines have come. Whole ones among them may be waiting to be answered, after a line end, before which no byte
 -- order mark is looked for.
 pub record HasHeard (session : Session) (terms : SessionTerms) (start : RunningAuction) (lines : Lines) (given : List ℕ)
     (committed : List Entry) : Type 0 where
@@ -60,11 +60,11 @@ pub record IsNewSession (session : Session) (terms : SessionTerms) (start : Runn
   pub waiting : session.waiting.items ≡ 10 ∷ []
   pub line : session.line.items ≡ []
 
--- a line that isn't read as a record is answered behind those before it
+-- a line that isn't read as a record is answered after those before it
 abbrev pub RefusesLine : {E : Type 0} → Session → Session → BadRecord → Result (Unit {0}) E → Type 0
 RefusesLine old new fault result =
     (line_fault old.line.items ≡ Some fault) → HearsLines old new (λ lines. line_ended lines) result
 
--- a line that is read as one waits behind those before it
+-- a line that is read as one waits after those before it
 abbrev pub KeepsLine : {E : Type 0} → Session → Session → Result (Unit {0}) E → Type 0
 KeepsLine old new result = (line_fault old.line.items ≡ None) → HearsLines old new (λ lines. line_ended lines) result

@@ -47,7 +47,7 @@ lines_of heard = lines_once_read no_lines heard
 abbrev pub is_too_long : List ℕ → Bool
 is_too_long line = nat_lt MAX_RECORD_BYTES (length line)
 
--- a byte order mark stands at the front
+-- a byte order mark is at the front
 abbrev pub is_marked : List ℕ → Bool
 is_marked [] = false
 is_marked (a ∷ []) = false
@@ -63,11 +63,11 @@ unfoldable pub line_state_after : State → List ℕ → State
 line_state_after state [] = state
 line_state_after state (byte ∷ bytes) = line_state_after (step default_config state byte).0 bytes
 
--- behind these bytes a record is at hand
+-- after these bytes a record is at hand
 abbrev pub is_record_open : List ℕ → Bool
 is_record_open text = ends_at_end (line_state_after st.StartRecord text)
 
--- a quote that was opened isn't closed: the record would go on behind the line's end
+-- a quote that was opened isn't closed: the record would go on after the line's end
 abbrev pub is_quote_open : List ℕ → Bool
 is_quote_open line = is_record_open (text_of_record line)
 

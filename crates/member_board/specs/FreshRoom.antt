@@ -3,7 +3,7 @@ use Rattle.std.specs.Prelude.{◌≡◌, ℕ, ◌≤◌, [], replicate, vec_capa
 use Rattle.auction_terms.specs.declared.Config.{Config}
 use Rattle.member_board.specs.declared.fresh.Room.{Room}
 
--- room for a day of so many calls and members, in which nothing was written yet
+-- room for a day of this config and `members` members, in which nothing was written yet
 pub record IsEmptyRoom (config : Config) (members : ℕ) (room : Room) : Type 0 where
   pub empty : room.history.items ≡ []
   pub has_room : config.max_calls ≤ vec_capacity room.history

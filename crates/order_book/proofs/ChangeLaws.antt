@@ -54,7 +54,7 @@ module _ {old new : Slab Stamped} {keys : List ℕ} {stamps id key : ℕ} {s : S
             gone,
       )
 
-  -- what stands afterwards stood there before, and has another id
+  -- what is there afterwards was there before, and has another id
   pub gone_at : slot ≡ None → (place : ℕ)
       → IfSome (slot_at new.slots place) (λ t. (slot_at old.slots place ≡ Some t) × (t.order.id ≢ id))
   gone_at none place =

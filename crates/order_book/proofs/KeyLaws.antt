@@ -71,7 +71,7 @@ line_of-walk slots a = record {
       λ f. sum_by-in_order by_stamp f (present slots);
 }
 
--- `find` and what stands in a list
+-- `find` and what is in a list
 find_among : {X : Type 0} (p : X → Bool) (xs : List X) (z : X) → Among xs z → p z ≡ true
     → ((y : X) → Among xs y → p y ≡ true → y ≡ z) → find p xs ≡ Some z
 find_among p [] z m t u = absurd m
@@ -118,7 +118,7 @@ abbrev pub bears : ℕ → Stamped → Bool
 bears id s = has_id id s.order
 
 module _ (slots : List (Option Stamped)) (keys : List ℕ) (stamps : ℕ) (is : HasSoundSlots slots keys stamps) where
-  -- orders with one id stand at one key
+  -- orders with one id are at one key
   pub one_key : (i j : ℕ) (s t : Stamped) → slot_at slots i ≡ Some s → slot_at slots j ≡ Some t
       → s.order.id ≡ t.order.id → i ≡ j
   one_key i j s t f g e = sym (is.held i s f).key_is ∙ ap (λ n. slice_index keys (n - 1)) e ∙ (is.held j t g).key_is
@@ -143,7 +143,7 @@ module _ (slots : List (Option Stamped)) (keys : List ℕ) (stamps : ℕ) (is : 
   pub not_found : (id : ℕ) → IsNotAtKey slots keys id → find_by order_of id (line_of slots) ≡ None
   not_found id missing = grind (arith, common_steps, find_none, Among-line_from, eqb-true)
 
-  -- an open order stands at the key of its id
+  -- an open order is at the key of its id
   pub IsOpenId-of_found : (line : List Stamped) → line_of slots ≡ line → (id : ℕ) → IsSome (find_by order_of id line)
       → IsOpenId slots keys id
   IsOpenId-of_found line is_line id some =
@@ -168,7 +168,7 @@ module _ (slots : List (Option Stamped)) (keys : List ℕ) (stamps : ℕ) (is : 
       → s.order.id ≡ id → find_by order_of id line ≡ Some s
   found_in line is_line key id s at e = ap (find_by order_of id) (sym is_line) ∙ find_by-found key id s at e
 
-  -- a look-up of the id of what stands at a place finds it
+  -- a look-up of the id of what is at a place finds it
   pub find_by-at_place : (line : List Stamped) → line_of slots ≡ line → (place : ℕ)
       → IfSome (slot_at slots place) (λ s. find_by order_of s.order.id line ≡ Some s)
   find_by-at_place line is_line place = grind (arith, common_steps, found_in)
@@ -207,7 +207,7 @@ module _ (slots : List (Option Stamped)) (keys : List ℕ) (stamps : ℕ) (is : 
         (grind (arith, common_steps, Among-append_from, Among-line_from))
 
     module _ (id : ℕ) (s : Stamped) (stood : slot_at slots key ≡ Some s) (named : s.order.id ≡ id) where
-      -- at another key stands another id
+      -- another key has another id
       not_named : (k : ℕ) (z : Stamped) → k ≢ key → slot_at slots k ≡ Some z → bears id z ≡ false
       not_named k z differs e = grind (arith, common_steps, one_key, eqb-true)
 
@@ -309,7 +309,7 @@ filter_all p (x ∷ xs) h =
     ap (λ b. cond b (x ∷ filter p xs) (filter p xs)) (h x (inl refl))
     ∙ ap (λ l. x ∷ l) (filter_all p xs (λ y m. h y (inr m)))
 
--- a new id stands at the end of the keys
+-- a new id is at the end of the keys
 pub held_more : (keys : List ℕ) (last stamps stamps' k : ℕ) (s : Stamped) → stamps ≤ stamps'
     → IsStoredAt keys stamps k s → IsStoredAt (keys ++ last ∷ []) stamps' k s
 held_more keys last stamps stamps' k s more held = grind (arith, common_steps, get_or_append_left)
@@ -333,7 +333,7 @@ sum-line slots keys stamps n is few small =
     (is.held h.0 y h.1).bounded) in
     grind (arith, common_steps, length-line)
 
--- what holds of the order that stands at the key of an id holds of the open order with that id, and the other way round
+-- what holds of the order at the key of an id holds of the open order with that id, and the other way round
 module _ {slots : List (Option Stamped)} {keys : List ℕ} {stamps : ℕ} {line : List Stamped} {id key : ℕ} {s : Stamped}
     (P : Stamped → Type 0) (is : HasSoundSlots slots keys stamps) (is_line : line_of slots ≡ line)
     (at : IsOrderAt slots id key s) where

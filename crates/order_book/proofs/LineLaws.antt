@@ -1,4 +1,4 @@
--- Lists by rising stamps: what stands in them fixes them.
+-- Lists by rising stamps: what is in them fixes them.
 use Rattle.std.proofs.Common.{◌≡◌, ◌≢◌, ◌⊎◌, inl, inr, ℕ, zero, suc, Bool, true, false, cond, List, [], ◌∷◌, ◌++◌}
 use Rattle.std.proofs.Common.{Option, Some, None, map, filter, refl, sym, ap, ◌∙◌, arith, cond}
 use Rattle.std.proofs.lemmas.Bool.Decides.{nat_tests}
@@ -25,7 +25,7 @@ module _ {X : Type 0} (R : X → X → Ordering) (o : IsTotalOrder R) where
   in_tail : (x z : X) (xs ys : List X) → Before R x xs → Among xs z → Among (x ∷ ys) z → Among ys z
   in_tail x z xs ys b m n = grind (arith, common_steps, before_among)
 
-  -- two rising lists in which the same stands are one
+  -- two rising lists with the same elements are one
   pub same_rising : (xs ys : List X) → Rising R xs → Rising R ys → ((z : X) → Among xs z → Among ys z)
       → ((z : X) → Among ys z → Among xs z) → xs ≡ ys
   same_rising [] [] r s f g = refl
@@ -140,7 +140,7 @@ module _ {X : Type 0} (R : X → X → Ordering) where
 pub by_stamp_total : IsTotalOrder by_stamp
 by_stamp_total = on_total (λ (s : Stamped). s.stamp) nat_cmp_total
 
--- it stands at some key
+-- it is at some key
 abbrev pub IsAtSomeKey : List (Option Stamped) → Stamped → Type 0
 IsAtSomeKey slots z = (key : ℕ) × (slot_at slots key ≡ Some z)
 
@@ -192,7 +192,7 @@ pub Among-line_from : (slots : List (Option Stamped)) (z : Stamped) → Among (l
 unfolding line_of
 Among-line_from slots z m = Among-present_from slots z (Among-in_order_from by_stamp (present slots) z m)
 
--- a rising list in which stands what the keys have is the line
+-- a rising list of what the keys have is the line
 pub line_is : (slots : List (Option Stamped)) → AreApart slots → (line : List Stamped) → Rising by_stamp line
     → ((z : Stamped) → IsAtSomeKey slots z → Among line z) → ((z : Stamped) → Among line z → IsAtSomeKey slots z)
     → line_of slots ≡ line

@@ -82,7 +82,7 @@ module _ (from : List (Option Stamped)) (from_keys : List ℕ) (stamps : ℕ)
               (other_place came.0 place s x came.1.0 came.1.1 stands).0 (is.sound.held k s stood)
         ])
 
-    -- what stands at another key came from an earlier place
+    -- what is at another key came from an earlier place
     apart_from_new : (k : ℕ) (s : Stamped) → k ≢ put.key → slot_at new.slots k ≡ Some s → s.stamp ≢ x.stamp
     apart_from_new k s differs e =
         let came = is.only k s (sym (put.updates.others k differs) ∙ e) in

@@ -34,7 +34,7 @@ by_stamp x y = nat_cmp x.stamp y.stamp
 abbrev pub slot_at : List (Option Stamped) → ℕ → Option Stamped
 slot_at slots key = slice_index_or slots key None
 
--- the orders that stand at the places
+-- the orders at the places
 abbrev pub present : List (Option Stamped) → List Stamped
 present slots = filter_map (λ slot. slot) slots
 
@@ -89,12 +89,12 @@ abbrev pub GivesStampUnless : Bool → OrdersView → OrdersView → Type 0
 GivesStampUnless kept old new =
     new ≡ record old { line = new.line; slots = new.slots; stamps = (if kept then old.stamps else old.stamps + 1) }
 
--- what stands at a place stood there before, and has another id
+-- what is at a place was there before, and has another id
 abbrev pub HasOnlyOthers : ℕ → OrdersView → OrdersView → Type 0
 HasOnlyOthers id old new =
     (place : ℕ) → IfSome (slot_at new.slots place) (λ s. (slot_at old.slots place ≡ Some s) × (s.order.id ≢ id))
 
--- a walk through so many places passes the orders of the line, each with an id of its own and something open
+-- a walk through `places` places passes the orders of the line, each with an id of its own and something open
 pub record PassesAllOrders (places : ℕ) (orders : OrdersView) : Type 0 where
   pub all : length orders.slots ≤ places
   pub line : IsLineOf (present orders.slots) orders.line
@@ -103,7 +103,7 @@ pub record PassesAllOrders (places : ℕ) (orders : OrdersView) : Type 0 where
 
 -- ---- what is kept of the fields
 
--- it stands at this key, which is the key of its id, and its stamp was given out
+-- it is at this key, which is the key of its id, and its stamp was given out
 pub record IsStoredAt (keys : List ℕ) (stamps key : ℕ) (s : Stamped) : Type 0 where
   pub id_above : 0 < s.order.id
   pub id_within : s.order.id ≤ length keys
@@ -139,13 +139,13 @@ pub record HasRoomForOrders (orders : Slab Stamped) (keys : Vec ℕ) (stamps max
 
 -- ---- an order by its id
 
--- the order with this id stands at the key
+-- the order with this id is at the key
 pub record IsOrderAt (slots : List (Option Stamped)) (id key : ℕ) (s : Stamped) : Type 0 where
   pub stands : slot_at slots key ≡ Some s
   pub same_id : s.order.id ≡ id
   pub short : HasShortPeak s.order.peak
 
--- some order with this id stands at the key
+-- some order with this id is at the key
 pub record HasIdAt (slots : List (Option Stamped)) (key id : ℕ) : Type 0 where
   pub stamped : Stamped
   pub stands : slot_at slots key ≡ Some stamped
@@ -161,7 +161,7 @@ IsNotAtKey slots keys id =
     s.order.id ≡ id →
     ⊥
 
--- the order with this id stands at the key of the id
+-- the order with this id is at the key of the id
 pub record IsOpenId (slots : List (Option Stamped)) (keys : List ℕ) (id : ℕ) : Type 0 where
   pub stamped : Stamped
   pub above : 0 < id

@@ -4,7 +4,7 @@ use Rattle.slab.specs.Slab.{Slab, Updates, slab_len}
 use Rattle.auction_terms.specs.declared.Stamped.{Stamped}
 use Rattle.order_book.specs.Orders.{HasSoundSlots, slot_at}
 
--- the order stands at a new key, which is written down as that of its id
+-- the order is at a new key, which is written down as that of its id
 pub record RestoresAt (s : Stamped) (old new : Slab Stamped) (keys keys' : List ℕ) : Type 0 where
   pub key : ℕ
   pub vacant : slot_at old.slots key ≡ None

@@ -37,7 +37,7 @@ read-too-much most None b x h long = tt
 read-too-much most (Some p) None x h long = absurd h
 read-too-much most (Some p) (Some q) x h long = grind (arith, common_steps, long_test)
 
--- ---- behind bytes that were read before
+-- ---- after bytes that were read before
 
 pub consumes-behind : (start all more : List ℕ) (a b : Option (List ℕ)) → all ≡ start ++ more → Consumes a b more
     → Consumes (prepend_known start a) b all
@@ -46,7 +46,7 @@ consumes-behind start all more (Some p) None is h = absurd h
 consumes-behind start all more (Some p) (Some q) is h =
     ap (λ (xs : List ℕ). start ++ xs) h ∙ sym (append_assoc start more q) ∙ ap (λ (xs : List ℕ). xs ++ q) (sym is)
 
--- no byte is put behind
+-- no byte is put after them
 pub nothing-consumes-behind : (start all : List ℕ) (a : Option (List ℕ)) → all ≡ start
     → (more : List ℕ) × (all ≡ start ++ more) × Consumes a a more
 nothing-consumes-behind start all None is = ([], is ∙ sym (append-nil start), tt)
@@ -59,7 +59,7 @@ pub more-consumes-behind : (start all now x : List ℕ) (a b c : Option (List �
 more-consumes-behind start all now x a b c (more, is, h) k grown =
     (more ++ x, grown ∙ ap (λ (xs : List ℕ). xs ++ x) is ∙ append_assoc start more x, consumes-more a b c more x h k)
 
--- so many were taken
+-- at most the rest of `most` were taken
 pub taken-consumes-behind : (start all : List ℕ) (a b : Option (List ℕ)) (most : ℕ)
     → (more : List ℕ) × (all ≡ start ++ more) × Consumes a b more → length all ≤ most
     → TakesAtMost (most - length start) a b

@@ -11,8 +11,8 @@ use Rattle.order_file.specs.File.{FailsAsWanted, calls_after, within_limit}
 use Rattle.order_file.specs.declared.fault.FileFault.{FileFault}
 use Rattle.order_file.specs.declared.fault.FileFault.TheVariants.{TooLong, ReadFailed, NoMemory}
 
--- What is held of an input: bytes, of which so many at the front are whole lines, how many more may be taken, and
--- whether the end was found.
+-- What is held of an input: bytes, how many at the front are whole lines, how many more may be taken, and whether the
+-- end was found.
 pub record BlockState : Type 0 where
   pub bytes : List ℕ
   pub whole : ℕ
@@ -96,8 +96,8 @@ PassesOverRest result held before = MatchResult result
     (λ _. (rest : Rows) × (rows_to_come held before ≡ Ok (block_rows held ++ rest)))
     (λ e. FailsAsWanted e (rows_to_come held before))
 
--- So many bytes at the front are whole lines: up to a line end that no quote stands before, or all of them where
--- the input ends there.
+-- The first `whole` bytes are whole lines: up to a line end that no quote comes before, or all of them where the input
+-- ends there.
 abbrev pub IsCut : List ℕ → ℕ → Bool → Type 0
 IsCut bytes whole ended = MatchBool ended
     (whole ≡ length bytes)

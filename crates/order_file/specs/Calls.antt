@@ -11,7 +11,7 @@ use Rattle.order_file.specs.declared.fault.FileFault.{FileFault}
 abbrev pub calls_left : Calls → Result (List Call) FileFault
 calls_left calls = calls_after calls.members calls.max_calls calls.count (rows_left calls.rows)
 
--- calls of so many members can be read, so many in all at most, of which so many were
+-- calls of `members` members can be read, `max_calls` in all at most, of which `count` were
 pub record IsReady (members max_calls count : ℕ) (calls : Calls) : Type 0 where
   pub rows : IsRecordReader calls.rows
   pub members_are : calls.members ≡ members

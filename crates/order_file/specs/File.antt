@@ -8,7 +8,7 @@ use Rattle.order_file.specs.declared.reading.TheConstants.{MAX_BYTES}
 use Rattle.auction_terms.specs.declared.Call.{Call}
 use Rattle.auction_terms.specs.Results.{◌>>=◌}
 
--- the calls of the records that come after so many others
+-- the calls of the records after the first `before`
 unfoldable pub calls_after : ℕ → ℕ → ℕ → List (List (List ℕ)) → Result (List Call) FileFault
 calls_after members max_calls before [] = Ok []
 calls_after members max_calls before (r ∷ rs) =

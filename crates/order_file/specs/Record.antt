@@ -70,11 +70,11 @@ change_of fields = do
   limit ← field_as limit_of 4 fields
   Ok (command.Change id limit quantity)
 
--- the number that stands alone behind the command word
+-- the number that comes alone after the command word
 unfoldable pub lone_number : List (List ℕ) → Result ℕ RecordFault
 lone_number fields = count_within 3 3 fields >>= λ _. field_as number_of 2 fields
 
--- what stands behind a command word
+-- what comes after a command word
 unfoldable pub command_of : Word → List (List ℕ) → Result Command RecordFault
 command_of word.Enter fields = enter_of fields
 command_of word.Change fields = change_of fields

@@ -1,4 +1,4 @@
--- The leaders alone tell the price, with its volume, surplus and side.
+-- The leaders alone give the price, with its volume, surplus and side.
 use Rattle.std.proofs.Common.{◌≡◌, ℕ, ◌<◌, leb, List, Option, Some, None, option_map, inl, inr, refl, ap, ◌∙◌, arith}
 use Rattle.std.proofs.lemmas.Bool.{leb-false, cases_Bool}
 use Rattle.std.proofs.lemmas.Grind.{common_steps}

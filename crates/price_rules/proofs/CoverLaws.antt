@@ -1,4 +1,4 @@
--- A few limits that stand for all limits of a book.
+-- A few limits that represent all limits of a book.
 use Rattle.std.proofs.Common.{◌≡◌, ℕ, ◌<◌, ◌≤◌, inl, inr, Bool, true, eqb, List, filter, All, Option, Some, None, ◌∙◌}
 use Rattle.std.proofs.Common.{arith}
 use Rattle.std.proofs.lemmas.Bool.{eq-eqb, ne_eqb, cases_eq, lt-ltb, and_from}
@@ -30,7 +30,7 @@ no_better : (book : List Order) (few : List ℕ) (leaders : Leaders) (q : ℕ)
     → ((c : ℕ) → has c few ≡ true → IsNoBetterThan book leaders c) → Covered book few q → IsNoBetterThan book leaders q
 no_better book few leaders q all covered = grind (arith, common_steps)
 
--- a covered limit as good as the leaders is one of the few, or behind one that is as good
+-- a covered limit as good as the leaders is one of the few, or beyond one that is as good
 data IsGoodTick (book : List Order) (few : List ℕ) (v s q : ℕ) : Type 0 where
   one : has q few ≡ true → IsGoodTick book few v s q
   farther : (c : ℕ) → has c few ≡ true → has_key book v s c ≡ true → c ≤ q → demand book c < supply book c

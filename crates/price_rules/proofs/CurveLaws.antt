@@ -1,4 +1,4 @@
--- What a ladder tells of its orders.
+-- What a ladder says of its orders.
 use Rattle.std.proofs.Common.{◌≡◌, ℕ, zero, suc, ◌+◌, ◌-◌, ◌≤◌, ◌<◌, Bool, true, cond, ◌&&◌, not, ltb, List, [], ◌∷◌}
 use Rattle.std.proofs.Common.{filter, All, length, get_or, sum, refl, sym, ap, ◌∙◌, zero-add, arith}
 use Rattle.std.specs.Simd.Lanes.{zip2}
@@ -146,7 +146,7 @@ supply_up book low n a (suc i) all e h =
       supply_up book low n a i all e (omega arith),
     )
 
--- ---- what the ladder of a book tells
+-- ---- what the ladder of a book says
 
 pub record HasCurvesOf (v : LadderView) (book : List Order) : Type 0 where
   pub same : length v.asks ≡ length v.bids

@@ -1,4 +1,4 @@
--- The limits around the crossing stand for all.
+-- The limits around the crossing represent all.
 use Rattle.std.proofs.Common.{◌≡◌, ℕ, ◌+◌, ◌-◌, ◌≤◌, ◌<◌, ◌⊎◌, inl, inr, true, List, [], ◌∷◌, ◌++◌, Option, Some, None}
 use Rattle.std.proofs.Common.{length, get_or, min, refl, sym, ap, subst, ◌∙◌, arith}
 use Rattle.std.specs.Prelude.{MatchOption}
@@ -44,7 +44,7 @@ has_one low i = has-head (low + i) []
 pub one_is : (low t : ℕ) (o : Option ℕ) → has t (tick_list low o) ≡ true → (i : ℕ) × (o ≡ Some i) × (low + i ≡ t)
 one_is low t o e = grind (arith, common_steps, no_tick, has-cases)
 
--- ---- what stands and where nothing stands
+-- ---- where something is and where nothing is
 
 pub clear_none : (b a : List ℕ) (i j k : ℕ) → IsClear b a i j → i ≤ k → k < j → 0 < get_or b k 0 + get_or a k 0 → ⊥
 clear_none b a i j k clear from to some =

@@ -18,7 +18,7 @@ pub record IsAround (v : LadderView) (a : Around) : Type 0 where
   pub far : IsFar v a.near a.far
   pub after : IsFirstFrom v (a.crossing.place + 1) a.after
 
--- a place where something stands
+-- a place where something is
 abbrev pub here_at : LadderView → ℕ → Option ℕ
 here_at v place = if nat_lt 0 (slice_index v.bids place + slice_index v.asks place) then Some place else None
 

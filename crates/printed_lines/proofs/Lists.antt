@@ -4,7 +4,7 @@ use Rattle.std.proofs.Common.{arith}
 use Rattle.std.proofs.lemmas.List.{append-nil, drop_all}
 use Rattle.std.proofs.lemmas.Grind.{common_steps}
 
--- the texts of elements are that of the first, which comes after so many others, and then those of the rest
+-- the texts of elements are that of the first, which comes after `before` others, and then those of the rest
 pub record IsListText {X : Type 0} (one : ℕ → X → List ℕ) (texts : ℕ → List X → List ℕ) : Type 0 where
   pub none : (before : ℕ) → texts before [] ≡ []
   pub more : (before : ℕ) (x : X) (xs : List X) → texts before (x ∷ xs) ≡ one before x ++ texts (before + 1) xs

@@ -115,7 +115,7 @@ writes_begun {S = S} {s = s} {sink = sink} {a = a} {last = last} {r = r} {x = x}
       failed = rw (is, ← fresh.sink_is) h.failed;
     }
 
--- a text of any length was written behind an empty page
+-- a text of any length was written after an empty page
 written_whole : {S : Type 0} (s : Ghosts S) (a b : Printer S) (r : Result (Unit {0}) WriteFailed) (x : List ℕ)
     → a.page ≡ [] → b.page ≡ [] → b.sink.ghost_name ≡ a.sink.ghost_name → WritesAll s a.sink.now b.sink.now r x
     → Prints s a b r x
@@ -130,7 +130,7 @@ written_whole s a b (Err e) x before after same h = record {
   failed = h.failed;
 }
 
--- it was, after what stood on the page
+-- it was, after what was on the page
 pub prints_whole : {S : Type 0} {s : Ghosts S} {a b c : Printer S} {r : Result (Unit {0}) WriteFailed} {x : List ℕ}
     → Prints s a b (Ok tt) [] → b.page ≡ [] → c.page ≡ [] → c.sink.ghost_name ≡ b.sink.ghost_name
     → WritesAll s b.sink.now c.sink.now r x

@@ -4,7 +4,7 @@ use Rattle.auction_terms.specs.declared.Display.{Display}
 use Rattle.auction_terms.specs.declared.Reply.TheVariants.{Indicated}
 use Rattle.printed_lines.specs.ReplyWords.{reply_text}
 
--- so many of the bytes are the text of the display, if there is one
+-- the first `len` bytes are the text of the display, if there is one
 abbrev pub IsTextOf : Option Display → List ℕ → ℕ → Type 0
 IsTextOf display bytes len =
     (len ≤ length bytes) × IfSome display (λ d. take len bytes ≡ reply_text (Indicated d))

@@ -16,8 +16,8 @@ pub record IsFresh {S : Type 0} (sink : MutBor S) (printer : Printer S) : Type 0
 abbrev pub KeepsOnPage : Option (List ℕ) → Option (List ℕ) → List ℕ → List ℕ → Type 0
 KeepsOnPage old new page text = (done : List ℕ) × (done ++ page ≡ text) × Appends old new done
 
--- A text was printed: what stood on the page and the text were written but for what is now on the page, or at a failure
--- a beginning of both. It failed where the count of failures rose.
+-- A text was printed: what was on the page and the text were written but for what is now on the page, or at a failure a
+-- beginning of both. It failed where the count of failures rose.
 pub record Prints {S : Type 0} (sink : Ghosts S) (old new : Printer S) (r : Result (Unit {0}) WriteFailed)
     (lines : List ℕ) : Type 0 where
   pub same_sink : new.sink.ghost_name ≡ old.sink.ghost_name

@@ -7,7 +7,7 @@ use Rattle.printed_lines.specs.ReplyWords.{reply_text}
 unfoldable pub line : ℕ → Reply → List ℕ
 line number r = decimal number ++ (codes ": " ++ (reply_text r ++ codes "\n"))
 
--- the lines of replies that come after so many others
+-- the lines of replies after the first `before`
 unfoldable pub lines_after : ℕ → List Reply → List ℕ
 lines_after before [] = []
 lines_after before (r ∷ rs) = line (before + 1) r ++ lines_after (before + 1) rs

@@ -9,7 +9,7 @@ entries_line entries = codes "entries " ++ (decimal entries ++ codes "\n")
 unfoldable pub member_line : ℕ → ℕ → List ℕ
 member_line member calls = codes "member " ++ (decimal member ++ (codes " calls " ++ (decimal calls ++ codes "\n")))
 
--- the lines of members that come after so many others, by their counts of calls
+-- the lines of members after the first `before`, by their counts of calls
 unfoldable pub member_lines : ℕ → List ℕ → List ℕ
 member_lines before [] = []
 member_lines before (calls ∷ rest) = member_line before calls ++ member_lines (before + 1) rest
@@ -29,7 +29,7 @@ entry_line number entry =
     decimal number ++ (codes ": member " ++ (decimal entry.member
     ++ (codes " " ++ (reply_text entry.reply ++ codes "\n"))))
 
--- the lines of entries that come after so many others
+-- the lines of entries after the first `before`
 unfoldable pub history_lines_after : ℕ → List Entry → List ℕ
 history_lines_after before [] = []
 history_lines_after before (entry ∷ entries) = entry_line (before + 1) entry ++ history_lines_after (before + 1) entries

@@ -128,7 +128,7 @@ entered-coded entered = record {
   alone = λ shown. refl;
 }
 
--- the next of the others is the one that was put behind them
+-- the next of the others is the one that was put after them
 pub other-says : (others all : List Reply) (entered : ℕ) (said : Reply) → all ≡ others ++ said ∷ []
     → reply_of_code all entered (length others) OTHER ≡ said
 unfolding reply_of_code
@@ -145,7 +145,7 @@ again-says (first ∷ others) entered said last =
     get_or_default (first ∷ others) (length others) reply.Deleted said (omega arith)
     ∙ ap (λ n. get_or (first ∷ others) n said) (sym back) ∙ last.1
 
--- ---- a reply that is pushed: its code stands behind the others, which may have grown
+-- ---- a reply that is pushed: its code comes after the others, which may have grown
 
 module _ (others all more : List Reply) (codes reserved after : List ℕ) (entered code : ℕ)
     (kept : IsKept codes entered others) (grown : all ≡ others ++ more) (same : reserved ≡ codes)

@@ -1,5 +1,5 @@
 -- A list of replies, each kept as a code: a short reply is said by its code, an entry by those before it, and any other
--- stands in a list of others.
+-- is in a list of others.
 use Rattle.std.specs.Prelude.{◌≡◌, ℕ, ◌+◌, ◌%◌, ◌^◌, List, [], ◌∷◌, get_or, length, nat_eq, if◌then◌else◌}
 use Rattle.std.specs.Prelude.{true, false}
 use Rattle.auction_terms.specs.declared.Refusal.TheVariants as refused
@@ -19,7 +19,7 @@ lowest_replies =
 unfoldable pub brief_reply : ℕ → Reply
 brief_reply code = get_or lowest_replies code reply.Deleted
 
--- the id of the entry behind the one with this id
+-- the id of the entry after the one with this id
 abbrev pub next_id : ℕ → ℕ
 next_id entered = (entered + 1) % 2 ^ 32
 
@@ -31,7 +31,7 @@ entered_after entered code = if nat_eq code ENTERED then next_id entered else en
 abbrev pub shown_after : ℕ → ℕ → ℕ
 shown_after shown code = if nat_eq code OTHER then shown + 1 else shown
 
--- the reply of a code, where the last entry and so many others were read: one entry more, the next of the others, the
+-- the reply of a code, where the last entry and `shown` others were read: one entry more, the next of the others, the
 -- last one again, or a brief reply
 unfoldable pub reply_of_code : List Reply → ℕ → ℕ → ℕ → Reply
 reply_of_code others entered shown code =
@@ -61,7 +61,7 @@ pub record IsKept (codes : List ℕ) (entered : ℕ) (others : List Reply) : Typ
   pub entered_is : entered_by 0 codes ≡ entered
   pub shown_is : shown_by 0 codes ≡ length others
 
--- a code that says a reply behind the entry with this id, whatever the others are
+-- a code that says a reply after the entry with this id, whatever the others are
 pub record IsCoded (entered code : ℕ) (said : Reply) : Type 0 where
   pub says : (others : List Reply) (shown : ℕ) → reply_of_code others entered shown code ≡ said
   pub alone : (shown : ℕ) → shown_after shown code ≡ shown

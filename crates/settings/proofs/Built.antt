@@ -66,7 +66,7 @@ whole a b c d e f g h k l numbers floor history print audit results live journal
     ∙ ap₂ with_rule (more_print ∙ ap₂ with_rule d_is is_print) is_audit) is_results) is_live in
     more_sync ∙ ap₂ with_rule (more_journal ∙ ap₂ with_rule h_is is_journal) is_sync
 
--- what a `?` hands on for want of memory
+-- what a `?` hands on for refused memory
 pub memory_only : {T : Type 0} (r : Result T Error) → IsErrAnd r (λ e. kind_of e ≡ OutOfMemory)
     → IfErr r (λ e. kind_of e ≡ OutOfMemory)
 memory_only (Ok x) h = tt

@@ -197,7 +197,7 @@ text_there c f id a q known one values has =
 
 -- ---- the options of the command
 
--- the option r stands at k, and q parses it
+-- the option r is at k, and q parses it
 pub record IsOption (k : ℕ) (r : Rule) (q : ValueParser) : Type 0 where
   pub at : slice_get callboard.top.rules k ≡ Some r
   pub alone : has_own_place k r callboard.top.rules ≡ true

@@ -1,4 +1,4 @@
--- Where an option stands among the arguments.
+-- Where an option is among the arguments.
 use Rattle.std.proofs.Common.{◌≡◌, ◌∙◌, ◌<◌, ◌&&◌, ap, sym, ℕ, Bool, true, false, not, zero, suc, refl, arith, List, []}
 use Rattle.std.proofs.Common.{◌∷◌, map, length, Some, codes, inl, inr}
 use Rattle.std.specs.List.{slice_index_or}
@@ -20,7 +20,7 @@ only_at k id [] = true
 only_at zero id (r ∷ rest) = lacks id rest
 only_at (suc k) id (r ∷ rest) = not (bytes_eq r.id id) && only_at k id rest
 
--- the option stands at k alone, and is none that building adds
+-- the option is at k alone, and is none that building adds
 abbrev pub has_own_place : ℕ → Rule → List Rule → Bool
 has_own_place k r rules =
     only_at k r.id rules

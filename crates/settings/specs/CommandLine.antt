@@ -35,9 +35,9 @@ AcceptsWords words s = (fault_of callboard words ≡ []) × MatchesOptions (matc
 abbrev pub words_kinds : List Text → Kinds
 words_kinds words = or_else (fault_of callboard words) (task_kinds (matches_of callboard words))
 
--- Why words are refused: a fault of theirs, want of memory aside; where they have none, an audit that doesn't stand
--- alone; where it does, answers as records come that don't; where they do, results without an audit; then what goes
--- with answers as records come alone, without them; and then how a journal is kept, without one.
+-- Why words are refused: a fault of theirs, refused memory aside; where they have none, an audit that isn't alone;
+-- where it is, answers as records come that aren't; where they are, results without an audit; then what goes with
+-- answers as records come alone, without them; and then how a journal is kept, without one.
 abbrev pub RefusesWords : List Text → WordsFault → Type 0
 RefusesWords words (Parse error) = HasKind (words_kinds words) error
 RefusesWords words AuditNotAlone = (words_kinds words ≡ []) × (is_audit_mixed (matches_of callboard words) ≡ true)

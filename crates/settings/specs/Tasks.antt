@@ -119,14 +119,14 @@ is_live_missing rows = (is_some (number_at (codes "reserve") rows)
 abbrev pub is_journal_missing : List Row → Bool
 is_journal_missing rows = is_some (sync_in rows) && not (is_some (first_of (codes "journal") rows))
 
--- An audit stands alone, and so do answers as records come; what goes with either isn't asked for without it.
+-- An audit is alone, and so are answers as records come; what goes with either isn't asked for without it.
 abbrev pub IsWellMixed : List Row → Type 0
 IsWellMixed rows = (is_audit_mixed rows ≡ false) × (is_live_mixed rows ≡ false) × (is_results_alone rows ≡ false)
     × (is_live_missing rows ≡ false) × (is_journal_missing rows ≡ false)
 
--- Why options that have no fault of their own say no task. The words that options were given come first, then what
--- stands beside an audit, then what stands beside answers as records come, then what goes with either and was asked for
--- without it.
+-- Why options that have no fault of their own say no task. The words that options were given come first, then what is
+-- beside an audit, then what is beside answers as records come, then what goes with either and was asked for without
+-- it.
 abbrev pub RefusesTask : List Row → WordsFault → Type 0
 RefusesTask rows (Parse error) = HasKind (task_kinds rows) error
 RefusesTask rows AuditNotAlone = (task_kinds rows ≡ []) × (is_audit_mixed rows ≡ true)

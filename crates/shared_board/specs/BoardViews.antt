@@ -75,7 +75,7 @@ pub record SeesStory (story : List Call) (old new : MemberView) : Type 0 where
   pub begins : IsPrefix old.seen new.seen
   pub all : new.seen ≡ story
 
--- the member is behind a legal history that isn't full, which the fault tells
+-- the member is behind a legal history that isn't full, as the fault says
 pub record IsBehindHistory (c : Config) (m : MemberView) (fault : CallFault) : Type 0 where
   pub history : List Entry
   pub legal : IsLegal c history

@@ -48,7 +48,7 @@ no_flag x y e = grind (arith, common_steps, cases_lt, lt-ltb)
 some_flag : (x y : ℕ) → 0 < flag_of x y → 0 < x + y
 some_flag x y h = grind (arith, common_steps, cases_lt, le-ltb)
 
--- ---- the flags tell where something stands
+-- ---- the flags say where something is
 
 module _ (b a f : List ℕ) (same : length a ≡ length b) (flags : f ≡ zip2 flag_of b a) where
   flag_is : (i : ℕ) → get_or f i 0 ≡ flag_of (get_or b i 0) (get_or a i 0)

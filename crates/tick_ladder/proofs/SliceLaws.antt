@@ -1,4 +1,4 @@
--- What a part of a list tells of the list.
+-- What a part of a list says of the list.
 use Rattle.std.proofs.Common.{◌≡◌, ℕ, zero, suc, ◌+◌, ◌-◌, ◌≤◌, ◌<◌, List, length, drop, get_or, sum, refl, ap, ◌∙◌}
 use Rattle.std.proofs.Common.{arith}
 use Rattle.std.specs.Simd.Lanes.{chunk}

@@ -8,7 +8,7 @@ use Rattle.auction_terms.specs.Ladder.{LadderView, with_added}
 use Rattle.tick_ladder.specs.TickLadder.{total_quantity, IsInBounds}
 use Rattle.tick_ladder.proofs.PresenceLaws.{sum-set}
 
--- so much more stands, on the same ticks
+-- there is `quantity` more, on the same ticks
 pub record HasQuantityMore (old new : LadderView) (quantity : ℕ) : Type 0 where
   pub all : total_quantity new ≡ total_quantity old + quantity
   pub low : new.low ≡ old.low

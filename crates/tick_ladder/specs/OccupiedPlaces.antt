@@ -8,7 +8,7 @@ use Rattle.tick_ladder.specs.declared.Crossing.{Crossing}
 abbrev pub IsBlank : List ℕ → ℕ → ℕ → Type 0
 IsBlank xs i j = before xs i ≡ before xs j
 
--- a number above 0 at p, and none behind it before j
+-- a number above 0 at p, and none after it before j
 pub record IsLastIn (xs : List ℕ) (i j p : ℕ) : Type 0 where
   pub from : i ≤ p
   pub within : p < j
@@ -32,30 +32,30 @@ FindsFirst xs i j found = MatchOption found (IsBlank xs i j) (IsFirstIn xs i j)
 
 -- ---- bids and asks
 
--- nothing stands from i on and before j
+-- there is nothing from i on and before j
 pub record IsClear (bids asks : List ℕ) (i j : ℕ) : Type 0 where
   pub no_bids : IsBlank bids i j
   pub no_asks : IsBlank asks i j
 
--- something stands at p, and nothing behind it before j
+-- something is at p, and nothing after it before j
 pub record IsLast (bids asks : List ℕ) (i j p : ℕ) : Type 0 where
   pub from : i ≤ p
   pub within : p < j
   pub stands : 0 < slice_index bids p + slice_index asks p
   pub clear : IsClear bids asks (p + 1) j
 
--- something stands at p, and nothing before it from i on
+-- something is at p, and nothing before it from i on
 pub record IsFirst (bids asks : List ℕ) (i j p : ℕ) : Type 0 where
   pub from : i ≤ p
   pub within : p < j
   pub stands : 0 < slice_index bids p + slice_index asks p
   pub clear : IsClear bids asks i p
 
--- the last place before the end where an order stands, or none
+-- the last place with an order before the end, or none
 abbrev pub IsLastBefore : LadderView → ℕ → Option ℕ → Type 0
 IsLastBefore view end found = MatchOption found (IsClear view.bids view.asks 0 end) (IsLast view.bids view.asks 0 end)
 
--- the first place from the start on where an order stands, or none
+-- the first place with an order from the start on, or none
 abbrev pub IsFirstFrom : LadderView → ℕ → Option ℕ → Type 0
 IsFirstFrom view start found =
     MatchOption found

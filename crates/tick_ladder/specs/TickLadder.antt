@@ -1,4 +1,4 @@
--- What stands in a ladder, and the books that it is the ladder of.
+-- What is in a ladder, and the books that it is the ladder of.
 use Rattle.std.specs.Prelude.{◌≡◌, ℕ, ◌+◌, ◌-◌, ◌<◌, ◌≤◌, List, [], ◌∷◌, All, Option, filter, length, nat_lt, sum}
 use Rattle.std.specs.Prelude.{replicate, if◌then◌else◌}
 use Rattle.std.specs.Simd.Lanes.{zip2}
@@ -12,7 +12,7 @@ use Rattle.auction_terms.specs.AuctionPrice.{highest, lowest}
 use Rattle.auction_terms.specs.Ladder.{LadderView, ladder_of, flag_of, IsTickOf}
 use Rattle.tick_ladder.specs.declared.Ladder.TheInside.{Inside}
 
--- what the fields stand for
+-- what the fields mean
 abbrev pub ladder_view : Inside → LadderView
 ladder_view a = record {
   low = a.low;
@@ -80,7 +80,7 @@ abbrev pub positive_ticks : ℕ → List ℕ → List ℕ
 positive_ticks low [] = []
 positive_ticks low (x ∷ xs) = if nat_lt 0 x then low ∷ positive_ticks (low + 1) xs else positive_ticks (low + 1) xs
 
--- the highest tick where bids stand, the lowest where asks stand
+-- the highest tick with bids, the lowest with asks
 abbrev pub best_tick : LadderView → Side → Option ℕ
 best_tick view Bid = highest (positive_ticks view.low view.bids)
 best_tick view Ask = lowest (positive_ticks view.low view.asks)

@@ -36,7 +36,7 @@ abbrev pub book_after_fills : List Fill → List Order → List Order
 book_after_fills [] book = book
 book_after_fills (fill ∷ fills) book = book_after_fills fills (book_after_fill fill book)
 
--- ---- orders as they stand in a book
+-- ---- orders as they are in a book
 
 abbrev pub NoneHas : ℕ → List Order → Type 0
 NoneHas id [] = Unit {0}

@@ -26,7 +26,7 @@ abbrev pub allot : ℕ → List Fill → List Fill
 allot left [] = []
 allot left (f ∷ fs) = record { id = f.id; quantity = min left f.quantity } ∷ allot (left - f.quantity) fs
 
--- what is left of a fill when so much of it has been traded
+-- what is left of a fill when `taken` of it has been traded
 abbrev pub less : Fill → ℕ → Fill
 less f taken = record { id = f.id; quantity = f.quantity - taken }
 
@@ -34,7 +34,7 @@ less f taken = record { id = f.id; quantity = f.quantity - taken }
 unfoldable pub paired_trades : ℕ → ℕ → List Fill → List Fill → List Trade
 paired_trades price s bids asks = pairings price (spans s bids) (spans s asks)
 
--- the fills that are left when so much of the first has been traded
+-- the fills that are left when `taken` of the first has been traded
 abbrev pub after_taking : List Fill → ℕ → List Fill
 after_taking [] taken = []
 after_taking (f ∷ fs) taken = if nat_eq f.quantity taken then fs else (less f taken ∷ fs)

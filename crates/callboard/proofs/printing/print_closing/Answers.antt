@@ -8,7 +8,7 @@ use Rattle.callboard.specs.declared.printing.ClosingForm.TheVariants as closings
 use Rattle.callboard.specs.BoardRun.{closing_tally, closing_text}
 use Rattle.callboard.proofs.printing.print_closing.Goals as goal
 
--- the tally stands first
+-- the tally comes first
 tally-first : (form : ClosingForm) (closing : Closing) (first_bad : Option ℕ)
     → (rest : List ℕ) × (closing_text form closing first_bad ≡ closing_tally closing first_bad ++ rest)
 tally-first closings.Tally closing first_bad = ([], sym (append-nil _))

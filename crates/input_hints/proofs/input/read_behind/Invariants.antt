@@ -4,7 +4,7 @@ use Rattle.order_file.specs.Rows.{IsRecordReader, rows_left}
 use Rattle.input_hints.specs.InputHints.{row_in}
 use Rattle.input_hints.proofs.input.read_behind.Given as goal
 
--- the record is behind as many others as are left to pass over
+-- the record comes after as many others as are left to pass over
 abbrev pub invariant-rows : goal.invariant-rows
 invariant-rows l = IsRecordReader l.rows × (row_in l.left (rows_left l.rows) ≡ row_in l.fn.before (rows_left l.fn.rows))
 

@@ -1,5 +1,5 @@
 -- Answers of `is_quote_open` (src/line.rt): what the prover left open; rt looks here.
--- Of `is_quote_open`: the line end comes behind the line, in the form that `rt` wants.
+-- Of `is_quote_open`: the line end comes after the line, in the form that `rt` wants.
 use Rattle.live_session.proofs.InputLineLaws.{quote-open}
 use Rattle.live_session.proofs.line.is_quote_open.Goals as goal
 

@@ -1,5 +1,5 @@
 -- Answers of `without_mark` (src/line.rt): what the prover left open; rt looks here.
--- Of `without_mark`: the bytes behind a mark, or all, in the form that `rt` wants.
+-- Of `without_mark`: the bytes after a mark, or all, in the form that `rt` wants.
 use Rattle.std.proofs.Common.{sym, ◌∙◌}
 use Rattle.live_session.proofs.InputLineLaws.{marked-long, strip-marked, strip-unmarked}
 use Rattle.live_session.proofs.line.without_mark.Goals as goal

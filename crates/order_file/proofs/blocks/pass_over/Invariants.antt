@@ -3,7 +3,7 @@ use Rattle.std.proofs.Common.{◌≡◌, ◌+◌, ℕ, List, length}
 use Rattle.std.specs.Io.KnownBytes.{Consumes}
 use Rattle.order_file.proofs.blocks.pass_over.Given as goal
 
--- so many bytes were passed over as the room fell by, and no read has failed
+-- as many bytes were passed over as the room fell by, and no read has failed
 abbrev pub invariant-reads : goal.invariant-reads
 invariant-reads g l =
     ((bytes : List ℕ) × Consumes (g.R.Source.left l.fn.reader) (g.R.Source.left l.reader) bytes

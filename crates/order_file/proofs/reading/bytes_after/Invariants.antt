@@ -3,7 +3,7 @@ use Rattle.std.proofs.Common.{◌≡◌, ◌≤◌, ◌+◌, ◌-◌, ◌++◌, 
 use Rattle.std.specs.Io.KnownBytes.{Consumes}
 use Rattle.order_file.proofs.reading.bytes_after.Given as goal
 
--- what was read so far stands behind the start, and no read has failed
+-- what was read so far comes after the start, and no read has failed
 abbrev pub invariant-reads : goal.invariant-reads
 invariant-reads g l = record {
   read : (more : List ℕ) × (l.bytes.items ≡ l.fn.start.items ++ more)

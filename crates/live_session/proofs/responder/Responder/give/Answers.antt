@@ -1,5 +1,5 @@
 -- Answers of `Responder::give` (src/responder.rt): what the prover left open; rt looks here.
--- Of `Responder::give`: a write failed behind a commit, in the form that `rt` wants.
+-- Of `Responder::give`: a write failed after a commit, in the form that `rt` wants.
 use Rattle.std.proofs.Common.{◌≡◌, ◌∙◌}
 use Rattle.printed_lines.specs.KeptText.{kept_text}
 use Rattle.live_session.proofs.responder.Responder.give.Goals as goal

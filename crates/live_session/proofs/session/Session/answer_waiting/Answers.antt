@@ -1,5 +1,5 @@
 -- Answers of `Session::answer_waiting` (src/session.rt): what the prover left open; rt looks here.
--- Of `Session::answer_waiting`: the lines behind the line end are answered, in the form that `rt` wants.
+-- Of `Session::answer_waiting`: the lines after the line end are answered, in the form that `rt` wants.
 use Rattle.std.proofs.Common.{take, ap, subst, ◌∙◌}
 use Rattle.live_session.specs.Answered.{Answered}
 use Rattle.live_session.specs.Gathered.{Gathers}

@@ -1,5 +1,5 @@
 -- Answers of `Session::refuse_line` (src/session.rt): what the prover left open; rt looks here.
--- Of `Session::refuse_line`: the line is answered behind those that waited, in the form that `rt` wants.
+-- Of `Session::refuse_line`: the line is answered after those that waited, in the form that `rt` wants.
 use Rattle.std.proofs.Common.{ap, sym, rules, ◌∙◌}
 use Rattle.live_session.specs.Answered.{line_fault}
 use Rattle.live_session.proofs.InputLineLaws.{held-line}

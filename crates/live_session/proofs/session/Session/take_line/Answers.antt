@@ -1,5 +1,5 @@
 -- Answers of `Session::take_line` (src/session.rt): what the prover left open; rt looks here.
--- Of `Session::take_line`: the line ends behind its last bytes, in the form that `rt` wants.
+-- Of `Session::take_line`: the line ends after its last bytes, in the form that `rt` wants.
 use Rattle.live_session.proofs.session.Session.take_line.Goals as goal
 
 pub returns : goal.returns
