@@ -18,7 +18,7 @@ ghost use Rattle.callboard.specs.FileRun.{WritesText};
 ghost use Rattle.callboard.specs.Printed.{IsOfListing, IsWideListing, WritesTable, listing_text};
 
 use crate::fault::Fault;
-use auction_terms::Entry;
+use auction_terms::{Entry, Reply};
 use byte_streams::{Sink, WriteFailed};
 use day_tables::{KeptBook, TableFault, print_book, print_trades};
 use journal::{DayHeader, print_journal, print_kept_journal};
@@ -36,8 +36,9 @@ fn print_replies<S: Sink>(
     ensures { Prints S.Sink printer.old printer.new result (lines replies.now) }
 {
     let mut left = replies.iter();
+    let mut lent = Reply::Deleted;
     for place in 0..replies.len() {
-        print_line(printer, place as u64 + 1, &left.next_reply())?;
+        print_line(printer, place as u64 + 1, left.next_reply(&mut lent))?;
     }
     Ok(())
 }

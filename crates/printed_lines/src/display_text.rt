@@ -1,17 +1,14 @@
 //! The text of the last display, as the same one often comes again.
 
-ghost use Rattle.std.specs.Prelude.{◌≡◌, ◌≤◌, ◌+◌, ◌++◌, length, true, None, Some};
+ghost use Rattle.std.specs.Prelude.{◌≡◌, ◌≤◌, ◌+◌, ◌++◌, length, take, true, None, Some};
 ghost use Rattle.auction_terms.specs.declared.Reply.TheVariants as reply;
 ghost use Rattle.printed_lines.specs.ReplyWords.{reply_text};
-ghost use Rattle.printed_lines.specs.declared.page.TheConstants.{ROOM};
+ghost use Rattle.printed_lines.specs.declared.page.TheConstants.{LONGEST_DISPLAY, ROOM};
 
-use crate::page::Page;
+use crate::page::{LONGEST_DISPLAY, Page};
 use crate::reply::put_display;
 use auction_terms::Display;
 use std::marker::Model;
-
-/// How many bytes the text of a display has at most.
-const LONGEST_DISPLAY: usize = 100;
 
 /// The last display whose text was put on a page, if there was one, with that text. It takes no memory.
 #[derive(Drop)]
@@ -55,29 +52,32 @@ impl DisplayText {
         }
     }
 
-    /// Keeps a display with its text.
-    fn keep(&mut self, display: &Display, text: &[u8])
-        requires text { text.now ≡ reply_text (reply.Indicated display.now) }
-        requires short { length text.now ≤ LONGEST_DISPLAY }
+    /// Keeps a display with its text, the first bytes of these.
+    #[inline(always)]
+    fn keep(&mut self, display: &Display, text: &[u8], len: usize)
+        requires length { length text.now ≡ LONGEST_DISPLAY }
+        requires short { len ≤ LONGEST_DISPLAY }
+        requires text { take len text.now ≡ reply_text (reply.Indicated display.now) }
         ensures { self.new ≡ Some display.now }
     {
-        self.text[..text.len()].copy_from_slice(text);
-        self.len = text.len();
+        self.text.copy_from_slice(text);
+        self.len = len;
         self.display = Some(*display);
     }
 
     /// Puts the text of a display on a page, which is copied where it is the last one again.
+    #[inline]
     pub(crate) fn put(&mut self, page: &mut Page, display: &Display)
         requires { length page.old + LONGEST_DISPLAY ≤ ROOM }
         ensures text { page.new ≡ page.old ++ reply_text (reply.Indicated display.now) }
         ensures longer { length page.new ≤ length page.old + LONGEST_DISPLAY }
     {
         if self.is_of(display) {
-            page.put_bytes(&self.text[..self.len]);
+            page.put_first(&self.text, self.len);
             return;
         }
         let begin = page.len();
         put_display(page, display);
-        self.keep(display, &page.as_slice()[begin..]);
+        self.keep(display, page.display_from(begin), page.len() - begin);
     }
 }

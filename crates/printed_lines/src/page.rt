@@ -1,10 +1,10 @@
 //! The page on which text is put together before it is written.
 
-ghost use Rattle.std.specs.Prelude.{◌≡◌, ◌≤◌, ◌+◌, ◌++◌, [], length, decimal};
+ghost use Rattle.std.specs.Prelude.{◌≡◌, ◌<◌, ◌≤◌, ◌+◌, ◌++◌, ◌-◌, [], length, drop, take, decimal};
 ghost use Rattle.std.specs.Str.{bytes_eq};
-ghost use Rattle.printed_lines.specs.declared.page.TheConstants.{LONGEST_NUMBER, ROOM};
+ghost use Rattle.printed_lines.specs.declared.page.TheConstants.{LONGEST_DISPLAY, LONGEST_NUMBER, ROOM};
 
-use itoa::Buffer;
+use itoa::write_digits;
 use std::marker::Model;
 
 /// How many bytes a page has room for.
@@ -15,6 +15,40 @@ pub const LONGEST_LINE: usize = 256;
 
 /// How many digits a number has at most.
 pub const LONGEST_NUMBER: usize = 20;
+
+/// How many bytes the text of a display has at most.
+pub(crate) const LONGEST_DISPLAY: usize = 100;
+
+/// How many digits a number below 100,000 has.
+#[inline(always)]
+fn short_digit_count(number: u64) -> usize
+    requires { number < 100000 }
+    ensures digits { result ≡ length (decimal number) }
+    ensures few { result ≤ 5 }
+{
+    1 + (number >= 10) as usize
+        + (number >= 100) as usize
+        + (number >= 1_000) as usize
+        + (number >= 10_000) as usize
+}
+
+/// How many digits a number has; five are counted at once.
+#[inline(always)]
+fn digit_count(number: u64) -> usize
+    ensures digits { result ≡ length (decimal number) }
+    ensures few { result ≤ LONGEST_NUMBER }
+{
+    if number < 100_000 {
+        return short_digit_count(number);
+    }
+    if number < 10_000_000_000 {
+        return 5 + short_digit_count(number / 100_000);
+    }
+    if number < 1_000_000_000_000_000 {
+        return 10 + short_digit_count(number / 10_000_000_000);
+    }
+    15 + short_digit_count(number / 1_000_000_000_000_000)
+}
 
 /// Text that is still to be written, up to `ROOM` bytes of it. It takes no memory.
 #[derive(Drop)]
@@ -86,6 +120,32 @@ impl Page {
         self.len = len + text.len();
     }
 
+    /// Appends the first bytes of an array to the page. All of the array is copied, as that is faster.
+    #[inline(always)]
+    pub(crate) fn put_first(&mut self, text: &[u8; LONGEST_DISPLAY], count: usize)
+        requires room { length self.old + LONGEST_DISPLAY ≤ ROOM }
+        requires count { count ≤ LONGEST_DISPLAY }
+        ensures text { self.new ≡ self.old ++ take count text.now }
+        ensures longer { length self.new ≡ length self.old + count }
+    {
+        let len = self.len;
+        self.bytes[len..len + LONGEST_DISPLAY].copy_from_slice(text);
+        self.len = len + count;
+    }
+
+    /// What is on the page from here on, and after it what was there before: as many bytes as a display's text has at
+    /// most.
+    #[inline(always)]
+    pub(crate) fn display_from(&self, begin: usize) -> &[u8]
+        requires room { begin + LONGEST_DISPLAY ≤ ROOM }
+        requires begin { begin ≤ length self.now }
+        requires short { length self.now ≤ begin + LONGEST_DISPLAY }
+        ensures length { length result.now ≡ LONGEST_DISPLAY }
+        ensures text { take (length self.now - begin) result.now ≡ drop begin self.now }
+    {
+        &self.bytes[begin..begin + LONGEST_DISPLAY]
+    }
+
     /// Appends text to the page.
     #[inline(always)]
     pub fn put(&mut self, text: &str)
@@ -103,7 +163,8 @@ impl Page {
         ensures text { self.new ≡ self.old ++ decimal number }
         ensures longer { length self.new ≤ length self.old + LONGEST_NUMBER }
     {
-        let mut buffer = Buffer::new();
-        self.put_bytes(buffer.format(number).as_bytes());
+        let end = self.len + digit_count(number);
+        write_digits(number, &mut self.bytes, end);
+        self.len = end;
     }
 }

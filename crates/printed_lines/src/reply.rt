@@ -3,10 +3,11 @@
 ghost use Rattle.std.specs.Prelude.{◌≡◌, ◌≤◌, ◌+◌, ◌++◌, ◌∷◌, [], length, decimal};
 ghost use Rattle.auction_terms.specs.declared.Reply.TheVariants as reply;
 ghost use Rattle.printed_lines.specs.declared.page.TheConstants.{LONGEST_NUMBER, ROOM};
-ghost use Rattle.printed_lines.specs.ReplyWords.{words_text, limit_words, number_word, price_words, reply_text};
+ghost use Rattle.printed_lines.specs.ReplyWords.{words_text, limit_words, number_word, place_word, price_words};
+ghost use Rattle.printed_lines.specs.ReplyWords.{reply_text, side_word};
 
 use crate::page::Page;
-use crate::words::{kind_word, place_word, refusal_name, side_word};
+use crate::words::{kind_word, refusal_name};
 use auction_terms::{AuctionKind, Display, Limit, Price, Reply, Side, Trade};
 
 /// Puts a number on the page, or a dash where there is none.
@@ -21,6 +22,34 @@ fn put_number_word(page: &mut Page, number: Option<u32>)
     }
 }
 
+/// Puts the side of an order on the page, or of a surplus where there is one.
+#[inline]
+fn put_side(page: &mut Page, side: Option<Side>)
+    requires { length page.old + 4 ≤ ROOM }
+    ensures text { page.new ≡ page.old ++ side_word side }
+    ensures longer { length page.new ≤ length page.old + 4 }
+{
+    match side {
+        Some(Side::Bid) => page.put("bid"),
+        Some(Side::Ask) => page.put("ask"),
+        None => page.put("none"),
+    }
+}
+
+/// Puts on the page whether a changed order kept its place in time.
+#[inline]
+fn put_place(page: &mut Page, kept: bool)
+    requires { length page.old + 5 ≤ ROOM }
+    ensures text { page.new ≡ page.old ++ place_word kept }
+    ensures longer { length page.new ≤ length page.old + 5 }
+{
+    if kept {
+        page.put("kept");
+        return;
+    }
+    page.put("moved");
+}
+
 fn put_price(page: &mut Page, price: &Price)
     requires { length page.old + 100 ≤ ROOM }
     ensures text { page.new ≡ page.old ++ words_text (price_words price.now) }
@@ -33,7 +62,7 @@ fn put_price(page: &mut Page, price: &Price)
     page.put(" surplus ");
     page.put_number(price.surplus);
     page.put(" ");
-    page.put(side_word(price.side));
+    put_side(page, price.side);
 }
 
 /// Puts the text of a display on the page, at most 100 bytes.
@@ -79,7 +108,7 @@ fn put_open_order(page: &mut Page, side: Side, limit: Limit, quantity: u64, visi
     ensures longer { length page.new ≤ length page.old + 100 }
 {
     page.put("order ");
-    page.put(side_word(Some(side)));
+    put_side(page, Some(side));
     page.put(" ");
     page.put_number(quantity);
     put_limit(page, limit, visible);
@@ -130,7 +159,7 @@ pub fn put_reply(page: &mut Page, reply: &Reply)
         }
         Reply::Changed { kept } => {
             page.put("changed ");
-            page.put(place_word(*kept));
+            put_place(page, *kept);
         }
         Reply::Deleted => page.put("deleted"),
         Reply::OpenOrder {

@@ -1,7 +1,7 @@
 //! The words of a reply.
 
 ghost use Rattle.std.specs.Prelude.{◌≡◌, ◌≤◌, length};
-ghost use Rattle.printed_lines.specs.ReplyWords.{side_word, kind_word, place_word, refusal_name};
+ghost use Rattle.printed_lines.specs.ReplyWords.{side_word, kind_word, refusal_name};
 
 use auction_terms::{AuctionKind, Refusal, Side};
 
@@ -27,14 +27,6 @@ pub fn kind_word(kind: AuctionKind) -> &'static str
         AuctionKind::Intraday => "intraday",
         AuctionKind::Closing => "closing",
     }
-}
-
-/// Whether a changed order kept its place in time.
-pub fn place_word(kept: bool) -> &'static str
-    ensures word { result.now ≡ place_word kept }
-    ensures short { length result.now ≤ 5 }
-{
-    if kept { "kept" } else { "moved" }
 }
 
 /// The name of a refusal.

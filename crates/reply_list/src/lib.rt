@@ -94,9 +94,10 @@ fn ends_with(others: &[Reply], reply: &Reply) -> bool
     ensures { result ≡ true
         → (0 < length others.now) × (get_or others.now (length others.now - 1) reply.now ≡ reply.now) }
 {
-    match others.last() {
-        Some(last) => last == reply,
-        None => false,
+    match (others.last(), reply) {
+        (Some(Reply::Indicated(last)), Reply::Indicated(display)) => last == display,
+        (Some(last), _) => last == reply,
+        (None, _) => false,
     }
 }
 
@@ -175,41 +176,58 @@ fn brief_reply(code: u8) -> Reply
     }
 }
 
-/// One of the others, by its place from 0.
+/// One of the others, by its place from 0, or a deletion where there is none, in the place that is lent.
 #[inline]
-fn other_at(others: &[Reply], place: usize) -> Reply
-    ensures { result ≡ get_or others.now place replies.Deleted }
+fn other_at<'a>(others: &'a [Reply], place: usize, lent: &'a mut Reply) -> &'a Reply
+    ensures { result.now ≡ get_or others.now place replies.Deleted }
 {
     match others.get(place) {
-        Some(reply) => *reply,
-        None => Reply::Deleted,
+        Some(reply) => reply,
+        None => {
+            *lent = Reply::Deleted;
+            lent
+        }
     }
 }
 
-/// The last of the first `shown` others, or a deletion where there is none.
+/// The last of the first `shown` others, or a deletion where there is none, in the place that is lent.
 #[inline]
-fn last_of(others: &[Reply], shown: usize) -> Reply
-    ensures { result ≡ get_or (replies.Deleted ∷ others.now) shown replies.Deleted }
+fn last_of<'a>(others: &'a [Reply], shown: usize, lent: &'a mut Reply) -> &'a Reply
+    ensures { result.now ≡ get_or (replies.Deleted ∷ others.now) shown replies.Deleted }
 {
     if shown == 0 {
-        return Reply::Deleted;
+        *lent = Reply::Deleted;
+        return lent;
     }
-    other_at(others, shown - 1)
+    other_at(others, shown - 1, lent)
 }
 
-/// The reply that a code says after the first `shown` others, and entries of which the last has this id.
+/// The reply that a code says after the first `shown` others, and entries of which the last has this id. One that is
+/// not kept whole is put into the place that is lent.
 #[tactic(auto, unfolding(crate::specs::ReplyList::reply_of_code))]
 #[inline]
-fn reply_of_code(others: &[Reply], entered: u32, shown: usize, code: u8) -> Reply
-    ensures { result ≡ reply_of_code others.now entered shown code }
+fn reply_of_code<'a>(
+    others: &'a [Reply],
+    entered: u32,
+    shown: usize,
+    code: u8,
+    lent: &'a mut Reply,
+) -> &'a Reply
+    ensures { result.now ≡ reply_of_code others.now entered shown code }
 {
     match code {
-        ENTERED => Reply::Entered {
-            id: entered.wrapping_add(1),
-        },
-        OTHER => other_at(others, shown),
-        AGAIN => last_of(others, shown),
-        _ => brief_reply(code),
+        ENTERED => {
+            *lent = Reply::Entered {
+                id: entered.wrapping_add(1),
+            };
+            lent
+        }
+        OTHER => other_at(others, shown, lent),
+        AGAIN => last_of(others, shown, lent),
+        _ => {
+            *lent = brief_reply(code);
+            lent
+        }
     }
 }
 
@@ -260,17 +278,20 @@ impl ReplyList {
 }
 
 impl<'a> Replies<'a> {
-    /// The next reply. There is one.
+    /// The next reply. There is one. One that was kept whole is given where it stands, and any other is put into the
+    /// place that is lent.
     #[inline]
-    pub fn next_reply(&mut self) -> Reply
+    pub fn next_reply<'b>(&mut self, lent: &'b mut Reply) -> &'b Reply
+    where
+        'a: 'b,
         requires { 0 < length self.old }
-        ensures { self.old ≡ result ∷ self.new }
+        ensures { self.old ≡ result.now ∷ self.new }
     {
         let code = self.codes[0];
-        let reply = reply_of_code(self.others, self.entered, self.shown, code);
+        let (others, entered, shown) = (self.others, self.entered, self.shown);
         self.codes = &self.codes[1..];
-        self.entered = entered_after(self.entered, code);
-        self.shown = shown_after(self.shown, code);
-        reply
+        self.entered = entered_after(entered, code);
+        self.shown = shown_after(shown, code);
+        reply_of_code(others, entered, shown, code, lent)
     }
 }
