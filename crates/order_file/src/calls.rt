@@ -6,7 +6,7 @@ ghost use Rattle.order_file.specs.File.{IsBelow, IsOfRecord, calls_after};
 ghost use Rattle.order_file.specs.Rows.{IsRecordReader, rows_left};
 
 use crate::fault::FileFault;
-use crate::reading::next_row;
+use crate::reading::read_row;
 use crate::record::numbered_call;
 use auction_terms::Call;
 use csv::{ByteRecord, Reader};
@@ -56,7 +56,10 @@ impl<'a> Calls<'a> {
         ensures parsed { IfErr result IsOfRecord }
         ensures below { IfOk result (λ found. IfSome found (IsBelow self.old.members)) }
     {
-        if !next_row(&mut self.rows, &mut self.row)? {
+        let Ok(found) = read_row(&mut self.rows, &mut self.row) else {
+            return Err(FileFault::NoMemory);
+        };
+        if !found {
             return Ok(None);
         }
         let number = u64::from(self.count) + 1;

@@ -16,7 +16,7 @@ use crate::fault::FileFault;
 use auction_terms::Call;
 use byte_streams::Source;
 use csv::{ByteRecord, Reader, ReaderBuilder};
-use std::alloc::Global;
+use std::alloc::{AllocError, Global};
 
 /// How many bytes an order file may have at most.
 pub const MAX_BYTES: usize = 67_108_864;
@@ -87,6 +87,20 @@ pub fn bytes_of<R: Source>(alloc: Global, reader: &mut R, most: usize) -> Result
     bytes_after(Vec::new(alloc), reader, most)
 }
 
+/// The next record of a file, and whether there was one. The error is that memory is refused.
+pub(crate) fn read_row(reader: &mut Reader<&[u8]>, row: &mut ByteRecord) -> Result<bool, AllocError>
+    requires { IsRecordReader reader.old }
+    ensures row { IfOk result (λ found. MatchBool found
+        ((rows_left reader.old ≡ fields_of row.new ∷ rows_left reader.new) × IsRecordReader reader.new)
+        (rows_left reader.old ≡ [])) }
+{
+    // Bytes in memory are read without a failure, so what fails is memory.
+    let Ok(found) = reader.read_byte_record(row) else {
+        return Err(AllocError);
+    };
+    Ok(found)
+}
+
 /// The next record of a file, and whether there was one. The fault is want of memory.
 #[inline]
 pub fn next_row(reader: &mut Reader<&[u8]>, row: &mut ByteRecord) -> Result<bool, FileFault>
@@ -96,8 +110,7 @@ pub fn next_row(reader: &mut Reader<&[u8]>, row: &mut ByteRecord) -> Result<bool
         ((rows_left reader.old ≡ fields_of row.new ∷ rows_left reader.new) × IsRecordReader reader.new)
         (rows_left reader.old ≡ [])) }
 {
-    // Bytes in memory are read without a failure, so what fails is memory.
-    let Ok(found) = reader.read_byte_record(row) else {
+    let Ok(found) = read_row(reader, row) else {
         return Err(FileFault::NoMemory);
     };
     Ok(found)
