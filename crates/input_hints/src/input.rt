@@ -9,49 +9,36 @@ ghost use Rattle.input_hints.specs.InputHints.{terms_in, whole_row};
 use crate::hint::Hint;
 use crate::record::{DayTerms, field_of, form_hint, hint_of_record, is_of_day};
 use crate::start::ROOM;
-use csv::{ByteRecord, Reader};
-use order_file::{FileFault, RecordFault, next_row, number_of, reader_of};
+use csv::ByteRecord;
+use order_file::{FileFault, RecordFault, Records, number_of};
 use std::alloc::{AllocError, Global};
 
 /// Reads the record after `before` others, and says whether there is one.
-fn read_behind(
-    rows: &mut Reader<&[u8]>,
-    row: &mut ByteRecord,
-    before: u64,
-) -> Result<bool, AllocError>
-    requires { IsRecordReader rows.old }
+fn read_behind(records: &mut Records<'_>, before: u64) -> Result<bool, AllocError>
+    requires { IsRecordReader records.old.rows }
     ensures { IfOk result (λ found. MatchBool found
-        (row_in before (rows_left rows.old) ≡ Some (fields_of row.new))
-        (row_in before (rows_left rows.old) ≡ None)) }
+        (row_in before (rows_left records.old.rows) ≡ Some (fields_of records.new.row))
+        (row_in before (rows_left records.old.rows) ≡ None)) }
 {
     let mut left = before;
     'rows: while left > 0 {
-        let Ok(found) = next_row(rows, row) else {
-            return Err(AllocError);
-        };
-        if !found {
+        if !records.next()? {
             return Ok(false);
         }
         left -= 1;
     }
-    let Ok(found) = next_row(rows, row) else {
-        return Err(AllocError);
-    };
-    Ok(found)
+    records.next()
 }
 
 /// The record after `before` others of a text, if there is one.
 fn row_at(alloc: Global, text: &[u8], before: u64) -> Result<Option<ByteRecord>, AllocError>
     ensures { IfOk result (λ row. option_map (λ r. fields_of r) row ≡ row_in before (rows_of text.now)) }
 {
-    let Ok(mut rows) = reader_of(alloc, text) else {
-        return Err(AllocError);
-    };
-    let mut row = ByteRecord::new(alloc);
-    if !read_behind(&mut rows, &mut row, before)? {
+    let mut records = Records::open(alloc, text)?;
+    if !read_behind(&mut records, before)? {
         return Ok(None);
     }
-    Ok(Some(row))
+    Ok(Some(records.row))
 }
 
 /// The record with a number, from 1, of an input that begins so, if it is whole: where more of the input may follow,

@@ -14,8 +14,8 @@ use crate::day::{DayHeader, day_of_record, is_day_row};
 use crate::entry::call_of;
 use auction_terms::Call;
 use byte_streams::Source;
-use csv::{ByteRecord, Reader};
-use order_file::{FileFault, bytes_of, next_row, reader_of};
+use csv::ByteRecord;
+use order_file::{FileFault, Records, bytes_of};
 use std::alloc::Global;
 
 /// How many bytes a journal may have at most.
@@ -32,34 +32,38 @@ pub struct Journal {
     pub texts: ByteRecord,
 }
 
-/// The calls and replies of the records that a reader has left, after that of this day.
+/// The calls and replies of the records that are left, after that of this day.
 fn entries_from(
     alloc: Global,
-    rows: &mut Reader<&[u8]>,
+    records: &mut Records<'_>,
     day: DayHeader,
 ) -> Result<Journal, FileFault>
-    requires { IsRecordReader rows.old }
-    ensures recording { GivesWanted recorded result (recorded_in day (rows_left rows.old)) }
+    requires { IsRecordReader records.old.rows }
+    ensures recording { GivesWanted recorded result (recorded_in day (rows_left records.old.rows)) }
     ensures parsed { IfErr result IsOfRecord }
     ensures few { IfOk result (λ j. length j.calls.items ≤ j.day.config.max_calls) }
     ensures below { IfOk result (λ j. All (IsBelow j.day.members) j.calls.items) }
     ensures even { IfOk result (λ j. length (fields_of j.texts) ≡ length j.calls.items) }
     ensures texts { IfOk result (λ j. All IsReplyText (fields_of j.texts)) }
 {
-    let mut row = ByteRecord::new(alloc);
     let mut calls = Vec::new(alloc);
     let mut texts = ByteRecord::new(alloc);
     let max_calls = day.config.max_calls;
     for before in 0..max_calls {
-        if !next_row(rows, &mut row)? {
+        if !records.next()? {
             return Ok(Journal { day, calls, texts });
         }
-        let call = call_of(&mut row, &mut texts, u64::from(before) + 2, day.members)?;
+        let call = call_of(
+            &mut records.row,
+            &mut texts,
+            u64::from(before) + 2,
+            day.members,
+        )?;
         if calls.push(call).is_err() {
             return Err(FileFault::NoMemory);
         }
     }
-    if next_row(rows, &mut row)? {
+    if records.next()? {
         return Err(FileFault::TooManyCommands {
             number: u64::from(max_calls) + 2,
         });
@@ -68,21 +72,21 @@ fn entries_from(
 }
 
 /// The day of the first record.
-fn day_from(alloc: Global, rows: &mut Reader<&[u8]>) -> Result<DayHeader, FileFault>
-    requires { IsRecordReader rows.old }
+fn day_from(records: &mut Records<'_>) -> Result<DayHeader, FileFault>
+    requires { IsRecordReader records.old.rows }
     ensures day { MatchResult result
-        (λ day. IsRecordReader rows.new × (journal_of_rows (rows_left rows.old) ≡ recorded_in day (rows_left rows.new)))
-        (λ e. FailsAsWanted e (journal_of_rows (rows_left rows.old))) }
+        (λ day. IsRecordReader records.new.rows
+        × (journal_of_rows (rows_left records.old.rows) ≡ recorded_in day (rows_left records.new.rows)))
+        (λ e. FailsAsWanted e (journal_of_rows (rows_left records.old.rows))) }
     ensures parsed { IfErr result IsOfRecord }
 {
-    let mut row = ByteRecord::new(alloc);
-    if !next_row(rows, &mut row)? {
+    if !records.next()? {
         return Err(FileFault::NotADay);
     }
-    if !is_day_row(&row) {
+    if !is_day_row(&records.row) {
         return Err(FileFault::NotADay);
     }
-    match day_of_record(&row) {
+    match day_of_record(&records.row) {
         Ok(day) => Ok(day),
         Err(fault) => Err(fault.in_record(1)),
     }
@@ -98,9 +102,9 @@ pub fn journal_of(alloc: Global, bytes: &[u8]) -> Result<Journal, FileFault>
     ensures even { IfOk result (λ j. length (fields_of j.texts) ≡ length j.calls.items) }
     ensures texts { IfOk result (λ j. All IsReplyText (fields_of j.texts)) }
 {
-    let mut rows = reader_of(alloc, bytes)?;
-    let day = day_from(alloc, &mut rows)?;
-    entries_from(alloc, &mut rows, day)
+    let mut records = Records::open(alloc, bytes)?;
+    let day = day_from(&mut records)?;
+    entries_from(alloc, &mut records, day)
 }
 
 /// Reads a journal to its end, and answers what it says.

@@ -20,10 +20,10 @@ use crate::terms::SessionTerms;
 use auction::Auction;
 use auction_terms::{Call, Config, Entry};
 use auction_views::{View, is_view, put_view, view_of};
-use csv::{ByteRecord, Reader};
+use csv::ByteRecord;
 use input_hints::{DayTerms, Hint, hint_of_record};
 use journal::keep_entry;
-use order_file::{call_of_record, next_row, reader_of};
+use order_file::{Records, call_of_record};
 use printed_lines::{KeptText, put_line};
 use std::alloc::{AllocError, Global};
 
@@ -219,20 +219,16 @@ impl Responder {
     }
 
     /// Answers the records that are left.
-    fn answer_rows(&mut self, alloc: Global, rows: &mut Reader<&[u8]>) -> Result<(), AllocError>
-        requires { IsRecordReader rows.old }
+    fn answer_rows(&mut self, alloc: Global, records: &mut Records<'_>) -> Result<(), AllocError>
+        requires { IsRecordReader records.old.rows }
         ensures { AddsAnswers self.old self.new
-            (λ terms so_far. after_records terms so_far (rows_left rows.old)) result }
+            (λ terms so_far. after_records terms so_far (rows_left records.old.rows)) result }
     {
-        let mut row = ByteRecord::new(alloc);
         'rows: for _ in 0..u64::MAX {
-            let Ok(found) = next_row(rows, &mut row) else {
-                return Err(AllocError);
-            };
-            if !found {
+            if !records.next()? {
                 return Ok(());
             }
-            self.answer_row(alloc, &row)?;
+            self.answer_row(alloc, &records.row)?;
         }
         Err(AllocError)
     }
@@ -242,10 +238,8 @@ impl Responder {
         ensures { AddsAnswers self.old self.new
             (λ terms so_far. after_records terms so_far (records default_config (strip_bom text.now))) result }
     {
-        let Ok(mut rows) = reader_of(alloc, text) else {
-            return Err(AllocError);
-        };
-        self.answer_rows(alloc, &mut rows)
+        let mut records = Records::open(alloc, text)?;
+        self.answer_rows(alloc, &mut records)
     }
 
     /// Puts each text in one piece. The error is that memory is refused.

@@ -9,11 +9,11 @@ use Rattle.order_file.specs.declared.fault.FileFault.{FileFault}
 
 -- the calls of the records that are left, or their first fault
 abbrev pub calls_left : Calls → Result (List Call) FileFault
-calls_left calls = calls_after calls.members calls.max_calls calls.count (rows_left calls.rows)
+calls_left calls = calls_after calls.members calls.max_calls calls.count (rows_left calls.records.rows)
 
 -- calls of `members` members can be read, `max_calls` in all at most, of which `count` were
 pub record IsReady (members max_calls count : ℕ) (calls : Calls) : Type 0 where
-  pub rows : IsRecordReader calls.rows
+  pub rows : IsRecordReader calls.records.rows
   pub members_are : calls.members ≡ members
   pub most : calls.max_calls ≡ max_calls
   pub read : calls.count ≡ count

@@ -16,11 +16,10 @@ ghost use Rattle.order_file.specs.Rows.{IsRecordReader, rows_left};
 
 use crate::calls::Calls;
 use crate::fault::FileFault;
-use crate::reading::reader_of;
+use crate::records::Records;
 use byte_streams::Source;
-use csv::Reader;
 use memchr::{memchr, memrchr};
-use std::alloc::Global;
+use std::alloc::{AllocError, Global};
 use std::marker::Model;
 
 // How many bytes a block has at least, where the input has as many.
@@ -234,12 +233,11 @@ impl Blocks {
         })
     }
 
-    /// A reader of the records of this block, with none read yet. The only fault is that memory is refused.
-    pub(crate) fn rows(&self, alloc: Global) -> Result<Reader<&[u8]>, FileFault>
-        ensures memory { IfErr result (λ e. e ≡ FileFault.NoMemory) }
-        ensures reader { IfOk result (λ r. IsRecordReader r × (rows_left r ≡ block_rows self.now)) }
+    /// The records of this block, with none read yet. The error is that memory is refused.
+    pub(crate) fn records(&self, alloc: Global) -> Result<Records<'_>, AllocError>
+        ensures { IfOk result (λ r. IsRecordReader r.rows × (rows_left r.rows ≡ block_rows self.now)) }
     {
-        reader_of(alloc, &self.bytes[..self.whole])
+        Records::open(alloc, &self.bytes[..self.whole])
     }
 
     /// The calls of the records of this block, of which none was read yet: they come after `count` others, and there
@@ -257,8 +255,8 @@ impl Blocks {
         ensures calls { IfOk result (λ calls.
             calls_left calls ≡ calls_after members max_calls count (block_rows self.now)) }
     {
-        let rows = self.rows(alloc)?;
-        Ok(Calls::new(alloc, rows, members, max_calls, count))
+        let records = self.records(alloc)?;
+        Ok(Calls::new(records, members, max_calls, count))
     }
 
     /// Goes on to the next block, and says whether there is one. The faults are those of `open`; after a fault there is

@@ -6,40 +6,30 @@ ghost use Rattle.order_file.specs.File.{IsBelow, IsOfRecord, calls_after};
 ghost use Rattle.order_file.specs.Rows.{IsRecordReader, rows_left};
 
 use crate::fault::FileFault;
-use crate::reading::next_row;
 use crate::record::numbered_call;
+use crate::records::Records;
 use auction_terms::Call;
-use csv::{ByteRecord, Reader};
-use std::alloc::Global;
 
 /// The calls of the records of a text, one after the other: each of one of `members` members, and no more of them
 /// than `max_calls`, those before the text counted.
 #[derive(Drop)]
 pub struct Calls<'a> {
-    rows: Reader<&'a [u8]>,
-    row: ByteRecord,
+    records: Records<'a>,
     members: u8,
     max_calls: u32,
     count: u32,
 }
 
 impl<'a> Calls<'a> {
-    /// The calls of these records, which come after `count` others. It takes no memory.
-    pub(crate) fn new(
-        alloc: Global,
-        rows: Reader<&'a [u8]>,
-        members: u8,
-        max_calls: u32,
-        count: u32,
-    ) -> Calls<'a>
-        requires rows { IsRecordReader rows }
+    /// The calls of these records, which come after `count` others.
+    pub(crate) fn new(records: Records<'a>, members: u8, max_calls: u32, count: u32) -> Calls<'a>
+        requires rows { IsRecordReader records.rows }
         requires room { count ≤ max_calls }
         ensures ready { IsReady members max_calls count result }
-        ensures calls { calls_left result ≡ calls_after members max_calls count (rows_left rows.entry) }
+        ensures calls { calls_left result ≡ calls_after members max_calls count (rows_left records.entry.rows) }
     {
         Calls {
-            rows,
-            row: ByteRecord::new(alloc),
+            records,
             members,
             max_calls,
             count,
@@ -56,14 +46,14 @@ impl<'a> Calls<'a> {
         ensures parsed { IfErr result IsOfRecord }
         ensures below { IfOk result (λ found. IfSome found (IsBelow self.old.members)) }
     {
-        if !next_row(&mut self.rows, &mut self.row)? {
+        if !self.records.next()? {
             return Ok(None);
         }
         let number = u64::from(self.count) + 1;
         if self.count >= self.max_calls {
             return Err(FileFault::TooManyCommands { number });
         }
-        let call = numbered_call(&self.row, number, self.members)?;
+        let call = numbered_call(&self.records.row, number, self.members)?;
         self.count += 1;
         Ok(Some(call))
     }

@@ -12,6 +12,7 @@ mod fault;
 mod field;
 mod reading;
 mod record;
+mod records;
 #[cfg(test)]
 mod tests;
 
@@ -19,9 +20,8 @@ pub use blocks::Blocks;
 pub use calls::Calls;
 pub use fault::{FileFault, RecordFault};
 pub use field::number_of;
-pub use reading::{
-    MAX_BYTES, bytes_after, bytes_of, calls_of_file, next_row, read_start, reader_of,
-};
+pub use reading::{MAX_BYTES, bytes_after, bytes_of, calls_of_file, read_start};
 pub use record::{
     Word, call_of_record, command_of, count_within, member_of, number_at, numbered_call, word_at,
 };
+pub use records::Records;

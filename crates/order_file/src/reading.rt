@@ -1,21 +1,18 @@
 //! Reading an order file.
 
-ghost use Rattle.std.specs.Prelude.{◌≡◌, ◌<◌, ◌≤◌, ◌↔◌, ◌⊎◌, ◌+◌, ◌-◌, ◌∷◌, All, [], length};
-ghost use Rattle.std.specs.Prelude.{IfErr, IfOk, IfSome, IsErrOf, MatchBool};
+ghost use Rattle.std.specs.Prelude.{◌≡◌, ◌<◌, ◌≤◌, ◌↔◌, ◌⊎◌, ◌+◌, ◌-◌, All, length};
+ghost use Rattle.std.specs.Prelude.{IfErr, IfOk, IfSome, IsErrOf};
 ghost use Rattle.std.specs.Io.KnownBytes.{Consumes, IsAtEnd, prepend_known};
 ghost use Rattle.byte_streams.specs.Streams.{TakesAtMost};
-ghost use Rattle.csv.specs.Reading.{default_config, records, strip_bom};
-ghost use Rattle.csv.specs.Records.{fields_of};
 ghost use Rattle.order_file.specs.Calls.{IsReady, calls_left};
 ghost use Rattle.order_file.specs.File.{GivesWanted, IsBelow, IsOfRecord, calls_of_file, within_limit};
-ghost use Rattle.order_file.specs.Rows.{IsRecordReader, rows_left};
 ghost use Rattle.order_file.specs.declared.reading.TheConstants.{MAX_BYTES};
 
 use crate::calls::Calls;
 use crate::fault::FileFault;
+use crate::records::Records;
 use auction_terms::Call;
 use byte_streams::Source;
-use csv::{ByteRecord, Reader, ReaderBuilder};
 use std::alloc::Global;
 
 /// How many bytes an order file may have at most.
@@ -87,22 +84,6 @@ pub fn bytes_of<R: Source>(alloc: Global, reader: &mut R, most: usize) -> Result
     bytes_after(Vec::new(alloc), reader, most)
 }
 
-/// The next record of a file, and whether there was one. The only fault is that memory is refused.
-#[inline]
-pub fn next_row(reader: &mut Reader<&[u8]>, row: &mut ByteRecord) -> Result<bool, FileFault>
-    requires { IsRecordReader reader.old }
-    ensures memory { IfErr result (λ e. e ≡ FileFault.NoMemory) }
-    ensures row { IfOk result (λ found. MatchBool found
-        ((rows_left reader.old ≡ fields_of row.new ∷ rows_left reader.new) × IsRecordReader reader.new)
-        (rows_left reader.old ≡ [])) }
-{
-    // Bytes in memory are read without a failure, so what fails is memory.
-    let Ok(found) = reader.read_byte_record(row) else {
-        return Err(FileFault::NoMemory);
-    };
-    Ok(found)
-}
-
 /// All calls that are left.
 fn all_calls(alloc: Global, calls: &mut Calls<'_>) -> Result<Vec<Call>, FileFault>
     requires { IsReady calls.old.members calls.old.max_calls 0 calls.old }
@@ -120,22 +101,6 @@ fn all_calls(alloc: Global, calls: &mut Calls<'_>) -> Result<Vec<Call>, FileFaul
     Ok(all)
 }
 
-/// A reader of the records of a file, with none read yet. It is given a row of headers, so that it keeps no copies of
-/// the first record. The only fault is that memory is refused.
-pub fn reader_of<'a>(alloc: Global, bytes: &'a [u8]) -> Result<Reader<&'a [u8]>, FileFault>
-    ensures memory { IfErr result (λ e. e ≡ FileFault.NoMemory) }
-    ensures reader { IfOk result (λ r. IsRecordReader r
-        × (rows_left r ≡ records default_config (strip_bom bytes.now))) }
-{
-    let mut reader = ReaderBuilder::new()
-        .flexible(true)
-        .from_reader(alloc, bytes);
-    let Ok(()) = reader.set_byte_headers(ByteRecord::new(alloc)) else {
-        return Err(FileFault::NoMemory);
-    };
-    Ok(reader)
-}
-
 /// The calls of a file that was read, or its first fault; `members` is how many members there are, `max_calls` how
 /// many commands may be applied.
 pub fn calls_of_file(
@@ -149,7 +114,7 @@ pub fn calls_of_file(
     ensures few { IfOk result (λ v. length v.items ≤ max_calls) }
     ensures below { IfOk result (λ v. All (IsBelow members) v.items) }
 {
-    let rows = reader_of(alloc, bytes)?;
-    let mut calls = Calls::new(alloc, rows, members, max_calls, 0);
+    let records = Records::open(alloc, bytes)?;
+    let mut calls = Calls::new(records, members, max_calls, 0);
     all_calls(alloc, &mut calls)
 }

@@ -1,8 +1,7 @@
 //! An input that is read block by block: where its blocks end, and its own ends.
 
-use crate::{Blocks, FileFault, next_row};
+use crate::{Blocks, FileFault};
 use byte_streams::{FromMemory, Source, SourceFailed};
-use csv::ByteRecord;
 use std::alloc::{AllocError, Global};
 use std::test::Fail;
 
@@ -17,10 +16,9 @@ fn lines(alloc: Global, line: &[u8], count: u32) -> Result<Vec<u8>, AllocError> 
 
 // How many records of one field a block has that have this first field.
 fn rows_in(alloc: Global, blocks: &Blocks, field: &[u8]) -> Result<u32, FileFault> {
-    let mut rows = blocks.rows(alloc)?;
-    let mut row = ByteRecord::new(alloc);
+    let mut records = blocks.records(alloc)?;
     for count in 0..1_000_000 {
-        if !next_row(&mut rows, &mut row)? || row.get(0) != Some(field) {
+        if !records.next()? || records.row.get(0) != Some(field) {
             return Ok(count);
         }
     }

@@ -278,7 +278,7 @@ impl ReplyList {
 }
 
 impl<'a> Replies<'a> {
-    /// The next reply. There is one. One that was kept whole is given where it stands, and any other is put into the
+    /// The next reply. There is one. One that was kept whole is lent from the list, and any other is put into the
     /// place that is lent.
     #[inline]
     pub fn next_reply<'b>(&mut self, lent: &'b mut Reply) -> &'b Reply

@@ -6,7 +6,9 @@ use Rattle.input_hints.proofs.input.read_behind.Given as goal
 
 -- the record comes after as many others as are left to pass over
 abbrev pub invariant-rows : goal.invariant-rows
-invariant-rows l = IsRecordReader l.rows × (row_in l.left (rows_left l.rows) ≡ row_in l.fn.before (rows_left l.fn.rows))
+invariant-rows l =
+    IsRecordReader l.records.rows
+    × (row_in l.left (rows_left l.records.rows) ≡ row_in l.fn.before (rows_left l.fn.records.rows))
 
 abbrev pub decreases-rows : goal.decreases-rows
 decreases-rows l = l.left

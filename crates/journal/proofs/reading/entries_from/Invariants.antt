@@ -10,9 +10,9 @@ use Rattle.journal.proofs.reading.entries_from.Given as goal
 
 -- what was read so far, and then what the records that are left say, is what all records say
 abbrev pub invariant-loop-before : goal.invariant-loop-before
-invariant-loop-before l = IsRecordReader l.rows × (partial_of l.texts ≡ [])
+invariant-loop-before l = IsRecordReader l.records.rows × (partial_of l.texts ≡ [])
     × (length l.calls.items ≡ l.before) × All (IsBelow l.day.members) l.calls.items
     × (length (fields_of l.texts) ≡ l.before) × All IsReplyText (fields_of l.texts)
     × (front : List RecordedCall) × (l.calls.items ≡ map call_part front) × (fields_of l.texts ≡ map reply_part front)
-    × (behind front (recorded_calls_after l.day.members l.day.config.max_calls l.before (rows_left l.rows))
-    ≡ recorded_calls_after l.day.members l.day.config.max_calls 0 (rows_left l.fn.rows))
+    × (behind front (recorded_calls_after l.day.members l.day.config.max_calls l.before (rows_left l.records.rows))
+    ≡ recorded_calls_after l.day.members l.day.config.max_calls 0 (rows_left l.fn.records.rows))

@@ -3,4 +3,4 @@ use Rattle.order_file.specs.Rows.{IsRecordReader}
 use Rattle.order_file.proofs.tests.rows_in.Given as goal
 
 abbrev pub invariant-loop-count : goal.invariant-loop-count
-invariant-loop-count l = IsRecordReader l.rows
+invariant-loop-count l = IsRecordReader l.records.rows

@@ -9,19 +9,19 @@ use Rattle.live_session.proofs.responder.Responder.answer_rows.Goals as goal
 pub rows-init : goal.rows-init
 rows-init c = record { stands = c.requires; answers = λ terms so_far given committed h. (so_far, h, refl) }
 
-pub next_row-requires : goal.next_row-requires
-next_row-requires c = c.rows.invariant.stands
+pub next-requires : goal.next-requires
+next-requires c = c.rows.invariant.stands
 
-pub returns-then-not-found : goal.returns-then-not-found
-returns-then-not-found c = λ terms so_far given committed h.
+pub returns-then-not-branch : goal.returns-then-not-branch
+returns-then-not-branch c = λ terms so_far given committed h.
     let (now, gathers, same) = c.rows.invariant.answers terms so_far given committed h in
-    let none = rw c.if-not-found.true at c.in-Ok.ensures.row in
+    let none = rw c.if-not-branch.true at c.in_ok-next.ensures in
     subst (λ (a : Answered). Gathers c.rows.self terms a given committed) (rows-end terms now _ _ same none) gathers
 
 pub rows-preserved : goal.rows-preserved
 rows-preserved c =
     let inv = c.rows.invariant in
-    let found = rw c.if-not-found.false at c.in-Ok.ensures.row in
+    let found = rw c.if-not-branch.false at c.in_ok-next.ensures in
     record {
       stands = found.1;
       answers = λ terms so_far given committed h.

@@ -11,8 +11,8 @@ use Rattle.live_session.proofs.responder.Responder.answer_rows.Given as goal
 -- the records so far are answered, and they and those that are left are all
 abbrev pub invariant-rows : goal.invariant-rows
 invariant-rows l = record {
-  stands : IsRecordReader l.rows;
+  stands : IsRecordReader l.records.rows;
   answers : (terms : SessionTerms) (so_far : Answered) (given : List ℕ) (committed : List Entry)
       → Gathers l.fn.self terms so_far given committed → (now : Answered) × Gathers l.self terms now given committed
-      × (after_records terms now (rows_left l.rows) ≡ after_records terms so_far (rows_left l.fn.rows));
+      × (after_records terms now (rows_left l.records.rows) ≡ after_records terms so_far (rows_left l.fn.records.rows));
 }
