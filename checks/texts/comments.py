@@ -1,5 +1,5 @@
-"""The comments of scripts, libraries, sources, definitions and proofs, and the rule for their words:
-they have no word that documents.FORBIDDEN lists.
+"""The comments of scripts, libraries, sources, definitions and proofs, and the rule for them: they
+have no word that documents.FORBIDDEN lists.
 """
 import ast
 import io
