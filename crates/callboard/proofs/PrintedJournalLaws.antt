@@ -7,7 +7,7 @@ use Rattle.auction_terms.specs.declared.Command.{Command}
 use Rattle.auction_terms.specs.declared.Entry.{Entry}
 use Rattle.auction_terms.specs.Day.{IsLegal, calls_of}
 use Rattle.day_audit.specs.Answers.{answers_in}
-use Rattle.day_audit.specs.AuditCounts.{calls_of_members}
+use Rattle.day_audit.specs.AuditCounts.{counts_of}
 use Rattle.day_audit.specs.ResultsText.{printed_text}
 use Rattle.day_audit.specs.AuditPromises.{IsAuditedLegal}
 use Rattle.day_audit.proofs.LegalAuditLaws.{printed-legal}
@@ -104,7 +104,7 @@ audited day entries text fits opens legal all is =
   where
     found : IsAuditedLegal (answers_in (recorded_day day (map recorded_call_by entries)))
         → (finish : Finish) (report : List ℕ)
-        → (finish ≡ finish_of (calls_of_members (answers_in (recorded_day day (map recorded_call_by
+        → (finish ≡ finish_of (counts_of (answers_in (recorded_day day (map recorded_call_by
         entries)))).first_unlawful)
         × (report ≡ printed_text false (recorded_day day (map recorded_call_by entries))) → finish ≡ Lawful
     found none finish report is = rw none at is.0

@@ -2,7 +2,7 @@
 use Rattle.std.specs.Prelude.{◌≡◌, ℕ, Bool, Option, Some, None}
 use Rattle.auction.specs.ConfigFault.{open_fault}
 use Rattle.day_audit.specs.Answers.{answers_in}
-use Rattle.day_audit.specs.AuditCounts.{calls_of_members}
+use Rattle.day_audit.specs.AuditCounts.{counts_of}
 use Rattle.day_audit.specs.ResultsText.{printed_text}
 use Rattle.day_audit.specs.declared.fault.AuditFault.{AuditFault}
 use Rattle.day_audit.specs.declared.fault.AuditFault.TheVariants.{File, Open, WriteFailed}
@@ -38,7 +38,7 @@ audit_job results = record {
   says = journal;
   opening = λ recorded. open_fault recorded.day.config;
   Text = λ recorded finish text.
-      (finish ≡ finish_of (calls_of_members (answers_in recorded)).first_unlawful)
+      (finish ≡ finish_of (counts_of (answers_in recorded)).first_unlawful)
       × (text ≡ printed_text results recorded);
   Faults = IsOfAudit;
 }
