@@ -119,6 +119,24 @@ def test_a_program_that_is_killed_is_started_again(venue: Served) -> None:
     assert len(judged.entries(journal)) == 5
 
 
+SLOW = """#!/bin/sh
+echo $$ >> "{folder}/begun"
+[ $(wc -l < "{folder}/begun") -gt 1 ] && sleep 1
+exec "{program}" "$@"
+"""
+
+
+def test_a_venue_that_ends_while_its_program_is_started_again(tmp_path: pathlib.Path) -> None:
+    path, begun = tmp_path / "slow", tmp_path / "begun"
+    path.write_text(SLOW.format(folder=tmp_path, program=served.program()))
+    path.chmod(0o755)
+    with served.served(tmp_path, FAST, CALLBOARD=str(path)) as venue:
+        for child in psutil.Process(venue.child.pid).children():
+            child.kill()
+        until(lambda: len(begun.read_text().split()) == 2)
+    assert not psutil.pid_exists(int(begun.read_text().split()[1]))
+
+
 DYING = """#!/bin/sh
 [ -e "{folder}/dead" ] && kill -9 $$
 exec "{program}" "$@"

@@ -53,6 +53,7 @@ class Engine:
         self.on_entry: Callable[[Message, Entry], None] = lambda message, entry: None
         self.on_change: Callable[[], None] = lambda: None
         self._process: Process | None = None
+        self._started_last: Process | None = None
         self._pending: dict[Message, Sent] = {}
         self._batch: list[Sent] = []
         self._views: set[asyncio.Future[None]] = set()
@@ -83,8 +84,9 @@ class Engine:
         self._is_closed = True
         if self._restart is not None:
             self._restart.cancel()
-        if self._process is not None:
-            await self._process.stop()
+            await asyncio.wait([self._restart])
+        if self._started_last is not None:
+            await self._started_last.stop()
 
     @property
     def pid(self) -> int | None:
@@ -144,7 +146,9 @@ class Engine:
         while True:
             process = Process(self.words, self._ended)
             try:
-                return process, await process.start()
+                count = await process.start()
+                self._started_last = process
+                return process, count
             except ProcessError as fault:
                 ends += fault.text != IN_USE
                 if fault.text != IN_USE and (fault.is_final or ends > MOST_ENDS):

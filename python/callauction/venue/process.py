@@ -101,7 +101,9 @@ class Process:
         self.has_ended = False
 
     async def start(self) -> int:
-        """Starts the program: how many entries its journal has. Raises ProcessError."""
+        """Starts the program: how many entries its journal has. Raises ProcessError. Where it is
+        cancelled, the program has ended too.
+        """
         theirs, ours = os.pipe2(os.O_CLOEXEC)
         self._pipe = Pipe(ours)
         try:
@@ -117,15 +119,27 @@ class Process:
             raise ProcessError(f"the program can't be run: {fault.strerror}", 3) from None
         finally:
             os.close(theirs)
+        try:
+            count = await self._entries()
+        except asyncio.CancelledError:
+            self._pipe.close()
+            await self._child.wait()
+            raise
+        if count is not None:
+            self._error = b""
+            self._task = asyncio.create_task(self._read())
+            return count
+        self._pipe.close()
+        raise self._fault(await self._child.wait())
+
+    async def _entries(self) -> int | None:
+        """How many entries it says that its journal has; None where it ends before."""
         assert self._child.stderr is not None
         while line := await self._child.stderr.readline():
             self._error += line
             if found := OPENED.match(line.decode("ascii", "replace").rstrip("\n")):
-                self._error = b""
-                self._task = asyncio.create_task(self._read())
                 return int(found[1])
-        self._pipe.close()
-        raise self._fault(await self._child.wait())
+        return None
 
     @property
     def pid(self) -> int:
