@@ -159,7 +159,7 @@ class Process:
     async def stop(self) -> None:
         """Ends its input, and waits until it has ended."""
         self._pipe.close()
-        await self._task
+        await asyncio.shield(self._task)  # who no longer waits ends no reading
 
     async def _read(self) -> None:
         """Takes the answers until the program ends."""
