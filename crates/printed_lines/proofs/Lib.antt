@@ -1,3 +1,4 @@
 pub mod Lists
+pub mod NumberTextLaws
 pub mod PrinterLaws
 pub mod PageLaws

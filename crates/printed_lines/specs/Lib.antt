@@ -1,5 +1,6 @@
 pub mod DisplayText
 pub mod KeptText
+pub mod NumberText
 pub mod Printing
 pub mod ReplyLines
 pub mod ReplyWords

@@ -9,7 +9,9 @@
 
 mod display_text;
 mod kept;
+mod last_texts;
 mod line;
+mod number_text;
 mod page;
 mod printer;
 mod reply;
@@ -17,8 +19,8 @@ mod same;
 mod tally;
 mod words;
 
-pub use display_text::DisplayText;
 pub use kept::KeptText;
+pub use last_texts::LastTexts;
 pub use line::{print_line, put_line};
 pub use page::{LONGEST_LINE, LONGEST_NUMBER, Page, ROOM};
 pub use printer::Printer;

@@ -1,16 +1,14 @@
 //! A printed line.
 
 ghost use Rattle.std.specs.Prelude.{◌≡◌, ◌≤◌, ◌+◌, ◌++◌, codes, decimal, length};
-ghost use Rattle.auction_terms.specs.declared.Reply.TheVariants as reply;
 ghost use Rattle.printed_lines.specs.Printing.{Prints};
 ghost use Rattle.printed_lines.specs.ReplyLines.{line};
 ghost use Rattle.printed_lines.specs.declared.page.TheConstants.{LONGEST_LINE, LONGEST_NUMBER, ROOM};
 
-use crate::display_text::DisplayText;
 use crate::page::Page;
 use crate::printer::Printer;
 use crate::reply::put_reply;
-use auction_terms::{Display, Reply};
+use auction_terms::Reply;
 use byte_streams::{Sink, WriteFailed};
 
 /// Puts the beginning of a line on the page: the command's number from 1, and a colon.
@@ -36,18 +34,6 @@ pub fn put_line(page: &mut Page, number: u64, reply: &Reply)
     page.put("\n");
 }
 
-/// Puts the line of a display that was asked for on the page; its text is copied where it is the last one again.
-#[tactic(auto, unfolding(crate::specs::ReplyLines::line))]
-#[inline]
-fn put_display_line(page: &mut Page, number: u64, display: &Display, last: &mut DisplayText)
-    requires { length page.old + LONGEST_LINE ≤ ROOM }
-    ensures { page.new ≡ page.old ++ line number (reply.Indicated display.now) }
-{
-    put_beginning(page, number);
-    last.put(page, display);
-    page.put("\n");
-}
-
 /// Prints the line of a command's reply.
 pub fn print_line<S: Sink>(
     printer: &mut Printer<'_, S>,
@@ -57,11 +43,6 @@ pub fn print_line<S: Sink>(
     ensures { Prints S.Sink printer.old printer.new result (line number reply.now) }
 {
     printer.make_room()?;
-    match reply {
-        Reply::Indicated(display) => {
-            put_display_line(&mut printer.page, number, display, &mut printer.last);
-        }
-        _ => put_line(&mut printer.page, number, reply),
-    }
+    printer.last.put_line(&mut printer.page, number, reply);
     Ok(())
 }

@@ -16,6 +16,10 @@ pub const LONGEST_LINE: usize = 256;
 /// How many digits a number has at most.
 pub const LONGEST_NUMBER: usize = 20;
 
+/// How many bytes a number's digits are copied from, so that as many as the longest number has can be read from each
+/// place where it may begin.
+pub(crate) const DIGITS: usize = 2 * LONGEST_NUMBER;
+
 /// How many bytes the text of a display has at most.
 pub(crate) const LONGEST_DISPLAY: usize = 100;
 
@@ -131,6 +135,22 @@ impl Page {
         let len = self.len;
         self.bytes[len..len + LONGEST_DISPLAY].copy_from_slice(text);
         self.len = len + count;
+    }
+
+    /// Appends digits to the page, which begin here and end before `LONGEST_NUMBER`. As many as the longest number has
+    /// are copied, as that is faster.
+    #[inline(always)]
+    pub(crate) fn put_digits(&mut self, digits: &[u8; DIGITS], begin: usize)
+        requires room { length self.old + LONGEST_NUMBER ≤ ROOM }
+        requires begin { begin ≤ LONGEST_NUMBER }
+        ensures text { self.new ≡ self.old ++ drop begin (take LONGEST_NUMBER digits.now) }
+        ensures longer { length self.new ≡ length self.old + (LONGEST_NUMBER - begin) }
+    {
+        let len = self.len;
+        self.bytes[len..len + LONGEST_NUMBER].copy_from_slice(
+            &digits[begin..begin + LONGEST_NUMBER],
+        );
+        self.len = len + (LONGEST_NUMBER - begin);
     }
 
     /// What is on the page from here on, and after it what was there before: as many bytes as a display's text has at

@@ -4,7 +4,7 @@ ghost use Rattle.std.specs.Prelude.{◌≡◌, ◌≤◌, ◌+◌, ℕ, List, []
 ghost use Rattle.printed_lines.specs.Printing.{IsFresh, Prints};
 ghost use Rattle.printed_lines.specs.declared.page.TheConstants.{LONGEST_LINE, ROOM};
 
-use crate::display_text::DisplayText;
+use crate::last_texts::LastTexts;
 use crate::page::{LONGEST_LINE, Page, ROOM};
 use byte_streams::{Sink, WriteFailed, write_all};
 
@@ -14,8 +14,8 @@ use byte_streams::{Sink, WriteFailed, write_all};
 pub struct Printer<'a, S: Sink> {
     pub sink: &'a mut S,
     pub page: Page,
-    /// The display that was printed last, with its text.
-    pub last: DisplayText,
+    /// The texts of the line that was printed last.
+    pub last: LastTexts,
 }
 
 impl<'a, S: Sink> Printer<'a, S> {
@@ -26,7 +26,7 @@ impl<'a, S: Sink> Printer<'a, S> {
         Printer {
             sink,
             page: Page::new(),
-            last: DisplayText::new(),
+            last: LastTexts::new(),
         }
     }
 
@@ -53,6 +53,7 @@ impl<'a, S: Sink> Printer<'a, S> {
         }
         Ok(())
     }
+
     /// Writes what is on the page, and then this text, of any length, or at a failure a beginning. The page is then
     /// empty.
     pub fn print_whole(&mut self, text: &[u8]) -> Result<(), WriteFailed>
