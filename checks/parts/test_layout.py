@@ -1,7 +1,9 @@
 """The repository's texts as a reader meets them: no rule of checks/texts finds a fault, and each
-rule of documents finds one that is planted, as that for the clauses of wrong bodies does.
+rule of documents finds one that is planted, as that for the clauses of wrong bodies does. What a
+check says of wrong bodies that it tries together is read.
 """
 import pathlib
+import sys
 from collections.abc import Callable, Iterator
 
 import pytest
@@ -9,6 +11,10 @@ import pytest
 from checks import built, edits
 from checks.texts import comments, documents, sources
 from checks.texts.tree import Tree
+
+sys.path.insert(0, str(built.TOP / "checks"))
+
+import together  # noqa: E402
 
 Rule = Callable[[Tree], Iterator[str]]
 OURS = Tree(built.TOP)
@@ -210,3 +216,74 @@ def test_a_clause_that_no_contract_has(
     row = edits.Row("terms", "meanings.txt:1", "wrong", "it is wrong", cited)
     faults = [f"meanings.txt:1: `run` has no clause `{name}`" for name in unknown]
     assert [*edits.unknown_clauses([row], tree.top)] == faults
+
+
+BODIES = """pub struct Sum(u64);
+
+impl Sum {
+    pub fn one(
+        &self,
+    ) -> u64
+        ensures { result ≡ 1 }
+    {
+        1
+    }
+
+    fn two() -> u64 {
+        2
+    }
+}
+
+impl Other {
+    fn three() -> u64 {
+        3
+    }
+
+    fn three() -> u64 {
+        4
+    }
+}
+"""
+
+
+@pytest.mark.parametrize(
+    "old, names",
+    [
+        ("        1", {"one"}),
+        ("        2", {"two"}),
+        ("        3", None),  # another function has its name
+        ("Sum(u64)", None),
+        ("result ≡ 1", None),
+    ],
+)
+def test_the_function_that_an_edit_changes(
+    tmp_path: pathlib.Path, old: str, names: set[str] | None
+) -> None:
+    text = f"file: src/deep/sum.rt\nold: {old}\nnew: {old}0\n"
+    tree = planted(tmp_path, **{"crates/terms/src/deep/sum.rt": BODIES, "x.edit": text})
+    edit = together.Edit("terms", tree.top / "x.edit", False)
+    places = together.places_of(edit, tree.top / "crates/terms")
+    assert (places and {place.name for place in places}) == names
+
+
+@pytest.mark.parametrize(
+    "symbol, status, error, refused",
+    [
+        ("terms::deep::sum::Sum::one", "proved", "", False),
+        ("terms::deep::sum::Sum::one", "no proof: it calls `terms::x`, which is not so", "", False),
+        ("terms::deep::sum::Sum::one", "no proof: `search` did not prove `returns`", "", True),
+        ("terms::other::Sum::one", "no proof: `search` did not prove `returns`", "", False),
+        ("terms::deep::sum::Sum::one", "not proved", "", False),
+        ("terms::deep::sum::Sum::one", "not proved", "Sum/one: the types differ", True),
+        ("terms::deep::sum::Sum::one", "not proved", "Sum/two: the types differ", False),
+        ("terms::deep::sum::Sum::one", "not proved", "Sum/one: it has no field `x`", False),
+    ],
+)
+def test_what_a_check_says_of_a_body_among_others(
+    symbol: str, status: str, error: str, refused: bool
+) -> None:
+    folder, _, text = error.partition(": ")
+    printed = [f"fn {symbol}: {status}"]
+    printed += [f"./proofs/deep/sum/{folder}/Answers.antt:7:2: error: {text}"] if error else []
+    place = together.Place("src/deep/sum.rt", "one")
+    assert together.is_refused(place, "terms", printed) == refused
