@@ -1,17 +1,9 @@
 -- Answers of `Page::put_digits` (src/page.rt): what the prover left open; rt looks here.
-use Rattle.std.proofs.Common.{◌≡◌, ◌≤◌, ◌+◌, ◌-◌, ◌++◌, ◌∙◌, ℕ, List, length, take, drop, ap, arith, sym}
-use Rattle.std.proofs.Common.{length-take-le}
+use Rattle.std.proofs.Common.{◌≡◌, ◌≤◌, ◌+◌, ◌-◌, ◌++◌, ◌∙◌, ℕ, List, take, drop, ap, arith, sym, length-take-le}
 use Rattle.std.proofs.lemmas.Slice.{take-put_mid}
 use Rattle.std.proofs.lemmas.List.{take-take, drop-take}
-use Rattle.std.proofs.Math.Seq.{take-append-add}
+use Rattle.printed_lines.proofs.PageLaws.{put-beginning}
 use Rattle.printed_lines.proofs.page.Page.put_digits.Goals as goal
-
--- of the bytes that were put after others, the first ones
-put-beginning : (bytes front text : List ℕ) (from count room : ℕ) → take room bytes ≡ front ++ text
-    → length front ≡ from → from + count ≤ room → take (from + count) bytes ≡ front ++ take count text
-put-beginning bytes front text from count room put is within =
-    sym (take-take (from + count) room bytes within) ∙ ap (take (from + count)) put
-    ∙ ap (λ n. take (n + count) (front ++ text)) (sym is) ∙ take-append-add front text count
 
 -- the first of the bytes from a place on are those up to the end of the digits
 digits-from : (digits : List ℕ) (begin : ℕ) → begin ≤ 20
