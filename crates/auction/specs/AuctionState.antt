@@ -82,9 +82,9 @@ abbrev pub call_by : ℕ → Command → Call
 call_by member command = record { member = member; command = command }
 
 -- the reply with the state that it left, or why there is none
-abbrev pub outcome : AuctionState → Result Reply Refusal → Outcome
-outcome auction (Ok reply) = Ok (auction.state, reply)
-outcome auction (Err reason) = Err reason
+abbrev pub outcome : AuctionState → Reply → Result (Unit {0}) Refusal → Outcome
+outcome auction reply (Ok done) = Ok (auction.state, reply)
+outcome auction reply (Err reason) = Err reason
 
 -- a command leaves the config, and gives out one place in time at most
 pub record IsOneCommand (old new : AuctionState) : Type 0 where

@@ -176,11 +176,12 @@ impl DayState {
             .ok_or(Refusal::UnknownOrder)
     }
 
-    /// What a member's command comes to: the reply, or why it is refused. A refused command changes nothing.
+    /// Puts the reply to a member's command in the place of another, or answers why the command is refused. A refused
+    /// command changes nothing of the day.
     #[tactic(auto, unfolding(auction_terms::specs::Day::decide))]
-    pub(crate) fn decide(&mut self, call: &Call) -> Result<Reply, Refusal>
+    pub(crate) fn decide(&mut self, call: &Call, reply: &mut Reply) -> Result<(), Refusal>
         requires { self.old.stamps < self.old.config.max_calls }
-        ensures outcome { outcome self.new result
+        ensures outcome { outcome self.new reply.new result
             ≡ day.decide self.old.config self.old.state call.now.member call.now.command }
         ensures refused { OnErr result (self.new ≡ self.old) }
         ensures one { IsOneCommand self.old self.new }
@@ -193,24 +194,27 @@ impl DayState {
                 limit,
                 quantity,
                 peak,
-            } => self.enter(NewOrder {
-                member,
-                side,
-                restriction,
-                limit,
-                quantity,
-                peak,
-            }),
+            } => {
+                let new = NewOrder {
+                    member,
+                    side,
+                    restriction,
+                    limit,
+                    quantity,
+                    peak,
+                };
+                self.enter(new, reply)
+            }
             Command::Change {
                 id,
                 limit,
                 quantity,
-            } => self.change(member, id, limit, quantity),
-            Command::Delete { id } => self.delete(member, id),
-            Command::OrderStatus { id } => self.order_status(member, id),
-            Command::Indicate => self.indicate(),
-            Command::ReadTrade { number } => self.read_trade(number),
-            Command::Uncross => self.uncross(member),
+            } => self.change(member, id, limit, quantity, reply),
+            Command::Delete { id } => self.delete(member, id, reply),
+            Command::OrderStatus { id } => self.order_status(member, id, reply),
+            Command::Indicate => self.indicate(reply),
+            Command::ReadTrade { number } => self.read_trade(number, reply),
+            Command::Uncross => self.uncross(member, reply),
         }
     }
 }

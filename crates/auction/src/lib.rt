@@ -230,8 +230,9 @@ impl Auction {
         ensures state { self.new ≡ auction_after_call self.old call.now }
         ensures reply { reply.new ≡ (step self.old.config self.old.state call.now).1 }
     {
-        let outcome = self.day.decide(call);
+        if let Err(refusal) = self.day.decide(call, reply) {
+            *reply = Reply::Refused(refusal);
+        }
         self.calls += 1;
-        *reply = outcome.unwrap_or_else(Reply::Refused);
     }
 }

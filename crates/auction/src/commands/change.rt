@@ -23,9 +23,11 @@ impl DayState {
         id: u32,
         limit: Limit,
         quantity: u64,
-    ) -> Result<Reply, Refusal>
+        reply: &mut Reply,
+    ) -> Result<(), Refusal>
         requires { self.old.stamps < self.old.config.max_calls }
-        ensures outcome { outcome self.new result ≡ day.change self.old.config self.old.state member id limit quantity }
+        ensures outcome { outcome self.new reply.new result
+            ≡ day.change self.old.config self.old.state member id limit quantity }
         ensures refused { OnErr result (self.new ≡ self.old) }
         ensures one { IsOneCommand self.old self.new }
     {
@@ -35,6 +37,7 @@ impl DayState {
         let order = self.own_order(member, id)?;
         refuse_if(loses_limit(order, limit), Refusal::BadPeak)?;
         let kept = self.book.change(order, limit, quantity);
-        Ok(Reply::Changed { kept })
+        *reply = Reply::Changed { kept };
+        Ok(())
     }
 }

@@ -29,9 +29,9 @@ fn is_past(kind: AuctionKind, restriction: Restriction) -> bool
 impl DayState {
     /// A new order goes last in time, under the next id.
     #[tactic(auto, unfolding(auction_terms::specs::Day::enter))]
-    pub(super) fn enter(&mut self, new: NewOrder) -> Result<Reply, Refusal>
+    pub(super) fn enter(&mut self, new: NewOrder, reply: &mut Reply) -> Result<(), Refusal>
         requires { self.old.stamps < self.old.config.max_calls }
-        ensures outcome { outcome self.new result ≡ day.enter self.old.config self.old.state new }
+        ensures outcome { outcome self.new reply.new result ≡ day.enter self.old.config self.old.state new }
         ensures refused { OnErr result (self.new ≡ self.old) }
         ensures one { IsOneCommand self.old self.new }
     {
@@ -42,6 +42,7 @@ impl DayState {
         refuse_if(is_past(kind, new.restriction), Refusal::PastAuction)?;
         refuse_if(self.book.is_full(), Refusal::BookFull)?;
         let id = self.book.enter(new);
-        Ok(Reply::Entered { id })
+        *reply = Reply::Entered { id };
+        Ok(())
     }
 }

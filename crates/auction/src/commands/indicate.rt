@@ -9,11 +9,12 @@ use auction_terms::{Refusal, Reply};
 impl DayState {
     /// What is shown, which is kept for the next question.
     #[tactic(auto, unfolding(auction_terms::specs::Day::indicate))]
-    pub(super) fn indicate(&mut self) -> Result<Reply, Refusal>
-        ensures outcome { outcome self.new result ≡ day.indicate self.old.state }
+    pub(super) fn indicate(&mut self, reply: &mut Reply) -> Result<(), Refusal>
+        ensures outcome { outcome self.new reply.new result ≡ day.indicate self.old.state }
         ensures state { self.new ≡ self.old }
     {
         self.current()?;
-        Ok(Reply::Indicated(self.show()))
+        *reply = Reply::Indicated(self.show());
+        Ok(())
     }
 }

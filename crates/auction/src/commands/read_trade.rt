@@ -19,10 +19,11 @@ fn trade_at(tape: &[Trade], number: u32) -> Option<Trade>
 impl DayState {
     /// The trade of the day with this number, from 1 on, also after the day.
     #[tactic(auto, unfolding(auction_terms::specs::Day::read_trade))]
-    pub(super) fn read_trade(&self, number: u32) -> Result<Reply, Refusal>
-        ensures { outcome self.now result ≡ day.read_trade self.now.state number }
+    pub(super) fn read_trade(&self, number: u32, reply: &mut Reply) -> Result<(), Refusal>
+        ensures { outcome self.now reply.new result ≡ day.read_trade self.now.state number }
     {
         let read_trade = trade_at(&self.tape, number).ok_or(Refusal::NoSuchTrade)?;
-        Ok(Reply::Traded(read_trade))
+        *reply = Reply::Traded(read_trade);
+        Ok(())
     }
 }

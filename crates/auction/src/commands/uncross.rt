@@ -105,14 +105,15 @@ impl DayState {
 
     /// The operator ends the call phase.
     #[tactic(auto, unfolding(auction_terms::specs::Day::uncross))]
-    pub(super) fn uncross(&mut self, member: u8) -> Result<Reply, Refusal>
-        ensures outcome { outcome self.new result ≡ day.uncross self.old.config self.old.state member }
+    pub(super) fn uncross(&mut self, member: u8, reply: &mut Reply) -> Result<(), Refusal>
+        ensures outcome { outcome self.new reply.new result ≡ day.uncross self.old.config self.old.state member }
         ensures refused { OnErr result (self.new ≡ self.old) }
         ensures one { IsOneCommand self.old self.new }
     {
         let kind = self.current()?;
         refuse_if(member != 0, Refusal::NotOperator)?;
         let price = self.price();
-        Ok(self.end_at(kind, price))
+        *reply = self.end_at(kind, price);
+        Ok(())
     }
 }
