@@ -1,5 +1,5 @@
 -- What an uncross takes out, without a price and with one.
-use Rattle.std.proofs.Common.{◌≡◌, false, List, [], ◌++◌, Option, Some, None, cond, ap, ◌∙◌}
+use Rattle.std.proofs.Common.{◌≡◌, false, [], ◌++◌, Some, None, cond, ap, ◌∙◌}
 use Rattle.auction_terms.specs.declared.AuctionKind.{AuctionKind}
 use Rattle.auction_terms.specs.declared.Config.{Config}
 use Rattle.auction_terms.specs.declared.Price.{Price}

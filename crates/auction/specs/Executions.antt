@@ -1,5 +1,5 @@
 -- What the trades of the day executed, by the ids of the orders.
-use Rattle.std.specs.Prelude.{◌≡◌, ℕ, ◌+◌, ◌≤◌, List, All, map, slice_index}
+use Rattle.std.specs.Prelude.{ℕ, ◌+◌, ◌≤◌, List, All, slice_index}
 use Rattle.auction_terms.specs.declared.limits.TheConstants.{MAX_QUANTITY}
 use Rattle.auction_terms.specs.declared.OpenOrder.{OpenOrder}
 use Rattle.auction_terms.specs.declared.Side.{Side}

@@ -1,8 +1,7 @@
 -- The rows of a ladder are those of its book.
-use Rattle.std.specs.Simd.Lanes.{zip2}
 use Rattle.std.proofs.Common.{◌≡◌, ◌∙◌, ◌+◌, ◌-◌, ◌<◌, ◌≤◌, ℕ, zero, suc, Bool, true, false, cond, eqb, List, [], ◌∷◌}
 use Rattle.std.proofs.Common.{◌++◌}
-use Rattle.std.proofs.Common.{map, filter, length, get_or, append_assoc, ap, refl, sym, arith}
+use Rattle.std.proofs.Common.{map, filter, length, append_assoc, ap, refl, sym, arith}
 use Rattle.std.proofs.lemmas.List.{append-nil}
 use Rattle.std.proofs.lemmas.Simd.{length-zip2}
 use Rattle.auction_terms.specs.declared.Config.{Config}

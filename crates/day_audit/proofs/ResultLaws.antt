@@ -1,6 +1,5 @@
 -- The lines of the uncrosses, one by one.
 use Rattle.std.proofs.Common.{Bool, true, false, ◌≡◌, ◌<◌, ◌≤◌, ◌+◌, ◌++◌, ◌∷◌, ◌∙◌, [], ℕ, List, refl, sym, add-one}
-use Rattle.std.proofs.Common.{append_assoc}
 use Rattle.std.proofs.Common.{drop, drop-cons, get_or, length}
 use Rattle.std.proofs.lemmas.List.{append-nil, drop_all}
 use Rattle.auction_terms.specs.declared.Call.{Call}

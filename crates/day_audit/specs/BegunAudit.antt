@@ -1,5 +1,5 @@
 -- An audit of which nothing has been done yet.
-use Rattle.std.specs.Prelude.{◌≡◌, ◌≤◌, List, All, length}
+use Rattle.std.specs.Prelude.{◌≡◌, ◌≤◌, All, length}
 use Rattle.auction_terms.specs.Auxiliary.RunningAuction.{opened_auction}
 use Rattle.journal.specs.EntryRecord.{IsReplyText}
 use Rattle.journal.specs.JournalFile.{RecordedDay, recorded}

@@ -1,10 +1,9 @@
 -- What a malformed field looks like.
-use Rattle.std.specs.Prelude.{ℕ, ◌-◌, ◌==◌, ◌||◌, ◌&&◌, not, nat_le, nat_lt, nat_eq, Bool, false, List, [], ◌∷◌, Option}
-use Rattle.std.specs.Prelude.{codes, count_by, if◌then◌else◌, is_some, length, slice_get}
+use Rattle.std.specs.Prelude.{ℕ, ◌-◌, ◌==◌, ◌||◌, ◌&&◌, nat_le, nat_lt, Bool, false, List, [], ◌∷◌, Option}
+use Rattle.std.specs.Prelude.{count_by, if◌then◌else◌, is_some, length, slice_get}
 use Rattle.std.specs.Char.{is_ascii_digit}
 use Rattle.std.specs.List.{list_any}
 use Rattle.std.specs.Option.{option_map_or}
-use Rattle.std.specs.Str.{bytes_eq}
 use Rattle.order_file.specs.CommandWord.{word_of}
 
 abbrev pub has_byte : ℕ → List ℕ → Bool

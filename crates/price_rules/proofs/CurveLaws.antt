@@ -4,12 +4,10 @@ use Rattle.std.proofs.Common.{filter, All, length, get_or, sum, refl, sym, ap, â
 use Rattle.std.specs.Simd.Lanes.{zip2}
 use Rattle.std.proofs.lemmas.Bool.{lt-ltb, ltb-true}
 use Rattle.std.proofs.lemmas.Bool.Decides.{nat_tests}
-use Rattle.std.proofs.lemmas.List.Elements.{All-head, All-tail}
 use Rattle.auction_terms.specs.declared.Order.{Order}
 use Rattle.auction_terms.specs.declared.Side.{Side}
 use Rattle.auction_terms.specs.declared.Side.TheVariants.{Bid, Ask}
 use Rattle.auction_terms.specs.declared.Limit.{Limit}
-use Rattle.auction_terms.specs.declared.Limit.TheVariants.{Market, At}
 use Rattle.auction_terms.specs.Book.{demand, supply, quantity_of, is_bid_side, is_market, reaches, limits}
 use Rattle.auction_terms.proofs.DemandShape.{AtTick, limits_parts}
 use Rattle.auction_terms.proofs.DemandSums.{counted, quantity_of-cons}

@@ -1,10 +1,9 @@
 -- Answers of `all_calls` (src/reading.rt): what the prover left open; rt looks here.
-use Rattle.std.proofs.Common.{◌≡◌, ◌∙◌, ◌+◌, arith, length, length-append, rules, sym, true}
-use Rattle.std.proofs.lemmas.Result.{err_from_is_err_and}
+use Rattle.std.proofs.Common.{◌≡◌, ◌∙◌, ◌+◌, arith, length, length-append, rules, true}
 use Rattle.std.proofs.lemmas.List.Elements.{All-push}
 use Rattle.std.specs.Result.{is_ok}
 use Rattle.order_file.specs.File.{IsBelow}
-use Rattle.order_file.proofs.CallLaws.{after-end, after-fails, after-next}
+use Rattle.order_file.proofs.CallLaws.{after-next}
 use Rattle.order_file.proofs.reading.all_calls.Goals as goal
 
 pub loop-all-preserved : goal.loop-all-preserved

@@ -1,5 +1,5 @@
 -- Answers of `bytes_after` (src/reading.rt): what the prover left open; rt looks here.
-use Rattle.std.proofs.Common.{arith, rules, length, length-append, take, ap}
+use Rattle.std.proofs.Common.{arith, rules, take}
 use Rattle.std.proofs.lemmas.List.{length-take}
 use Rattle.order_file.proofs.ReadLaws.{consumes-behind, kept-consumes-behind, read-all, read-consumes-behind}
 use Rattle.order_file.proofs.ReadLaws.{read-too-much, taken-consumes-behind}

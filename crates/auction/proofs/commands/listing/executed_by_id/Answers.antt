@@ -2,7 +2,6 @@
 use Rattle.std.proofs.Common.{sym, ◌∙◌, arith}
 use Rattle.std.proofs.lemmas.List.{take_more}
 use Rattle.std.proofs.lemmas.Grind.{common_steps}
-use Rattle.auction.specs.Executions as executions
 use Rattle.auction.proofs.ExecutionLaws.{executed_by_id-more, executed_fits, executed_of_none}
 use Rattle.auction.proofs.commands.listing.executed_by_id.Goals as goal
 

@@ -1,5 +1,5 @@
 -- Answers of `Blocks::open` (src/blocks.rt): what the prover left open; rt looks here.
-use Rattle.std.proofs.Common.{◌≡◌, ◌≤◌, ◌-◌, ◌∷◌, [], ◌∙◌, ℕ, List, ap, length, refl, Err}
+use Rattle.std.proofs.Common.{◌≡◌, ◌≤◌, ◌-◌, ◌∷◌, [], ◌∙◌, ap, length, refl, Err}
 use Rattle.std.specs.Prelude.{MatchBool}
 use Rattle.std.specs.Io.KnownBytes.{IsAtEnd, prepend_known}
 use Rattle.order_file.proofs.blocks.Blocks.open.Given.{Over}
