@@ -3,22 +3,16 @@ use Rattle.std.proofs.Common.{◌≡◌, ◌∙◌, ◌+◌, ◌-◌, ◌<◌, �
 use Rattle.std.proofs.Common.{◌++◌}
 use Rattle.std.proofs.Common.{map, filter, length, append_assoc, ap, refl, sym, arith}
 use Rattle.std.proofs.lemmas.List.{append-nil}
-use Rattle.std.proofs.lemmas.Simd.{length-zip2}
 use Rattle.auction_terms.specs.declared.Config.{Config}
 use Rattle.auction_terms.specs.declared.Order.{Order}
 use Rattle.auction_terms.specs.declared.Side.TheVariants.{Bid, Ask}
-use Rattle.auction_terms.specs.Ladder.{LadderView, flag_of, ladder_of, limit_flag, quantity_at}
+use Rattle.auction_terms.specs.Ladder.{LadderView, ladder_of, limit_flag, quantity_at}
 use Rattle.auction_terms.proofs.LadderLaws.{at_spread, length-tick_values}
-use Rattle.tick_ladder.specs.TickLadder.{IsLadder}
 use Rattle.auction.specs.AuctionState.{ladder_over}
 use Rattle.auction_views.specs.declared.row.LadderRow.{LadderRow}
 use Rattle.tick_ladder.specs.FallingTicks.{falling_ticks}
 use Rattle.auction_views.specs.LadderRows.{has_orders_at, ladder_rows, limit_row, limit_rows, market_rows_in}
 use Rattle.auction_views.specs.LadderRows.{rows_at, ladder_rows_below}
-
--- there is a flag for each tick
-pub long_present : (view : LadderView) → IsLadder view → length view.present ≡ length view.bids
-long_present view sound = ap length sound.flags ∙ length-zip2 flag_of view.bids view.asks (sym sound.same)
 
 -- ---- place by place
 
@@ -41,7 +35,7 @@ place-end view now all place none e = sym (append-nil now) ∙ rw none at e
 -- ---- what they are
 
 -- a row where the flag is set
-place-flagged : (b : Bool) (row : LadderRow) → cond (eqb (cond b 1 0) 0) [] (row ∷ []) ≡ cond b (row ∷ []) []
+place-flagged : (b : Bool) (row : LadderRow) → cond (eqb (cond b 1 0) 1) (row ∷ []) [] ≡ cond b (row ∷ []) []
 place-flagged true row = refl
 place-flagged false row = refl
 

@@ -44,12 +44,12 @@ market_rows_in view =
 -- what is at a place, counted from the lowest tick
 abbrev pub rows_at : LadderView → ℕ → List LadderRow
 rows_at view place =
-    if slice_index view.present place == 0 then []
-    else record {
+    if slice_index view.present place == 1 then record {
       limit = At (view.low + place);
       bid = slice_index view.bids place;
       ask = slice_index view.asks place;
     } ∷ []
+    else []
 
 -- the rows of the places below one, the highest first
 unfoldable pub ladder_rows_below : LadderView → ℕ → List LadderRow

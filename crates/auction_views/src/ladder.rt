@@ -32,7 +32,7 @@ fn add_place(rows: &mut Vec<LadderRow>, ladder: &Ladder, place: usize) -> Result
     requires { place < length ladder.now.bids }
     ensures { OnOk result (rows.new.items ≡ rows.old.items ++ rows_at ladder.now place) }
 {
-    if ladder.present()[place] == 0 {
+    if !ladder.is_present(place) {
         return Ok(());
     }
     rows.push(LadderRow {

@@ -1,5 +1,6 @@
 -- The rows of a table are the records of its book.
 use Rattle.std.specs.Option.{option_map_or}
+use Rattle.std.specs.Simd.Lanes.{zip2}
 use Rattle.std.proofs.Common.{◌≡◌, ℕ, zero, suc, ◌+◌, ◌-◌, ◌<◌, ◌≤◌, Bool, true, false, cond, eqb, ◌||◌, List, [], ◌∷◌}
 use Rattle.std.proofs.Common.{◌++◌, length, get_or, drop, Option, Some, None, IfSome, option_map, inl, inr, refl, sym}
 use Rattle.std.proofs.Common.{ap, subst, ◌∙◌, append_assoc, add-one, drop-cons, arith}
@@ -14,12 +15,14 @@ use Rattle.auction_terms.specs.Book.{demand, supply, volume, surplus, surplus_si
 use Rattle.auction_terms.specs.Book.{limits, auction_orders, current_kind}
 use Rattle.auction_terms.specs.AuctionPrice.{best_limits, price_tick, price, priced}
 use Rattle.auction_terms.specs.Day.{State, display, display_of, step, call_of}
-use Rattle.auction_terms.specs.Ladder.{LadderView, ladder_of, tick_values, quantity_at, market_quantity, limit_flag}
+use Rattle.auction_terms.specs.Ladder.{LadderView, ladder_of, tick_values, quantity_at, market_quantity, flag_of}
+use Rattle.auction_terms.specs.Ladder.{limit_flag}
 use Rattle.auction_terms.specs.Auxiliary.BestTicks.{has}
 use Rattle.auction_terms.specs.declared.Call.{Call}
 use Rattle.auction_terms.specs.Auxiliary.RunningAuction.{RunningAuction, auction_after_call}
 use Rattle.auction_terms.proofs.LadderLaws.{length-tick_values, at_spread}
 use Rattle.tick_ladder.specs.TickLadder.{IsLadder, IsLadderOf}
+use Rattle.tick_ladder.proofs.PresenceLaws.{flag_is}
 use Rattle.auction.specs.AuctionState.{current_orders, ladder_over}
 use Rattle.day_tables.specs.declared.book.Table.{Table}
 use Rattle.day_tables.specs.declared.curves.Curves.{Curves}
@@ -29,9 +32,9 @@ use Rattle.day_tables.specs.BookTable.{ShownBook, shown_book, is_among, is_price
 use Rattle.day_tables.specs.BookTable.{tick_record, tick_records, market_record, book_table, table_before, text_before}
 use Rattle.day_tables.specs.BookTable.{tables_after}
 use Rattle.day_tables.specs.TableCurves.{HasRoomForTicks, AreCurves, IsDecidingRule}
-use Rattle.day_tables.specs.TableRows.{HasPlaces, IsTableOf, is_at_price, is_row, side_between, rule_at, row, row_if}
-use Rattle.day_tables.specs.TableRows.{table_rows_below, market_table_row, tick_shown}
-use Rattle.day_tables.proofs.TickTableLaws.{limit_present, long_present}
+use Rattle.day_tables.specs.TableRows.{HasPlaces, IsTableOf, has_shares, is_at_price, is_row, side_between, rule_at}
+use Rattle.day_tables.specs.TableRows.{row, row_if, table_rows_below, market_table_row, tick_shown}
+use Rattle.day_tables.proofs.TickTableLaws.{limit_present}
 
 -- ---- what is among some ticks
 
@@ -54,15 +57,17 @@ side_is : (book : List Order) (t : ℕ) → side_between (demand book t) (supply
 unfolding surplus_side has_bid_surplus has_ask_surplus
 side_is book t = refl
 
-module _ (shown : ShownBook) (table : Table) (is : IsTableOf shown table) where
+module _ (shown : ShownBook) (table : Table) (is : IsTableOf shown table)
+    (same : length table.asks.now ≡ length table.bids.now) where
   module _ (place : ℕ) (within : place < length table.bids.now) where
     at_place : (f : ℕ → ℕ) (xs : List ℕ) → xs ≡ tick_values f table.low (length table.bids.now)
         → get_or xs place 0 ≡ f (table.low + place)
     at_place f xs e = ap (λ l. get_or l place 0) e ∙ at_spread f table.low (length table.bids.now) place within
 
-    is_limit : eqb (get_or table.present.now place 0) 1 ≡ is_among (table.low + place) (limits shown.book)
+    is_limit : has_shares table place ≡ is_among (table.low + place) (limits shown.book)
     is_limit =
-        rw (at_place (limit_flag shown.book) table.present.now is.present)
+        sym (flag_is table.bids.now table.asks.now place same)
+        ∙ rw (at_place (limit_flag shown.book) (zip2 flag_of table.bids.now table.asks.now) is.present)
         (flag_tests _ ∙ limit_present shown.book (table.low + place)
         ∙ sym (among_has (table.low + place) (limits shown.book)))
 
@@ -194,23 +199,22 @@ pub record IsDrawn (v : LadderView) (table : Table) : Type 0 where
   pub market_asks : table.market_asks ≡ v.market_asks
   pub bids : table.bids.now ≡ v.bids
   pub asks : table.asks.now ≡ v.asks
-  pub present : table.present.now ≡ v.present
 
 pub places_drawn : (v : LadderView) (table : Table) → IsLadder v → IsDrawn v table
     → HasRoomForTicks (length v.bids) table.curves.now → HasPlaces table
 places_drawn v table sound drawn room = record {
-  present = rw (drawn.present, drawn.bids) (long_present v sound);
   asks = rw (drawn.asks, drawn.bids) sound.same;
   curves = rw drawn.bids room;
   few = rw drawn.bids sound.few;
   last = rw (drawn.bids, drawn.low) sound.last;
 }
 
-pub table_drawn : (v : LadderView) (shown : ShownBook) (table : Table) → IsLadderOf v shown.book → IsDrawn v table
+pub table_drawn : (v : LadderView) (shown : ShownBook) (table : Table) → IsLadder v → IsLadderOf v shown.book
+    → IsDrawn v table
     → table.command ≡ shown.command → table.kind ≡ shown.auction
     → AreCurves v.low (length v.bids) table.curves.now shown.book → table.price ≡ price_tick shown.book shown.reference
     → IsDecidingRule shown.book table.rule → IsTableOf shown table
-table_drawn v shown table is drawn command kind curves price rule =
+table_drawn v shown table sound is drawn command kind curves price rule =
     let parts = ladder_parts v shown.book is in
     record {
       command = command;
@@ -219,7 +223,7 @@ table_drawn v shown table is drawn command kind curves price rule =
       market_asks = drawn.market_asks ∙ parts.market_asks;
       bids = rw (drawn.low, drawn.bids) parts.bids;
       asks = rw (drawn.low, drawn.bids, drawn.asks) parts.asks;
-      present = rw (drawn.low, drawn.bids, drawn.present) parts.present;
+      present = rw (drawn.low, drawn.bids, drawn.asks) (sym sound.flags ∙ parts.present);
       curves = rw (drawn.low, drawn.bids) curves;
       price = price;
       rule = rule;
@@ -228,25 +232,25 @@ table_drawn v shown table is drawn command kind curves price rule =
 -- the text of the table before a command, in the call phase of an auction
 pub table-printed : (auction : RunningAuction) (command : ℕ) (kind : AuctionKind) (v : LadderView) (table : Table)
     → auction.state.auction ≡ Some kind
-    → v ≡ ladder_over auction.config (current_orders auction.state) → IsLadderOf v (current_orders auction.state)
-    → IsDrawn v table
+    → v ≡ ladder_over auction.config (current_orders auction.state) → IsLadder v
+    → IsLadderOf v (current_orders auction.state) → IsDrawn v table
     → table.command ≡ command → table.kind ≡ kind
     → AreCurves v.low (length v.bids) table.curves.now (current_orders auction.state)
     → table.price ≡ tick_shown (display auction.state) → IsDecidingRule (current_orders auction.state) table.rule
     → market_table_row table ++ table_rows_below table (length table.bids.now)
     ≡ table_before auction.config command auction.state
 unfolding table_before
-table-printed auction command kind v table now over is drawn to_command to_kind curves price rule =
+table-printed auction command kind v table now over sound is drawn to_command to_kind curves price rule =
     let state = auction.state in
     let shown : ShownBook = shown_book command state kind in
     let same : current_orders state ≡ shown.book = ap (λ k. auction_orders state.book (current_kind k)) now in
     let of_book : IsTableOf shown table =
-    table_drawn v shown table (subst (IsLadderOf v) same is) drawn to_command to_kind
+    table_drawn v shown table sound (subst (IsLadderOf v) same is) drawn to_command to_kind
     (subst (AreCurves v.low (length v.bids) table.curves.now) same curves)
     (price ∙ price_of_display state ∙ ap (λ book. price_tick book state.reference) same)
     (subst (λ book. IsDecidingRule book table.rule) same rule) in
     rw now
-    (whole_table shown table of_book auction.config
+    (whole_table shown table of_book (rw (drawn.asks, drawn.bids) sound.same) auction.config
     (drawn.low ∙ ladder_low auction.config.low _ (current_orders state) v over)
     (ap length drawn.bids ∙ ladder_ticks auction.config.low _ (current_orders state) v over))
 

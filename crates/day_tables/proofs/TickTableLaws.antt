@@ -12,7 +12,7 @@ use Rattle.std.proofs.lemmas.Grind.{common_steps}
 use Rattle.auction_terms.specs.declared.Order.{Order}
 use Rattle.auction_terms.specs.Book.{demand, supply, volume, surplus, has_bid_surplus, has_ask_surplus, limits}
 use Rattle.auction_terms.specs.AuctionPrice.{best_limits, is_best, is_empty, has_market_orders, price_tick}
-use Rattle.auction_terms.specs.Ladder.{LadderView, ladder_of, flag_of, tick_values, limit_flag, is_at}
+use Rattle.auction_terms.specs.Ladder.{LadderView, ladder_of, tick_values, limit_flag, is_at}
 use Rattle.auction_terms.specs.Auxiliary.BestTicks.{Leaders, has, keyed, lower_among, upper_among}
 use Rattle.auction_terms.proofs.LadderLaws.{length-tick_values, at_spread}
 use Rattle.auction_terms.proofs.TickListLaws.{All_at, filter-has, no_tick, none_empty, not_empty}
@@ -395,6 +395,3 @@ long_as h xs ds ss fs is same flags = ap length is ∙ length-zip2 h ds ss (sym 
 pub long_left : (h : ℕ → ℕ → ℕ) (xs vs fs gs : List ℕ) → gs ≡ zip2 h vs fs → length vs ≡ length fs
     → length xs ≡ length fs → length xs ≡ length gs
 long_left h xs vs fs gs is same long = long ∙ sym (ap length is ∙ length-zip2 h vs fs same ∙ same)
-
-pub long_present : (v : LadderView) → IsLadder v → length v.present ≡ length v.bids
-long_present v sound = ap length sound.flags ∙ length-zip2 flag_of v.bids v.asks (sym sound.same)

@@ -3,12 +3,13 @@ use Rattle.std.specs.Prelude.{◌≡◌, ℕ, ◌+◌, ◌≤◌, zero, suc, ◌
 use Rattle.std.specs.Prelude.{Option, Some, None}
 use Rattle.std.specs.Prelude.{if◌then◌else◌, nat_lt, decimal, codes, length, slice_index}
 use Rattle.std.specs.Option.{option_map_or}
+use Rattle.std.specs.Simd.Lanes.{zip2}
 use Rattle.auction_terms.specs.declared.limits.TheConstants.{MAX_TICK, MAX_TICKS}
 use Rattle.auction_terms.specs.declared.Display.{Display}
 use Rattle.auction_terms.specs.declared.Display.TheVariants.{Priced, Unpriced}
 use Rattle.auction_terms.specs.declared.Side.{Side}
 use Rattle.auction_terms.specs.declared.Side.TheVariants.{Bid, Ask}
-use Rattle.auction_terms.specs.Ladder.{quantity_at, market_quantity, limit_flag, tick_values}
+use Rattle.auction_terms.specs.Ladder.{quantity_at, market_quantity, flag_of, limit_flag, tick_values}
 use Rattle.auction_terms.specs.AuctionPrice.{price_tick}
 use Rattle.printed_lines.specs.ReplyWords.{kind_word, side_word}
 use Rattle.day_tables.specs.declared.book.Table.{Table}
@@ -20,7 +21,6 @@ use Rattle.day_tables.specs.TableCurves.{HasRoomForTicks, AreCurves, IsDecidingR
 
 -- as many places in each list, which are ticks
 pub record HasPlaces (table : Table) : Type 0 where
-  pub present : length table.present.now ≡ length table.bids.now
   pub asks : length table.asks.now ≡ length table.bids.now
   pub curves : HasRoomForTicks (length table.bids.now) table.curves.now
   pub few : length table.bids.now ≤ MAX_TICKS
@@ -34,9 +34,13 @@ tick_shown (Unpriced best_bid best_ask) = None
 abbrev pub is_at_price : Table → ℕ → Bool
 is_at_price table tick = option_map_or (λ price. price == tick) table.price false
 
+-- there are bids or asks at the place
+abbrev pub has_shares : Table → ℕ → Bool
+has_shares table place = nat_lt 0 (slice_index table.bids.now place) || nat_lt 0 (slice_index table.asks.now place)
+
 -- an order has its limit at the place, or it is the price
 abbrev pub is_row : Table → ℕ → Bool
-is_row table place = (slice_index table.present.now place == 1) || is_at_price table (table.low + place)
+is_row table place = has_shares table place || is_at_price table (table.low + place)
 
 abbrev pub side_between : ℕ → ℕ → Option Side
 side_between demands supplies =
@@ -97,7 +101,8 @@ pub record IsTableOf (shown : ShownBook) (table : Table) : Type 0 where
   pub market_asks : table.market_asks ≡ market_quantity Ask shown.book
   pub bids : table.bids.now ≡ tick_values (quantity_at Bid shown.book) table.low (length table.bids.now)
   pub asks : table.asks.now ≡ tick_values (quantity_at Ask shown.book) table.low (length table.bids.now)
-  pub present : table.present.now ≡ tick_values (limit_flag shown.book) table.low (length table.bids.now)
+  pub present : zip2 flag_of table.bids.now table.asks.now
+      ≡ tick_values (limit_flag shown.book) table.low (length table.bids.now)
   pub curves : AreCurves table.low (length table.bids.now) table.curves.now shown.book
   pub price : table.price ≡ price_tick shown.book shown.reference
   pub rule : IsDecidingRule shown.book table.rule

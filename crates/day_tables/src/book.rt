@@ -41,8 +41,6 @@ pub(crate) struct Table<'a> {
     pub low: u32,
     pub bids: &'a [u64],
     pub asks: &'a [u64],
-    /// 1 where an order has its limit.
-    pub present: &'a [u64],
     pub curves: &'a Curves,
     /// The tick of the price, if there is one, and then the rule that decides it.
     pub price: Option<u32>,
@@ -95,7 +93,7 @@ fn is_row(table: &Table<'_>, place: usize) -> bool
     requires place { place < length table.now.bids.now }
     ensures { result ≡ is_row table.now place }
 {
-    table.present[place] == 1 || is_at_price(table, tick_at(table, place))
+    table.bids[place] > 0 || table.asks[place] > 0 || is_at_price(table, tick_at(table, place))
 }
 
 /// The word of the rule, at the price.
@@ -353,7 +351,6 @@ pub(crate) fn print_ladder<S: Sink>(
         low: ladder.low(),
         bids: ladder.bids(),
         asks: ladder.asks(),
-        present: ladder.present(),
         curves,
         price: heading.price,
         rule,

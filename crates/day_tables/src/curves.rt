@@ -85,7 +85,7 @@ fn draw(
     rising(ladder.market(Side::Ask), ladder.asks(), supplies);
     lesser(demands, supplies, volumes);
     gap_size(demands, supplies, surpluses);
-    best.copy_from_slice(ladder.present());
+    ladder.flag_present(best);
     keep_best(demands, supplies, volumes, surpluses, best);
 }
 

@@ -1,5 +1,6 @@
 -- Where the numbers of a list lie, and where bids meet asks.
-use Rattle.std.specs.Prelude.{◌≡◌, ℕ, ◌+◌, ◌<◌, ◌≤◌, ◌⊎◌, List, Option, MatchOption, length, sum, slice_index}
+use Rattle.std.specs.Prelude.{◌≡◌, ℕ, ◌+◌, ◌<◌, ◌≤◌, ◌⊎◌, List, Option, None, Some, MatchOption, length, max, min}
+use Rattle.std.specs.Prelude.{sum, slice_index}
 use Rattle.auction_terms.specs.Ladder.{LadderView}
 use Rattle.lane_prefix.specs.Meeting.{before}
 use Rattle.tick_ladder.specs.declared.Crossing.{Crossing}
@@ -61,6 +62,17 @@ IsFirstFrom view start found =
     MatchOption found
     (IsClear view.bids view.asks start (length view.bids))
     (IsFirst view.bids view.asks start (length view.bids))
+
+-- the later of two places that may be there, and the earlier
+abbrev pub later_of : Option ℕ → Option ℕ → Option ℕ
+later_of (Some p) (Some q) = Some (max p q)
+later_of (Some p) None = Some p
+later_of None other = other
+
+abbrev pub earlier_of : Option ℕ → Option ℕ → Option ℕ
+earlier_of (Some p) (Some q) = Some (min p q)
+earlier_of (Some p) None = Some p
+earlier_of None other = other
 
 -- at p the demand is below the supply before it, if demand and below are those at i
 abbrev pub IsOver : List ℕ → List ℕ → ℕ → ℕ → ℕ → ℕ → Type 0

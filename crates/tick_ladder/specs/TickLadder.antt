@@ -18,7 +18,7 @@ ladder_view a = record {
   low = a.low;
   bids = a.bids;
   asks = a.asks;
-  present = a.present;
+  present = zip2 flag_of a.bids a.asks;
   market_bids = a.market_bids;
   market_asks = a.market_asks;
 }

@@ -12,7 +12,6 @@ impl Ladder {
     {
         self.bids.reset();
         self.asks.reset();
-        self.present.reset();
         self.market_bids = 0;
         self.market_asks = 0;
     }
@@ -25,7 +24,6 @@ impl Ladder {
             low: self.low,
             bids: self.bids.copied(alloc)?,
             asks: self.asks.copied(alloc)?,
-            present: self.present.copied(alloc)?,
             market_bids: self.market_bids,
             market_asks: self.market_asks,
         })
@@ -38,7 +36,6 @@ impl Ladder {
     {
         self.bids.copy_into(&mut other.bids);
         self.asks.copy_into(&mut other.asks);
-        self.present.copy_into(&mut other.present);
         other.market_bids = self.market_bids;
         other.market_asks = self.market_asks;
     }

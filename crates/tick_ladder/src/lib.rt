@@ -2,7 +2,8 @@
 #![tactic(auto)]
 
 ghost use Rattle.std.specs.Prelude.{◌≡◌, ◌+◌, ◌-◌, ◌<◌, ◌≤◌, length, sum, slice_set, slice_index};
-ghost use Rattle.std.specs.Prelude.{List, option_map, IfOk, IfSome};
+ghost use Rattle.std.specs.Prelude.{List, nat_eq, option_map, IfOk, IfSome};
+ghost use Rattle.std.specs.Simd.Lanes.{zip2};
 ghost use Rattle.auction_terms.specs.declared.limits.TheConstants.{MAX_TICK, MAX_TICKS, MAX_TOTAL};
 ghost use Rattle.auction_terms.specs.Ladder.{flag_of, quantity_in, with_bids, with_asks, with_quantity_at};
 ghost use Rattle.auction_terms.specs.Ladder.{with_added, with_removed};
@@ -10,7 +11,7 @@ ghost use Rattle.auction_terms.specs.Ladder.{AreOpen};
 ghost use Rattle.auction_terms.specs.declared.Order.{Order};
 ghost use Rattle.tick_ladder.specs.TickLadder.{total_quantity, best_tick, best_limit, empty_ladder};
 ghost use Rattle.tick_ladder.specs.TickLadder.{IsInBounds, IsLadder, IsLadderOf};
-ghost use Rattle.tick_ladder.specs.OccupiedPlaces.{IsLastBefore, IsFirstFrom, IsCrossingOf};
+ghost use Rattle.tick_ladder.specs.OccupiedPlaces.{IsLastBefore, IsFirstFrom, IsCrossingOf, later_of, earlier_of};
 
 mod copying;
 mod quantities;
@@ -39,8 +40,6 @@ pub struct Ladder {
     low: u32,
     bids: Quantities,
     asks: Quantities,
-    // 1 where there are bids or asks.
-    present: Quantities,
     market_bids: u64,
     market_asks: u64,
 }
@@ -62,6 +61,41 @@ fn flag(bids: u64, asks: u64) -> u64
     ensures { result ≡ flag_of bids asks }
 {
     if bids > 0 || asks > 0 { 1 } else { 0 }
+}
+
+/// Flags the places with bids or asks.
+fn flag_each(bids: &Quantities, asks: &Quantities, flags: &mut [u64])
+    requires bids { length bids.now ≡ length flags.old }
+    requires asks { length asks.now ≡ length flags.old }
+    ensures { flags.new ≡ zip2 flag_of bids.now asks.now }
+{
+    let mut place = 0;
+    'places: while place < flags.len() {
+        flags[place] = flag(bids.at(place), asks.at(place));
+        place += 1;
+    }
+}
+
+/// The later of two places that may be there.
+fn later(place: Option<usize>, other: Option<usize>) -> Option<usize>
+    ensures { result ≡ later_of place other }
+{
+    match (place, other) {
+        (Some(place), Some(other)) => Some(place.max(other)),
+        (place, None) => place,
+        (None, other) => other,
+    }
+}
+
+/// The earlier of two places that may be there.
+fn earlier(place: Option<usize>, other: Option<usize>) -> Option<usize>
+    ensures { result ≡ earlier_of place other }
+{
+    match (place, other) {
+        (Some(place), Some(other)) => Some(place.min(other)),
+        (place, None) => place,
+        (None, other) => other,
+    }
 }
 
 /// The tick of a place.
@@ -89,7 +123,6 @@ impl Ladder {
             low,
             bids: Quantities::open(alloc, ticks)?,
             asks: Quantities::open(alloc, ticks)?,
-            present: Quantities::open(alloc, ticks)?,
             market_bids: 0,
             market_asks: 0,
         })
@@ -127,12 +160,13 @@ impl Ladder {
         self.asks.places()
     }
 
-    /// 1 at each tick with bids or asks, and else 0, from the lowest tick on.
-    pub fn present(&self) -> &[u64]
-        ensures value { result.now ≡ self.now.present }
+    /// Puts 1 at each place with bids or asks, and else 0, from the lowest tick on.
+    pub fn flag_present(&self, flags: &mut [u64])
+        requires { length flags.old ≡ length self.now.bids }
+        ensures value { flags.new ≡ self.now.present }
         ensures sound { IsLadder self.now }
     {
-        self.present.places()
+        flag_each(&self.bids, &self.asks, flags);
     }
 
     /// The shares of the market orders of a side.
@@ -175,12 +209,21 @@ impl Ladder {
         self.asks.at(place)
     }
 
+    /// Whether there are bids or asks at a place, counted from the lowest tick.
+    pub fn is_present(&self, place: usize) -> bool
+        requires { place < length self.now.bids }
+        ensures value { result ≡ nat_eq (slice_index self.now.present place) 1 }
+        ensures sound { IsLadder self.now }
+    {
+        self.bids.at(place) > 0 || self.asks.at(place) > 0
+    }
+
     /// The last place before `end` that has an order.
     pub fn last_before(&self, end: usize) -> Option<usize>
         requires { end ≤ length self.now.bids }
         ensures { IsLastBefore self.now end result }
     {
-        self.present.last_before(end)
+        later(self.bids.last_before(end), self.asks.last_before(end))
     }
 
     /// The first place from `start` on that has an order.
@@ -188,7 +231,7 @@ impl Ladder {
         requires { start ≤ length self.now.bids }
         ensures { IsFirstFrom self.now start result }
     {
-        self.present.first_from(start)
+        earlier(self.bids.first_from(start), self.asks.first_from(start))
     }
 
     /// Where demand and supply cross.
@@ -255,7 +298,6 @@ impl Ladder {
         ensures { self.new ≡ with_bids self.old (slice_set self.old.bids place bids) }
     {
         self.bids.put(place, bids);
-        self.present.put(place, flag(bids, self.asks.at(place)));
     }
 
     /// Puts other asks at a place.
@@ -265,6 +307,5 @@ impl Ladder {
         ensures { self.new ≡ with_asks self.old (slice_set self.old.asks place asks) }
     {
         self.asks.put(place, asks);
-        self.present.put(place, flag(self.bids.at(place), asks));
     }
 }

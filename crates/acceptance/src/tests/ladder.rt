@@ -12,16 +12,19 @@ fn last_order_leaves(rt: HostRuntime) -> Result<(), Fail> {
     assert_eq!(rt; (ladder.low(), ladder.high()), (5, 12));
     ladder.add(Side::Bid, Limit::At(12), 50);
     ladder.add(Side::Ask, Limit::At(12), 30);
-    assert_eq!(rt; ladder.present().last(), Some(&1));
+    assert!(rt; ladder.is_present(7));
     assert_eq!(rt; ladder.best(Side::Bid), Some(12));
+    let mut flags = [7; 8];
+    ladder.flag_present(&mut flags);
+    assert_eq!(rt; flags, [0, 0, 0, 0, 0, 0, 0, 1]);
     ladder.take(Side::Bid, Limit::At(12), 50);
-    assert_eq!(rt; ladder.present().last(), Some(&1));
+    assert!(rt; ladder.is_present(7));
     assert_eq!(rt;
         (ladder.best(Side::Bid), ladder.best(Side::Ask)),
         (None, Some(12))
     );
     ladder.take(Side::Ask, Limit::At(12), 30);
-    assert_eq!(rt; ladder.present().last(), Some(&0));
+    assert!(rt; !ladder.is_present(7));
     assert_eq!(rt; (ladder.last_before(8), ladder.first_from(0)), (None, None));
     Ok(())
 }

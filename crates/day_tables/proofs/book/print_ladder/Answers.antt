@@ -17,7 +17,6 @@ print_rows-requires g c =
       market_asks = c.market-2.ensures;
       bids = c.bids.ensures.value;
       asks = c.asks.ensures.value;
-      present = c.present.ensures.value;
     })
     c.follow.ensures.room
 
@@ -26,14 +25,14 @@ returns-clause-printed g c = λ config state is.
     let v = c.args.ladder.now in
     let auction : RunningAuction = record { config = config; state = state; calls = 0 } in
     let curves = c.follow.ensures.curves (current_orders state) is.book in
-    rw (← table-printed auction c.args.heading.command c.args.heading.kind v _ is.told.auction is.over is.book
+    rw (← table-printed auction c.args.heading.command c.args.heading.kind v _ is.told.auction is.over
+    c.low.ensures.sound is.book
     (record {
       low = c.low.ensures.value;
       market_bids = c.market.ensures;
       market_asks = c.market-2.ensures;
       bids = c.bids.ensures.value;
       asks = c.asks.ensures.value;
-      present = c.present.ensures.value;
     })
     refl refl curves is.told.price
     (c.rule-rule.ensures v.low (current_orders state) (own_curves _ _ _ _ curves))) c.print_rows.ensures
