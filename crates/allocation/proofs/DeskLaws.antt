@@ -9,7 +9,6 @@ use Rattle.auction_terms.specs.declared.Side.{Side}
 use Rattle.auction_terms.specs.declared.Side.TheVariants.{Bid, Ask}
 use Rattle.auction_terms.specs.declared.Order.{Order}
 use Rattle.auction_terms.specs.declared.Fill.{Fill}
-use Rattle.auction_terms.specs.declared.Trade.{Trade}
 use Rattle.auction_terms.specs.Allotment.{fills_of, fills, trades, is_positive}
 use Rattle.auction_terms.specs.Auxiliary.RankedFills.{paired_trades}
 use Rattle.auction_terms.proofs.RankLaws.{fills_of_is}
@@ -30,12 +29,12 @@ unfolding fills
 fills_is price book n fs b a =
     sym (take-append-drop n fs) ∙ ap (λ l. l ++ drop n fs) b ∙ ap (λ l. fills_of Bid book price ++ l) a
 
-pub trades_is : (price : ℕ) (book : List Order) (bids asks : List Fill) (ts : List Trade)
-    → bids ≡ fills_of Bid book price → asks ≡ fills_of Ask book price → ts ≡ paired_trades price 0 bids asks
-    → ts ≡ trades book price
+pub trades_is : (price : ℕ) (book : List Order) (bids asks : List Fill)
+    → bids ≡ fills_of Bid book price → asks ≡ fills_of Ask book price
+    → paired_trades price 0 bids asks ≡ trades book price
 unfolding trades paired_trades
-trades_is price book bids asks ts b a is =
-    is ∙ ap (λ l. paired_trades price 0 l asks) b ∙ ap (paired_trades price 0 (fills_of Bid book price)) a
+trades_is price book bids asks b a =
+    ap (λ l. paired_trades price 0 l asks) b ∙ ap (paired_trades price 0 (fills_of Bid book price)) a
 
 pub all_positive : (fs gs : List Fill) → gs ≡ filter is_positive fs → All (λ f. 0 < f.quantity) gs
 all_positive fs gs e = grind (arith, common_steps, All-same, All-weaker, filter_passes, nat_tests)

@@ -25,17 +25,21 @@ no_bids_left tick trades whole s [] asks none is =
     sym (append-nil trades) ∙ ap (λ l. trades ++ l) (sym (paired_trades-no_bids tick s asks)) ∙ is
 no_bids_left tick trades whole s (b ∷ bids) asks none is = absurd (cc)
 
-pub paired_more : (tick k : ℕ) (trades more whole : List Trade) (b a : Fill) (bids asks : List Fill)
+pub paired_more : (tick k s : ℕ) (trades more whole : List Trade) (b a : Fill) (bids asks : List Fill)
     → Some b ≡ slice_get bids 0 → Some a ≡ slice_get asks 0 → k ≡ min b.quantity a.quantity → 0 < k
-    → trades ++ paired_trades tick (taken_by trades) bids asks ≡ whole → more ≡ trades ++ record {
+    → trades ++ paired_trades tick s bids asks ≡ whole → more ≡ trades ++ record {
       bid = b.id;
       ask = a.id;
       tick = tick;
       quantity =
           k;
-    } ∷ [] → more ++ paired_trades tick (taken_by more) (after_taking bids k) (after_taking asks k) ≡ whole
-paired_more tick k trades more whole b a bids asks fb fa is pos all pushed =
-    grind (arith, common_steps, paired_step, sum_by_push, append_assoc)
+    } ∷ [] → more ++ paired_trades tick (s + k) (after_taking bids k) (after_taking asks k) ≡ whole
+paired_more tick k s trades more whole b a bids asks fb fa is pos all pushed =
+    grind (arith, common_steps, paired_step, append_assoc)
+
+pub taken_more : (trades more : List Trade) (t : Trade) → more ≡ trades ++ t ∷ []
+    → taken_by more ≡ taken_by trades + t.quantity
+taken_more trades more t pushed = ap taken_by pushed ∙ sum_by_push (λ t. t.quantity) trades t
 
 -- one of the two has nothing left
 pub fewer_left : (k : ℕ) (b a : Fill) (bids asks : List Fill) → Some b ≡ slice_get bids 0 → Some a ≡ slice_get asks 0

@@ -52,17 +52,6 @@ impl Model for Book {
     ghost invariant = { λ b. (b.counted.book.max_open ≤ b.desk.room) × IfSome b.known (IsKnownOf b.counted.book) };
 }
 
-// Adds trades to those of the day.
-fn append(tape: &mut Vec<Trade>, trades: &[Trade])
-    requires { vec_len tape.old + length trades.now ≤ vec_capacity tape.old }
-    ensures items { tape.new.items ≡ tape.old.items ++ trades.now }
-    ensures capacity { vec_capacity tape.new ≡ vec_capacity tape.old }
-{
-    for trade in trades {
-        tape.push_reserved(*trade);
-    }
-}
-
 impl Book {
     /// No orders, with room for all that the config allows, in the opening auction. It fails only where memory is
     /// refused.
@@ -198,10 +187,9 @@ impl Book {
         ensures capacity { vec_capacity tape.new ≡ vec_capacity tape.old }
     {
         self.known = None;
-        self.counted.uncross(price, &mut self.desk);
-        let trades = self.desk.trades();
-        append(tape, trades);
-        trades.len() as u32
+        let before = tape.len();
+        self.counted.uncross(price, &mut self.desk, tape);
+        (tape.len() - before) as u32
     }
 
     /// Removes the orders for this auction alone, and goes on to the next, in which the orders for it alone count too.

@@ -32,8 +32,8 @@ fn raised_quantity_moves(rt: HostRuntime) -> Result<(), Fail> {
     orders.append(ASK);
     let mut desk = Desk::open(rt.alloc(), 10)?;
     assert!(rt; !orders.full());
-    desk.allocate(&orders, AuctionKind::Opening, 200);
-    let trades = desk.trades();
+    let mut trades = Vec::with_capacity(rt.alloc(), 10)?;
+    desk.allocate(&orders, AuctionKind::Opening, 200, &mut trades);
     assert_eq!(rt; trades.len(), 1);
     assert_eq!(rt;
         (trades[0].bid, trades[0].ask, trades[0].quantity),

@@ -28,7 +28,7 @@ fn the_parts_of_an_auction_are_opened(rt: HostRuntime) -> Result<(), AllocError>
     let orders = Orders::open(rt.alloc(), 8, 16)?;
     assert!(rt; !orders.full() && orders.get(1) == None);
     let desk = Desk::open(rt.alloc(), 8)?;
-    assert!(rt; desk.fills().is_empty() && desk.trades().is_empty());
+    assert!(rt; desk.fills().is_empty());
     Ok(())
 }
 

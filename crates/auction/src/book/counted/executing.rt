@@ -1,5 +1,5 @@
 //! The execution of orders.
-ghost use Rattle.std.specs.Prelude.{◌≡◌, ◌≤◌, length};
+ghost use Rattle.std.specs.Prelude.{◌≡◌, ◌+◌, ◌≤◌, ◌++◌, length, vec_len, vec_capacity};
 ghost use Rattle.auction_terms.specs.declared.limits.TheConstants.{MAX_OPEN_ORDERS};
 ghost use Rattle.auction_terms.specs.Auxiliary.OrderLists.{book_after_fill, book_after_fills, IsExecutable};
 ghost use Rattle.auction_terms.specs.Auxiliary.OrderLists.{AreExecutable};
@@ -10,7 +10,7 @@ ghost use Rattle.auction.specs.OpenOrders.{current_orders, with_execution_at};
 use super::LadderBook;
 use super::counting::take;
 use allocation::Desk;
-use auction_terms::Fill;
+use auction_terms::{Fill, Trade};
 
 impl LadderBook {
     // Executes one fill.
@@ -32,18 +32,20 @@ impl LadderBook {
         }
     }
 
-    /// Executes the orders that count at the tick of a price: their trades are made at the desk. What is left of each
-    /// order stays open, in its place.
-    pub(in crate::book) fn uncross(&mut self, price: u32, desk: &mut Desk)
-        requires { self.old.book.max_open ≤ desk.old.room }
+    /// Executes the orders that count at the tick of a price: their fills are made at the desk, and their trades are
+    /// added to those of the day. What is left of each order stays open, in its place.
+    pub(in crate::book) fn uncross(&mut self, price: u32, desk: &mut Desk, tape: &mut Vec<Trade>)
+        requires desk { self.old.book.max_open ≤ desk.old.room }
+        requires tape { vec_len tape.old + length self.old.book.orders ≤ vec_capacity tape.old }
         ensures book { self.new.book ≡ with_execution_at price self.old.book }
-        ensures trades { desk.new.trades ≡ trades (current_orders self.old.book) price }
-        ensures few { length desk.new.trades ≤ length self.old.book.orders }
+        ensures tape { tape.new.items ≡ tape.old.items ++ trades (current_orders self.old.book) price }
+        ensures few { length (trades (current_orders self.old.book) price) ≤ length self.old.book.orders }
         ensures small { AreSmall (trades (current_orders self.old.book) price) }
-        ensures bounded { length desk.new.trades ≤ MAX_OPEN_ORDERS }
+        ensures bounded { length (trades (current_orders self.old.book) price) ≤ MAX_OPEN_ORDERS }
         ensures room { desk.new.room ≡ desk.old.room }
+        ensures capacity { vec_capacity tape.new ≡ vec_capacity tape.old }
     {
-        desk.allocate(&self.orders, self.kind, price);
+        desk.allocate(&self.orders, self.kind, price, tape);
         self.execute(desk.fills());
     }
 }

@@ -1,5 +1,6 @@
 -- Answers of `LadderBook::uncross` (src/book/counted/executing.rt): what the prover left open; rt looks here.
-use Rattle.std.proofs.Common.{◌≡◌, length, sym, ap, subst, ◌∙◌, arith}
+use Rattle.std.proofs.Common.{◌≡◌, ◌≤◌, length, sym, ap, subst, ◌∙◌, arith}
+use Rattle.auction_terms.specs.declared.limits.TheConstants.{MAX_OPEN_ORDERS}
 use Rattle.auction_terms.specs.Auxiliary.StampedOrders.{orders_of}
 use Rattle.auction_terms.specs.Auxiliary.OrderLists.{book_after_fills, AreExecutable}
 use Rattle.auction_terms.specs.Allotment.{rest_in, trades}
@@ -32,22 +33,21 @@ returns-clause-book c =
 
 pub returns-clause-few : goal.returns-clause-few
 returns-clause-few c =
-    omega (
-      arith,
-      few_trades c.self.inside.kind (orders_of c.self.inside.orders.line) c.args.price
-          (length c.allocate.new.self.trades) c.allocate.ensures.few_trades,
-      ap (λ (b : LadderBookView). length b.book.orders) c.self.view_is,
-    )
+    subst (λ (b : LadderBookView). length (trades (current_orders b.book) c.args.price) ≤ length b.book.orders)
+    c.self.view_is
+    (few_trades c.self.inside.kind (orders_of c.self.inside.orders.line) c.args.price _ c.allocate.ensures.few_trades)
 
 pub returns-clause-bounded : goal.returns-clause-bounded
 returns-clause-bounded c =
-    omega (
+    let list = orders_of c.self.inside.orders.line in
+    subst (λ (b : LadderBookView). length (trades (current_orders b.book) c.args.price) ≤ MAX_OPEN_ORDERS)
+    c.self.view_is
+    (omega (
       arith,
-      few_trades c.self.inside.kind (orders_of c.self.inside.orders.line) c.args.price
-          (length c.allocate.new.self.trades) c.allocate.ensures.few_trades,
+      few_trades c.self.inside.kind list c.args.price _ c.allocate.ensures.few_trades,
       c.self.invariant.few,
       c.self.invariant.small,
-    )
+    ))
 
 pub returns-clause-small : goal.returns-clause-small
 returns-clause-small c =
