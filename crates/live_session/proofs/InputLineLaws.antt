@@ -1,16 +1,19 @@
 -- The lines of an input, and what is held of a line.
 use Rattle.std.proofs.Common.{◌≡◌, ◌<◌, ◌≤◌, ◌+◌, ◌-◌, ℕ, zero, suc, List, [], ◌∷◌, ◌++◌, length, take, drop, get_or}
 use Rattle.std.proofs.Common.{Option, Some, None, Bool, true, false, refl, ap, sym, arith, rules, add-one, drop-cons}
-use Rattle.std.proofs.Common.{append_assoc, ◌∙◌}
+use Rattle.std.proofs.Common.{append_assoc, cond, is_some, ◌==◌, ◌∙◌}
 use Rattle.std.specs.Prelude.{min, nat_lt, slice_index}
 use Rattle.std.proofs.lemmas.Bool.{true≢false}
 use Rattle.std.proofs.lemmas.List.{append-nil, drop_all, take_all, take_min}
 use Rattle.std.proofs.Math.Seq.{take-append-add}
-use Rattle.csv.specs.Machine.{ends_at_end, step}
-use Rattle.csv.specs.Reading.{default_config, strip_bom}
+use Rattle.csv.specs.Machine.{after_end, ends_at_end, ends_with, in_field, start_field, start_record, step}
+use Rattle.csv.specs.Reading.{default_config, is_bom, strip_bom}
+use Rattle.csv.specs.declared.parser.Action.{Action}
+use Rattle.csv.specs.declared.parser.Action.TheVariants as act
 use Rattle.csv.specs.declared.parser.State.{State}
 use Rattle.csv.specs.declared.parser.State.TheVariants as st
-use Rattle.memchr.specs.Find.{IsFirstByte, is_byte2}
+use Rattle.csv.specs.declared.parser.Terminator.TheVariants as term
+use Rattle.memchr.specs.Find.{IsFirstByte, is_byte, is_byte2}
 use Rattle.live_session.specs.Answered.{line_fault}
 use Rattle.live_session.specs.InputLines.{HasNoLineEnd, IsFirstLineEnd, Lines, is_line_end, is_marked, is_quote_open}
 use Rattle.live_session.specs.InputLines.{is_too_long}
@@ -216,6 +219,101 @@ state-next s text i d t lt is =
 pub state-end : (s : State) (text : List ℕ) (i : ℕ) → length text ≤ i → line_state_after s (drop i text) ≡ s
 unfolding line_state_after
 state-end s text i le = rw (drop_all i text le) refl
+
+-- ---- a line without quotes
+
+-- no byte is a quote
+abbrev pub HasNoQuote : List ℕ → Type 0
+HasNoQuote [] = Unit {0}
+HasNoQuote (b ∷ bs) = (is_byte 34 b ≡ false) × HasNoQuote bs
+
+no-quote-there : (bytes : List ℕ) → ((k : ℕ) → k < length bytes → is_byte 34 (slice_index bytes k) ≡ true → ⊥)
+    → HasNoQuote bytes
+no-quote-there [] none = tt
+no-quote-there (b ∷ bs) none =
+    (is-false (is_byte 34 b) (none 0 (omega arith)), no-quote-there bs (λ k lt is. none (suc k) (omega arith) is))
+
+no-quote-else : (x : Bool) (xs ys : List ℕ) → HasNoQuote xs → HasNoQuote ys → HasNoQuote (cond x xs ys)
+no-quote-else true xs ys h g = h
+no-quote-else false xs ys h g = g
+
+no-quote-stripped : (line : List ℕ) → HasNoQuote line → HasNoQuote (strip_bom line)
+unfolding strip_bom
+no-quote-stripped [] h = h
+no-quote-stripped (a ∷ []) h = h
+no-quote-stripped (a ∷ b ∷ []) h = h
+no-quote-stripped (a ∷ b ∷ c ∷ rest) h = no-quote-else (is_bom a b c) rest (a ∷ b ∷ c ∷ rest) h.1.1.1 h
+
+-- the reader is in no quotes, and has come out of none
+abbrev is_plain : State → Bool
+is_plain st.StartRecord = true
+is_plain st.AfterCr = true
+is_plain st.StartField = true
+is_plain st.InField = true
+is_plain st.InQuoted = false
+is_plain st.AfterQuote = false
+is_plain st.InEscape = false
+is_plain st.InComment = false
+
+plain-else : (x : Bool) (s t : State × Action) → is_plain s.0 ≡ true → is_plain t.0 ≡ true
+    → is_plain (cond x s t).0 ≡ true
+plain-else true s t h g = h
+plain-else false s t h g = g
+
+plain-either : (x : Bool) (s t : State) → is_plain s ≡ true → is_plain t ≡ true → is_plain (cond x s t) ≡ true
+plain-either true s t h g = h
+plain-either false s t h g = g
+
+plain-in-field : (c : ℕ) → is_plain (in_field default_config c).0 ≡ true
+plain-in-field c =
+    plain-else (c == 44) (st.StartField, act.EndField) _ refl
+    (plain-else (ends_with term.CRLF c) (after_end term.CRLF c, act.EndRecord) (st.InField, act.Copy)
+    (plain-either (c == 13) st.AfterCr st.StartRecord refl refl) refl)
+
+plain-start-field : (c : ℕ) → (c == 34) ≡ false → is_plain (start_field default_config c).0 ≡ true
+plain-start-field c p = rw p (plain-in-field c)
+
+plain-start-record : (c : ℕ) → (c == 34) ≡ false → is_plain (start_record default_config c).0 ≡ true
+plain-start-record c p =
+    plain-else (ends_with term.CRLF c) (st.StartRecord, act.Skip) _ refl (plain-start-field c p)
+
+plain-step : (s : State) (c : ℕ) → is_plain s ≡ true → (c == 34) ≡ false
+    → is_plain (step default_config s c).0 ≡ true
+plain-step st.StartRecord c h p = plain-start-record c p
+plain-step st.AfterCr c h p = plain-else (c == 10) (st.StartRecord, act.Skip) _ refl (plain-start-record c p)
+plain-step st.StartField c h p = plain-start-field c p
+plain-step st.InField c h p = plain-in-field c
+plain-step st.InQuoted c h p = absurd (true≢false (sym h))
+plain-step st.AfterQuote c h p = absurd (true≢false (sym h))
+plain-step st.InEscape c h p = absurd (true≢false (sym h))
+plain-step st.InComment c h p = absurd (true≢false (sym h))
+
+plain-after : (s : State) (bytes : List ℕ) → is_plain s ≡ true → HasNoQuote bytes
+    → is_plain (line_state_after s bytes) ≡ true
+unfolding line_state_after
+plain-after s [] h none = h
+plain-after s (b ∷ bs) h none = plain-after (step default_config s b).0 bs (plain-step s b h none.0) none.1
+
+plain-closed : (s : State) → is_plain s ≡ true → ends_at_end (step default_config s 10).0 ≡ false
+plain-closed st.StartRecord h = refl
+plain-closed st.AfterCr h = refl
+plain-closed st.StartField h = refl
+plain-closed st.InField h = refl
+plain-closed st.InQuoted h = absurd (true≢false (sym h))
+plain-closed st.AfterQuote h = absurd (true≢false (sym h))
+plain-closed st.InEscape h = absurd (true≢false (sym h))
+plain-closed st.InComment h = absurd (true≢false (sym h))
+
+-- where no byte is a quote, none is open
+pub no-quote-open : (line : List ℕ) (found : Option ℕ) → IsFirstByte (is_byte 34) line found
+    → is_some found ≡ false → is_quote_open line ≡ false
+unfolding line_state_after
+no-quote-open line (Some place) h e = absurd (true≢false e)
+no-quote-open line None none e =
+    let text = strip_bom line in
+    let quotes = no-quote-stripped line (no-quote-there line (λ k lt is. none k (omega arith) lt is)) in
+    ap ends_at_end (state-append st.StartRecord text (10 ∷ []))
+    ∙ plain-closed (line_state_after st.StartRecord text) (plain-after st.StartRecord text refl quotes)
 
 -- no byte is left
 pub no-bytes : (bytes : List ℕ) → length bytes ≡ 0 → bytes ≡ []

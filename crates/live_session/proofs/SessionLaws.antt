@@ -47,28 +47,38 @@ refused-line session terms start lines given committed fault is gathers waiting 
   line = line;
 }
 
--- a line that is read as one waits
-pub kept-line : (old new : Session) (terms : SessionTerms) (start : RunningAuction) (lines : Lines) (given : List ℕ)
-    (committed : List Entry) → HasHeard old terms start lines given committed → line_fault old.line.items ≡ None
-    → new.responder ≡ old.responder → new.waiting.items ≡ (old.waiting.items ++ strip_bom old.line.items) ++ 10 ∷ []
-    → new.line.items ≡ [] → HasHeard new terms start (line_ended lines) given committed
-kept-line old new terms start lines given committed h fine same waiting line =
+-- a line that is read as one waits, of which this is held
+pub kept-line : (old new : Session) (terms : SessionTerms) (start : RunningAuction) (heard lines : Lines)
+    (given : List ℕ) (committed : List Entry) (line : List ℕ) → HasHeard old terms start heard given committed
+    → answered_lines terms start heard ≡ answered_lines terms start lines
+    → line ≡ take (MAX_RECORD_BYTES + 1) lines.at_hand → line_fault line ≡ None → new.responder ≡ old.responder
+    → new.waiting.items ≡ (old.waiting.items ++ strip_bom line) ++ 10 ∷ [] → new.line.items ≡ []
+    → HasHeard new terms start (line_ended lines) given committed
+kept-line old new terms start heard lines given committed line h answered line_is fine same waiting none =
     let held = held-line lines.at_hand in
-    let good : line_fault lines.at_hand ≡ None = sym held.fault ∙ ap line_fault (sym h.line) ∙ fine in
-    let whole : old.line.items ≡ lines.at_hand =
-    h.line ∙ held.whole (ap is_too_long (sym h.line) ∙ (not-faulty old.line.items fine).0) in
+    let good : line_fault lines.at_hand ≡ None = sym held.fault ∙ ap line_fault (sym line_is) ∙ fine in
+    let whole : line ≡ lines.at_hand =
+    line_is ∙ held.whole (ap is_too_long (sym line_is) ∙ (not-faulty line fine).0) in
     record {
       applied = h.applied;
       gathers = subst (λ (r : Responder). Gathers r terms h.applied given committed) (sym same) h.gathers;
       text = h.text ++ text_of_record lines.at_hand;
       waiting =
-          waiting ∙ ap (λ (x : List ℕ). (x ++ strip_bom old.line.items) ++ 10 ∷ []) h.waiting
+          waiting ∙ ap (λ (x : List ℕ). (x ++ strip_bom line) ++ 10 ∷ []) h.waiting
           ∙ ap (λ (x : List ℕ). ((10 ∷ h.text) ++ strip_bom x) ++ 10 ∷ []) whole
           ∙ append_assoc (10 ∷ h.text) (strip_bom lines.at_hand) (10 ∷ []);
       closed = closed-both h.text (text_of_record lines.at_hand) h.closed (not-faulty lines.at_hand good).1;
-      answers = waiting-more terms start lines h.applied h.text h.closed h.answers good;
-      line = line;
+      answers = waiting-more terms start lines h.applied h.text h.closed (h.answers ∙ answered) good;
+      line = none;
     }
+
+-- a line that came in one piece is all that is at hand, and is held whole
+pub whole-line : (at_hand line : List ℕ) → [] ≡ take (MAX_RECORD_BYTES + 1) at_hand → line_fault line ≡ None
+    → line ≡ take (MAX_RECORD_BYTES + 1) (at_hand ++ line)
+whole-line at_hand line none fine =
+    let held = held-line line in
+    sym (held.whole (not-faulty (take (MAX_RECORD_BYTES + 1) line) (held.fault ∙ fine)).0)
+    ∙ ap (λ (x : List ℕ). take (MAX_RECORD_BYTES + 1) (x ++ line)) (sym (held-none at_hand (sym none)))
 
 -- the next line of what is left
 pub next-line : (now : Lines) (rest line behind more : List ℕ) (place : ℕ) → IsFirstLineEnd rest (Some place)

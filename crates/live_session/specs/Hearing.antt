@@ -6,7 +6,7 @@ use Rattle.csv.specs.Reading.{default_config, records}
 use Rattle.live_session.specs.Answered.{Answered, after_input_end, after_records, answered_lines, line_fault}
 use Rattle.live_session.specs.Gathered.{Gathers}
 use Rattle.live_session.specs.Giving.{IsNew}
-use Rattle.live_session.specs.InputLines.{Lines, is_record_open, line_ended}
+use Rattle.live_session.specs.InputLines.{Lines, is_record_open, line_ended, line_longer}
 use Rattle.live_session.specs.declared.fault.BadRecord.{BadRecord}
 use Rattle.live_session.specs.declared.line.TheConstants.{MAX_RECORD_BYTES}
 use Rattle.live_session.specs.declared.session.Session.{Session}
@@ -68,3 +68,8 @@ RefusesLine old new fault result =
 -- a line that is read as one waits after those before it
 abbrev pub KeepsLine : {E : Type 0} → Session → Session → Result (Unit {0}) E → Type 0
 KeepsLine old new result = (line_fault old.line.items ≡ None) → HearsLines old new (λ lines. line_ended lines) result
+
+-- a line that is read as one, and of which nothing came before, waits after those before it
+abbrev pub KeepsWhole : {E : Type 0} → Session → Session → List ℕ → Result (Unit {0}) E → Type 0
+KeepsWhole old new line result = (old.line.items ≡ []) → (line_fault line ≡ None)
+    → HearsLines old new (λ lines. line_ended (line_longer line lines)) result

@@ -9,7 +9,7 @@ ghost use Rattle.live_session.specs.Spot.{state_of};
 
 use crate::fault::BadRecord;
 use crate::spot::Spot;
-use memchr::memchr2;
+use memchr::{memchr, memchr2};
 use std::alloc::AllocError;
 
 /// How many bytes a record may have at most, its line end not counted.
@@ -83,6 +83,9 @@ fn spot_behind(text: &[u8]) -> Spot
 fn is_quote_open(line: &[u8]) -> bool
     ensures { result ≡ is_quote_open line.now }
 {
+    if memchr(b'"', line).is_none() {
+        return false;
+    }
     spot_behind(without_mark(line)).after(b'\n').is_open()
 }
 

@@ -18,13 +18,13 @@ use crate::conversation::Conversation;
 use crate::fault::{BadRecord, Ending, LiveFault, put_bad_line};
 use crate::terms::SessionTerms;
 use auction::Auction;
-use auction_terms::{Call, Config, Entry};
+use auction_terms::{Call, Config, Entry, Reply};
 use auction_views::{View, is_view, put_view, view_of};
 use csv::ByteRecord;
 use input_hints::{DayTerms, Hint, hint_of_record};
 use journal::keep_entry;
 use order_file::{Records, call_of_record};
-use printed_lines::{KeptText, put_line};
+use printed_lines::{KeptText, LastTexts};
 use std::alloc::{AllocError, Global};
 
 /// Whether a call would take one of the day's last calls, which are the operator's.
@@ -63,6 +63,8 @@ pub(crate) struct Responder {
     records: u64,
     ending: Ending,
     answers: KeptText,
+    // The texts of the line that was put last.
+    last: LastTexts,
     entries: KeptText,
 }
 
@@ -77,6 +79,7 @@ impl Responder {
             records: 0,
             ending: Ending::AllGood,
             answers: KeptText::new(alloc),
+            last: LastTexts::new(),
             entries: KeptText::new(alloc),
         }
     }
@@ -102,19 +105,18 @@ impl Responder {
     {
         let number = self.next_number()?;
         self.answers.make_room()?;
-        let reply = self.auction.apply_call(&call);
-        put_line(
+        let mut entry = Entry {
+            member: call.member,
+            command: call.command,
+            reply: Reply::Deleted,
+        };
+        self.auction.answer_call(&call, &mut entry.reply);
+        self.last.put_line(
             &mut self.answers.page,
             u64::from(self.auction.calls()),
-            &reply,
+            &entry.reply,
         );
         self.records = number;
-        let Call { member, command } = call;
-        let entry = Entry {
-            member,
-            command,
-            reply,
-        };
         keep_entry(&mut self.entries, entry)?;
         Ok(())
     }

@@ -1,7 +1,8 @@
 //! An input that is answered line by line.
 
 ghost use Rattle.std.specs.Prelude.{IfOk};
-ghost use Rattle.live_session.specs.Hearing.{AnswersAll, AnswersEnd, HearsLines, IsNewSession, KeepsLine, RefusesLine};
+ghost use Rattle.live_session.specs.Hearing.{AnswersAll, AnswersEnd, HearsLines, IsNewSession, KeepsLine};
+ghost use Rattle.live_session.specs.Hearing.{KeepsWhole, RefusesLine};
 ghost use Rattle.live_session.specs.InputLines.{line_ended, line_longer, lines_once_read};
 
 use crate::fault::BadRecord;
@@ -77,10 +78,21 @@ impl Session {
         }
     }
 
+    /// Has a line wait that came in one piece.
+    fn keep_whole(&mut self, line: &[u8]) -> Result<(), AllocError>
+        ensures { KeepsWhole self.old self.new line.now result }
+    {
+        put_record(&mut self.waiting, line)?;
+        Ok(())
+    }
+
     /// Takes the bytes of the line at hand up to its end.
     fn take_line(&mut self, alloc: Global, bytes: &[u8]) -> Result<(), AllocError>
         ensures { HearsLines self.old self.new (λ lines. line_ended (line_longer bytes.now lines)) result }
     {
+        if self.line.is_empty() && line_fault(bytes).is_none() {
+            return self.keep_whole(bytes);
+        }
         self.take_bytes(bytes)?;
         self.end_line(alloc)
     }

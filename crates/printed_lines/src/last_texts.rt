@@ -33,7 +33,7 @@ fn put_entered(page: &mut Page, order: &mut NumberText, id: u32)
 
 impl LastTexts {
     /// The texts before the first line.
-    pub(crate) fn new() -> LastTexts
+    pub fn new() -> LastTexts
         ensures { (result.line ≡ 1) × (result.order ≡ 1) × (result.display ≡ None) }
     {
         LastTexts {
@@ -60,7 +60,7 @@ impl LastTexts {
     /// Puts the line of a command's reply on the page: the command's number from 1, a colon, the reply's text.
     #[tactic(auto, unfolding(crate::specs::ReplyLines::line))]
     #[inline(always)]
-    pub(crate) fn put_line(&mut self, page: &mut Page, number: u64, reply: &Reply)
+    pub fn put_line(&mut self, page: &mut Page, number: u64, reply: &Reply)
         requires { length page.old + LONGEST_LINE ≤ ROOM }
         ensures { page.new ≡ page.old ++ line number reply.now }
     {

@@ -21,7 +21,7 @@ mod words;
 
 pub use kept::KeptText;
 pub use last_texts::LastTexts;
-pub use line::{print_line, put_line};
+pub use line::print_line;
 pub use page::{LONGEST_LINE, LONGEST_NUMBER, Page, ROOM};
 pub use printer::Printer;
 pub use reply::put_reply;

@@ -12,12 +12,12 @@ use Rattle.live_session.proofs.responder.Responder.reply.Goals as goal
 pub returns : goal.returns
 returns c = λ terms so_far given committed h.
     let call = c.args.call in
-    let auction = c.apply_call-reply.ensures.state ∙ ap (λ (a : RunningAuction). auction_after_call a call) h.auction in
+    let auction = c.answer_call.ensures.state ∙ ap (λ (a : RunningAuction). auction_after_call a call) h.auction in
     let reply =
-    c.apply_call-reply.ensures.reply ∙ ap (λ (a : RunningAuction). (step a.config a.state call).1) h.auction in
+    c.answer_call.ensures.reply ∙ ap (λ (a : RunningAuction). (step a.config a.state call).1) h.auction in
     let from : c.from.result ≡ c.calls.result = search rules in
     let number = from ∙ c.calls.ensures.value ∙ ap (λ (a : RunningAuction). a.calls) auction in
-    let entry : Entry = record { member = call.member; command = call.command; reply = c.apply_call-reply.result } in
+    let entry : Entry = record { member = call.member; command = call.command; reply = c.answer_call.new.reply } in
     record {
       terms_are = h.terms_are;
       auction = auction;

@@ -7,7 +7,7 @@ use Rattle.live_session.proofs.session.Session.keep_line.Goals as goal
 
 pub returns : goal.returns
 returns c = λ fine terms start lines given committed h.
-    kept-line c.args.self.now _ terms start lines given committed h fine refl
+    kept-line c.args.self.now _ terms start lines lines given committed _ h refl h.line fine refl
     (c.in_ok-put_record.ensures
     ∙ ap (λ (x : List ℕ). (c.args.self.now.waiting.items ++ strip_bom x) ++ 10 ∷ []) c.as_slice.ensures.value)
     (search rules)
