@@ -39,7 +39,7 @@ fn print_uncrosses<S: Sink>(
         (auction.new.state ≡ state_after auction.old.config auction.old.state calls.now) }
 {
     for (before, call) in calls.iter().enumerate() {
-        let reply = auction.apply(call.member, call.command);
+        let reply = auction.apply_call(call);
         print_uncross(printer, before as u64 + 1, reply)?;
     }
     Ok(())

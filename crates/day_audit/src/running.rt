@@ -75,7 +75,7 @@ impl<'a> Audit<'a> {
         let journal = self.journal;
         let mut page = Page::new();
         for (before, call) in journal.calls.iter().enumerate() {
-            let reply = self.auction.apply(call.member, call.command);
+            let reply = self.auction.apply_call(call);
             let text = text_at(&journal.texts, before);
             let finding = finding_of(&mut page, text, reply);
             self.counts = self.counts.with(finding);

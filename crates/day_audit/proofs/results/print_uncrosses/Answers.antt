@@ -11,19 +11,20 @@ pub returns-in_err-print_uncross-clause-printed : goal.returns-in_err-print_uncr
 returns-in_err-print_uncross-clause-printed g c =
     let (config, calls, end, front, is, printed) = c.loop-before.invariant in
     let next =
-    lines-next c.loop-before.auction _ _ _ _ _ _ _ c.loop-before-test.true config c.apply-reply.ensures.reply is in
+    lines-next c.loop-before.auction _ _ _ _ _ _ _ c.loop-before-test.true config c.apply_call-reply.ensures.reply is in
     prints_among _ c.from_residual.ensures.0 next printed c.in_err-print_uncross.ensures
 
 pub loop-before-preserved : goal.loop-before-preserved
 loop-before-preserved g c =
     let (config, calls, end, front, is, printed) = c.loop-before.invariant in
     let next =
-    lines-next c.loop-before.auction _ _ _ _ _ _ _ c.loop-before-test.true config c.apply-reply.ensures.reply is in (
-      rw c.apply-reply.ensures.state config,
-      rw c.apply-reply.ensures.state (omega (arith, calls)),
-      rw (c.apply-reply.ensures.state, config) (sym (state_at_end-next _ _ _ _ _ c.loop-before-test.true) ∙ end),
+    lines-next c.loop-before.auction _ _ _ _ _ _ _ c.loop-before-test.true config c.apply_call-reply.ensures.reply
+    is in (
+      rw c.apply_call-reply.ensures.state config,
+      rw c.apply_call-reply.ensures.state (omega (arith, calls)),
+      rw (c.apply_call-reply.ensures.state, config) (sym (state_at_end-next _ _ _ _ _ c.loop-before-test.true) ∙ end),
       _,
-      rw (c.apply-reply.ensures.state, config) (append_assoc front _ _ ∙ next),
+      rw (c.apply_call-reply.ensures.state, config) (append_assoc front _ _ ∙ next),
       prints_more {r = Ok tt} printed c.in_ok-print_uncross.ensures,
     )
 

@@ -47,7 +47,7 @@ returns-in_err-print_finding-clause-printed g c =
     let inside : c.loop-before.before < length day.texts = rw c.requires.even left in
     let call = ap (λ (calls : List Call). get_or calls c.loop-before.before _) c.deref-call-items.ensures.value in
     let answer = answer_at-is c.loop-before.self.auction day _ _ _ _ _ config inside c.text_at-text.ensures call
-    c.apply-reply.ensures.reply in
+    c.apply_call-reply.ensures.reply in
     let begun = difference-printed refl answer c.finding_of-finding.ensures.finding c.in_err-print_finding.ensures in
     prints_among _ c.from_residual.ensures.0
     (differences-next day _ _ _ _ _ left c.requires.even is) printed begun
@@ -61,13 +61,13 @@ loop-before-preserved g c =
     let inside : c.loop-before.before < length day.texts = rw c.requires.even left in
     let call = ap (λ (calls : List Call). get_or calls c.loop-before.before _) c.deref-call-items.ensures.value in
     let answer = answer_at-is c.loop-before.self.auction day _ _ _ _ _ config inside c.text_at-text.ensures call
-    c.apply-reply.ensures.reply in
+    c.apply_call-reply.ensures.reply in
     let finding = c.finding_of-finding.ensures.finding ∙ ap finding_of answer in
     let done = difference-printed refl answer c.finding_of-finding.ensures.finding c.in_ok-print_finding.ensures in
-    let state = state_at-is _ _ day _ _ _ config call c.apply-reply.ensures.state in (
+    let state = state_at-is _ _ day _ _ _ config call c.apply_call-reply.ensures.state in (
       journal,
-      rw c.apply-reply.ensures.state config,
-      rw c.apply-reply.ensures.state (omega (arith, calls)),
+      rw c.apply_call-reply.ensures.state config,
+      rw c.apply_call-reply.ensures.state (omega (arith, calls)),
       c.finding_of-finding.ensures.page,
       rw c.with-self.ensures (entries-counted _ _ _ entries),
       rw c.with-self.ensures (compared-counted _ _ _ compared),
