@@ -1,5 +1,6 @@
 /* Prints what the calls of libcallauction take from C that bench/python_calls.py makes from Python, in nanoseconds: an
- * entry, a question, and a command of a thousand at a time. A line is the mean of a thousand calls, or commands. */
+ * entry, a question, a command of a thousand at a time, and an entry on a board. A line is the mean of a thousand
+ * calls, or commands. */
 #include <callauction.h>
 #include <stdio.h>
 #include <stdlib.h>
@@ -94,9 +95,28 @@ static void measure_apply_many(void) {
     want(callauction_close(&auction));
 }
 
+static void measure_board(void) {
+    static const callauction_config config = {1, 1000, 500, 65536, 1048576, 0, 0};
+    callauction_member members[2] = {0};
+    callauction_receipt receipt;
+    want(callauction_board_open(members, 2, &config));
+    for (uint32_t first = 0; first < CALLS; first += AT_ONCE) {
+        double start = now();
+        for (uint32_t k = first; k < first + AT_ONCE; k++) {
+            callauction_command command = order(CALLAUCTION_SIDE_BID, 1 + k * 7919 % 1000);
+            command.member = 0;
+            want(callauction_board_call(&members[1], &command, &receipt));
+        }
+        took[first / AT_ONCE] = now() - start;
+    }
+    print("board-enter");
+    for (int number = 0; number < 2; number++) callauction_board_leave(&members[number]);
+}
+
 int main(void) {
     measure_enter();
     measure_indicate();
     measure_apply_many();
+    measure_board();
     return 0;
 }

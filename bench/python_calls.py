@@ -1,10 +1,11 @@
-"""Prints what the calls of an auction take from Python, in nanoseconds: those of bench/python.c, a
-line being the mean of a thousand calls, or commands. `bench/bench python` runs it.
+"""Prints what the calls of an auction and of a board take from Python, in nanoseconds: those of
+bench/python.c, a line being the mean of a thousand calls, or commands. `bench/bench python` runs
+it.
 """
 import time
 
 import numpy
-from callauction import COMMAND, REPLY, Auction, CommandTag, Entered, Price, ReplyTag, Side
+from callauction import COMMAND, REPLY, Auction, Board, CommandTag, Entered, Price, ReplyTag, Side
 from callauction.arrays import Structs
 
 CALLS, STANDING, AT_ONCE = 50_000, 1_000, 1_000
@@ -76,7 +77,21 @@ def measure_apply_many() -> None:
     show("apply-many", took)
 
 
+def measure_board() -> None:
+    took = []
+    board = Board(2, reference=500, max_open=65_536, max_calls=1_048_576)
+    enter, side = board[1].enter, Side.BID
+    for limits in THOUSANDS:
+        start = time.perf_counter_ns()
+        for limit in limits:
+            receipt = enter(side, 100, limit)
+        took.append(time.perf_counter_ns() - start)
+    assert receipt.reply == Entered(CALLS)
+    show("board-enter", took)
+
+
 if __name__ == "__main__":
     measure_enter()
     measure_indicate()
     measure_apply_many()
+    measure_board()

@@ -16,6 +16,7 @@ VERSION = (3, 11)
 PACKAGES = {
     "mypy": "mypy",
     "Python.h": "python3-dev",
+    "prometheus_client": "python3-prometheus-client",
     "pytest_aiohttp": "python3-pytest-aiohttp",
 }
 """Debian's package of a module, or of a header, whose name isn't python3-MODULE."""

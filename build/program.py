@@ -1,5 +1,7 @@
 #!/usr/bin/env python3
-"""Proves and builds the program, with progress on standard error: `build/program.py`.
+"""Proves and builds crates, with progress on standard error: `build/program.py [CRATE..]`.
+
+Builds the program where no crate is named, and whatever is below.
 
 Crates that don't use each other are proved at once, as cores and memory allow. Those with the
 longest way to the program above them have all cores (at most four jobs), and what is proved beside
@@ -9,8 +11,9 @@ out/build/rooms/CRATE, with a copy of its text and of what was built below it, a
 there is moved to the crate's own out/. On a terminal one line is rewritten; elsewhere each crate
 has a line of its own. What is proved is kept, so a build that was interrupted goes on where it
 stopped. How long each crate took is kept in out/build/seconds.txt, and the log of each in
-out/build/CRATE.log. The status is 0 where the program is built, 1 where a crate failed, which is
-named with its log, and 2 where a build can't begin.
+out/build/CRATE.log. A new clone takes build/seconds.txt for it, which `build/program.py
+--keep-seconds` makes of a run's. The status is 0 where all is built, 1 where a crate failed, which
+is named with its log, and 2 where a build can't begin.
 """
 import argparse
 import contextlib
@@ -18,7 +21,6 @@ import dataclasses
 import fcntl
 import os
 import pathlib
-import re
 import shutil
 import signal
 import subprocess
@@ -26,44 +28,18 @@ import sys
 import time
 from collections.abc import Iterator
 
+from machine import GIB_OF_A_CHECK, clock_text, cores, free_gib, plural
+from toolchain import crate_lines, crates_below, is_program
+
 TOP = pathlib.Path(__file__).resolve().parent.parent
 PROGRAM = "callboard"
-BUILT = TOP / "crates" / PROGRAM / "out" / PROGRAM
 LOGS = TOP / "out/build"
 SECONDS = LOGS / "seconds.txt"
 ROOMS = LOGS / "rooms"
 NO_CRATES_HERE = ROOMS / "MODULE.bazel"  # a file that keeps `rt ci` out of the rooms
-GIB = 2**30
-GIB_OF_A_CHECK = 4
+KEPT_SECONDS = TOP / "build/seconds.txt"
 MOST_JOBS = 4  # that one crate can use
-UNKNOWN_SECONDS = 60.0  # taken for a crate that isn't among these
-USUAL_SECONDS = {
-    "auction": 240.0,
-    "auction_terms": 60.0,
-    "allocation": 50.0,
-    "board_terms": 60.0,
-    "byte_streams": 20.0,
-    "member_board": 240.0,
-    "callboard": 240.0,
-    "day_audit": 60.0,
-    "day_tables": 200.0,
-    "input_hints": 30.0,
-    "journal": 120.0,
-    "lane_prefix": 20.0,
-    "lane_select": 30.0,
-    "live_session": 60.0,
-    "member_floor": 60.0,
-    "order_book": 50.0,
-    "order_file": 100.0,
-    "price_rules": 60.0,
-    "printed_lines": 70.0,
-    "reply_list": 25.0,
-    "settings": 150.0,
-    "tick_ladder": 75.0,
-}
-"""About how long each crate takes, in seconds: which has the longest way to the program."""
-USUAL_PROCESSOR_SECONDS = 3_900.0
-"""About how long one core takes for all crates."""
+UNKNOWN = 60.0  # seconds taken for a crate that no run has proved
 BESIDE_JOBS = 2  # of a crate that is proved beside those with the longest way
 NEAR_LONGEST = 0.9  # a way that counts among the longest, as a part of the longest
 TURN = 0.2  # seconds between two looks at what runs
@@ -74,68 +50,61 @@ class CannotBuild(Exception):
     """Why a build can't begin, or which crate failed and where its log is."""
 
 
-def crate_lines(top: pathlib.Path) -> dict[str, str]:
-    """The line of crates.txt of each crate of the repository. Raises OSError."""
-    lines = (top / "crates.txt").read_text(encoding="utf-8").splitlines(keepends=True)
-    found = [line for line in lines if line.strip() and not line.startswith("#")]
-    return {line.partition(":")[0].split()[0]: line for line in found}
-
-
-def crates_below(top: pathlib.Path, program: str) -> dict[str, list[str]]:
-    """The program's crate and those of the repository that it uses, lowest first, each with
-    those that it names. Raises OSError.
+@dataclasses.dataclass(frozen=True)
+class Took:
+    """What a crate took at its last whole proof, in seconds, beside others, and in the processor's
+    seconds.
     """
-    named = {name: line.partition(":")[2].split() for name, line in crate_lines(top).items()}
-    wanted = [program, *(name for name in named[program] if name in named)]
-    own = {name: [it for it in named[name] if it in named] for name in wanted}
-    return {name: own[name] for name in sorted(own, key=lambda name: len(own[name]))}
+
+    seconds: float = UNKNOWN
+    processor: float = UNKNOWN
 
 
-def known_seconds() -> dict[str, float]:
-    """How long each crate took here at its last whole proof, in seconds, where that is known."""
-    try:
-        rows = [line.split() for line in SECONDS.read_text(encoding="utf-8").splitlines()]
-    except OSError:
-        return {}
-    return {row[0]: float(row[1]) for row in rows if len(row) == 2}
-
-
-def seconds_to_top(crates: dict[str, list[str]], known: dict[str, float]) -> dict[str, float]:
-    """For each crate how long the longest chain from it up to the program takes, in seconds."""
-    found: dict[str, float] = {}
-    for name in reversed(crates):
-        above = [found[it] for it in found if name in crates[it]]
-        own = known.get(name, USUAL_SECONDS.get(name, UNKNOWN_SECONDS))
-        found[name] = own + max(above, default=0.0)
+def seconds_in(file: pathlib.Path) -> dict[str, Took]:
+    """What each crate took by a file; none where there is no such file, or it is none of these. A
+    row without the processor's seconds has the others for them.
+    """
+    found = {}
+    with contextlib.suppress(OSError, ValueError):
+        for line in file.read_text(encoding="utf-8").splitlines():
+            name, *numbers = line.partition("#")[0].split() or [""]
+            if numbers:
+                found[name] = Took(float(numbers[0]), float(numbers[-1]))
     return found
 
 
-def free_gib() -> float:
-    """The memory that is free, in GiB; unknown counts as plenty."""
-    try:
-        text = pathlib.Path("/proc/meminfo").read_text(encoding="ascii")
-    except OSError:
-        return float("inf")
-    found = re.search(r"MemAvailable:\s+(\d+) kB", text)
-    return int(found[1]) * 1024 / GIB if found else float("inf")
+def write_seconds(file: pathlib.Path, of: dict[str, Took], head: str = "") -> None:
+    """Writes what each crate took, those of the repository in its order. Raises OSError."""
+    rows = [f"{it} {of[it].seconds:.1f} {of[it].processor:.1f}\n" for it in of]
+    file.write_text(head + "".join(rows), encoding="utf-8")
 
 
-def clock_text(seconds: float) -> str:
-    """A time as minutes and seconds."""
-    return f"{int(seconds) // 60}:{int(seconds) % 60:02}"
+def keep_seconds() -> None:
+    """Makes the list for new clones, of what is known here. Raises OSError, CannotBuild."""
+    here = seconds_in(SECONDS)
+    known = {name: here[name] for name in crate_lines(TOP) if name in here}
+    if not known:
+        raise CannotBuild(f"no run has written {SECONDS} yet")
+    head = f"# By build/program.py --keep-seconds, of a run on {plural(cores(), 'core')}:\n"
+    head += "# each crate, its seconds beside others, and the processor's.\n"
+    write_seconds(KEPT_SECONDS, known, head)
 
 
-def plural(count: int, word: str) -> str:
-    """A count of things with their word."""
-    return f"{count} {word}" + ("" if count == 1 else "s")
+def seconds_to_top(crates: dict[str, list[str]], known: dict[str, Took]) -> dict[str, float]:
+    """For each crate how long the longest chain from it to the top takes, in seconds."""
+    found: dict[str, float] = {}
+    for name in reversed(crates):
+        above = [found[it] for it in found if name in crates[it]]
+        found[name] = known.get(name, Took()).seconds + max(above, default=0.0)
+    return found
 
 
 class Progress:
     """The line on a terminal, or a line a crate elsewhere."""
 
-    def __init__(self, count: int, last: float | None) -> None:
+    def __init__(self, count: int, about: float) -> None:
         self.count, self.begin = count, time.monotonic()
-        self.last = f", last time {clock_text(last)}" if last else ""
+        self.about = f" of about {clock_text(about)}"
         self.is_terminal = sys.stderr.isatty()
 
     def say(self, text: str) -> None:
@@ -148,7 +117,7 @@ class Progress:
         if self.is_terminal:
             since = clock_text(time.monotonic() - self.begin)
             names = ", ".join(running)
-            text = f"callboard: proving {names} ({done} of {self.count} done), {since}{self.last}"
+            text = f"callboard: proving {names} ({done} of {self.count} done), {since}{self.about}"
             width = shutil.get_terminal_size().columns - 1
             print(f"\r\033[K{text[:width]}", end="", file=sys.stderr, flush=True)
 
@@ -160,7 +129,8 @@ class Progress:
 
     def end(self) -> None:
         """That all is built."""
-        self.say(f"proved and built in {clock_text(time.monotonic() - self.begin)}")
+        took = clock_text(time.monotonic() - self.begin)
+        self.say(f"proved and built in {took} on {plural(cores(), 'core')}")
 
 
 def link(one: str, other: str) -> str:
@@ -182,12 +152,12 @@ def link_folder(one: pathlib.Path, other: pathlib.Path) -> None:
 
 class Room:
     """Where a crate is proved: a folder with its text, that of the crates below it, and what was
-    built of these. Raises OSError.
+    built of these, among other rooms. Raises OSError.
     """
 
-    def __init__(self, name: str) -> None:
+    def __init__(self, name: str, rooms: pathlib.Path = ROOMS) -> None:
         self.name = name
-        self.top = ROOMS / name
+        self.top = rooms / name
         self.crate = self.top / "crates" / name
 
     def furnish(self, below: list[str]) -> None:
@@ -238,10 +208,21 @@ class Running:
     lock: contextlib.ExitStack
     begin: float
 
-    def stop(self) -> None:
-        """Ends it where it runs, and keeps what was done."""
+    def ended(self) -> tuple[int, float] | None:
+        """Its status and the processor's seconds for it, once it has ended."""
+        ended, status, usage = os.wait4(self.child.pid, os.WNOHANG)
+        if not ended:
+            return None
+        self.child.returncode = os.waitstatus_to_exitcode(status)
+        return self.child.returncode, usage.ru_utime + usage.ru_stime
+
+    def ask(self) -> None:
+        """Asks it to end."""
         with contextlib.suppress(ProcessLookupError):
             os.killpg(self.child.pid, signal.SIGTERM)
+
+    def stop(self) -> None:
+        """Waits until it has ended, and keeps what was done. Raises OSError."""
         self.child.wait()
         self.end()
 
@@ -262,7 +243,7 @@ def start(name: str, below: list[str], jobs: int, is_first: bool) -> Running | N
             return None
         room = Room(name)
         room.furnish(below)
-        words = ["rt", "run" if name == PROGRAM else "lib", "--jobs", str(jobs)]
+        words = ["rt", "run" if is_program(TOP, name) else "lib", "--jobs", str(jobs)]
         with open(LOGS / f"{name}.log", "wb") as log:
             child = subprocess.Popen(
                 words if is_first else ["nice", *words],
@@ -273,26 +254,27 @@ def start(name: str, below: list[str], jobs: int, is_first: bool) -> Running | N
                 process_group=0,
             )
         return Running(child, room, lock.pop_all(), time.monotonic())
+    return None
 
 
 class Build:
     """The crates that are still to be proved, those that are being proved, and what is done."""
 
     def __init__(self, crates: dict[str, list[str]]) -> None:
-        self.crates, self.known = crates, known_seconds()
-        self.to_top = seconds_to_top(crates, self.known)
+        self.crates, self.here = crates, seconds_in(SECONDS)
+        known = seconds_in(KEPT_SECONDS) | self.here
+        self.to_top = seconds_to_top(crates, known)
         self.done: set[str] = set()
         self.running: dict[str, Running] = {}
-        is_known = all(name in self.known for name in crates)
-        longest = max(self.to_top.values())
-        last = longest if is_known else None
-        self.progress = Progress(len(crates), last)
-        self.cores = len(os.sched_getaffinity(0))
+        self.cores = cores()
         self.most = max(1, min(self.cores, int(free_gib() // GIB_OF_A_CHECK)))
-        about = last or max(longest, USUAL_PROCESSOR_SECONDS / self.cores)
-        known = "as the last time here" if last else "where nothing is proved yet"
-        minutes, cores = max(1, round(about / 60)), plural(self.cores, "core")
-        self.progress.say(f"about {plural(minutes, 'minute')} on {cores}, {known}")
+        processor = sum(known.get(name, Took()).processor for name in crates)
+        about = max(*self.to_top.values(), processor / self.cores)
+        self.progress = Progress(len(crates), about)
+        is_known = all(name in self.here for name in crates)
+        how = "as the last time here" if is_known else "as a run elsewhere took"
+        minutes = plural(max(1, round(about / 60)), "minute")
+        self.progress.say(f"about {minutes} on {plural(self.cores, 'core')}, {how}")
 
     def ready(self) -> list[str]:
         """The crates that can be begun, the longest way to the program first."""
@@ -323,31 +305,35 @@ class Build:
     def take_in(self) -> None:
         """Takes in the crates that have ended. Raises CannotBuild where one failed, and OSError."""
         for name, it in [*self.running.items()]:
-            status = it.child.poll()
-            if status is None:
+            ended = it.ended()
+            if ended is None:
                 continue
             del self.running[name]
             it.end()
-            if status != 0:
+            if ended[0] != 0:
                 raise CannotBuild(f"{name} isn't proved: see {LOGS / name}.log")
             self.done.add(name)
-            self.keep_seconds(name, time.monotonic() - it.begin)
+            self.learn(name, Took(time.monotonic() - it.begin, ended[1]))
             self.progress.crate_done(name, len(self.done), time.monotonic() - it.begin)
 
-    def keep_seconds(self, name: str, seconds: float) -> None:
-        """Writes down how long a crate took, where it was more than a look at what was kept."""
-        if seconds > self.known.get(name, 0.0) / 2:
-            self.known[name] = seconds
-            rows = [f"{it} {self.known[it]:.1f}\n" for it in self.crates if it in self.known]
-            SECONDS.write_text("".join(rows), encoding="utf-8")
+    def learn(self, name: str, took: Took) -> None:
+        """Writes down what a crate took, where it was more than a look at what was kept. Raises
+        OSError.
+        """
+        if took.processor > self.here.get(name, Took(0.0, 0.0)).processor / 2:
+            self.here[name] = took
+            known = {it: self.here[it] for it in crate_lines(TOP) if it in self.here}
+            write_seconds(SECONDS, known)
 
     def stop(self) -> None:
         """Ends what runs, and keeps what was done. Raises OSError."""
+        for it in self.running.values():
+            it.ask()
         while self.running:
             self.running.popitem()[1].stop()
 
     def run(self) -> None:
-        """Proves and builds all. The program then counts as made when the build began, also where
+        """Proves and builds all. A program then counts as made when the build began, also where
         nothing of it had changed. Raises CannotBuild, OSError.
         """
         begin = time.time()
@@ -359,29 +345,58 @@ class Build:
                 self.take_in()
         finally:
             self.stop()
-        os.utime(BUILT, (begin, begin))
+        for name in self.crates:
+            if is_program(TOP, name):
+                os.utime(TOP / "crates" / name / "out" / name, (begin, begin))
         self.progress.end()
 
 
 def interrupt(number: int, frame: object) -> None:
-    """Ends the build as Ctrl-C does, so that nothing of it is left running."""
+    """Ends the build, once, so that nothing of it is left running and all that was done is kept."""
+    for it in (signal.SIGINT, signal.SIGTERM):
+        signal.signal(it, lambda number, frame: None)
     raise KeyboardInterrupt
+
+
+def build(names: list[str]) -> None:
+    """Proves and builds these crates, and whatever is below. Raises CannotBuild, OSError,
+    KeyboardInterrupt.
+    """
+    if shutil.which("rt") is None:
+        raise CannotBuild("there is no rt: put the toolchain on the path")
+    lines = crate_lines(TOP)
+    for name in names:
+        if name not in lines:
+            raise CannotBuild(f"crates.txt has no crate {name}")
+    ROOMS.mkdir(parents=True, exist_ok=True)
+    NO_CRATES_HERE.touch()
+    try:
+        for left in [it.name for it in ROOMS.iterdir() if it.is_dir() and it.name in lines]:
+            with held(left) as is_free:  # where no other build works in it: one was killed
+                if is_free:
+                    Room(left).take_back()
+        Build(crates_below(TOP, *names)).run()
+    finally:
+        with contextlib.suppress(OSError):
+            if [*ROOMS.iterdir()] == [NO_CRATES_HERE]:  # `rt ci` refuses such a file
+                NO_CRATES_HERE.unlink()
+                ROOMS.rmdir()
 
 
 def main() -> int:
     parser = argparse.ArgumentParser(
-        prog="build/program.py", description="Proves and builds the program."
+        prog="build/program.py", description="Proves and builds crates, the program first of all."
     )
-    parser.parse_args()
-    signal.signal(signal.SIGTERM, interrupt)
+    parser.add_argument("crates", nargs="*", metavar="CRATE", help="the program, where none is")
+    parser.add_argument(
+        "--keep-seconds", action="store_true", help="make build/seconds.txt of what is known here"
+    )
+    asked = parser.parse_args()
+    for it in (signal.SIGINT, signal.SIGTERM):
+        if signal.getsignal(it) is not signal.SIG_IGN:
+            signal.signal(it, interrupt)
     try:
-        if shutil.which("rt") is None:
-            raise CannotBuild("there is no rt: put the toolchain on the path")
-        ROOMS.mkdir(parents=True, exist_ok=True)
-        NO_CRATES_HERE.touch()
-        for left in [it for it in ROOMS.iterdir() if it.is_dir()]:  # by a build that was killed
-            Room(left.name).take_back()
-        Build(crates_below(TOP, PROGRAM)).run()
+        keep_seconds() if asked.keep_seconds else build(asked.crates or [PROGRAM])
     except CannotBuild as fault:
         print(f"callboard: {fault}", file=sys.stderr)
         return 1

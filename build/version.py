@@ -1,12 +1,17 @@
 #!/usr/bin/env python3
-"""The version: `build/version.py` prints it. It is written in one place, the source of the program,
-which prints it for --version; all else is made from there, and CHANGELOG.md is compared with it.
+"""The version: `build/version.py [--release]` prints it. It is written in one place, the source of
+the program, which prints it for --version; all else is made from there, and CHANGELOG.md is
+compared with it. With --release it has the commit, as 2026.11.26+g8026dcd.
 """
 import pathlib
 import re
+import subprocess
+import sys
 
-SOURCE = pathlib.Path(__file__).resolve().parent.parent / "crates/settings/src/options.rt"
+TOP = pathlib.Path(__file__).resolve().parent.parent
+SOURCE = TOP / "crates/settings/src/options.rt"
 CONSTANT = re.compile(r'^const VERSION: &str = "([0-9.]+)";$', re.MULTILINE)
+DIGITS = 7
 
 
 def version() -> str:
@@ -17,5 +22,19 @@ def version() -> str:
     return found[1]
 
 
+def release_version() -> str:
+    """The version of a release: with the commit, and `changed` where files of it are, or where
+    there are others. Raises what `version` raises, and CalledProcessError.
+    """
+
+    def of_git(*words: str) -> str:
+        ran = subprocess.run(["git", *words], cwd=TOP, capture_output=True, text=True, check=True)
+        return ran.stdout.strip()
+
+    commit = of_git("rev-parse", f"--short={DIGITS}", "HEAD")
+    changed = of_git("status", "--porcelain")
+    return f"{version()}+g{commit}{'.changed' if changed else ''}"
+
+
 if __name__ == "__main__":
-    print(version())
+    print(release_version() if sys.argv[1:] == ["--release"] else version())

@@ -2,6 +2,7 @@
 import os
 import pathlib
 import subprocess
+import sys
 import time
 
 TOP = pathlib.Path(__file__).resolve().parent.parent
@@ -9,6 +10,7 @@ FOLDER = TOP / "crates/callboard"
 PROGRAM = FOLDER / "out/callboard"
 TESTS = FOLDER / "out/callboard_tests"
 LIBRARY = TOP / "out/library"
+ARCHIVE = LIBRARY / "libcallauction.a"
 
 
 class NotBuilt(Exception):
@@ -30,47 +32,40 @@ def is_current(file: pathlib.Path) -> bool:
     return file.is_file() and file.stat().st_mtime >= newest_source()
 
 
-def ensure(file: pathlib.Path, is_from_gate: bool) -> str:
-    """The path of PROGRAM or TESTS.
+def words_of(file: pathlib.Path) -> list[str]:
+    """The command that proves and builds PROGRAM, TESTS or ARCHIVE."""
+    if file == ARCHIVE:
+        return [str(TOP / "library/build"), str(LIBRARY)]
+    if file == TESTS:
+        return ["env", "-C", str(FOLDER), "rt", "test"]
+    return [sys.executable, str(TOP / "build/program.py")]
 
-    Where the gate has just run (`is_from_gate`), the file is the one that it proved and built, and
-    nothing else is taken for it. Else it is proved and built here (`rt run`, `rt test`) unless a
-    build newer than all sources is there.
 
-    Raises NotBuilt where that fails.
+def made(file: pathlib.Path, begin: float) -> None:
+    """What was built since this time, of the sources as they were then: one that was changed
+    meanwhile is newer. Raises NotBuilt where the file isn't there.
     """
-    if is_from_gate:
-        if not file.is_file():
-            raise NotBuilt(f"rt ci built no {file.name}")
-        return str(file)
+    if not file.is_file():
+        raise NotBuilt(f"{file.name} was not built")
+    os.utime(file, (begin, begin))
+
+
+def ensure(file: pathlib.Path) -> str:
+    """The path of PROGRAM, TESTS or ARCHIVE, which is proved and built here unless a build newer
+    than all sources is there. Raises NotBuilt where that fails.
+    """
     if not is_current(file):
-        verb = "test" if file == TESTS else "run"
-        ran = subprocess.run(
-            ["rt", verb], cwd=FOLDER, stdin=subprocess.DEVNULL, capture_output=True, text=True
-        )
-        if ran.returncode != 0 or not file.is_file():
+        begin = time.time()
+        words = words_of(file)
+        ran = subprocess.run(words, stdin=subprocess.DEVNULL, capture_output=True, text=True)
+        if ran.returncode != 0:
             last = " / ".join((ran.stdout + ran.stderr).strip().splitlines()[-3:])
-            raise NotBuilt(f"rt {verb} in crates/callboard built no {file.name}: {last}")
+            raise NotBuilt(f"{words[-1]} built no {file.name}: {last}")
+        made(file, begin)
     return str(file)
 
 
 def ensure_library() -> str:
-    """The folder of the built library, which is proved and built here (`library/build`) unless one
-    newer than all sources is there: the gate proves its crates, but leaves nothing of them that a
-    build could begin with. Raises NotBuilt where that fails.
-    """
-    archive = LIBRARY / "libcallauction.a"
-    if not is_current(archive):
-        begin = time.time()
-        ran = subprocess.run(
-            [TOP / "library/build", LIBRARY],
-            stdin=subprocess.DEVNULL,
-            capture_output=True,
-            text=True,
-        )
-        if ran.returncode != 0:
-            last = " / ".join((ran.stdout + ran.stderr).strip().splitlines()[-3:])
-            raise NotBuilt(f"library/build built no library: {last}")
-        # A source that was changed meanwhile is newer.
-        os.utime(archive, (begin, begin))
+    """The folder of the built library, as ensure() has its archive. Raises NotBuilt."""
+    ensure(ARCHIVE)
     return str(LIBRARY)

@@ -71,6 +71,14 @@ def all_edits(top: pathlib.Path = TOP) -> list[Edit]:
     return found + [Edit(file.parent.name, file, False) for file in beside]
 
 
+def kept_crates(top: pathlib.Path = TOP) -> list[str]:
+    """The crates with edits that the gate tries and with kept proofs, over which an edit takes
+    seconds to try.
+    """
+    found = dict.fromkeys(edit.crate for edit in all_edits(top) if edit.is_in_gate)
+    return [name for name in found if any((top / "crates" / name / "out/incremental").glob("*"))]
+
+
 @dataclasses.dataclass(frozen=True)
 class Row:
     """A line of checks/wrong_bodies/CRATE/meanings.txt: `EDIT[, EDIT..] | MEANING | REFUSED BY`.
@@ -93,29 +101,11 @@ class Row:
         found = re.findall(r"(?:^|, )((?:[a-z_]+/)?[A-Za-z0-9_]+)(?=,|$| \()", plain)
         return [name if "/" in name else f"{self.crate}/{name}" for name in found]
 
-    @property
-    def cells(self) -> str:
-        """The row of the document."""
-        return f"| {self.meaning} | {self.names} | {self.refused_by} |"
-
 
 CITED = re.compile(r"`(?:\w+::)?(?P<function>\w+)` \((?P<clauses>[^()]*)\)")
 """A function of the last column with what it names of its contract."""
 CLAUSE = re.compile(r"\b(?:ensures|requires) (\w+) \{|\bpub (?:(?:record|data) )?(\w+)(?= [:({])")
 """A clause of a contract; a field or a name of a definition."""
-
-HEAD = """# Wrong bodies, and what refuses each
-
-A contract is worth as much as the wrong bodies that it refuses. Each row has bodies that read well
-and are wrong. Most are edits: `X.edit` is in `crates/CRATE/must-fail`, where `rt ci` has the prover
-refuse it, or in `checks/wrong_bodies/CRATE`, where `checks/wrong-bodies` does the same, which the
-gate leaves out for its time. Where no clause refuses a body, a test fails on it. The last column
-has the function with its clause, or the law, that refuses the body.
-
-This list is made by `checks/wrong-bodies --document`, of the lines of
-`checks/wrong_bodies/CRATE/meanings.txt`.
-"""
-
 
 def crates(top: pathlib.Path) -> list[str]:
     """The crates of crates.txt, lowest first."""
@@ -138,22 +128,22 @@ def rows(top: pathlib.Path = TOP) -> list[Row]:
     return found
 
 
-def document(top: pathlib.Path = TOP) -> str:
-    """The text of docs/WRONG_BODIES.md. Raises BadEdit."""
-    text = HEAD
-    crate = ""
+def listing(names: list[str], top: pathlib.Path = TOP) -> str:
+    """What each body of these names means and what refuses it, crate by crate; all where no name
+    is given. Raises BadEdit.
+    """
+    text = crate = ""
     for row in rows(top):
-        if row.crate != crate:
-            crate = row.crate
-            text += f"\n## {crate}\n\n| Wrong body | Edit or test | Refused by |\n|---|---|---|\n"
-        text += row.cells + "\n"
+        if names and row.crate not in names and not set(names) & set(row.edits):
+            continue
+        text += f"{row.crate}\n" if row.crate != crate else ""
+        text += f"  {row.names}\n    {row.meaning}\n    refused by {row.refused_by}\n"
+        crate = row.crate
     return text
 
 
 def misfits(top: pathlib.Path = TOP) -> Iterator[str]:
-    """What is wrong with an edit or with its line of meanings, and whether the document is that of
-    the lines.
-    """
+    """What is wrong with an edit, or with its line of meanings."""
     edits = all_edits(top)
     names = [edit.name for edit in edits]
     for edit in edits:
@@ -166,8 +156,6 @@ def misfits(top: pathlib.Path = TOP) -> Iterator[str]:
     try:
         yield from wrong_rows(names, rows(top))
         yield from unknown_clauses(rows(top), top)
-        if (top / "docs/WRONG_BODIES.md").read_text(encoding="utf-8") != document(top):
-            yield "docs/WRONG_BODIES.md: run checks/wrong-bodies --document > docs/WRONG_BODIES.md"
     except (BadEdit, OSError) as fault:
         yield str(fault)
 

@@ -21,6 +21,7 @@ ERROR = re.compile(r"(?:note: )?(?:\./)?(?P<file>proofs/\S+?):\d+:\d+: error: (?
 LOST_NAME = re.compile(r"has no field|is not in scope|has no `|was not admitted")
 """What is said where a proof names what an edit took away, which shows little of the contract."""
 LAST_LINES = 20  # of a check that failed, which are printed
+CHECK = ["rt", "check"]
 
 
 @dataclasses.dataclass(frozen=True)
@@ -131,10 +132,10 @@ def is_refused(place: Place, crate: str, printed: list[str]) -> bool:
     return False
 
 
-def check(crate: pathlib.Path) -> list[str]:
-    """Checks a crate, over what earlier checks kept: the lines that are printed."""
+def check(crate: pathlib.Path, words: list[str]) -> list[str]:
+    """Checks a crate by a command, over what earlier checks kept: the lines that are printed."""
     ran = subprocess.run(
-        ["rt", "check"],
+        words,
         cwd=crate,
         stdin=subprocess.DEVNULL,
         stdout=subprocess.PIPE,
@@ -146,39 +147,45 @@ def check(crate: pathlib.Path) -> list[str]:
     return ran.stdout.splitlines()
 
 
-def printed_with(group: dict[Edit, Place], crate: pathlib.Path) -> list[str]:
+def printed_with(
+    group: dict[Edit, Place], crate: pathlib.Path, words: list[str]
+) -> list[str]:
     """What a check prints of the crate with these edits made, which are taken back after it."""
     texts = made(group, crate)
     kept = {file: file.read_text(encoding="utf-8") for file in texts}
     try:
         for file, text in texts.items():
             file.write_text(text, encoding="utf-8")
-        return check(crate)
+        return check(crate, words)
     finally:
         for file, text in kept.items():
             file.write_text(text, encoding="utf-8")
 
 
-def refused_of(group: dict[Edit, Place], crate: pathlib.Path) -> Iterator[Edit]:
+def refused_of(
+    group: dict[Edit, Place], crate: pathlib.Path, words: list[str]
+) -> Iterator[Edit]:
     """Tries the bodies of a group: those that are refused. One that doesn't compile hides what is
     said of the others, so such a group is halved.
     """
-    printed = printed_with(group, crate)
+    printed = printed_with(group, crate, words)
     if any(STATUS.match(line) for line in printed):
         yield from [it for it, place in group.items() if is_refused(place, crate.name, printed)]
     elif len(group) > 1:
         rows = [*group.items()]
-        yield from refused_of(dict(rows[: len(rows) // 2]), crate)
-        yield from refused_of(dict(rows[len(rows) // 2 :]), crate)
+        yield from refused_of(dict(rows[: len(rows) // 2]), crate, words)
+        yield from refused_of(dict(rows[len(rows) // 2 :]), crate, words)
 
 
-def refused(tried: list[Edit], crate: pathlib.Path) -> Iterator[Edit]:
-    """Tries bodies of one crate in groups: those that are refused. None is where the crate isn't
-    proved as it is.
+def refused(
+    tried: list[Edit], crate: pathlib.Path, words: list[str] = CHECK
+) -> Iterator[Edit]:
+    """Tries bodies of one crate in groups by a command: those that are refused. None is where the
+    crate isn't proved as it is.
     """
-    printed = check(crate)
+    printed = check(crate, words)
     if not printed or not printed[-1].startswith("logic=proved"):
         print("\n".join(printed[-LAST_LINES:]), flush=True)
         return
     for group in groups(tried, crate)[0]:
-        yield from refused_of(group, crate)
+        yield from refused_of(group, crate, words)

@@ -6,8 +6,9 @@
  *
  * A handle of zeros holds nothing, and each call on it but an opening answers CALLAUCTION_ERROR_NO_AUCTION, or
  * CALLAUCTION_ERROR_NO_MEMBER, and does nothing else. Each call answers CALLAUCTION_DONE or the number of an error, and
- * an error changes nothing but a count that it writes as 0 (callauction_apply_many writes how many commands it had
- * applied before one; after CALLAUCTION_ERROR_FULL on a board its member has seen at least max_calls calls).
+ * an error changes nothing but a count that it writes as 0 (callauction_apply_many and callauction_board_apply_many
+ * write how many commands they had applied before one; after CALLAUCTION_ERROR_FULL on a board its member has seen at
+ * least max_calls calls).
  *
  * docs/MODEL.md says what a command does, when it is refused and what it is answered. Limits and prices are ticks,
  * quantities whole shares. Members are numbered from 0, and member 0 is the operator, who alone uncrosses.
@@ -205,6 +206,16 @@ typedef struct callauction_order {
 /* Whose orders: those of a member, 0 to 255, or of all. */
 enum { CALLAUCTION_ALL_MEMBERS = 256 };
 
+/* Where the day of an auction is. */
+typedef struct callauction_day_state {
+    uint32_t reference;  /* the reference price: the last auction price of the day, before it the config's */
+    uint32_t calls;      /* how many commands were applied, the refused ones among them */
+    uint32_t calls_left; /* how many more may be */
+    uint8_t auction;     /* callauction_auction_kind of the current auction; 0 where in_call is 0 */
+    uint8_t in_call;     /* 1 in its call phase; 0 after the day */
+    uint8_t extended;    /* 1 where an interruption extended this call phase, which interrupts it no more */
+} callauction_day_state;
+
 /* The shares of the market orders that count. */
 typedef struct callauction_market_orders {
     uint64_t bids, asks;
@@ -286,6 +297,9 @@ CALLAUCTION_RESULT uint32_t callauction_expiring(const callauction_handle *handl
 /* Writes how many commands were applied, the refused ones among them. */
 CALLAUCTION_RESULT uint32_t callauction_calls(const callauction_handle *handle, uint32_t *calls);
 
+/* Writes where the day is, which is no call of a member. */
+CALLAUCTION_RESULT uint32_t callauction_state(const callauction_handle *handle, callauction_day_state *state);
+
 /* Writes what the auction was opened with. */
 CALLAUCTION_RESULT uint32_t callauction_config_of(const callauction_handle *handle, callauction_config *config);
 
@@ -320,27 +334,50 @@ CALLAUCTION_RESULT uint32_t callauction_board_open(callauction_member *members, 
 CALLAUCTION_RESULT uint32_t callauction_board_call(callauction_member *member, const callauction_command *command,
                                                    callauction_receipt *receipt);
 
+/* Calls commands one after another, each as callauction_board_call, up to the first error, which it answers, with the
+ * lock held all the while: no other call comes between them, so their numbers follow one another. It writes how many
+ * were recorded, and their receipts; those after stay as they were. NO_MEMBER; else BAD_LENGTH where the two counts
+ * differ; else BUSY or CLOSED, and none was called. */
+CALLAUCTION_RESULT uint32_t callauction_board_apply_many(callauction_member *member,
+                                                         const callauction_command *commands, size_t command_count,
+                                                         callauction_receipt *receipts, size_t receipt_count,
+                                                         size_t *applied);
+
 /* Writes how many calls the board has had and what is shown after them. It takes no lock and waits for nobody; only a
  * board's first look takes the lock as a call does, as calls before it spend no time on what nobody looks at; where the
  * lock is BUSY all the while it shows what the member has seen. It never goes back: all that the member has seen, its
  * own calls among it, comes before. After the board was closed it shows the last. */
 CALLAUCTION_RESULT uint32_t callauction_board_look(callauction_member *member, callauction_shown *shown);
 
-/* As callauction_ladder and callauction_trades, after as many calls as it writes, none of which the member hasn't seen
- * then. They take the lock as a call does: BUSY or CLOSED; else BAD_LENGTH, of a ladder; else BEHIND where the member
- * has seen more calls than the history has. */
+/* As callauction_ladder, callauction_trades and callauction_state, after as many calls as they write, none of which the
+ * member hasn't seen then. They take the lock as a call does: BUSY or CLOSED; else BAD_LENGTH, of a ladder; else BEHIND
+ * where the member has seen more calls than the history has. */
 CALLAUCTION_RESULT uint32_t callauction_board_ladder(callauction_member *member, uint64_t *bids, size_t bid_count,
                                                      uint64_t *asks, size_t ask_count,
                                                      callauction_market_orders *market, uint32_t *calls);
 CALLAUCTION_RESULT uint32_t callauction_board_trades(callauction_member *member, size_t seen,
                                                      callauction_trade *trades, size_t trade_count, size_t *copied,
                                                      uint32_t *calls);
+CALLAUCTION_RESULT uint32_t callauction_board_state(callauction_member *member, callauction_day_state *state);
+
+/* As callauction_orders, of the member `of` or of all, and callauction_expiring, after as many calls as they write,
+ * none of which the handle's member hasn't seen then. They have the lock, and take memory, while they run: BAD_MEMBER;
+ * else BUSY or CLOSED; else NO_MEMORY; else BEHIND as above. */
+CALLAUCTION_RESULT uint32_t callauction_board_orders(callauction_member *member, uint32_t of,
+                                                     callauction_order *orders, size_t order_count, size_t *copied,
+                                                     uint32_t *calls);
+CALLAUCTION_RESULT uint32_t callauction_board_expiring(callauction_member *member, callauction_order *orders,
+                                                       size_t order_count, size_t *copied, uint32_t *calls);
 
 /* Copies the entries of the board's history after the first `seen`, as many as there are and as fit, and writes how
  * many it copied, for a thread that writes them down while the day runs. Errors as callauction_board_trades. */
 CALLAUCTION_RESULT uint32_t callauction_board_history(callauction_member *member, size_t seen,
                                                       callauction_entry *entries, size_t entry_count,
                                                       size_t *copied);
+
+/* As callauction_clone, of the board's auction after all calls, none of which the member hasn't seen then: NO_MEMBER;
+ * else IN_USE; else BUSY or CLOSED; else NO_MEMORY; else BEHIND as above. */
+CALLAUCTION_RESULT uint32_t callauction_board_clone(callauction_member *member, callauction_handle *other);
 
 /* Writes how many calls of this member were recorded. */
 CALLAUCTION_RESULT uint32_t callauction_board_calls(const callauction_member *member, uint32_t *calls);
@@ -356,8 +393,8 @@ CALLAUCTION_RESULT uint32_t callauction_board_config_of(const callauction_member
  * answer CLOSED; give each up by callauction_board_leave. BAD_LENGTH where there is no handle; else NO_MEMBER where the
  * first holds none; else BAD_LENGTH where the history has room for fewer than max_calls entries, or the counts aren't
  * as many as the members; else BUSY, or CLOSED at a second close; else MISSING_MEMBER where the handles aren't as many
- * as the members; else the error of the first handle that has one: NO_MEMBER, MISSING_MEMBER where its member has
- * another number than its place, BEHIND where the account doesn't agree. */
+ * as the members; else the error of the first handle that has one: NO_MEMBER, MISSING_MEMBER where its member is one of
+ * another board than the first or has another number than its place, BEHIND where the account doesn't agree. */
 CALLAUCTION_RESULT uint32_t callauction_board_close(callauction_member *members, size_t member_count,
                                                     callauction_entry *entries, size_t entry_count, uint32_t *counts,
                                                     size_t count_count, size_t *written);
@@ -383,6 +420,19 @@ static inline uint32_t callauction_board_call_waiting(pthread_mutex_t *mutex, ca
 {
     pthread_mutex_lock(mutex);
     const uint32_t answer = callauction_board_call(member, command, receipt);
+    pthread_mutex_unlock(mutex);
+    return answer;
+}
+
+/* The same of callauction_board_apply_many. */
+static inline uint32_t callauction_board_apply_many_waiting(pthread_mutex_t *mutex, callauction_member *member,
+                                                            const callauction_command *commands, size_t command_count,
+                                                            callauction_receipt *receipts, size_t receipt_count,
+                                                            size_t *applied)
+{
+    pthread_mutex_lock(mutex);
+    const uint32_t answer =
+        callauction_board_apply_many(member, commands, command_count, receipts, receipt_count, applied);
     pthread_mutex_unlock(mutex);
     return answer;
 }
@@ -460,6 +510,13 @@ CALLAUCTION_AT(order, member, 32);
 CALLAUCTION_AT(order, side, 33);
 CALLAUCTION_AT(order, restriction, 34);
 CALLAUCTION_AT(order, has_limit, 35);
+CALLAUCTION_SIZE(day_state, 16);
+CALLAUCTION_AT(day_state, reference, 0);
+CALLAUCTION_AT(day_state, calls, 4);
+CALLAUCTION_AT(day_state, calls_left, 8);
+CALLAUCTION_AT(day_state, auction, 12);
+CALLAUCTION_AT(day_state, in_call, 13);
+CALLAUCTION_AT(day_state, extended, 14);
 CALLAUCTION_SIZE(market_orders, 16);
 CALLAUCTION_AT(market_orders, bids, 0);
 CALLAUCTION_AT(market_orders, asks, 8);

@@ -5,8 +5,10 @@
 // what it is answered, callauction.h what each call does. Limits and prices are ticks, quantities whole shares.
 //
 // A call answers a Result: a value, or the Error that callauction.h names. It throws std::bad_alloc where memory is
-// refused, and nothing else. Numbers are given as std::int64_t and checked: where one doesn't fit its field of a
-// struct, as 256 for a member, the call answers Error::no_command, or Error::no_config, and does nothing.
+// refused, and nothing else; Result::value throws BadResult for an error. Numbers are given as a Whole, which takes
+// integers alone, so that a price in money, a truth value or a letter doesn't compile (Ticks has the tick of a
+// price). They are checked: where one doesn't fit its field of a struct, as 256 for a member, the call answers
+// Error::no_command, or Error::no_config, and does nothing.
 #ifndef CALLAUCTION_HPP
 #define CALLAUCTION_HPP
 
@@ -14,12 +16,16 @@
 
 #include <cstddef>
 #include <cstdint>
+#include <cstdlib>
+#include <exception>
 #include <limits>
 #include <memory>
 #include <mutex>
 #include <new>
 #include <optional>
+#include <string_view>
 #include <thread>
+#include <type_traits>
 #include <utility>
 #include <variant>
 #include <vector>
@@ -27,6 +33,31 @@
 namespace callauction {
 
 // ---- numbers
+
+namespace detail {
+
+// Whether a type is one of numbers that aren't cut: no bool, no letter.
+template <typename T>
+inline constexpr bool is_integer = std::is_integral_v<T> && !std::is_same_v<T, bool> && !std::is_same_v<T, char>
+    && !std::is_same_v<T, wchar_t> && !std::is_same_v<T, char16_t> && !std::is_same_v<T, char32_t>;
+
+} // namespace detail
+
+// A whole number. Of what isn't an integer none can be made. One above the greatest std::int64_t counts as -1, which
+// no field takes.
+class Whole {
+public:
+    template <typename T, std::enable_if_t<detail::is_integer<T>, int> = 0>
+    constexpr Whole(T number)
+        : number_(number > T{0} && static_cast<std::uint64_t>(number) > std::uint64_t{INT64_MAX}
+                  ? -1 : static_cast<std::int64_t>(number)) {}
+    template <typename T, std::enable_if_t<!detail::is_integer<T>, int> = 0> Whole(T) = delete;
+
+    constexpr operator std::int64_t() const { return number_; }
+
+private:
+    std::int64_t number_;
+};
 
 enum class Error : std::uint32_t {
     bad_bounds = CALLAUCTION_ERROR_BAD_BOUNDS,
@@ -83,6 +114,32 @@ inline const char *text(Refusal refusal) { return callauction_refusal_text(stati
 
 // ---- results
 
+// What Result::value throws where there is no value.
+class BadResult : public std::exception {
+public:
+    explicit BadResult(Error error) : error_(error) {}
+
+    Error error() const { return error_; }
+    const char *what() const noexcept override { return text(error_); }
+
+private:
+    Error error_;
+};
+
+namespace detail {
+
+// Throws, or ends the program where exceptions are off.
+template <typename T, typename Exception> [[noreturn]] T fail(const Exception &exception) {
+#ifdef __cpp_exceptions
+    throw exception;
+#else
+    static_cast<void>(exception);
+    std::abort();
+#endif
+}
+
+} // namespace detail
+
 // A value, or why there is none.
 template <typename T> class [[nodiscard]] Result {
 public:
@@ -99,6 +156,10 @@ public:
     T *operator->() { return std::get_if<0>(&answer_); }
     const T *operator->() const { return std::get_if<0>(&answer_); }
 
+    // The same, but where there is none it throws BadResult, or ends the program where exceptions are off.
+    T value() const & { return has_value() ? **this : detail::fail<T>(BadResult(error())); }
+    T value() && { return has_value() ? *std::move(*this) : detail::fail<T>(BadResult(error())); }
+
     // The error, where there is no value; undefined else.
     Error error() const { return *std::get_if<1>(&answer_); }
 
@@ -107,6 +168,61 @@ private:
 };
 
 struct Done {};
+
+// ---- prices in money
+
+// The prices of an instrument as ticks: tick t is t times the tick size. Nothing is rounded.
+//
+//     const auto cents = callauction::Ticks::by("0.01").value();
+//     auction.apply(1, callauction::Enter{callauction::Side::bid, 500, cents.of("199.75").value()});
+class Ticks {
+public:
+    // By a tick size in money, as "0.01". Error::no_config where that isn't a decimal number above 0 and below
+    // 1,000,000,000 with at most nine decimals.
+    static Result<Ticks> by(std::string_view size) {
+        const auto found = units_of(size);
+        if (!found || *found == 0) return Error::no_config;
+        return Ticks(*found);
+    }
+
+    // The tick of a price in money, as "199.75". Error::no_command where that is no such number, or lies between two
+    // ticks.
+    Result<Whole> of(std::string_view price) const {
+        const auto found = units_of(price);
+        if (!found || *found % size_ != 0) return Error::no_command;
+        return Whole(*found / size_);
+    }
+
+private:
+    static constexpr int decimals = 9;
+
+    explicit Ticks(std::int64_t size) : size_(size) {}
+
+    // A decimal number in units of a billionth.
+    static std::optional<std::int64_t> units_of(std::string_view text) {
+        const auto point = text.find('.');
+        const auto whole = text.substr(0, point);
+        auto part = point == std::string_view::npos ? std::string_view("0") : text.substr(point + 1);
+        while (part.size() > 1 && part.back() == '0') part.remove_suffix(1);
+        if (whole.empty() || whole.size() > decimals || part.empty() || part.size() > decimals) return std::nullopt;
+        const auto before = digits_of(whole, whole.size()), behind = digits_of(part, decimals);
+        if (!before || !behind) return std::nullopt;
+        return *before * 1'000'000'000 + *behind;
+    }
+
+    // Digits, followed by as many zeros as are lacking.
+    static std::optional<std::int64_t> digits_of(std::string_view text, std::size_t count) {
+        std::int64_t found = 0;
+        for (std::size_t place = 0; place < count; place++) {
+            const char digit = place < text.size() ? text[place] : '0';
+            if (digit < '0' || digit > '9') return std::nullopt;
+            found = found * 10 + (digit - '0');
+        }
+        return found;
+    }
+
+    std::int64_t size_;
+};
 
 // Structs one after another, which somebody else owns.
 template <typename T> class Span {
@@ -128,40 +244,40 @@ private:
 // ---- what an auction is opened with, commands, replies
 
 struct Config {
-    std::int64_t low = 1, high = 1000;         // ticks
-    std::int64_t reference = 200;              // the first reference price, a tick
-    std::int64_t max_open = 4096;              // orders that may be open at a time
-    std::int64_t max_calls = 65536;            // commands that may be applied
-    std::optional<std::int64_t> range = {};    // a price further from the reference interrupts an uncross
+    Whole low = 1, high = 1000;         // ticks
+    Whole reference = 200;              // the first reference price, a tick
+    Whole max_open = 4096;              // orders that may be open at a time
+    Whole max_calls = 65536;            // commands that may be applied
+    std::optional<Whole> range = {};    // a price further from the reference interrupts an uncross
 };
 
 // An order without a limit is a market order, one with a peak an iceberg order.
 struct Enter {
     Side side;
-    std::int64_t quantity;
-    std::optional<std::int64_t> limit = {};
-    std::optional<std::int64_t> peak = {};
+    Whole quantity;
+    std::optional<Whole> limit = {};
+    std::optional<Whole> peak = {};
     Restriction restriction = Restriction::none;
 };
 
 struct Change {
-    std::int64_t id;
-    std::int64_t quantity;
-    std::optional<std::int64_t> limit = {};
+    Whole id;
+    Whole quantity;
+    std::optional<Whole> limit = {};
 };
 
 struct Delete {
-    std::int64_t id;
+    Whole id;
 };
 
 struct OrderStatus {
-    std::int64_t id;
+    Whole id;
 };
 
 struct Indicate {};
 
 struct ReadTrade {
-    std::int64_t number; // from 1 on
+    Whole number; // from 1 on
 };
 
 struct Uncross {};
@@ -218,10 +334,11 @@ using Display = std::variant<Price, NoPrice>;
 
 namespace detail {
 
-// What a call answered: nothing where it was done. Throws std::bad_alloc where memory was refused.
+// What a call answered: nothing where it was done. Throws std::bad_alloc where memory was refused, or ends the program
+// where exceptions are off.
 inline std::optional<Error> error_of(std::uint32_t answer) {
     if (answer == CALLAUCTION_DONE) return std::nullopt;
-    if (answer == CALLAUCTION_ERROR_NO_MEMORY) throw std::bad_alloc();
+    if (answer == CALLAUCTION_ERROR_NO_MEMORY) fail<void>(std::bad_alloc());
     return static_cast<Error>(answer);
 }
 
@@ -232,7 +349,7 @@ template <typename Field> bool fits(std::int64_t number, Field &field) {
     return true;
 }
 
-template <typename Field> bool fits(const std::optional<std::int64_t> &number, std::uint8_t &flag, Field &field) {
+template <typename Field> bool fits(const std::optional<Whole> &number, std::uint8_t &flag, Field &field) {
     flag = number ? 1 : 0;
     return !number || fits(*number, field);
 }
@@ -307,7 +424,7 @@ inline Config config_of(const callauction_config &from) {
 } // namespace detail
 
 // A command of a member as a struct, for calls that take many. Error::no_command where a number doesn't fit.
-inline Result<callauction_command> struct_of(std::int64_t member, const Command &command) {
+inline Result<callauction_command> struct_of(Whole member, const Command &command) {
     callauction_command made{};
     if (!detail::fits(member, made.member) || !std::visit(detail::Filling{made}, command)) return Error::no_command;
     return made;
@@ -337,6 +454,20 @@ inline Display display_of(const callauction_reply &from) {
     return detail::no_price_of(from);
 }
 
+// Where the day of an auction is.
+struct State {
+    std::optional<AuctionKind> auction; // whose call phase it is; none after the day
+    bool extended;                      // whether an interruption extended it
+    std::uint32_t reference;            // the reference price, a tick
+    std::uint32_t calls, calls_left;    // commands that were applied, and that may still be
+};
+
+inline State state_of(const callauction_day_state &from) {
+    State state{std::nullopt, from.extended != 0, from.reference, from.calls, from.calls_left};
+    if (from.in_call) state.auction = static_cast<AuctionKind>(from.auction);
+    return state;
+}
+
 // The shares bid and offered by the orders that count, with a limit at each tick from low to high, and those of the
 // market orders; after as many calls as `calls` says.
 struct Ladder {
@@ -345,7 +476,29 @@ struct Ladder {
     std::uint32_t calls;
 };
 
+namespace detail {
+
+// Whose orders: the number of a member, or of all; none where it is no member's.
+inline std::optional<std::uint32_t> whose(const std::optional<Whole> &member) {
+    std::uint8_t one = 0;
+    if (member && !fits(*member, one)) return std::nullopt;
+    return member ? std::uint32_t{one} : std::uint32_t{CALLAUCTION_ALL_MEMBERS};
+}
+
+// The orders that a call copies, of as many as may be open.
+template <typename Call> Result<std::vector<callauction_order>> listed(std::size_t max_open, Call call) {
+    std::vector<callauction_order> found(max_open);
+    std::size_t copied = 0;
+    if (const auto error = error_of(call(found.data(), found.size(), &copied))) return *error;
+    found.resize(copied);
+    return found;
+}
+
+} // namespace detail
+
 // ---- an auction of one thread
+
+class Member;
 
 class Auction {
 public:
@@ -369,7 +522,7 @@ public:
     Auction &operator=(const Auction &) = delete;
     ~Auction() { callauction_close(&handle_); }
 
-    Result<Reply> apply(std::int64_t member, const Command &command) {
+    Result<Reply> apply(Whole member, const Command &command) {
         const auto given = struct_of(member, command);
         if (!given) return given.error();
         callauction_reply reply;
@@ -408,12 +561,11 @@ public:
     }
 
     // The open orders in priority, of a member or of all.
-    Result<std::vector<callauction_order>> orders(std::optional<std::int64_t> member = {}) const {
-        std::uint8_t one = 0;
-        if (member && !detail::fits(*member, one)) return Error::bad_member;
-        const std::uint32_t of = member ? std::uint32_t{one} : std::uint32_t{CALLAUCTION_ALL_MEMBERS};
+    Result<std::vector<callauction_order>> orders(std::optional<Whole> member = {}) const {
+        const auto of = detail::whose(member);
+        if (!of) return Error::bad_member;
         return listed([&](callauction_order *to, std::size_t room, std::size_t *copied) {
-            return callauction_orders(&handle_, of, to, room, copied);
+            return callauction_orders(&handle_, *of, to, room, copied);
         });
     }
 
@@ -449,6 +601,13 @@ public:
         return detail::config_of(found);
     }
 
+    // Where the day is.
+    Result<State> state() const {
+        callauction_day_state found;
+        if (const auto error = detail::error_of(callauction_state(&handle_, &found))) return *error;
+        return state_of(found);
+    }
+
     // An auction of its own, as this one is now.
     Result<Auction> clone() const {
         Auction made;
@@ -470,6 +629,8 @@ public:
     }
 
 private:
+    friend class Member;
+
     static constexpr std::size_t at_once = 1024;
 
     Auction() = default;
@@ -478,11 +639,7 @@ private:
     template <typename Call> Result<std::vector<callauction_order>> listed(Call call) const {
         const auto config = this->config();
         if (!config) return config.error();
-        std::vector<callauction_order> found(static_cast<std::size_t>(config->max_open));
-        std::size_t copied = 0;
-        if (const auto error = detail::error_of(call(found.data(), found.size(), &copied))) return *error;
-        found.resize(copied);
-        return found;
+        return detail::listed(static_cast<std::size_t>(config->max_open), call);
     }
 
     callauction_handle handle_{};
@@ -510,7 +667,8 @@ struct Closing {
 
 class Board;
 
-// A member of a board: one thread at a time has it, and its board outlives it.
+// A member of a board: one thread at a time has it, and its board outlives it. Where the board has no such member, each
+// call answers Error::no_member.
 class Member {
 public:
     // Records a command in the board's history. Error::busy where another call had the board at each of a thousand
@@ -524,6 +682,7 @@ public:
     // The same, but waits while another call has the board: its thread sleeps at a mutex of the board. This waiting
     // isn't proved.
     Result<Receipt> call_waiting(const Command &command) {
+        if (!handle_) return Error::no_member;
         const auto given = struct_of(0, command);
         if (!given) return given.error();
         for (;;) {
@@ -536,14 +695,41 @@ public:
         }
     }
 
+    // Records structs one after another, with no other call between them, and writes their receipts, as many of each:
+    // how many were recorded, and the error that the next one had.
+    std::pair<std::size_t, std::optional<Error>> apply_many(
+        Span<const callauction_command> commands, Span<callauction_receipt> receipts) {
+        if (!handle_) return {0, Error::no_member};
+        std::size_t applied = 0;
+        const auto answer = callauction_board_apply_many(
+            handle_, commands.data(), commands.size(), receipts.data(), receipts.size(), &applied);
+        return {applied, detail::error_of(answer)};
+    }
+
+    // The same, but waits as call_waiting does.
+    std::pair<std::size_t, std::optional<Error>> apply_many_waiting(
+        Span<const callauction_command> commands, Span<callauction_receipt> receipts) {
+        if (!handle_) return {0, Error::no_member};
+        for (;;) {
+            {
+                const std::lock_guard<std::mutex> waits(*mutex_);
+                const auto found = apply_many(commands, receipts);
+                if (found.second != Error::busy) return found;
+            }
+            std::this_thread::yield();
+        }
+    }
+
     // What is shown. It takes no lock, waits for nobody, and never goes back.
     Result<Shown> look() {
+        if (!handle_) return Error::no_member;
         callauction_shown shown;
         if (const auto error = detail::error_of(callauction_board_look(handle_, &shown))) return *error;
         return Shown{shown.calls, display_of(shown.display)};
     }
 
     Result<Ladder> ladder() {
+        if (!handle_) return Error::no_member;
         callauction_config config;
         if (const auto error = detail::error_of(callauction_board_config_of(handle_, &config))) return *error;
         const std::size_t ticks = config.high - config.low + 1;
@@ -556,6 +742,7 @@ public:
 
     // Copies the trades of the day after the first `seen`, as many as fit: how many.
     Result<std::size_t> trades(std::size_t seen, Span<callauction_trade> trades) {
+        if (!handle_) return Error::no_member;
         std::size_t copied = 0;
         std::uint32_t calls = 0;
         const auto answer = callauction_board_trades(handle_, seen, trades.data(), trades.size(), &copied, &calls);
@@ -563,16 +750,61 @@ public:
         return copied;
     }
 
+    // The open orders of the board in priority, of a member or of all.
+    Result<std::vector<callauction_order>> orders(std::optional<Whole> member = {}) {
+        if (!handle_) return Error::no_member;
+        const auto of = detail::whose(member);
+        if (!of) return Error::bad_member;
+        std::uint32_t calls = 0;
+        return listed([&](callauction_order *to, std::size_t room, std::size_t *copied) {
+            return callauction_board_orders(handle_, *of, to, room, copied, &calls);
+        });
+    }
+
+    // The orders of the board that an uncross now would take out, as they are for its auction alone.
+    Result<std::vector<callauction_order>> expiring() {
+        std::uint32_t calls = 0;
+        return listed([&](callauction_order *to, std::size_t room, std::size_t *copied) {
+            return callauction_board_expiring(handle_, to, room, copied, &calls);
+        });
+    }
+
+    // Where the day is, after as many calls as it says.
+    Result<State> state() {
+        if (!handle_) return Error::no_member;
+        callauction_day_state found;
+        if (const auto error = detail::error_of(callauction_board_state(handle_, &found))) return *error;
+        return state_of(found);
+    }
+
     // Copies the entries of the board's history after the first `seen`, as many as fit: how many.
     Result<std::size_t> history(std::size_t seen, Span<callauction_entry> entries) {
+        if (!handle_) return Error::no_member;
         std::size_t copied = 0;
         const auto answer = callauction_board_history(handle_, seen, entries.data(), entries.size(), &copied);
         if (const auto error = detail::error_of(answer)) return *error;
         return copied;
     }
 
+    // An auction of its own, as the board's is now.
+    Result<Auction> auction() {
+        if (!handle_) return Error::no_member;
+        Auction made;
+        if (const auto error = detail::error_of(callauction_board_clone(handle_, &made.handle_))) return *error;
+        return made;
+    }
+
+    // Makes an auction with the board's bounds, max_open and max_calls a copy of the board's, and takes no memory.
+    // Where it has others, Error::in_use.
+    Result<Done> copy_into(Auction &other) {
+        if (!handle_) return Error::no_member;
+        if (const auto error = detail::error_of(callauction_board_clone(handle_, &other.handle_))) return *error;
+        return Done{};
+    }
+
     // How many calls of this member were recorded.
     Result<std::uint32_t> calls() const {
+        if (!handle_) return Error::no_member;
         std::uint32_t found = 0;
         if (const auto error = detail::error_of(callauction_board_calls(handle_, &found))) return *error;
         return found;
@@ -584,9 +816,18 @@ private:
     Member(callauction_member *handle, std::mutex *mutex) : handle_(handle), mutex_(mutex) {}
 
     Result<Receipt> call(const callauction_command &command) {
+        if (!handle_) return Error::no_member;
         callauction_receipt receipt;
         if (const auto error = detail::error_of(callauction_board_call(handle_, &command, &receipt))) return *error;
         return Receipt{receipt.number, reply_of(receipt.reply)};
+    }
+
+    // What a call writes that copies orders.
+    template <typename Call> Result<std::vector<callauction_order>> listed(Call call) {
+        if (!handle_) return Error::no_member;
+        callauction_config config;
+        if (const auto error = detail::error_of(callauction_board_config_of(handle_, &config))) return *error;
+        return detail::listed(config.max_open, call);
     }
 
     callauction_member *handle_;
@@ -595,11 +836,14 @@ private:
 
 class Board {
 public:
+    static constexpr std::size_t max_members = 64;
+
     static Result<Board> open(std::size_t members, const Config &config) {
         callauction_config given{};
         if (!detail::config_fits(config, given)) return Error::no_config;
-        Board made(members);
-        const auto answer = callauction_board_open(made.handles_.get(), members, &given);
+        const auto count = members > max_members ? max_members + 1 : members; // one too many, as any that is greater
+        Board made(count);
+        const auto answer = callauction_board_open(made.handles_.get(), count, &given);
         if (const auto error = detail::error_of(answer)) return *error;
         return made;
     }
@@ -623,7 +867,10 @@ public:
     std::size_t members() const { return count_; }
 
     // A member by its number, which is below members(). Member 0 is the operator. Moving the board leaves it as it is.
-    Member member(std::size_t number) { return Member(&handles_[number], mutex_.get()); }
+    Member member(Whole number) {
+        const auto place = static_cast<std::uint64_t>(std::int64_t{number});
+        return place < count_ ? Member(&handles_[place], mutex_.get()) : Member(nullptr, nullptr);
+    }
 
     // Closes the board, when no member calls any more. Calls answer Error::closed from then on.
     Result<Closing> close() {

@@ -1,6 +1,6 @@
 /* The door of libcallauction: each call of callauction.h finds here whether another call has its handle, and goes on to
  * the proved call of the same name. The texts of errors and refusals are here too. Nothing here is proved. The proved
- * calls want one call at a time on a handle, and this file sees to it.
+ * calls want one call at a time on a handle, and an identity of its own for each board; this file sees to both.
  *
  * library/build renames the proved calls to proved_*, and links this file before them.
  */
@@ -19,18 +19,26 @@ uint32_t proved_callauction_trades(callauction_handle *, size_t, callauction_tra
 uint32_t proved_callauction_orders(callauction_handle *, uint32_t, callauction_order *, size_t, size_t *);
 uint32_t proved_callauction_expiring(callauction_handle *, callauction_order *, size_t, size_t *);
 uint32_t proved_callauction_calls(callauction_handle *, uint32_t *);
+uint32_t proved_callauction_state(callauction_handle *, callauction_day_state *);
 uint32_t proved_callauction_config_of(callauction_handle *, callauction_config *);
 uint32_t proved_callauction_reset(callauction_handle *);
 uint32_t proved_callauction_clone(callauction_handle *, callauction_handle *);
 uint32_t proved_callauction_close(callauction_handle *);
-uint32_t proved_callauction_board_open(callauction_member *, size_t, const callauction_config *);
+uint32_t proved_callauction_board_open(callauction_member *, size_t, const callauction_config *, uint64_t);
 uint32_t proved_callauction_board_call(callauction_member *, const callauction_command *, callauction_receipt *);
+uint32_t proved_callauction_board_apply_many(callauction_member *, const callauction_command *, size_t,
+                                             callauction_receipt *, size_t, size_t *);
 uint32_t proved_callauction_board_look(callauction_member *, callauction_shown *);
 uint32_t proved_callauction_board_ladder(callauction_member *, uint64_t *, size_t, uint64_t *, size_t,
                                          callauction_market_orders *, uint32_t *);
 uint32_t proved_callauction_board_trades(callauction_member *, size_t, callauction_trade *, size_t, size_t *,
                                          uint32_t *);
+uint32_t proved_callauction_board_orders(callauction_member *, uint32_t, callauction_order *, size_t, size_t *,
+                                         uint32_t *);
+uint32_t proved_callauction_board_expiring(callauction_member *, callauction_order *, size_t, size_t *, uint32_t *);
+uint32_t proved_callauction_board_state(callauction_member *, callauction_day_state *);
 uint32_t proved_callauction_board_history(callauction_member *, size_t, callauction_entry *, size_t, size_t *);
+uint32_t proved_callauction_board_clone(callauction_member *, callauction_handle *);
 uint32_t proved_callauction_board_calls(callauction_member *, uint32_t *);
 uint32_t proved_callauction_board_config_of(callauction_member *, callauction_config *);
 uint32_t proved_callauction_board_close(callauction_member *, size_t, callauction_entry *, size_t, uint32_t *, size_t,
@@ -43,7 +51,8 @@ static bool takes(uint8_t *busy) { return __atomic_exchange_n(busy, 1, __ATOMIC_
 
 static void gives_back(uint8_t *busy) { __atomic_store_n(busy, 0, __ATOMIC_RELEASE); }
 
-/* Answers what the proved call answers, made while this call has the handle. */
+/* Answers what the proved call answers, made while this call has the handle. A call that counts has written its count
+ * as 0 before, so that it is 0 after each error. */
 #define THROUGH(handle, call)                                        \
     do {                                                             \
         if (!takes(&(handle)->busy_)) return CALLAUCTION_ERROR_BUSY; \
@@ -78,6 +87,7 @@ uint32_t callauction_apply(callauction_handle *handle, const callauction_command
 
 uint32_t callauction_apply_many(callauction_handle *handle, const callauction_command *commands, size_t command_count,
                                 callauction_reply *replies, size_t reply_count, size_t *applied) {
+    *applied = 0;
     THROUGH(handle, proved_callauction_apply_many(handle, commands, command_count, replies, reply_count, applied));
 }
 
@@ -94,18 +104,21 @@ uint32_t callauction_ladder(const callauction_handle *handle, uint64_t *bids, si
 
 uint32_t callauction_trades(const callauction_handle *handle, size_t seen, callauction_trade *trades,
                             size_t trade_count, size_t *copied) {
+    *copied = 0;
     callauction_handle *own = (callauction_handle *)handle;
     THROUGH(own, proved_callauction_trades(own, seen, trades, trade_count, copied));
 }
 
 uint32_t callauction_orders(const callauction_handle *handle, uint32_t member, callauction_order *orders,
                             size_t order_count, size_t *copied) {
+    *copied = 0;
     callauction_handle *own = (callauction_handle *)handle;
     THROUGH(own, proved_callauction_orders(own, member, orders, order_count, copied));
 }
 
 uint32_t callauction_expiring(const callauction_handle *handle, callauction_order *orders, size_t order_count,
                               size_t *copied) {
+    *copied = 0;
     callauction_handle *own = (callauction_handle *)handle;
     THROUGH(own, proved_callauction_expiring(own, orders, order_count, copied));
 }
@@ -113,6 +126,11 @@ uint32_t callauction_expiring(const callauction_handle *handle, callauction_orde
 uint32_t callauction_calls(const callauction_handle *handle, uint32_t *calls) {
     callauction_handle *own = (callauction_handle *)handle;
     THROUGH(own, proved_callauction_calls(own, calls));
+}
+
+uint32_t callauction_state(const callauction_handle *handle, callauction_day_state *state) {
+    callauction_handle *own = (callauction_handle *)handle;
+    THROUGH(own, proved_callauction_state(own, state));
 }
 
 uint32_t callauction_config_of(const callauction_handle *handle, callauction_config *config) {
@@ -135,9 +153,15 @@ uint32_t callauction_close(callauction_handle *handle) { THROUGH(handle, proved_
 
 /* ---- a board ---- */
 
+/* Each opening gets another number, which a closing knows the members of two boards by. */
+static uint64_t next_identity(void) {
+    static uint64_t last;
+    return __atomic_add_fetch(&last, 1, __ATOMIC_RELAXED);
+}
+
 uint32_t callauction_board_open(callauction_member *members, size_t member_count, const callauction_config *config) {
     if (!takes_all(members, member_count)) return CALLAUCTION_ERROR_BUSY;
-    const uint32_t answer = proved_callauction_board_open(members, member_count, config);
+    const uint32_t answer = proved_callauction_board_open(members, member_count, config, next_identity());
     gives_all_back(members, member_count);
     return answer;
 }
@@ -145,6 +169,14 @@ uint32_t callauction_board_open(callauction_member *members, size_t member_count
 uint32_t callauction_board_call(callauction_member *member, const callauction_command *command,
                                 callauction_receipt *receipt) {
     THROUGH(member, proved_callauction_board_call(member, command, receipt));
+}
+
+uint32_t callauction_board_apply_many(callauction_member *member, const callauction_command *commands,
+                                      size_t command_count, callauction_receipt *receipts, size_t receipt_count,
+                                      size_t *applied) {
+    *applied = 0;
+    THROUGH(member, proved_callauction_board_apply_many(member, commands, command_count, receipts, receipt_count,
+                                                        applied));
 }
 
 uint32_t callauction_board_look(callauction_member *member, callauction_shown *shown) {
@@ -158,12 +190,38 @@ uint32_t callauction_board_ladder(callauction_member *member, uint64_t *bids, si
 
 uint32_t callauction_board_trades(callauction_member *member, size_t seen, callauction_trade *trades,
                                   size_t trade_count, size_t *copied, uint32_t *calls) {
+    *copied = 0;
     THROUGH(member, proved_callauction_board_trades(member, seen, trades, trade_count, copied, calls));
+}
+
+uint32_t callauction_board_orders(callauction_member *member, uint32_t of, callauction_order *orders,
+                                  size_t order_count, size_t *copied, uint32_t *calls) {
+    *copied = 0;
+    THROUGH(member, proved_callauction_board_orders(member, of, orders, order_count, copied, calls));
+}
+
+uint32_t callauction_board_expiring(callauction_member *member, callauction_order *orders, size_t order_count,
+                                    size_t *copied, uint32_t *calls) {
+    *copied = 0;
+    THROUGH(member, proved_callauction_board_expiring(member, orders, order_count, copied, calls));
+}
+
+uint32_t callauction_board_state(callauction_member *member, callauction_day_state *state) {
+    THROUGH(member, proved_callauction_board_state(member, state));
 }
 
 uint32_t callauction_board_history(callauction_member *member, size_t seen, callauction_entry *entries,
                                    size_t entry_count, size_t *copied) {
+    *copied = 0;
     THROUGH(member, proved_callauction_board_history(member, seen, entries, entry_count, copied));
+}
+
+static uint32_t clones_board(callauction_member *member, callauction_handle *other) {
+    THROUGH(other, proved_callauction_board_clone(member, other));
+}
+
+uint32_t callauction_board_clone(callauction_member *member, callauction_handle *other) {
+    THROUGH(member, clones_board(member, other));
 }
 
 uint32_t callauction_board_calls(const callauction_member *member, uint32_t *calls) {
@@ -178,6 +236,7 @@ uint32_t callauction_board_config_of(const callauction_member *member, callaucti
 
 uint32_t callauction_board_close(callauction_member *members, size_t member_count, callauction_entry *entries,
                                  size_t entry_count, uint32_t *counts, size_t count_count, size_t *written) {
+    *written = 0;
     if (!takes_all(members, member_count)) return CALLAUCTION_ERROR_BUSY;
     const uint32_t answer =
         proved_callauction_board_close(members, member_count, entries, entry_count, counts, count_count, written);

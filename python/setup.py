@@ -1,6 +1,7 @@
 """Builds the package by pip or python3-build, on a built library: see pyproject.toml and native.py.
 
-With CALLBOARD_PROGRAM the package holds that program too.
+With CALLBOARD_PROGRAM the package holds that program too; CALLAUCTION_VERSION is its version, where
+it is a release's.
 """
 import os
 import pathlib
@@ -32,7 +33,7 @@ if __name__ == "__main__":
 
     (HERE / "out").mkdir(exist_ok=True)
     setup(
-        version=version(),
+        version=os.environ.get("CALLAUCTION_VERSION") or version(),
         options={
             "build": {"build_base": "out/build"},
             "bdist_wheel": {"bdist_dir": "out/wheel"},

@@ -1,11 +1,10 @@
 """The program on order files, beside csv's bare loop and peers.
 
-A peer (`--peer NAME=COMMAND`, as `--peer 'expert=path/of/expert --plain'`) takes the same options
-and reads the same files; the program that ours is compared with is no part of the repository.
-Prints five tables. The first counts the replies of each file by what they are, and names the peers
-that print other lines. The second has for each file the milliseconds of each (the best run; all
-take turns), the wall's and the processor's, with `csv` for `clock records`, which reads each record
-by the toolchain's `csv` and does nothing with it. The third has how many times each peer's
+A peer (`--peer NAME=COMMAND`) is any other program that takes the same options and reads the same
+files. Prints five tables. The first counts the replies of each file by what they are, and names the
+peers that print other lines. The second has for each file the milliseconds of each (the best run;
+all take turns), the wall's and the processor's, with `csv` for `clock records`, which reads each
+record by the toolchain's `csv` and does nothing with it. The third has how many times each peer's
 processor time ours takes, and how many times ours less csv's takes. The fourth has the peak memory
 of each in MiB, and the instructions a command (by callgrind, on a file of 20,000 commands, the
 empty file's taken off, where valgrind is installed). The fifth has the program alone, in other

@@ -4,8 +4,9 @@
 each the next one once the last is answered; the same robots send the same bytes to a server that
 gives back what it is sent. Prints for each the orders a second, the milliseconds of an answer at
 the middle and at the 99th of 100, and the processor's seconds of the server and its programs. All
-is right where each journal has all orders and is lawful by the program. Needs Debian's
-python3-aiohttp.
+is right where each journal has all orders and is lawful by the program. A second table has what
+operations wait for after these orders: a copy of the running day, its checked return, an end and a
+start, and the memory of the venue with its programs. Needs Debian's python3-aiohttp.
 """
 import argparse
 import contextlib
@@ -159,6 +160,20 @@ def processor_seconds(process: int) -> float:
     return ticks / os.sysconf("SC_CLK_TCK")
 
 
+def memory_of(process: int) -> float:
+    """The memory of a process and its children in MiB. Raises OSError."""
+    children = pathlib.Path(f"/proc/{process}/task/{process}/children").read_text().split()
+    texts = [pathlib.Path(f"/proc/{it}/status").read_text() for it in (process, *children)]
+    return sum(int(found[1]) for it in texts if (found := re.search(r"VmRSS:\s+(\d+)", it))) / 1024
+
+
+def took(words: list[str], environment: dict[str, str]) -> float:
+    """How long a command takes. Raises CalledProcessError where it fails."""
+    begin = time.monotonic()
+    subprocess.run(words, env=environment, check=True, stdout=subprocess.DEVNULL)
+    return time.monotonic() - begin
+
+
 def print_row(name: str, played: Played, processor: float) -> None:
     """Prints a row."""
     seconds, waits = played
@@ -175,24 +190,46 @@ def echo(task: Task) -> None:
         print_row("echo", played, processor_seconds(child.pid) - before)
 
 
-def venue(task: Task, is_synced: bool) -> bool:
-    """Prints what the venue takes: whether its journals have all orders, and are lawful."""
+def venue(task: Task, is_synced: bool, waits: list[list[str]]) -> bool:
+    """Prints what the venue takes: whether its journals have all orders, and are lawful; adds a row
+    of what operations wait for.
+    """
     named = {"CALLBOARD": task.program, "PYTHONPATH": str(measuring.TOP / "python")}
+    environment = os.environ | named
     with tempfile.TemporaryDirectory() as work:
         folder = pathlib.Path(work)
         day = DAY.format(sync=str(is_synced).lower())
         day += "".join(INSTRUMENT.format(number=it) for it in range(INSTRUMENTS))
         (folder / "day.toml").write_text(day, encoding="ascii")
-        words = [task.interpreter, "-m", "callauction.venue", "--port", "0"]
+        python = [task.interpreter, "-m"]
+        words = [*python, "callauction.venue", "--port", "0"]
         words += ["--day", str(folder / "day.toml"), "--folder", str(folder / "venue")]
-        with started(words, os.environ | named, "^beamer") as (child, said):
+        name = "venue" if is_synced else "venue, sync = false"
+        with started(words, environment, "^beamer") as (child, said):
             url, hellos = opened(said)
             before = processor_seconds(child.pid)
             played = robots(task, f"{url}api/socket", hellos)
-            name = "venue" if is_synced else "venue, sync = false"
             print_row(name, played, processor_seconds(child.pid) - before)
+            memory = memory_of(child.pid)
+            copy = [f"{folder}/venue", f"{folder}/copy"]
+            seconds = [took([*python, "callauction.venue.backup", *copy], environment)]
+            seconds.append(ended(child))
+        back = [f"{folder}/copy", f"{folder}/again"]
+        seconds.append(took([*python, "callauction.venue.restore", *back], environment))
+        begin = time.monotonic()
+        with started(words, environment, "^beamer") as (child, _):
+            seconds.append(time.monotonic() - begin)
+        waits.append([name, *(f"{it:.1f}" for it in seconds), f"{memory:.0f}"])
         journals = [folder / f"venue/I{it}.journal.csv" for it in range(INSTRUMENTS)]
         return all(is_right(task.program, it) for it in journals)
+
+
+def ended(child: "subprocess.Popen[str]") -> float:
+    """How long a venue takes to end by a signal."""
+    begin = time.monotonic()
+    child.terminate()
+    child.wait()
+    return time.monotonic() - begin
 
 
 def opened(said: str) -> tuple[str, list[str]]:
@@ -219,10 +256,15 @@ def measure(asked: argparse.Namespace) -> bool:
     program = os.path.abspath(measuring.our_program(asked.program).words[0])
     task = Task(program, debian.python_with(("aiohttp",)), texts())
     is_lawful = True
+    waits: list[list[str]] = []
     head("server", "orders a second", "middle, ms", "99th of 100, ms", "processor, s")
     for _ in range(asked.runs):
         echo(task)
         for is_synced in (True, False):
-            is_lawful &= venue(task, is_synced)
+            is_lawful &= venue(task, is_synced, waits)
+    print()
+    head(f"after {ORDERS:,} orders", "copy, s", "end, s", "return, s", "start, s", "memory, MiB")
+    for each in waits:
+        row(*each)
     print("\njournals: " + ("whole and lawful" if is_lawful else "NOT whole and lawful"))
     return is_lawful

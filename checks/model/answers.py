@@ -5,7 +5,7 @@ from collections.abc import Callable
 
 from checks.model.causes import likely_cause
 from checks.model.day import OpenFault, Options
-from checks.model.files import FileFault, Given, given, journal
+from checks.model.files import FileFault, Given, given, journal_copy
 from checks.model.tables import audit_text, book_text, journal_text, lines_text, trades_text
 
 DEFAULTS: Options = {
@@ -24,7 +24,7 @@ FORMS: dict[str, Callable[[Given], str]] = {
     "book": book_text,
 }
 """The texts that can be asked for by --print."""
-UNLAWFUL = 4
+UNLAWFUL, INCOMPLETE = 4, 5
 
 Answer = tuple[int, str, str]
 """A status, what is printed, and what is printed on standard error."""
@@ -44,8 +44,9 @@ def answer(text: str, options: Options, form: str) -> Answer:
     try:
         if form != "audit":
             return 0, printed(text, options, form), ""
-        is_legal, found = audit_text(journal(text))
-        return 0 if is_legal else UNLAWFUL, found, ""
+        copy = journal_copy(text)
+        is_legal, found = audit_text(copy.given, copy.behind)
+        return (INCOMPLETE if copy.behind else 0) if is_legal else UNLAWFUL, found, ""
     except FileFault as fault:
         return 1, "", f"{fault}\n{likely_cause(str(fault), text, options)}"
     except OpenFault as fault:

@@ -182,6 +182,30 @@ def journal(text: str) -> Given:
     return Given(options, calls, replies)
 
 
+@dataclasses.dataclass(frozen=True)
+class Copy:
+    """What the whole lines of a copy of a journal say, and how many bytes are behind them."""
+
+    given: Given
+    behind: int
+
+
+def whole_part(text: str) -> str:
+    """The whole lines of a copy of a journal before its first NUL, or all where it ends with CR."""
+    lines, end, _ = text.partition("\0")[0].rpartition("\n")
+    return text if text.endswith("\r") else lines + end
+
+
+def journal_copy(text: str) -> Copy:
+    """What a copy of a journal says, which may be broken off within a line, or have NULs behind its
+    lines. Raises FileFault.
+    """
+    if len(text) > MOST_JOURNAL_BYTES:
+        raise FileFault("file too long")
+    whole = whole_part(text)
+    return Copy(journal(whole), len(text) - len(whole))
+
+
 def given(text: str, options: Options) -> Given:
     """What a run with these options is given by an order file, or by a journal in its place.
     Raises FileFault.

@@ -59,8 +59,10 @@ def journal_text(given: Given) -> str:
     return record(*day_fields(given.options)) + "".join(entries)
 
 
-def audit_text(given: Given) -> tuple[bool, str]:
-    """Whether all recorded replies of a journal are lawful, and what is printed of them."""
+def audit_text(given: Given, behind: int = 0) -> tuple[bool, str]:
+    """Whether all recorded replies of a journal are lawful, and what is printed of them; as many
+    bytes are behind its lines.
+    """
     day = opened(given.options)
     text = ""
     unlawful = []
@@ -73,7 +75,10 @@ def audit_text(given: Given) -> tuple[bool, str]:
     text += f"compared {sum(recorded != '' for recorded in given.replies)}\n"
     text += f"unlawful {len(unlawful)}\n"
     verdict = f"bad {unlawful[0]}" if unlawful else "legal"
-    return not unlawful, f"{text}audit {verdict}\n"
+    text += f"audit {verdict}\n"
+    if behind:
+        text += f"incomplete: {behind} bytes follow entry {len(given.calls)}\n"
+    return not unlawful, text
 
 
 # ---- the tables

@@ -34,15 +34,21 @@ def by_rules(name: str, words: list[str], data: bytes) -> Case:
     )
 
 
-def audited(entries: int, compared: int, *unlawful: tuple[int, str, str]) -> Answer:
-    """The answer to an audit that finds these: numbers from 1, recorded and lawful replies."""
+def audited(
+    entries: int, compared: int, *unlawful: tuple[int, str, str], behind: int = 0
+) -> Answer:
+    """The answer to an audit that finds these: numbers from 1, recorded and lawful replies; of a
+    copy with as many bytes behind its lines.
+    """
     text = "".join(
         f'{place}: recorded "{recorded}", lawful "{lawful}"\n'
         for place, recorded, lawful in unlawful
     )
     verdict = f"bad {unlawful[0][0] - 1}" if unlawful else "legal"
     counts = f"entries {entries}\ncompared {compared}\nunlawful {len(unlawful)}\n"
-    return 4 if unlawful else 0, f"{text}{counts}audit {verdict}\n", ""
+    broken = f"incomplete: {behind} bytes follow entry {entries}\n" if behind else ""
+    status = 4 if unlawful else 5 if behind else 0
+    return status, f"{text}{counts}audit {verdict}\n{broken}", ""
 
 
 def cut_table() -> Iterator[Case]:
@@ -98,19 +104,28 @@ def reply_table() -> Iterator[Case]:
 
 
 ASK = b"1,ask," + NO_PRICE.encode()
-WHOLE = DAY + ASK
+WHOLE = DAY + ASK + b"\n"
 RECORDED = ASK + b'\n2,ask,"no, price"\n2,ask,"no ""price"""\n2,ask,no "price"\n'
 ONCE = audited(1, 1)
 AUDITED: list[tuple[str, bytes, Answer]] = [
     ("a quoted day", b'"day"' + WHOLE[3:], ONCE),
     ("a byte order mark before a day", b"\xef\xbb\xbf" + WHOLE, ONCE),
     ("a space before a day", b" " + WHOLE, fault("record 1: not a day record")),
-    ("CR LF in a journal", WHOLE.replace(b"\n", b"\r\n") + b"\r\n", ONCE),
-    ("CR in a journal", WHOLE.replace(b"\n", b"\r") + b"\r", ONCE),
-    ("a journal without a last line end", WHOLE, ONCE),
+    ("CR LF in a journal", WHOLE.replace(b"\n", b"\r\n"), ONCE),
+    ("CR in a journal", WHOLE.replace(b"\n", b"\r"), ONCE),
+    ("a journal without a last line end", WHOLE[:-1], audited(0, 0, behind=len(ASK))),
+    ("a journal that was cut after its last CR", WHOLE[:-1] + b"\r", ONCE),
+    ("a journal that was copied while it ran", WHOLE + bytes(4_096), audited(1, 1, behind=4_096)),
+    ("a torn line behind a NUL", WHOLE + b"\0,ask,\n", audited(1, 1, behind=7)),
+    (
+        "an unlawful reply before a torn line",
+        DAY + b"1,ask,no\n1,as",
+        audited(1, 1, (1, "no", NO_PRICE), behind=4),
+    ),
+    ("a day that was cut", DAY[:-1], fault("record 1: not a day record")),
     ("empty lines before a day", b"\n\r\n" + WHOLE + b"\n\n\n", ONCE),
     ("a day alone", DAY, audited(0, 0)),
-    ("a quoted reply", WHOLE.replace(b"no price bid", b'"no price bid') + b'"', ONCE),
+    ("a quoted reply", DAY + ASK.replace(b"no price bid", b'"no price bid') + b'"\n', ONCE),
     (
         "commas and quotes in replies",
         DAY + RECORDED,
@@ -122,8 +137,8 @@ AUDITED: list[tuple[str, bytes, Answer]] = [
             (4, 'no "price"', NO_PRICE),
         ),
     ),
-    ("a quoted empty reply", DAY + b'1,ask,""', audited(1, 0)),
-    ("a line end in a reply", DAY + b'1,ask,"no\nprice"', fault("record 2: bad field 3")),
+    ("a quoted empty reply", DAY + b'1,ask,""\n', audited(1, 0)),
+    ("a line end in a reply", DAY + b'1,ask,"no\nprice"\n', fault("record 2: bad field 3")),
 ]
 """Audited journals with line ends, quotes and the marks of other systems."""
 
@@ -140,7 +155,7 @@ def dialect_table() -> Iterator[Case]:
     yield Case(
         "a reply whose quote never closes",
         AUDIT,
-        lambda: (DAY + b'1,ask,"' + b"no" * 1_000_000, fault("record 2: bad field 3")),
+        lambda: (DAY + b'1,ask,"' + b"no" * 1_000_000 + b"\n", fault("record 2: bad field 3")),
     )
 
 

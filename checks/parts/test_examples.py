@@ -2,7 +2,7 @@
 
 An order file is run for its lines, also record by record (--live), and for its journal, trades and
 book, which examples/forms has; its journal is run for the same and audited. The journals of
-examples/audits are audited. README's session and its script are held. `rt ci` runs copies of the
+examples/audits are audited. README's session is held. `rt ci` runs copies of the
 order files: the examples of crates/callboard/src/tests/examples.rt, one for each file and with its
 name. They are compared with the files, and the journals with the records and the lines that they
 have in them. The files of examples/floors are run on a board. The program's own stored run, which
@@ -12,7 +12,6 @@ import itertools
 import pathlib
 import re
 import subprocess
-import sys
 from collections.abc import Iterator
 
 import pytest
@@ -147,6 +146,11 @@ def readme_block(begin: str) -> list[str]:
     return [line[4:] for line in itertools.takewhile(str.strip, lines[first:])]
 
 
+def test_readme_prints_the_first_example() -> None:
+    _, _, lines = STORED["opening"]
+    assert readme_block("    1: entered 1") == lines.splitlines()
+
+
 def test_readme_session(program: str, tmp_path: pathlib.Path) -> None:
     command, *lines = readme_block("    ./callboard --live --journal today.csv")
     records, said = lines[1::2], [lines[0], *lines[2::2]]
@@ -160,21 +164,3 @@ def test_readme_session(program: str, tmp_path: pathlib.Path) -> None:
         session.ends(1)
     finally:
         session.close()
-
-
-def test_readme_script(program: str, tmp_path: pathlib.Path) -> None:
-    (tmp_path / "callboard").symlink_to(program)
-    script = "\n".join(readme_block("    import subprocess"))
-    for place in (0, 3):
-        run = subprocess.run(
-            [sys.executable, "-c", script],
-            cwd=tmp_path,
-            capture_output=True,
-            text=True,
-            timeout=MOST_SECONDS,
-        )
-        printed = run.stdout.splitlines()
-        assert [line.split(":")[0] for line in printed] == [f"{place + k}" for k in (1, 2, 3)]
-        if place == 0:
-            assert printed[2] == "3: opening price 200 volume 300 surplus 200 bid trades 1"
-    assert len((tmp_path / "robot.csv").read_text().splitlines()) == 7

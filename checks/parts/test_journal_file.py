@@ -1,6 +1,7 @@
 """Sessions that keep a journal (`--live --journal FILE`): 200 that are killed and gone on with,
-beside the model; files that a crash or a hand has left; another day's, unlawful, faulty and foreign
-ones; a file that can't grow; options.
+beside the model; files that a crash or a hand has left; another day's, unlawful, faulty, spoiled
+and foreign ones; other users' files; files that others change; the syncs, as the system sees them;
+a file that can't grow; options.
 
 After each crash the file must begin as the model's journal does, with all that was answered, and
 the next session must go on after it. The expected texts are the model's.
@@ -10,6 +11,7 @@ import dataclasses
 import os
 import pathlib
 import random
+import re
 import resource
 import select
 import shutil
@@ -77,6 +79,8 @@ class Run:
         """How many entries it says that the journal has."""
         assert self.child.stderr is not None
         line = self.child.stderr.readline().decode()
+        if line.startswith("journal cut off"):
+            line = self.child.stderr.readline().decode()
         word, count, rest = line.split(" ")
         assert (word, rest) == ("journal", "entries\n"), line
         return int(count)
@@ -139,12 +143,27 @@ def crash(
     assert 1 + done + len(answered) <= len(kept) <= 1 + place
 
 
+def torn_bytes(file: pathlib.Path) -> bytes:
+    """What is behind the lines of a file, but for NULs at its end."""
+    return file.read_bytes()[len(committed(file)) :].rstrip(b"\0")
+
+
+def said_of(file: pathlib.Path, number: int = 1) -> str:
+    """What a session says as it begins on a file that it goes on with."""
+    done = max(committed(file).count("\n") - 1, 0) if file.exists() else 0
+    torn = torn_bytes(file) if done or (file.exists() and committed(file)) else b""
+    kept = f"{len(torn)} bytes, kept in {file}.cut-{number}"
+    cut = f"journal cut off after its last line: {kept}\n" if torn else ""
+    return f"{cut}journal {done} entries\n"
+
+
 def finish(program: str, file: pathlib.Path, day: Kept, words: list[str]) -> None:
     """Goes on with the day's journal to its end, and has it audited."""
     done = max(committed(file).count("\n") - 1, 0) if file.exists() else 0
+    said = said_of(file)
     session = Session([program, "--live", "--journal", str(file), *day.words, *words], False)
     try:
-        session.hears("", f"journal {done} entries\n")
+        session.hears("", said)
         session.send("".join(f"{record}\n" for record in day.records[done:]).encode("latin-1"))
         session.end_input()
         session.hears("".join(day.answers[done:]), "")
@@ -152,6 +171,7 @@ def finish(program: str, file: pathlib.Path, day: Kept, words: list[str]) -> Non
     finally:
         session.close()
     assert file.read_text("ascii") == "".join(day.journal)
+    assert file.stat().st_mode & 0o777 == 0o600
     with file.open() as journal:
         audit = subprocess.run([program, "--audit"], stdin=journal, capture_output=True, text=True)
     assert (audit.returncode, audit.stderr) == (0, "")
@@ -190,17 +210,58 @@ TAILS = [
     b"1,as\0\0o price bid - ask -\n\0\0",
     b"\0" * 40 + b"1,ask,no price bid - ask -\n\0",
     b"1,ask,no price bid",
+    b"x" * 4_096,
+    b"\0" + b"x" * 4_095 + b"\0\0",
 ]
 
 
-@pytest.mark.parametrize("tail", TAILS, ids=repr)
+@pytest.mark.parametrize("tail", TAILS, ids=lambda tail: repr(tail[:40]))
 @pytest.mark.parametrize("seed", [3, 7])
 def test_torn_end(program: str, tmp_path: pathlib.Path, tail: bytes, seed: int) -> None:
     day = kept_day(seed)
-    for count in {0, 1, 2, len(day.journal)}:
+    for count in {1, 2, len(day.journal)}:
         file = tmp_path / f"{count}.journal"
         written(file, day, count, tail)
+        torn = tail.rstrip(b"\0")
         finish(program, file, day, [])
+        aside = tmp_path / f"{count}.journal.cut-1"
+        assert (aside.read_bytes() if aside.exists() else b"") == torn
+
+
+def test_torn_ends_have_a_file_each(program: str, tmp_path: pathlib.Path) -> None:
+    file = tmp_path / "day.journal"
+    for number in (1, 2, 3):
+        file.write_text(f"{DAY}1,ask,{ASK}\n1,as{number}")
+        said = said_of(file, number)
+        got = subprocess.run(
+            [program, "--live", "--journal", str(file)], input="", capture_output=True, text=True
+        )
+        assert (got.returncode, got.stderr) == (0, said)
+        assert (tmp_path / f"day.journal.cut-{number}").read_text() == f"1,as{number}"
+        assert file.read_text() == f"{DAY}1,ask,{ASK}\n"
+
+
+FIRST = [
+    b"",
+    b"\0" * 40,
+    b"day,1,1000",
+    b"\0ay,1,10\0\0",
+    DAY.encode()[:-1],
+    b"d" + b"\0" * 100_000,
+]
+
+
+@pytest.mark.parametrize("left", FIRST, ids=lambda left: repr(left[:40]))
+def test_what_a_crash_leaves_of_the_first_record(
+    program: str, tmp_path: pathlib.Path, left: bytes
+) -> None:
+    file = tmp_path / "day.journal"
+    file.write_bytes(left)
+    got = subprocess.run(
+        [program, "--live", "--journal", str(file)], input="1,ask\n", capture_output=True, text=True
+    )
+    assert (got.returncode, got.stdout, got.stderr) == (0, f"1: {ASK}\n", "journal 0 entries\n")
+    assert file.read_text() == f"{DAY}1,ask,{ASK}\n"
 
 
 def refused(
@@ -251,7 +312,6 @@ def test_another_day(
 @pytest.mark.parametrize(
     ("lines", "status", "fault"),
     [
-        ("1,ask\n", 1, "journal record 1: not a day record\n"),
         (f"{DAY}1,sell,x\n1,ask,{ASK}\n", 1, "journal record 2: bad command\n"),
         (f"{DAY}1,ask,{ASK}\n4,ask,{ASK}\n", 1, "journal record 3: bad member\n"),
         (f"{DAY}1,ask,\t\n", 1, "journal record 2: bad field 3\n"),
@@ -262,7 +322,7 @@ def test_another_day(
         ),
         (f"{DAY}1,ask,\n", 4, f'journal entry 1: recorded "", lawful "{ASK}"\n'),
     ],
-    ids=["no day", "a command", "a member", "a reply", "unlawful", "no reply"],
+    ids=["a command", "a member", "a reply", "unlawful", "no reply"],
 )
 def test_foreign_lines(
     program: str, tmp_path: pathlib.Path, lines: str, status: int, fault: str
@@ -270,6 +330,63 @@ def test_foreign_lines(
     file = tmp_path / "day.journal"
     file.write_text(lines)
     refused(program, file, [], status, fault)
+
+
+FOREIGN = {
+    "one line": b"pin 4711",
+    "a note": b"buy milk\nand bread\n",
+    "records": b"1,ask\n",
+    "day, with no line end, of other numbers": b"day,1,1001",
+    "another first byte": b"dax,1,1000,200,4,4096,65536,",
+    "a key": bytes(range(1, 10)) + bytes(range(11, 200)),
+    "a spreadsheet": b"PK\3\4\24\0\6\0" + b"x\0y\n" * 500,
+    "a picture": b"\x89PNG\r\n\x1a\n\0\0\0\rIHDR",
+    "a program": b"\x7fELF\2\1\1\0" + b"\0" * 100 + b"text\n" * 50,
+    "a database": b"SQLite format 3\0" + b"\0" * 4_000 + b"table\n",
+    "more NULs than a journal's room": b"\0" * 1_200_000,
+    "NULs, and then text": b"\0" * 60 + b"x",
+    "wide characters": "day,1,1000".encode("utf-16"),
+}
+
+
+@pytest.mark.parametrize("bytes_", FOREIGN.values(), ids=FOREIGN)
+def test_foreign_files(program: str, tmp_path: pathlib.Path, bytes_: bytes) -> None:
+    file = tmp_path / "prices.xlsx"
+    file.write_bytes(bytes_)
+    file.chmod(0o640)
+    refused(program, file, [], 1, f"journal {file}: not a journal\n")
+    assert file.stat().st_mode & 0o777 == 0o640
+    assert list(tmp_path.iterdir()) == [file]
+
+
+@pytest.mark.parametrize("zeros", [1, 512], ids=["a byte", "a sector"])
+@pytest.mark.parametrize("at", [0.1, 0.5, 0.8])
+def test_spoiled_in_the_middle(
+    program: str, tmp_path: pathlib.Path, zeros: int, at: float
+) -> None:
+    file = tmp_path / "day.journal"
+    lines = f"1,ask,{ASK}\n" * 1_000
+    whole = (DAY + lines).encode()
+    place = int(len(whole) * at) // 512 * 512
+    spoiled = whole[:place] + b"\0" * zeros + whole[place + zeros :]
+    file.write_bytes(spoiled)
+    kept = committed(file)
+    follow = len(spoiled) - len(kept)
+    fault = f"journal record {kept.count(chr(10)) + 1}: damaged, {follow} bytes follow\n"
+    refused(program, file, [], 1, fault)
+    file.write_bytes(spoiled + b"\0" * 5_000)
+    refused(program, file, [], 1, fault)
+    assert list(tmp_path.iterdir()) == [file]
+
+
+def test_more_behind_the_lines_than_a_torn_commit_leaves(
+    program: str, tmp_path: pathlib.Path
+) -> None:
+    file = tmp_path / "day.journal"
+    file.write_bytes(DAY.encode() + b"x" * 4_097)
+    refused(program, file, [], 1, "journal record 2: damaged, 4097 bytes follow\n")
+    file.write_bytes(DAY.encode() + b"\0" * 4_096 + b"x")
+    refused(program, file, [], 1, "journal record 2: damaged, 4097 bytes follow\n")
 
 
 @pytest.mark.parametrize(
@@ -305,20 +422,179 @@ def test_in_use(program: str, tmp_path: pathlib.Path) -> None:
 
 def test_no_regular_file(program: str, tmp_path: pathlib.Path) -> None:
     failed = "journal open failed\n"
+    irregular = "journal open failed: a link, or no regular file\n"
     file = tmp_path / "day.journal"
     file.write_text(DAY)
     link = tmp_path / "link"
     link.symlink_to(file)
-    for path in (link, tmp_path, tmp_path / "no/such/folder", pathlib.Path("/dev/null")):
-        refused(program, path, [], 3, failed)
+    for path in (link, tmp_path, pathlib.Path("/dev/null")):
+        refused(program, path, [], 3, irregular)
+    refused(program, tmp_path / "no/such/folder", [], 3, failed)
     second = tmp_path / "second"
     second.hardlink_to(file)
-    refused(program, second, [], 3, failed)
+    refused(program, second, [], 3, irregular)
     second.unlink()
     dangling = tmp_path / "dangling"
     dangling.symlink_to(tmp_path / "none")
-    refused(program, dangling, [], 3, failed)
+    refused(program, dangling, [], 3, irregular)
     assert not (tmp_path / "none").exists()
+
+
+@pytest.mark.parametrize("mode", [0o620, 0o602, 0o666, 0o777])
+def test_others_may_write_it(program: str, tmp_path: pathlib.Path, mode: int) -> None:
+    file = tmp_path / "day.journal"
+    file.write_text(DAY)
+    file.chmod(mode)
+    refused(program, file, [], 3, "journal open failed: others may write it\n")
+    assert file.stat().st_mode & 0o777 == mode
+
+
+@pytest.mark.parametrize("mode", [0o600, 0o640, 0o644])
+def test_from_the_first_entry_its_owner_alone_may_read_it(
+    program: str, tmp_path: pathlib.Path, mode: int
+) -> None:
+    file = tmp_path / "day.journal"
+    file.write_text(DAY)
+    file.chmod(mode)
+    session = Session([program, "--live", "--journal", str(file)], False)
+    try:
+        session.hears("", "journal 0 entries\n")
+        assert file.stat().st_mode & 0o777 == 0o600
+        session.end_input()
+        session.ends(0)
+    finally:
+        session.close()
+
+
+@pytest.mark.skipif(os.geteuid() != 0, reason="only root gives files away")
+@pytest.mark.parametrize("text", ["", DAY])
+def test_another_users_file(program: str, tmp_path: pathlib.Path, text: str) -> None:
+    file = tmp_path / "day.journal"
+    file.write_text(text)
+    os.chown(file, 65534, 65534)
+    refused(program, file, [], 3, "journal open failed: another user's file\n")
+    assert (file.stat().st_uid, list(tmp_path.iterdir())) == (65534, [file])
+
+
+@pytest.mark.parametrize("stream", [0, 1, 2])
+@pytest.mark.parametrize("text", ["", DAY])
+def test_a_stream_of_the_session(
+    program: str, tmp_path: pathlib.Path, stream: int, text: str
+) -> None:
+    """What is read from or printed into the journal itself would spoil it."""
+    file = tmp_path / "day.journal"
+    file.write_text(text)
+    redirected = ["<", ">>", "2>>"][stream]
+    line = f'"$1" --live --journal "$2" {redirected} "$2"'
+    words = ["bash", "-c", line, "bash", program, str(file)]
+    ran = subprocess.run(words, input="1,ask\n" if stream else None, capture_output=True, text=True)
+    reason = "journal open failed: it is the session's input or output\n"
+    printed = file.read_text().removeprefix(text) + ran.stdout + ran.stderr
+    assert (ran.returncode, printed) == (3, reason)
+
+
+def cut_off(file: pathlib.Path) -> None:
+    """Empties a file, as a program does that rotates logs."""
+    os.truncate(file, 0)
+
+
+def replace(file: pathlib.Path) -> None:
+    """Puts a copy in a file's place, as an editor does."""
+    copy = file.with_name("copy")
+    shutil.copy(file, copy)
+    copy.rename(file)
+
+
+def move(file: pathlib.Path) -> None:
+    """Gives a file another name."""
+    file.rename(file.with_name("moved"))
+
+
+def append(file: pathlib.Path) -> None:
+    """Writes a line behind a file."""
+    with file.open("a", encoding="ascii") as end:
+        end.write(f"1,ask,{ASK}\n")
+
+
+@pytest.mark.parametrize(
+    "change", [pathlib.Path.unlink, cut_off, replace, move, append], ids=lambda it: it.__name__
+)
+@pytest.mark.parametrize("words", [[], ["--sync", "none"]], ids=["each", "none"])
+def test_changed_by_others(
+    program: str,
+    tmp_path: pathlib.Path,
+    change: Callable[[pathlib.Path], None],
+    words: list[str],
+) -> None:
+    file = tmp_path / "day.journal"
+    session = Session([program, "--live", "--journal", str(file), *words], False)
+    try:
+        session.hears("", "journal 0 entries\n")
+        session.send(b"1,ask\n")
+        session.hears(f"1: {ASK}\n", "")
+        change(file)
+        session.send(b"1,ask\n")
+        session.hears("", "journal changed by others\n")
+        session.ends(3)
+    finally:
+        session.close()
+
+
+TRACED = re.compile(r"\d+ +(\w+)\((\d+)(?:, .*)?\) += (-?\d+)")
+
+
+def traced(program: str, file: pathlib.Path, words: list[str], text: str) -> list[tuple[str, int]]:
+    """The calls of a session that write, cut or sync, and to what: each call's name and the number
+    of its file; a write with how many bytes it wrote.
+    """
+    log = file.with_name("calls")
+    calls = "trace=write,pwrite64,fsync,fdatasync,ftruncate"
+    got = subprocess.run(
+        ["strace", "-f", "-e", calls, "-o", log, program, "--live", "--journal", file, *words],
+        input=text,
+        capture_output=True,
+        text=True,
+    )
+    assert got.returncode == 0, got.stderr
+    found = [TRACED.match(line) for line in log.read_text().splitlines()]
+    return [(f"{it[1]} {it[2]}", int(it[3])) for it in found if it]
+
+
+def test_each_answer_comes_after_a_sync(program: str, tmp_path: pathlib.Path) -> None:
+    file = tmp_path / "day.journal"
+    text = "1,ask\n" * 1_000
+    calls = traced(program, file, [], text)
+    assert sum(count for name, count in calls if name == "pwrite64 3") > 27_000
+    unsynced = 0
+    for name, count in calls:
+        if name in ("fdatasync 3", "fsync 3"):
+            unsynced = 0
+        elif name in ("pwrite64 3", "ftruncate 3"):
+            assert count <= 65_536
+            unsynced += 1
+        elif name == "write 1":
+            assert unsynced == 0
+    entries = calls[[name for name, _ in calls].index("write 2") :]
+    written_at_once = [count for name, count in entries if name == "pwrite64 3"]
+    assert len(written_at_once) > 1 and max(written_at_once) <= 4_096
+
+
+def test_none_is_synced_where_none_is_asked_for(program: str, tmp_path: pathlib.Path) -> None:
+    calls = traced(program, tmp_path / "day.journal", ["--sync", "none"], "1,ask\n" * 1_000)
+    assert any(name == "pwrite64 3" for name, _ in calls)
+    assert not [name for name, _ in calls if "sync" in name]
+
+
+def test_what_was_read_is_written_and_synced_before_an_answer(
+    program: str, tmp_path: pathlib.Path
+) -> None:
+    file = tmp_path / "day.journal"
+    text = f"{DAY}1,ask,{ASK}\n"
+    file.write_text(text)
+    names = traced(program, file, [], "")
+    first = names.index(("pwrite64 3", len(text)))
+    assert names[first + 1][0] == "fdatasync 3"
+    assert first + 1 < [name for name, _ in names].index("write 2")
 
 
 @pytest.fixture(name="as_nobody")
@@ -338,7 +614,7 @@ def nobodys_program(program: str) -> Iterator[list[str]]:
 
 @pytest.mark.parametrize(
     ("of_folder", "of_file"),
-    [(0o777, 0o444), (0o555, 0o666), (0o555, None), (0o555, 0o444), (0o777, 0o222)],
+    [(0o777, 0o400), (0o555, 0o600), (0o555, None), (0o555, 0o400), (0o777, 0o200)],
     ids=["file", "folder", "folder, no file", "both", "not readable"],
 )
 def test_read_only(as_nobody: list[str], of_folder: int, of_file: int | None) -> None:
@@ -349,9 +625,11 @@ def test_read_only(as_nobody: list[str], of_folder: int, of_file: int | None) ->
         if of_file is not None:
             file.write_text(DAY)
             file.chmod(of_file)
+            if os.geteuid() == 0:
+                shutil.chown(file, "nobody")
         os.chmod(above, 0o755)
         folder.chmod(of_folder)
-        goes_on = of_file == 0o666
+        goes_on = of_file == 0o600
         got = subprocess.run(
             [*as_nobody, "--live", "--journal", str(file)],
             input="1,ask\n",

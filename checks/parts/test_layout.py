@@ -3,22 +3,24 @@ rule of documents finds one that is planted, as that for the clauses of wrong bo
 check says of wrong bodies that it tries together is read.
 """
 import pathlib
+import subprocess
 import sys
 from collections.abc import Callable, Iterator
 
 import pytest
 
 from checks import built, edits
-from checks.texts import comments, documents, sources
+from checks.texts import documents, sources
 from checks.texts.tree import Tree
 
-sys.path.insert(0, str(built.TOP / "checks"))
+sys.path[:0] = [str(built.TOP / "checks"), str(built.TOP / "build")]
 
 import together  # noqa: E402
+import toolchain  # noqa: E402
 
 Rule = Callable[[Tree], Iterator[str]]
 OURS = Tree(built.TOP)
-RULES = [*sources.RULES, *documents.RULES, *comments.RULES]
+RULES = [*sources.RULES, *documents.RULES]
 GLOSSARY = """# Glossary
 
 | Term | Meaning | In code |
@@ -33,6 +35,18 @@ SOURCE = "pub enum Side {\n    Bid,\n    Ask,\n}\n"
 def test_no_fault(rule: Rule) -> None:
     faults = [*rule(OURS)]
     assert not faults, "\n" + "\n".join(faults)
+
+
+def of_rattle(folder: pathlib.Path) -> list[str]:
+    """The paths of the files in Rattle, its definitions and proofs, without what is built."""
+    files = [it for it in folder.rglob("*") if it.suffix in (".rt", ".antt")]
+    return [str(it) for it in files if "out" not in it.relative_to(folder).parts]
+
+
+def test_the_toolchain_would_write_each_file_so() -> None:
+    words = [f"{toolchain.kit()}/bin/rattle", "fmt", "--check", *of_rattle(built.TOP / "crates")]
+    ran = subprocess.run(words, capture_output=True, text=True)
+    assert (ran.returncode, ran.stdout + ran.stderr) == (0, "")
 
 
 def planted(folder: pathlib.Path, **texts: str) -> Tree:
@@ -105,32 +119,23 @@ def test_a_dead_path(tmp_path: pathlib.Path) -> None:
     assert faults_of(documents.dead_names, tree)[0] == "README.md:1: there is no docs/NOWHERE.md"
 
 
-@pytest.mark.parametrize(
-    "text", ["It stands there.", "So many rows.", "That each is one.", "It tells of it."]
-)
-def test_a_forbidden_word(tmp_path: pathlib.Path, text: str) -> None:
-    tree = planted(tmp_path, **{"docs/MODEL.md": f"{text.replace('So many', 'As so many')}\n"})
-    assert len(faults_of(documents.forbidden_words, tree)) == 1
-
-
-@pytest.mark.parametrize("name, text", [
-    ("python/a.py", 'def f() -> None:\n    """It takes so\n    many."""\n'),
-    ("python/b.py", "WORD = 'stands'  # it stands there\n"),
-    ("library/a.c", "/* It stands\n * there. */\n"),
-    ("library/a.hpp", "int tells = 0;  // it tells of it\n"),
-    ("library/build", "#!/usr/bin/env bash\ntells=0  # it tells of it\n"),
-    ("crates/terms/src/a.rt", "/// It takes so\n/// many.\npub fn tells() {}\n"),
-    ("crates/terms/src/b.rt", "const A: u8 = b'\"'; // It tells of it.\nconst B: &str = \"\";\n"),
-    ("crates/terms/src/tests/c.rt", 'const A: &str = "// it stands"; // It tells of it.\n'),
+@pytest.mark.parametrize("link, faults", [
+    ("docs/GLOSSARY.md", 0), ("docs/GLOSSARY.md#glossary", 0), ("#what-it-is", 0), ("crates", 0),
+    ("https://example.org/a", 0), ("docs/GONE.md", 1), ("docs/GLOSSARY.md#gone", 1), ("#gone", 1),
 ])
-def test_a_forbidden_word_of_a_comment(tmp_path: pathlib.Path, name: str, text: str) -> None:
-    assert len(faults_of(comments.forbidden_comments, planted(tmp_path, **{name: text}))) == 1
+def test_a_dead_link(tmp_path: pathlib.Path, link: str, faults: int) -> None:
+    tree = planted(tmp_path, **{"README.md": f"# What `it` is\n\nAs [there]({link}) is said.\n"})
+    assert len(faults_of(documents.dead_links, tree)) == faults
 
 
-@pytest.mark.parametrize("text", ["-- it takes so\n-- many\n", "data X where\n  -- it stands\n"])
-def test_a_forbidden_word_of_a_proof(tmp_path: pathlib.Path, text: str) -> None:
-    tree = planted(tmp_path, **{"crates/terms/proofs/Laws.antt": text})
-    assert len(faults_of(comments.forbidden_comments_of_proofs, tree)) == 1
+@pytest.mark.parametrize("text, faults", [
+    ("As Roth et " + "al. show.", 1), ("arX" + "iv 1.2", 1), ("By Theo" + "rem 3.", 1),
+    ("Run /ro" + "ot/a.", 1), ("../sh" + "ared/a", 1), ("In /wo" + "rk/a.", 1),
+    ("In out/wo" + "rk/a, section 3.", 0),
+])
+def test_a_foreign_text(tmp_path: pathlib.Path, text: str, faults: int) -> None:
+    tree = planted(tmp_path, **{"crates/terms/src/a.rt": f"// {text}\n"})
+    assert len(faults_of(documents.foreign_texts, tree)) == faults
 
 
 def test_documents_that_are_too_long(tmp_path: pathlib.Path) -> None:
@@ -149,13 +154,10 @@ def test_this_kit_among_others(tmp_path: pathlib.Path) -> None:
     assert not faults_of(documents.kits, tree)
 
 
-OLD = ["    Side::Buy", "use call_board::Board;", "CALLAUCTION_ASK_SIDE", "best_buy"]
-
-
-@pytest.mark.parametrize("line", OLD)
-def test_a_name_of_before(tmp_path: pathlib.Path, line: str) -> None:
-    tree = planted(tmp_path, **{"crates/terms/src/other.rt": line + "\n"})
-    assert len(faults_of(sources.names_of_before, tree)) == 1
+@pytest.mark.parametrize("name", ["Side::" + "Buy", "Side." + "SELL", "best_" + "buy"])
+def test_a_name_of_another_side(tmp_path: pathlib.Path, name: str) -> None:
+    tree = planted(tmp_path, **{"crates/terms/src/other.rt": f"    {name}\n"})
+    assert len(faults_of(sources.other_sides, tree)) == 1
 
 
 def test_a_long_line(tmp_path: pathlib.Path) -> None:
@@ -216,6 +218,18 @@ def test_a_clause_that_no_contract_has(
     row = edits.Row("terms", "meanings.txt:1", "wrong", "it is wrong", cited)
     faults = [f"meanings.txt:1: `run` has no clause `{name}`" for name in unknown]
     assert [*edits.unknown_clauses([row], tree.top)] == faults
+
+
+def test_the_list_of_wrong_bodies(tmp_path: pathlib.Path) -> None:
+    row = "wrong, worse | it is wrong | `run` (`text`)\n"
+    tree = planted(
+        tmp_path,
+        **{"crates.txt": "terms:\n", "checks/wrong_bodies/terms/meanings.txt": row},
+    )
+    text = "terms\n  wrong, worse\n    it is wrong\n    refused by `run` (`text`)\n"
+    for names in [], ["terms"], ["terms/worse"]:
+        assert edits.listing(names, tree.top) == text
+    assert edits.listing(["terms/other"], tree.top) == ""
 
 
 BODIES = """pub struct Sum(u64);

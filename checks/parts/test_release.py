@@ -6,27 +6,36 @@ packages can be fetched; elsewhere they are unpacked to a folder of their own. A
 says which. Takes the built program (--program) and what library/build wrote (--library).
 """
 import contextlib
+import json
 import os
 import pathlib
 import re
 import shutil
+import signal
 import subprocess
+import sys
 import tarfile
 import textwrap
 from collections.abc import Iterator
+from hashlib import sha256
+from typing import Any
 
 import pytest
 
 from checks.built import TOP
 
+sys.path.insert(0, str(TOP / "checks"))
+
+import proved_binaries  # noqa: E402
+import runner  # noqa: E402
+from proved_binaries import ARCHIVE, SONAME  # noqa: E402
+
 Ran = subprocess.CompletedProcess[str]
+OF_A_USER = {"./etc/shadow-", "./etc/gshadow-"}
+"""What is left of a user whom a package has made, as such users stay."""
 PATH = "/usr/local/sbin:/usr/local/bin:/usr/sbin:/usr/bin:/sbin:/bin"
 """A path without the toolchain."""
-ORDERS = "1,enter,bid,500,200\n2,enter,ask,300,200\n0,uncross\n"
-ANSWERS = (
-    "1: entered 1\n2: entered 2\n"
-    "3: opening price 200 volume 300 surplus 200 bid trades 1\n"
-)
+ORDERS, ANSWERS = ((TOP / f"examples/opening.{it}").read_text() for it in ("csv", "txt"))
 PYTHON = """
 from callauction import Auction, Side
 
@@ -61,6 +70,7 @@ target_link_libraries(shared callauction::callauction)
 add_executable(static user.c)
 target_link_libraries(static callauction::static)
 """
+CRATES = TOP / "crates.txt"
 FILES = [
     "bin/callboard",
     "include/callauction.h",
@@ -119,6 +129,19 @@ def files_below(folder: pathlib.Path) -> list[str]:
     found = (it for it in folder.rglob("*") if it.is_symlink() or it.is_file())
     places = (str(it.relative_to(folder)) for it in found)
     return sorted(place for place in places if "dist-packages" not in place)
+
+
+# ---- ./callboard
+
+
+def test_a_file_that_is_too_long_is_no_signal(tmp_path: pathlib.Path) -> None:
+    shutil.copy(TOP / "callboard", tmp_path)
+    program = tmp_path / "crates/callboard/out/callboard"
+    program.parent.mkdir(parents=True)
+    program.write_text("#!/bin/sh\ngrep SigIgn /proc/$$/status\n")
+    program.chmod(0o755)
+    ignored = int(done(tmp_path / "callboard").split()[1], 16)
+    assert ignored >> (signal.SIGXFSZ - 1) & 1
 
 
 # ---- ./install
@@ -268,46 +291,191 @@ def test_pip_from_an_installed_library(
 # ---- ./release
 
 
+RESULT, KIT = "1234 passed, 0 failed", "a kit"
+
+
 @pytest.fixture(scope="session")
-def release(built: dict[str, str], tmp_path_factory: pytest.TempPathFactory) -> pathlib.Path:
+def gate(built: dict[str, str], tmp_path_factory: pytest.TempPathFactory) -> dict[str, Any]:
+    """What the test command would have written of a gate over the binaries of these tests."""
+    library = pathlib.Path(built["CALLBOARD_LIBRARY"])
+    files = {name: library / name for name in (SONAME, ARCHIVE)}
+    files["callboard"] = pathlib.Path(built["CALLBOARD_PROGRAM"])
+    return {
+        "commit": done("git", "rev-parse", "HEAD", cwd=TOP).strip(),
+        "tree": proved_binaries.tree_of_files(),
+        "files": {name: sha256(path.read_bytes()).hexdigest() for name, path in files.items()},
+        "result": RESULT,
+        "kit": KIT,
+        "parts": [part.name for part in runner.PARTS],
+    }
+
+
+@pytest.fixture(scope="session")
+def words(gate: dict[str, Any], tmp_path_factory: pytest.TempPathFactory) -> list[str]:
+    """The options of ./release: that gate, and a key."""
+    folder = tmp_path_factory.mktemp("gate")
+    (folder / "gate.json").write_text(json.dumps(gate))
+    done("openssl", "genpkey", "-algorithm", "ed25519", "-out", folder / "key.pem")
+    done("openssl", "pkey", "-in", folder / "key.pem", "-pubout", "-out", folder / "public.pem")
+    return ["--gate", str(folder / "gate.json"), "--sign", str(folder / "key.pem")]
+
+
+@pytest.fixture(scope="session")
+def release(
+    built: dict[str, str], words: list[str], tmp_path_factory: pytest.TempPathFactory
+) -> pathlib.Path:
     """What ./release makes."""
     folder = tmp_path_factory.mktemp("release") / "made"
-    made(folder, built)
+    made(folder, built, *words)
     return folder
 
 
-def made(folder: pathlib.Path, built: dict[str, str]) -> None:
-    """Makes a release. The gate isn't run for it."""
+def made(folder: pathlib.Path, built: dict[str, str], *words: str, umask: int = 0o022) -> None:
+    """Makes a release."""
     env = {**os.environ, **built}
-    subprocess.run(
-        [TOP / "release", "--without-gate", folder], env=env, check=True, stdout=subprocess.DEVNULL
-    )
+    command = ["sh", "-c", f'umask {umask:o}; exec "$@"', "", TOP / "release", *words, folder]
+    subprocess.run(command, env=env, check=True, stdout=subprocess.DEVNULL)
 
 
 def test_the_same_commit_gives_the_same_bytes(
-    release: pathlib.Path, built: dict[str, str], tmp_path: pathlib.Path
+    release: pathlib.Path, built: dict[str, str], words: list[str], tmp_path: pathlib.Path
 ) -> None:
-    version = done(TOP / "build/version.py").strip()
+    version = done(TOP / "build/version.py", "--release", cwd=TOP).strip()
+    assert re.fullmatch(r"\d{4}\.\d+\.\d+\+g[0-9a-f]{7,}(\.changed)?", version)
     names = {
         "PROVED.txt",
         "SHA256SUMS",
+        "SHA256SUMS.sig",
+        "sbom.spdx.json",
         f"callauction-{version}-cp311-cp311-linux_x86_64.whl",
         f"callboard-{version}-linux-x86_64.tar.gz",
         *(f"{name}_{version}_amd64.deb" for name in DEBIAN),
     }
     assert {path.name for path in release.iterdir()} == names
     done("sha256sum", "--check", "--strict", "SHA256SUMS", cwd=release)
-    made(tmp_path / "again", built)
+    made(tmp_path / "again", built, *words, umask=0o077)
     for name in names:
         assert (tmp_path / "again" / name).read_bytes() == (release / name).read_bytes(), name
 
 
-def test_what_was_proved(release: pathlib.Path) -> None:
+def test_another_commit_is_another_version(tmp_path: pathlib.Path) -> None:
+    for place in ("build/version.py", "crates/settings/src/options.rt"):
+        (tmp_path / place).parent.mkdir(parents=True)
+        shutil.copy(TOP / place, tmp_path / place)
+    git = ["git", "-c", "user.name=a", "-c", "user.email=a@b.example"]
+    versions = []
+    done(*git, "init", "-q", cwd=tmp_path)
+    done(*git, "add", ".", cwd=tmp_path)
+    for _ in range(2):
+        done(*git, "commit", "-q", "--allow-empty", "-m", "a change", cwd=tmp_path)
+        versions.append(done(tmp_path / "build/version.py", "--release", cwd=tmp_path).strip())
+    assert len({*versions}) == 2 and not any(it.endswith(".changed") for it in versions)
+    (tmp_path / "another").touch()
+    last = done(tmp_path / "build/version.py", "--release", cwd=tmp_path).strip()
+    assert last == f"{versions[1]}.changed"
+
+
+def test_what_was_proved(release: pathlib.Path, gate: dict[str, Any]) -> None:
     lines = (release / "PROVED.txt").read_text().splitlines()
     heads = [line.partition(":")[0] for line in lines]
     assert heads[:4] == ["version", "commit", "kit", "gate"]
     assert re.match(r"commit: [0-9a-f]{40}\b", lines[1])
-    assert lines[3] == "gate: the gate was not run on this tree: ./check ci"
+    assert lines[2:4] == [f"kit: {KIT}", f"gate: {RESULT}"]
+    for name in ("callboard", SONAME):
+        assert f"{name} as built: SHA-256 {gate['files'][name]}" in lines
+
+
+def test_the_sums_are_signed(
+    release: pathlib.Path, words: list[str], tmp_path: pathlib.Path
+) -> None:
+    public = pathlib.Path(words[-1]).with_name("public.pem")
+    verify = ["openssl", "pkeyutl", "-verify", "-pubin", "-inkey", public, "-rawin"]
+    signature = ["-sigfile", release / "SHA256SUMS.sig"]
+    assert "Verified" in done(*verify, "-in", release / "SHA256SUMS", *signature)
+    changed = tmp_path / "SHA256SUMS"
+    changed.write_text((release / "SHA256SUMS").read_text().replace("a", "b"))
+    assert run(*verify, "-in", changed, *signature).returncode != 0
+
+
+def test_of_what_it_is_made(release: pathlib.Path, gate: dict[str, Any]) -> None:
+    found = json.loads((release / "sbom.spdx.json").read_text())
+    assert (found["spdxVersion"], found["SPDXID"]) == ("SPDX-2.3", "SPDXRef-DOCUMENT")
+    packages = {it["name"]: it for it in found["packages"]}
+    crates = {path.name for path in (TOP / "crates").iterdir()}
+    named = {line.partition(":")[0].split()[0] for line in CRATES.read_text().splitlines() if line}
+    assert crates & named <= packages.keys() and {"csv", "clap", "memchr"} <= packages.keys()
+    assert packages["rattle-kit"]["versionInfo"] == packages["csv"]["versionInfo"] == KIT
+    assert {"python3-numpy", "libc6", "python3-aiohttp", "gcc"} <= packages.keys()
+    assert re.fullmatch(r"[0-9].*", packages["gcc"]["versionInfo"])
+    proved = (release / "PROVED.txt").read_text()
+    [checksum] = packages[SONAME]["checksums"]
+    assert f"{SONAME} without symbols, as given: SHA-256 {checksum['checksumValue']}" in proved
+    ids = {it["SPDXID"] for it in found["packages"]} | {"SPDXRef-DOCUMENT"}
+    assert len(ids) == len(found["packages"]) + 1
+    for it in found["relationships"]:
+        assert {it["spdxElementId"], it["relatedSpdxElement"]} <= ids
+
+
+def refused(words: list[object], built: dict[str, str], folder: pathlib.Path) -> str:
+    """What ./release says that makes nothing."""
+    env = {**os.environ, **built}
+    command = [str(TOP / "release"), *map(str, words), str(folder / "made")]
+    ran = subprocess.run(command, env=env, capture_output=True, text=True)
+    assert ran.returncode == 1 and not (folder / "made").exists()
+    assert not [*folder.glob(".release-*")]
+    return ran.stderr
+
+
+GATES: dict[str, tuple[dict[str, Any], str]] = {
+    "that failed": ({"result": "7 passed, 1 failed"}, "the gate failed: 7 passed, 1 failed"),
+    "of one part": ({"parts": ["ci"]}, "the gate didn't run layout"),
+    "of another tree": ({"tree": "0" * 40}, "the gate was run on another tree, of "),
+    "over another program": ({"callboard": "0" * 64}, "is not the callboard over which"),
+    "over another library": ({"libcallauction.so.1": "0" * 64}, "is not the libcallauction.so.1"),
+    "over another archive": ({"libcallauction.a": "0" * 64}, "is not the libcallauction.a"),
+}
+
+
+@pytest.mark.parametrize("what", GATES)
+def test_a_gate(
+    what: str, gate: dict[str, Any], built: dict[str, str], tmp_path: pathlib.Path
+) -> None:
+    change, text = GATES[what]
+    path = tmp_path / "gate.json"
+    files = gate["files"] | {name: it for name, it in change.items() if name in gate["files"]}
+    others = {name: it for name, it in change.items() if name in gate}
+    path.write_text(json.dumps(gate | {"files": files} | others))
+    assert text in refused(["--gate", path], built, tmp_path)
+
+
+def test_no_gate(built: dict[str, str], gate: dict[str, Any], tmp_path: pathlib.Path) -> None:
+    path = tmp_path / "gate.json"
+    text = refused(["--gate", path], built, tmp_path)
+    assert text == "release: the gate was not run on this tree: ./check\n"
+    path.write_text("1234 passed, 0 failed\n")
+    text = refused(["--gate", path], built, tmp_path)
+    assert text == f"release: {path} isn't what ./check writes\n"
+    path.write_text(json.dumps(gate))
+    other = built | {"CALLBOARD_PROGRAM": "/bin/true"}
+    text = refused(["--gate", path], other, tmp_path)
+    assert text == "release: /bin/true is not the callboard over which the gate was run\n"
+
+
+def test_what_the_test_command_writes(
+    tmp_path: pathlib.Path, monkeypatch: pytest.MonkeyPatch
+) -> None:
+    (tmp_path / "callboard").write_bytes(b"program")
+    files = {"callboard": tmp_path / "callboard", SONAME: tmp_path / "nothing"}
+    monkeypatch.setattr(proved_binaries, "binaries", lambda: files)
+    path = tmp_path / "binaries.json"
+    assert not proved_binaries.write("1 passed, 0 failed", ["layout"], path)
+    assert not path.exists()
+    assert proved_binaries.write("9 passed, 0 failed", ["layout", "ci"], path)
+    found = proved_binaries.Gate.read(path)
+    assert found.files == {"callboard": sha256(b"program").hexdigest()}
+    assert (found.result, found.parts) == ("9 passed, 0 failed", ("layout", "ci"))
+    assert found.commit == done("git", "rev-parse", "HEAD", cwd=TOP).strip()
+    found.check(found.tree, {"callboard": tmp_path / "callboard"}, ["ci"])
 
 
 def test_a_folder_that_is_there(built: dict[str, str], tmp_path: pathlib.Path) -> None:
@@ -351,7 +519,10 @@ def test_the_wheel(release: pathlib.Path, venv: pathlib.Path, tmp_path: pathlib.
     assert [*venv.rglob("*callauction*")] == []
 
 
-DEBIAN = ("callboard", "libcallauction1", "libcallauction-dev", "python3-callauction")
+DEBIAN = (
+    *("callboard", "libcallauction1", "libcallauction-dev"),
+    *("python3-callauction", "callboard-venue"),
+)
 
 
 def test_lintian_has_no_error(release: pathlib.Path) -> None:
@@ -393,6 +564,7 @@ def test_debians_packages(
 ) -> None:
     debs = [path for name in DEBIAN for path in release.glob(f"{name}_*.deb")]
     wanted = "gcc,libc6-dev,pkgconf,python3,python3-numpy,python3-cffi-backend"
+    wanted += ",python3-aiohttp,python3-psutil,systemd-standalone-sysusers"
     with fresh_root(tmp_path, wanted) as root:
         where = "in a fresh root" if root else "in a folder, as no root could be made"
         tables["| packages of Debian |"] = [f"| {where} |"]
@@ -412,8 +584,11 @@ def test_debians_packages(
         assert done(*in_root, "/tmp/user") == "0 0\n"
         assert "libcallauction.so.1" in done(*in_root, "ldd", "/tmp/user")
         assert (root / "usr/share/man/man1").is_dir()
+        assert "callboard:" in (root / "etc/passwd").read_text()
+        checked = ("python3", "-P", "-m", "callauction.venue", "--check", "--folder", "/tmp/venue")
+        assert "/tmp/venue: not there yet\n" in done(*in_root, *checked)
         done(*in_root, "dpkg", "--purge", *reversed(DEBIAN))
-        assert files_of(root) - before == set()
+        assert files_of(root) - before <= OF_A_USER
 
 
 def unpacked(debs: list[pathlib.Path], folder: pathlib.Path) -> None:

@@ -1,11 +1,13 @@
 """Rules for the documents: each gives its faults as `FILE:LINE: ..` or `FILE: ..`.
 
-- Each name in backticks exists: as a file, or as a word of the code, the scripts or the examples.
+- Each name in backticks exists, as a file, or as a word of the code, the scripts or the examples;
+  those in the lists of promises and of wrong bodies too.
 - docs/GLOSSARY.md gives each term once, with names of the code that exist; a type or a variant that
   it names is declared once.
-- No document has a word that FORBIDDEN lists. Both rules hold of docs/WRONG_BODIES.md too.
-- Together they have at most MOST_BYTES, docs/WRONG_BODIES.md and CHANGELOG.md aside.
+- Each link leads to a file or a folder, and to a heading of it where it names one.
+- Together they have at most MOST_BYTES.
 - The kit of `rt version` is among those that a document names, where it names any.
+- No file of the repository cites a paper, or has a path of a machine or one that leads out of it.
 """
 import collections
 import functools
@@ -17,20 +19,13 @@ from collections.abc import Iterator
 
 from checks.texts.tree import Tree
 
-MOST_BYTES = 95_000
-FORBIDDEN = {
-    r"\bstands?\b(?!-in\b)": "say what it is, or where",
-    r"\btells?\b|\btold\b": "says, prints, shows, names",
-    r"\bso many\b": "the number, or 'as many as'",
-    r"\bwant of memory\b": "refused memory, out of memory",
-    r"\bfrom elsewhere\b": "from where",
-    r"\bwhat there is\b": "name it",
-}
-THAT = re.compile(r"(?:^|[.:;|] )(That (?!order\b|field\b|day\b|file\b|way\b)[^.]*)")
-VERB = re.compile(
-    r"\b(?:is|are|was|were|has|have|does|do|can|may|must|will|would|needs?|takes?|gives?|makes?"
-    r"|means?|shows?|follows?|comes?|goes|costs?|holds?|fails?|depends?|differs?|ends?)\b"
+MOST_BYTES = 100_000
+FOREIGN = re.compile(
+    r"\barXiv\b|\bdoi:|\bdoi\.org\b|\bet al\.|\b(?:Theorem|Lemma|Section) [0-9]"
+    r"|\.\./shared\b|(?<![\w.}])/(?:root|work|mnt|Users)/|/home/\w"
 )
+LINK = re.compile(r"\]\((?P<path>[^)#\s]*)(?:#(?P<heading>[^)\s]+))?\)")
+HEADING = re.compile(r"^#+ (.*)$", re.MULTILINE)
 SPAN = re.compile(r"(?<!`)`([^`\n]+)`(?!`)")
 WORD = re.compile(r"[A-Za-z_][A-Za-z0-9_]*(?:[-'][A-Za-z0-9_]+)*'*")
 PATH = re.compile(r"[\w.*-]+(?:/[\w.*-]+)+/?")
@@ -43,6 +38,9 @@ OUTSIDE = {
     "taskset",
     "perf",
     "sbatch",
+    "journalctl",
+    "systemctl",
+    "monday",
     "hosts",
     "include_str",
     "include_bytes",
@@ -72,22 +70,15 @@ def spans(tree: Tree, file: pathlib.Path) -> Iterator[tuple[int, str]]:
         yield from ((place, text) for text in SPAN.findall(line))
 
 
-def prose(tree: Tree, file: pathlib.Path) -> Iterator[tuple[int, str]]:
-    """The lines of a document without what is in backticks."""
-    for place, line in text_lines(tree, file):
-        yield place, SPAN.sub("``", line)
-
-
 @functools.lru_cache(maxsize=None)
 def words_of(tree: Tree) -> frozenset[str]:
     """The words of all files but documents, the names of all files and folders, and OUTSIDE."""
     found = set(OUTSIDE)
-    of_documents = {*tree.documents, tree.top / "CHANGELOG.md", tree.top / "docs/WRONG_BODIES.md"}
+    of_documents = {*tree.documents, *tree.lists, tree.top / "CHANGELOG.md"}
     for file in tree.files:
         path = file.relative_to(tree.top)
         found.update(WORD.findall(str(path)))
-        is_of_code = path.parts[:2] != ("checks", "texts") and file.name != "meanings.txt"
-        if is_of_code and file not in of_documents:
+        if path.parts[:2] != ("checks", "texts") and file not in of_documents:
             for word in WORD.findall(tree.text(file)):
                 found.add(word)
                 found.update(word.split("-"))
@@ -113,15 +104,9 @@ def dead_words(tree: Tree, text: str) -> list[str]:
     return dead
 
 
-def with_made(tree: Tree) -> list[pathlib.Path]:
-    """The documents, and docs/WRONG_BODIES.md, which is made of lines that a person wrote."""
-    made = [file for file in tree.files if tree.name(file) == "docs/WRONG_BODIES.md"]
-    return [*tree.documents, *made]
-
-
 def dead_names(tree: Tree) -> Iterator[str]:
     """Names in backticks that the repository has nowhere."""
-    for file in with_made(tree):
+    for file in [*tree.documents, *tree.lists]:
         for place, text in spans(tree, file):
             for path in PATH.findall(text):
                 if (tree.top / path.split("/")[0]).is_dir() and not is_path(tree, path):
@@ -130,21 +115,31 @@ def dead_names(tree: Tree) -> Iterator[str]:
                 yield f"{tree.name(file)}:{place}: `{word}` is nowhere in the repository"
 
 
-def faults_of_words(where: str, text: str) -> Iterator[str]:
-    """The words of FORBIDDEN that a text has."""
-    for pattern, better in FORBIDDEN.items():
-        if found := re.search(pattern, text):
-            yield f"{where}: '{found[0].strip()}': {better}"
+def headings(tree: Tree, file: pathlib.Path) -> set[str]:
+    """The headings of a document, as links name them."""
+    plain = (re.sub(r"[^\w\s-]", "", text.lower()) for text in HEADING.findall(tree.text(file)))
+    return {text.replace(" ", "-") for text in plain}
 
 
-def forbidden_words(tree: Tree) -> Iterator[str]:
-    """Words of FORBIDDEN, and sentences that begin with That and have no second verb."""
-    for file in with_made(tree):
-        for place, line in prose(tree, file):
-            yield from faults_of_words(f"{tree.name(file)}:{place}", line)
-            for sentence in THAT.findall(line):
-                if len(VERB.findall(sentence)) < 2 and not VERB.match(sentence, len("That ")):
-                    yield f"{tree.name(file)}:{place}: '{sentence[:40]}': a sentence with a verb"
+def dead_links(tree: Tree) -> Iterator[str]:
+    """Links of documents, of all folders, that lead nowhere."""
+    for file in (file for file in tree.files if file.suffix == ".md"):
+        for place, line in text_lines(tree, file):
+            for found in LINK.finditer(SPAN.sub("``", line)):
+                path, heading = found["path"], found["heading"]
+                target = (file.parent / path).resolve() if path else file
+                if "://" not in path and not target.exists():
+                    yield f"{tree.name(file)}:{place}: there is no {path}"
+                elif heading and heading not in headings(tree, target):
+                    yield f"{tree.name(file)}:{place}: {path} has no heading {heading}"
+
+
+def foreign_texts(tree: Tree) -> Iterator[str]:
+    """Citations of papers, and paths that are a machine's or lead out of the repository."""
+    for file in tree.files:
+        for found in FOREIGN.finditer(tree.text(file)):
+            place = tree.text(file).count("\n", 0, found.start()) + 1
+            yield f"{tree.name(file)}:{place}: {found[0]} isn't of this repository"
 
 
 def sizes(tree: Tree) -> Iterator[str]:
@@ -248,4 +243,4 @@ def declared(tree: Tree) -> tuple[Places, Places]:
     return types, variants
 
 
-RULES = [dead_names, forbidden_words, sizes, kits, second_meanings]
+RULES = [dead_names, dead_links, foreign_texts, sizes, kits, second_meanings]

@@ -14,14 +14,13 @@
   record that it is in contracts (MODELS).
 - A limit of the market or of memory (LIMITS) isn't written as a number, where it isn't the value of
   a constant: in sources, definitions and proofs, but for tests, examples, comments and texts.
-- No name of before comes back (checks/texts/banned.py).
+- No name says buy or sell where docs/GLOSSARY.md says bid and ask.
 """
 import collections
 import pathlib
 import re
 from collections.abc import Iterator
 
-from checks.texts import banned
 from checks.texts.tree import Tree
 
 MOST_COLUMNS, MOST_COLUMNS_OF_PYTHON = 120, 100
@@ -46,7 +45,9 @@ NAMES_IN = {
 }
 NUMBER = re.compile(r"(?<![\w.\"])[0-9][0-9_]*(?!\w)")
 CONSTANT = re.compile(r"(pub(\([a-z]+\))? )?(const|static) (?P<name>[A-Z][A-Z0-9_]*) *:")
+STATED = re.compile(r"ensures (\w+ )?\{ MAX_\w+ ≡ [0-9_]+ \}")
 TEXT = re.compile(r'"(?:[^"\\]|\\.)*"')
+OTHER_SIDES = re.compile(r"\bSide(?:::|\.)(?:Buy|Sell|BUY|SELL)\b|\bbest_(?:buy|sell)\b")
 MODIFIERS = r"(?:(?:pub|abbrev|unfoldable|opaque) +)*"
 LEMMA = re.compile(MODIFIERS + r"(?P<name>[^\s:(){},=]+)(?: *\{[^}]*\})* *: ")
 HEAD = re.compile(r"-- .*`.+` \((?P<source>src/[\w/]+\.rt)\).* rt looks here\.")
@@ -139,13 +140,13 @@ def names_of_two_crates(tree: Tree) -> Iterator[str]:
             yield f"{name} has two meanings: {', '.join(crates.values())}"
 
 
-def names_of_before(tree: Tree) -> Iterator[str]:
-    """Names that banned.NAMES has."""
-    for file in tree.code:
+def other_sides(tree: Tree) -> Iterator[str]:
+    """Names of sides that the glossary doesn't have."""
+    for file in [*tree.sources, *tree.specs, *tree.proofs, *tree.python, *tree.others]:
         text = tree.text(file)
-        for found in banned.ANY.finditer(text):
+        for found in OTHER_SIDES.finditer(text):
             place = text.count("\n", 0, found.start()) + 1
-            yield f"{tree.name(file)}:{place}: {found[0]} is {banned.now(found[0])} now"
+            yield f"{tree.name(file)}:{place}: {found[0]}: a side is a bid or an ask"
 
 
 def is_test(tree: Tree, file: pathlib.Path) -> bool:
@@ -166,7 +167,9 @@ def plain(line: str) -> str:
 
 
 def retyped_limits(tree: Tree) -> Iterator[str]:
-    """Numbers of LIMITS, and constants of them that are declared twice."""
+    """Numbers of LIMITS, but in a clause that states one, and constants of them that are declared
+    twice.
+    """
     declared: dict[str, str] = {}
     for file in [*tree.sources, *tree.specs, *tree.proofs]:
         if is_test(tree, file):
@@ -177,7 +180,7 @@ def retyped_limits(tree: Tree) -> Iterator[str]:
             found = [number for number in numbers if number in LIMITS]
             constant = CONSTANT.match(line)
             where = f"{tree.name(file)}:{place}"
-            if found and not constant:
+            if found and not constant and not STATED.fullmatch(line):
                 yield f"{where}: {found[0]} stands here and not by its name, {LIMITS[found[0]]}"
             if found and constant and declared.setdefault(constant["name"], where) != where:
                 first = declared[constant["name"]]
@@ -192,5 +195,5 @@ RULES = [
     near_names,
     names_of_two_crates,
     retyped_limits,
-    names_of_before,
+    other_sides,
 ]

@@ -3,9 +3,7 @@ import functools
 import pathlib
 import subprocess
 
-CODE = {".rt", ".antt", ".edit", ".py", ".c", ".h"}
 OTHERS = {".c", ".h", ".cpp", ".hpp", ".js"}
-OWN = pathlib.PurePath("checks/texts")
 
 
 class Tree:
@@ -27,19 +25,6 @@ class Tree:
             return [file for file in found if file.is_file()]
         every = (file for file in self.top.rglob("*") if file.is_file())
         return sorted(file for file in every if "out" not in file.relative_to(self.top).parts)
-
-    @functools.cached_property
-    def code(self) -> list[pathlib.Path]:
-        """The files of code, definitions and proofs, and their edits in wrong bodies; but
-        for the rules of texts, which name what isn't to be named, and their tests.
-        """
-        return [
-            file
-            for file in self.files
-            if (file.suffix in CODE or not file.suffix and self.is_script(file))
-            and OWN not in file.relative_to(self.top).parents
-            and file.name != "test_layout.py"
-        ]
 
     @functools.cached_property
     def python(self) -> list[pathlib.Path]:
@@ -64,10 +49,16 @@ class Tree:
 
     @functools.cached_property
     def documents(self) -> list[pathlib.Path]:
-        """The documents that a person wrote."""
+        """README, docs/ and the package's README."""
         found = [self.top / "README.md", *sorted((self.top / "docs").glob("*.md"))]
-        found += [self.top / "python/README.md"]
-        return [file for file in found if file.is_file() and file.name != "WRONG_BODIES.md"]
+        return [file for file in [*found, self.top / "python/README.md"] if file.is_file()]
+
+    @functools.cached_property
+    def lists(self) -> list[pathlib.Path]:
+        """The list of promises, and what each wrong body means: they name what the code has."""
+        found = [self.top / "checks/promises.md"]
+        found += sorted((self.top / "checks/wrong_bodies").glob("*/meanings.txt"))
+        return [file for file in found if file.is_file()]
 
     def is_script(self, file: pathlib.Path, language: bytes = b"") -> bool:
         """Whether a file begins with a line `#!`, which names this language."""

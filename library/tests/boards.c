@@ -124,7 +124,16 @@ static void edges(const callauction_config *config) {
     callauction_config bad = *config;
     callauction_receipt receipt = {.number = 7};
     callauction_shown shown = {.calls = 7};
+    callauction_day_state state = {.calls = 7};
     uint32_t calls = 7;
+    size_t copied = 7, expiring = 7;
+    WANT(callauction_board_orders(&none, 257, NULL, 0, &copied, &calls) == CALLAUCTION_ERROR_NO_MEMBER);
+    WANT(callauction_board_expiring(&none, NULL, 0, &expiring, &calls) == CALLAUCTION_ERROR_NO_MEMBER);
+    WANT(copied == 0 && expiring == 0 && calls == 7);
+    callauction_handle auction = {0};
+    WANT(callauction_board_clone(&none, &auction) == CALLAUCTION_ERROR_NO_MEMBER);
+    WANT(callauction_close(&auction) == CALLAUCTION_ERROR_NO_AUCTION);
+    WANT(callauction_board_state(&none, &state) == CALLAUCTION_ERROR_NO_MEMBER && state.calls == 7);
     WANT(callauction_board_call(&none, &indicate, &receipt) == CALLAUCTION_ERROR_NO_MEMBER && receipt.number == 7);
     WANT(callauction_board_look(&none, &shown) == CALLAUCTION_ERROR_NO_MEMBER && shown.calls == 7);
     WANT(callauction_board_calls(&none, &calls) == CALLAUCTION_ERROR_NO_MEMBER && calls == 7);
@@ -161,6 +170,69 @@ static void full(void) {
     for (int i = 0; i < 2; i++) WANT(callauction_board_leave(&two[i]) == CALLAUCTION_DONE);
 }
 
+/* Many calls are each as one, with numbers that follow one another, up to the first error; the receipts after stay. */
+static void many(void) {
+    callauction_config config = {1, 1000, 200, 8, 6, 0, 0};
+    callauction_member two[2] = {{0}}, none = {0};
+    callauction_command enter = {.tag = CALLAUCTION_COMMAND_ENTER, .side = CALLAUCTION_SIDE_BID, .quantity = 5};
+    callauction_command indicate = {.tag = CALLAUCTION_COMMAND_INDICATE, .member = 77}, bad = {.tag = 9};
+    const callauction_command commands[] = {enter, indicate, bad, enter};
+    callauction_receipt receipts[4];
+    callauction_shown shown;
+    size_t applied = 7;
+    for (int i = 0; i < 4; i++) receipts[i].number = 77;
+    WANT(callauction_board_apply_many(&none, commands, 4, receipts, 3, &applied) == CALLAUCTION_ERROR_NO_MEMBER);
+    WANT(applied == 0 && callauction_board_open(two, 2, &config) == CALLAUCTION_DONE);
+    applied = 7;
+    WANT(callauction_board_apply_many(&two[1], commands, 4, receipts, 3, &applied) == CALLAUCTION_ERROR_BAD_LENGTH);
+    WANT(applied == 0 && receipts[0].number == 77);
+    WANT(callauction_board_apply_many(&two[1], NULL, 0, NULL, 0, &applied) == CALLAUCTION_DONE && applied == 0);
+    WANT(callauction_board_look(&two[0], &shown) == CALLAUCTION_DONE && shown.calls == 0);
+    WANT(callauction_board_apply_many(&two[1], commands, 4, receipts, 4, &applied) == CALLAUCTION_ERROR_NO_COMMAND);
+    WANT(applied == 2 && receipts[0].number == 1 && receipts[1].number == 2 && receipts[2].number == 77);
+    WANT(receipts[0].reply.tag == CALLAUCTION_REPLY_ENTERED && receipts[1].reply.tag == CALLAUCTION_REPLY_UNPRICED);
+    WANT(callauction_board_look(&two[0], &shown) == CALLAUCTION_DONE && shown.calls == 2);
+    WANT(callauction_board_apply_many(&two[0], commands, 2, receipts, 2, &applied) == CALLAUCTION_DONE);
+    WANT(applied == 2 && receipts[0].number == 3 && receipts[0].reply.id == 2 && receipts[1].number == 4);
+    const callauction_command three[] = {indicate, indicate, indicate};
+    WANT(callauction_board_apply_many(&two[1], three, 3, receipts, 3, &applied) == CALLAUCTION_ERROR_FULL);
+    WANT(applied == 2 && receipts[0].number == 5 && receipts[1].number == 6 && receipts[2].number == 77);
+    WANT(callauction_board_apply_many(&two[0], three, 3, receipts, 3, &applied) == CALLAUCTION_ERROR_FULL);
+    WANT(applied == 0 && callauction_board_look(&two[0], &shown) == CALLAUCTION_DONE && shown.calls == 6);
+    for (int i = 0; i < 2; i++) WANT(callauction_board_leave(&two[i]) == CALLAUCTION_DONE);
+}
+
+/* Two boards with one member exchanged are closed by no call, whatever was called on them; put back, both are. */
+static void mixed(uint32_t calls) {
+    callauction_config config = {1, 1000, 200, 8, 8, 0, 0};
+    callauction_member one[3] = {{0}}, two[3] = {{0}}, moved;
+    callauction_command enter = {.tag = CALLAUCTION_COMMAND_ENTER, .quantity = 5, .has_limit = 1, .limit = 200};
+    callauction_entry entries[8];
+    callauction_receipt receipt;
+    uint32_t counts[3] = {7, 7, 7};
+    size_t written = 7;
+    WANT(callauction_board_open(one, 3, &config) == CALLAUCTION_DONE);
+    WANT(callauction_board_open(two, 3, &config) == CALLAUCTION_DONE);
+    for (uint32_t i = 0; i < calls; i++) {
+        enter.side = CALLAUCTION_SIDE_BID;
+        WANT(callauction_board_call(&one[2], &enter, &receipt) == CALLAUCTION_DONE);
+        enter.side = CALLAUCTION_SIDE_ASK;
+        WANT(callauction_board_call(&two[2], &enter, &receipt) == CALLAUCTION_DONE);
+    }
+    moved = one[2], one[2] = two[2], two[2] = moved;
+    WANT(callauction_board_close(one, 3, entries, 8, counts, 3, &written) == CALLAUCTION_ERROR_MISSING_MEMBER);
+    WANT(callauction_board_close(two, 3, entries, 8, counts, 3, &written) == CALLAUCTION_ERROR_MISSING_MEMBER);
+    WANT(written == 0 && counts[2] == 7);
+    moved = one[2], one[2] = two[2], two[2] = moved;
+    WANT(callauction_board_close(one, 3, entries, 8, counts, 3, &written) == CALLAUCTION_DONE);
+    WANT(written == calls && counts[2] == calls);
+    WANT(callauction_board_close(two, 3, entries, 8, counts, 3, &written) == CALLAUCTION_DONE && written == calls);
+    for (int i = 0; i < 3; i++) {
+        WANT(callauction_board_leave(&one[i]) == CALLAUCTION_DONE);
+        WANT(callauction_board_leave(&two[i]) == CALLAUCTION_DONE);
+    }
+}
+
 /* A look shows all that was called, whether somebody looked while it was or not. */
 static void looks_show_all(bool is_watched) {
     callauction_config config = {1, 1000, 200, 8, 8, 0, 0};
@@ -188,13 +260,63 @@ static void looks_show_all(bool is_watched) {
     }
 }
 
-/* The ladder and the trades that a member is shown are those of the replay. */
+/* The orders that a member is shown, of one and of all, and those that would be taken out, are those of the replay. */
+static void lists_alike(callauction_member *member, const callauction_handle *plain, size_t length) {
+    enum { ROOM = 3000 };
+    static callauction_order orders[ROOM], orders_too[ROOM];
+    const uint32_t whose[] = {CALLAUCTION_ALL_MEMBERS, 1, 200};
+    size_t copied = 7, copied_too;
+    uint32_t calls = 7;
+    WANT(callauction_board_orders(member, 257, orders, ROOM, &copied, &calls) == CALLAUCTION_ERROR_BAD_MEMBER);
+    WANT(copied == 0 && calls == 7);
+    for (size_t i = 0; i < sizeof whose / sizeof *whose; i++) {
+        WANT(callauction_board_orders(member, whose[i], orders, ROOM, &copied, &calls) == CALLAUCTION_DONE);
+        WANT(callauction_orders(plain, whose[i], orders_too, ROOM, &copied_too) == CALLAUCTION_DONE);
+        WANT(calls == length && copied == copied_too && (copied > 0) == (whose[i] != 200));
+        for (size_t k = 0; k < copied; k++)
+            WANT(orders[k].id == orders_too[k].id && orders[k].quantity == orders_too[k].quantity &&
+                 orders[k].filled == orders_too[k].filled && orders[k].member == orders_too[k].member);
+    }
+    WANT(callauction_board_expiring(member, orders, ROOM, &copied, &calls) == CALLAUCTION_DONE && calls == length);
+    WANT(callauction_expiring(plain, orders_too, ROOM, &copied_too) == CALLAUCTION_DONE && copied == copied_too);
+}
+
+/* A copy of the board's auction goes on by itself, into an empty handle and over one of the same limits. */
+static void clones_alike(callauction_member *member, const callauction_handle *plain, size_t length) {
+    callauction_config config, other = {1, 999, 200, 65536, 10, 0, 0};
+    callauction_handle copy = {0}, small = {0};
+    callauction_command enter = {.tag = CALLAUCTION_COMMAND_ENTER, .side = CALLAUCTION_SIDE_BID, .quantity = 5};
+    callauction_reply here, there;
+    uint32_t calls = 0;
+    WANT(callauction_config_of(plain, &config) == CALLAUCTION_DONE);
+    for (int i = 0; i < 2; i++) {
+        WANT(callauction_board_clone(member, &copy) == CALLAUCTION_DONE);
+        WANT(callauction_calls(&copy, &calls) == CALLAUCTION_DONE && calls == length);
+        WANT(callauction_display(plain, &here) == CALLAUCTION_DONE);
+        WANT(callauction_display(&copy, &there) == CALLAUCTION_DONE && memcmp(&here, &there, sizeof here) == 0);
+        WANT(callauction_apply(&copy, &enter, &there) == CALLAUCTION_DONE && there.tag == CALLAUCTION_REPLY_ENTERED);
+    }
+    WANT(callauction_open(&small, &other) == CALLAUCTION_DONE);
+    WANT(callauction_board_clone(member, &small) == CALLAUCTION_ERROR_IN_USE);
+    WANT(callauction_calls(&small, &calls) == CALLAUCTION_DONE && calls == 0);
+    copy.busy_ = 1;
+    WANT(callauction_board_clone(member, &copy) == CALLAUCTION_ERROR_BUSY);
+    copy.busy_ = 0;
+    WANT(callauction_close(&copy) == CALLAUCTION_DONE && callauction_close(&small) == CALLAUCTION_DONE);
+}
+
+/* The ladder, the trades and the state that a member is shown are those of the replay. */
 static void shows_alike(callauction_member *member, const callauction_handle *plain, size_t length) {
     uint64_t bids[1000], asks[1000], bids_too[1000], asks_too[1000];
     callauction_market_orders market, market_too;
     callauction_trade trades[8], trades_too[8];
+    callauction_day_state state = {0}, state_too = {0};
     size_t copied, copied_too;
     uint32_t calls;
+    WANT(callauction_board_state(member, &state) == CALLAUCTION_DONE && state.calls == length);
+    WANT(callauction_state(plain, &state_too) == CALLAUCTION_DONE);
+    WANT(state.in_call == 1 && state.auction == CALLAUCTION_AUCTION_INTRADAY && state.extended == 0);
+    WANT(state.reference == state_too.reference && state.calls_left == state_too.calls_left);
     WANT(callauction_board_ladder(member, bids, 999, asks, 1000, &market, &calls) == CALLAUCTION_ERROR_BAD_LENGTH);
     WANT(callauction_board_ladder(member, bids, 1000, asks, 1000, &market, &calls) == CALLAUCTION_DONE);
     WANT(callauction_ladder(plain, bids_too, 1000, asks_too, 1000, &market_too) == CALLAUCTION_DONE);
@@ -249,6 +371,8 @@ static void day(uint32_t threads, uint32_t calls, uint32_t looks, uint64_t seed)
         WANT(callauction_display(&plain, &displays[i + 1]) == CALLAUCTION_DONE);
     }
     shows_alike(&members[threads - 1], &plain, copied);
+    lists_alike(&members[0], &plain, copied);
+    clones_alike(&members[1], &plain, copied);
 
     WANT(callauction_board_close(members, threads, entries, config.max_calls - 1, counts, threads, &length) ==
          CALLAUCTION_ERROR_BAD_LENGTH);
@@ -259,9 +383,18 @@ static void day(uint32_t threads, uint32_t calls, uint32_t looks, uint64_t seed)
     members[1] = members[0], members[0] = other;
     WANT(callauction_board_close(members, threads, entries, config.max_calls, counts, threads, &length) ==
          CALLAUCTION_DONE);
-    WANT(callauction_board_close(members, threads, entries, config.max_calls, counts, threads, &length) ==
-         CALLAUCTION_ERROR_CLOSED);
+    size_t none = 7;
+    WANT(callauction_board_close(members, threads, entries, config.max_calls, counts, threads, &none) ==
+         CALLAUCTION_ERROR_CLOSED && none == 0);
     WANT(callauction_board_call(&members[0], &uncross, &last) == CALLAUCTION_ERROR_CLOSED);
+    callauction_handle late = {0};
+    size_t none_applied = 7;
+    WANT(callauction_board_apply_many(&members[0], &uncross, 1, &last, 1, &none_applied) == CALLAUCTION_ERROR_CLOSED);
+    WANT(none_applied == 0);
+    WANT(callauction_board_clone(&members[0], &late) == CALLAUCTION_ERROR_CLOSED);
+    WANT(callauction_close(&late) == CALLAUCTION_ERROR_NO_AUCTION);
+    callauction_day_state state = {.calls = 7};
+    WANT(callauction_board_state(&members[0], &state) == CALLAUCTION_ERROR_CLOSED && state.calls == 7);
     WANT(length == copied && memcmp(entries, all, length * sizeof *all) == 0);
     WANT(read <= length && memcmp(entries, early, read * sizeof *early) == 0);
     for (uint32_t t = 0; t < threads; t++) {
@@ -298,6 +431,8 @@ int main(int count, char **words) {
     uint32_t threads = count > 1 ? (uint32_t)atoi(words[1]) : 8, calls = count > 2 ? (uint32_t)atoi(words[2]) : 12500;
     uint32_t looks = count > 3 ? (uint32_t)atoi(words[3]) : 2;
     full();
+    many();
+    for (uint32_t calls = 0; calls < 3; calls++) mixed(calls);
     looks_show_all(false);
     looks_show_all(true);
     day(threads, calls, looks, count > 4 ? strtoull(words[4], NULL, 10) : 1);

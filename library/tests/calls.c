@@ -52,6 +52,7 @@ static void a_handle_of_zeros(void) {
     callauction_market_orders market = {96, 95};
     callauction_trade trade = {.bid = 94};
     uint64_t bids[TICKS] = {93}, asks[TICKS] = {92};
+    callauction_day_state state = {.calls = 88};
     uint32_t calls = 91;
     size_t count = 90, copied = 89;
     WANT(callauction_apply(&none, &ask, &reply) == CALLAUCTION_ERROR_NO_AUCTION && reply.tag == 99);
@@ -64,6 +65,7 @@ static void a_handle_of_zeros(void) {
     WANT(callauction_trades(&none, 0, &trade, 1, &copied) == CALLAUCTION_ERROR_NO_AUCTION);
     WANT(copied == 0 && trade.bid == 94);
     WANT(callauction_calls(&none, &calls) == CALLAUCTION_ERROR_NO_AUCTION && calls == 91);
+    WANT(callauction_state(&none, &state) == CALLAUCTION_ERROR_NO_AUCTION && state.calls == 88);
     WANT(callauction_config_of(&none, &config) == CALLAUCTION_ERROR_NO_AUCTION && config.low == 97);
     WANT(callauction_reset(&none) == CALLAUCTION_ERROR_NO_AUCTION);
     WANT(callauction_clone(&none, &second) == CALLAUCTION_ERROR_NO_AUCTION);
@@ -409,6 +411,50 @@ static void the_orders(void) {
     WANT(callauction_expiring(&auction, orders, 8, &copied) == CALLAUCTION_ERROR_NO_AUCTION && copied == 0);
 }
 
+static bool is_state(const callauction_handle *auction, callauction_day_state wanted) {
+    callauction_day_state state = {0};
+    WANT(callauction_state(auction, &state) == CALLAUCTION_DONE);
+    return state.reference == wanted.reference && state.calls == wanted.calls &&
+           state.calls_left == wanted.calls_left && state.auction == wanted.auction &&
+           state.in_call == wanted.in_call && state.extended == wanted.extended;
+}
+
+/* Orders of 5 shares at one tick, and the uncross of them. */
+static uint8_t uncrossed_at(callauction_handle *auction, uint32_t tick) {
+    applied(auction, order(1, CALLAUCTION_SIDE_BID, tick, 5));
+    applied(auction, order(2, CALLAUCTION_SIDE_ASK, tick, 5));
+    return applied(auction, other(0, CALLAUCTION_COMMAND_UNCROSS, 0)).tag;
+}
+
+/* The reference is the config's and then the last price; an interruption extends one call phase; copies know it too. */
+static void the_state(void) {
+    callauction_config config = usual;
+    callauction_handle auction = {0}, copy = {0}, over = {0};
+    config.has_range = 1;
+    config.range = 3;
+    WANT(callauction_open(&auction, &config) == CALLAUCTION_DONE);
+    WANT(callauction_open(&over, &config) == CALLAUCTION_DONE);
+    WANT(is_state(&auction, (callauction_day_state){200, 0, 20, CALLAUCTION_AUCTION_OPENING, 1, 0}));
+    WANT(applied(&auction, other(1, CALLAUCTION_COMMAND_UNCROSS, 0)).refusal == CALLAUCTION_REFUSAL_NOT_OPERATOR);
+    WANT(uncrossed_at(&auction, 204) == CALLAUCTION_REPLY_INTERRUPTED);
+    WANT(is_state(&auction, (callauction_day_state){200, 4, 16, CALLAUCTION_AUCTION_OPENING, 1, 1}));
+    applied(&auction, other(1, CALLAUCTION_COMMAND_INDICATE, 0));
+    WANT(callauction_clone(&auction, &copy) == CALLAUCTION_DONE);
+    WANT(callauction_clone(&auction, &over) == CALLAUCTION_DONE);
+    WANT(is_state(&copy, (callauction_day_state){200, 5, 15, CALLAUCTION_AUCTION_OPENING, 1, 1}));
+    WANT(applied(&over, other(0, CALLAUCTION_COMMAND_UNCROSS, 0)).tag == CALLAUCTION_REPLY_UNCROSSED);
+    WANT(is_state(&over, (callauction_day_state){204, 6, 14, CALLAUCTION_AUCTION_INTRADAY, 1, 0}));
+    WANT(uncrossed_at(&over, 208) == CALLAUCTION_REPLY_INTERRUPTED);
+    WANT(is_state(&over, (callauction_day_state){204, 9, 11, CALLAUCTION_AUCTION_INTRADAY, 1, 1}));
+    WANT(callauction_clone(&over, &copy) == CALLAUCTION_DONE && callauction_reset(&copy) == CALLAUCTION_DONE);
+    WANT(is_state(&copy, (callauction_day_state){200, 0, 20, CALLAUCTION_AUCTION_OPENING, 1, 0}));
+    WANT(applied(&over, other(0, CALLAUCTION_COMMAND_UNCROSS, 0)).tick == 208);
+    WANT(applied(&over, other(0, CALLAUCTION_COMMAND_UNCROSS, 0)).auction == CALLAUCTION_AUCTION_CLOSING);
+    WANT(is_state(&over, (callauction_day_state){208, 11, 9, 0, 0, 0}));
+    WANT(callauction_close(&auction) == CALLAUCTION_DONE && callauction_close(&copy) == CALLAUCTION_DONE);
+    WANT(callauction_close(&over) == CALLAUCTION_DONE);
+}
+
 /* After a reset ids, trades, reference and auction are those of an opening. */
 static void a_reset(void) {
     callauction_handle auction = {0};
@@ -430,8 +476,33 @@ static void a_reset(void) {
     WANT(callauction_close(&auction) == CALLAUCTION_DONE);
 }
 
+/* A count is 0 after each error, also where another call has the handle, and where the handle holds nothing. */
+static void counts_at_errors(void) {
+    callauction_handle busy = {.busy_ = 1}, none = {0};
+    callauction_member busy_member = {.busy_ = 1}, no_member = {0};
+    callauction_handle *auctions[] = {&busy, &none};
+    callauction_member *members[] = {&busy_member, &no_member};
+    for (int i = 0; i < 2; i++) {
+        size_t many = 7, trades = 7, orders = 7, expiring = 7, traded = 7, entries = 7, written = 7;
+        size_t listed = 7, leaving = 7, called = 7;
+        uint32_t calls = 0, all = CALLAUCTION_ALL_MEMBERS;
+        WANT(callauction_apply_many(auctions[i], NULL, 0, NULL, 0, &many) != CALLAUCTION_DONE);
+        WANT(callauction_trades(auctions[i], 0, NULL, 0, &trades) != CALLAUCTION_DONE);
+        WANT(callauction_orders(auctions[i], CALLAUCTION_ALL_MEMBERS, NULL, 0, &orders) != CALLAUCTION_DONE);
+        WANT(callauction_expiring(auctions[i], NULL, 0, &expiring) != CALLAUCTION_DONE);
+        WANT(callauction_board_trades(members[i], 0, NULL, 0, &traded, &calls) != CALLAUCTION_DONE);
+        WANT(callauction_board_apply_many(members[i], NULL, 0, NULL, 0, &called) != CALLAUCTION_DONE && called == 0);
+        WANT(callauction_board_orders(members[i], all, NULL, 0, &listed, &calls) != CALLAUCTION_DONE);
+        WANT(callauction_board_expiring(members[i], NULL, 0, &leaving, &calls) != CALLAUCTION_DONE);
+        WANT(callauction_board_history(members[i], 0, NULL, 0, &entries) != CALLAUCTION_DONE);
+        WANT(callauction_board_close(members[i], 1, NULL, 0, NULL, 0, &written) != CALLAUCTION_DONE);
+        WANT(many + trades + orders + expiring + traded + entries + written + listed + leaving == 0);
+    }
+}
+
 int main(void) {
     a_handle_of_zeros();
+    counts_at_errors();
     openings();
     the_config();
     no_commands();
@@ -443,6 +514,7 @@ int main(void) {
     copies();
     copies_over_another();
     the_orders();
+    the_state();
     a_reset();
     puts("calls: as worked out");
     return 0;

@@ -60,6 +60,9 @@ void replies_are_values() {
     WANT(auction.trades()->size() == 1 && auction.trades(1)->empty());
     WANT(auction.ladder()->asks[599] == 15 && *auction.calls() == 14);
     WANT(auction.config()->range == 50);
+    const auto state = auction.state();
+    WANT(state && state->auction == ca::AuctionKind::intraday && state->extended && state->reference == 510);
+    WANT(state->calls == 14 && state->calls_left == 86);
     const auto open = auction.orders();
     WANT(open && open->size() == 3 && (*open)[0].id == 5 && (*open)[1].id == 1 && (*open)[1].filled == 15);
     WANT(auction.orders(2)->at(0).id == 4 && auction.orders(7)->empty() && auction.expiring()->empty());
@@ -76,10 +79,36 @@ void numbers_are_looked_at() {
              ca::Command(ca::Enter{ca::Side::bid, 1, over}), ca::Command(ca::Enter{ca::Side::none, 1, 500}),
              ca::Command(ca::Delete{over}), ca::Command(ca::ReadTrade{-1})})
         WANT(auction.apply(1, command).error() == ca::Error::no_command);
+    WANT(auction.apply(1, ca::Delete{std::numeric_limits<std::uint64_t>::max()}).error() == ca::Error::no_command);
     WANT(*auction.calls() == 0);
     WANT(ca::Auction::open({-1, 10, 5, 1, 1, {}}).error() == ca::Error::no_config);
     WANT(ca::Auction::open({1, 10, 11, 1, 1, {}}).error() == ca::Error::bad_reference);
     WANT(ca::Auction::open({1, 10, 5, 1, 0, {}}).error() == ca::Error::bad_capacity);
+}
+
+void prices_in_money_are_ticks() {
+    const auto cents = ca::Ticks::by("0.01").value();
+    WANT(cents.of("199.75").value() == 19975 && cents.of("7").value() == 700 && cents.of("1.150000").value() == 115);
+    for (const char *price : {"199.755", "", ".", "1.", ".5", "-1", "1e2", "1,5", "1234567890", "0.0000000001"})
+        WANT(cents.of(price).error() == ca::Error::no_command);
+    const auto eighths = ca::Ticks::by("0.125").value();
+    WANT(eighths.of("100.375").value() == 803 && !eighths.of("100.3").has_value());
+    for (const char *size : {"0", "0.0", "x", "", "-0.01", "0.0000000001"})
+        WANT(ca::Ticks::by(size).error() == ca::Error::no_config);
+    WANT(ca::Ticks::by("0.000000001").value().of("999999999.999999999").value() == 999999999999999999);
+    auto auction = opened({1, 65000, 20000, 10, 100, {}});
+    reply<ca::Entered>(auction.apply(1, ca::Enter{ca::Side::bid, 5, cents.of("199.75").value()}));
+    WANT(auction.orders()->at(0).limit == 19975);
+}
+
+void a_missing_value_throws() {
+    try {
+        static_cast<void>(ca::Ticks::by("0").value());
+    } catch (const ca::BadResult &fault) {
+        WANT(fault.error() == ca::Error::no_config && fault.what() == ca::text(ca::Error::no_config));
+        return;
+    }
+    WANT(false);
 }
 
 void owners_are_moved() {
@@ -110,8 +139,23 @@ void a_board_is_closed() {
     const auto shown = trading.look();
     WANT(shown && shown->calls == 2 && std::get<ca::Price>(shown->display).tick == 500);
     WANT(trading.ladder()->bids[499] == 5 && *trading.calls() == 1);
+    WANT(trading.orders()->size() == 2 && operating.orders(1)->at(0).id == 1 && trading.orders(7)->empty());
+    WANT(trading.orders(256).error() == ca::Error::bad_member && trading.expiring()->empty());
+    auto copy = trading.auction();
+    WANT(copy && *copy->calls() == 2);
+    reply<ca::Deleted>(copy->apply(1, ca::Delete{1}));
+    WANT(copy->orders()->size() == 1 && trading.orders()->size() == 2);
+    WANT(trading.copy_into(*copy).has_value() && copy->orders()->size() == 2);
+    auto other = opened(day);
+    WANT(trading.copy_into(other).error() == ca::Error::in_use && *other.calls() == 0);
     WANT(trading.call(ca::Delete{-1}).error() == ca::Error::no_command);
-    WANT(operating.call(ca::Uncross{})->number == 3);
+    const std::vector<callauction_command> uncross{ca::struct_of(9, ca::Uncross{}).value()};
+    std::vector<callauction_receipt> receipts(1);
+    WANT(operating.apply_many(uncross, receipts) == std::make_pair(std::size_t{1}, std::optional<ca::Error>{}));
+    WANT(receipts[0].number == 3 && receipts[0].reply.tag == CALLAUCTION_REPLY_UNCROSSED);
+    const auto state = trading.state();
+    WANT(state && state->auction == ca::AuctionKind::intraday && !state->extended && state->reference == 500);
+    WANT(state->calls == 3 && state->calls_left == 1);
     std::vector<callauction_trade> trades(4);
     WANT(*trading.trades(0, trades) == 1 && trades[0].quantity == 5);
     std::vector<callauction_entry> entries(4);
@@ -119,9 +163,24 @@ void a_board_is_closed() {
     auto moved = std::move(board);
     const auto closing = moved.close();
     WANT(closing && closing->entries.size() == 3 && closing->counts == (std::vector<std::uint32_t>{2, 1}));
+    WANT(trading.apply_many_waiting(uncross, receipts).second == ca::Error::closed);
     WANT(trading.call(ca::Indicate{}).error() == ca::Error::closed && moved.close().error() == ca::Error::closed);
     WANT(board.close().error() == ca::Error::no_member); // NOLINT: a moved-from board holds none
     WANT(ca::Board::open(65, day).error() == ca::Error::bad_capacity);
+    WANT(ca::Board::open(1'000'000'000, day).error() == ca::Error::bad_capacity);
+    WANT(ca::Board::open(65, {1, 10, 11, 1, 1, {}}).error() == ca::Error::bad_reference);
+    for (auto none : {moved.member(2), moved.member(-1), board.member(0)}) { // NOLINT: a moved-from board
+        WANT(none.call(ca::Indicate{}).error() == ca::Error::no_member);
+        WANT(none.call_waiting(ca::Indicate{}).error() == ca::Error::no_member);
+        WANT(none.apply_many(uncross, receipts).second == ca::Error::no_member);
+        WANT(none.apply_many_waiting(uncross, receipts).second == ca::Error::no_member);
+        WANT(none.look().error() == ca::Error::no_member && none.ladder().error() == ca::Error::no_member);
+        WANT(none.trades(0, trades).error() == ca::Error::no_member && none.calls().error() == ca::Error::no_member);
+        WANT(none.history(0, entries).error() == ca::Error::no_member);
+        WANT(none.state().error() == ca::Error::no_member);
+        WANT(none.auction().error() == ca::Error::no_member && none.copy_into(other).error() == ca::Error::no_member);
+        WANT(none.orders(256).error() == ca::Error::no_member && none.expiring().error() == ca::Error::no_member);
+    }
 }
 
 } // namespace
@@ -129,6 +188,8 @@ void a_board_is_closed() {
 int main() {
     replies_are_values();
     numbers_are_looked_at();
+    prices_in_money_are_ticks();
+    a_missing_value_throws();
     owners_are_moved();
     a_board_is_closed();
     return 0;

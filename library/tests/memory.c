@@ -1,9 +1,10 @@
-/* Memory, with the heap of checks/parts/refusing_memory.c: `memory open`, `memory day`, `memory list`,
+/* Memory, with the heap of checks/parts/refusing_memory.c: `memory open`, `memory day`, `memory list`, `memory board`,
  * `memory many COUNT`.
  *
  * open: opens an auction, clones it and closes both; where memory is refused the call answers so, and nothing is kept.
  * day: the same, and between them commands, displays, resets and a clone over the clone, which ask for no memory.
  * list: opens an auction and lists its orders; where memory is refused, the call answers so, and writes nothing.
+ * board: the same on a board, of which an auction is a copy too, and the board goes on after each refusal.
  * many: opens and closes as often as asked, and prints by how many KiB the process has grown since a tenth of them. */
 #include "callauction.h"
 #include <stdio.h>
@@ -87,6 +88,42 @@ static int lists(void) {
     return listed == CALLAUCTION_DONE && told == CALLAUCTION_DONE ? 0 : 3;
 }
 
+/* Six market orders of the two members, the last two for the opening alone; calls take no memory. */
+static bool enters(callauction_member *members) {
+    callauction_receipt receipt;
+    bool is_right = true;
+    for (uint32_t i = 0; i < 6; i++) {
+        callauction_command command = {.tag = CALLAUCTION_COMMAND_ENTER, .quantity = 1 + i};
+        command.side = (uint8_t)(1 + i % 2);
+        command.restriction = i > 3 ? CALLAUCTION_RESTRICTION_OPENING_ONLY : CALLAUCTION_RESTRICTION_NONE;
+        is_right &= callauction_board_call(&members[i % 2], &command, &receipt) == CALLAUCTION_DONE;
+    }
+    return is_right;
+}
+
+static int lists_of_board(void) {
+    callauction_member members[2] = {{0}};
+    callauction_handle copy = {0}, none = {0};
+    callauction_order all[8], some[8];
+    size_t copied = 77, expiring = 77;
+    uint32_t calls = 0, answer = callauction_board_open(members, 2, &config);
+    if (answer != CALLAUCTION_DONE) return answer == CALLAUCTION_ERROR_NO_MEMORY ? 3 : leave("another answer");
+    memset(all, 0xAA, sizeof all);
+    memset(some, 0xAA, sizeof some);
+    if (!enters(members)) return leave("not entered");
+    uint32_t listed = callauction_board_orders(&members[0], CALLAUCTION_ALL_MEMBERS, all, 8, &copied, &calls);
+    if (!is_list(listed, all, copied, 6)) return leave("another list");
+    uint32_t told = callauction_board_expiring(&members[1], some, 8, &expiring, &calls);
+    if (!is_list(told, some, expiring, 1)) return leave("another list of what expires");
+    uint32_t cloned = callauction_board_clone(&members[1], &copy);
+    if (cloned == CALLAUCTION_ERROR_NO_MEMORY && memcmp(&copy, &none, sizeof none)) return leave("a handle changed");
+    if (!enters(members)) return leave("the board doesn't go on");
+    bool is_copy = cloned == CALLAUCTION_DONE && callauction_close(&copy) == CALLAUCTION_DONE;
+    for (int i = 0; i < 2; i++)
+        if (callauction_board_leave(&members[i]) != CALLAUCTION_DONE) return leave("not left");
+    return listed == CALLAUCTION_DONE && told == CALLAUCTION_DONE && is_copy ? 0 : 3;
+}
+
 static long kibibytes(void) {
     long pages = 0, resident = 0;
     FILE *from = fopen("/proc/self/statm", "r");
@@ -112,5 +149,6 @@ static int many(long count) {
 int main(int count, char **words) {
     if (count == 3 && strcmp(words[1], "many") == 0) return many(atol(words[2]));
     if (count == 2 && strcmp(words[1], "list") == 0) return lists();
+    if (count == 2 && strcmp(words[1], "board") == 0) return lists_of_board();
     return opens(count == 2 && strcmp(words[1], "day") == 0);
 }

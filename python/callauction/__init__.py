@@ -15,9 +15,11 @@ from typing import TYPE_CHECKING
 
 if TYPE_CHECKING:
     from callauction import journal, plot, report, verdict
-    from callauction.arrays import COMMAND, ENTRY, ORDER, REPLY, TRADE
+    from callauction.arrays import COMMAND, ENTRY, ORDER, RECEIPT, REPLY, TRADE
     from callauction.auction import Auction
     from callauction.board import Board, Member, Receipt, Shown
+    from callauction.board_day import BoardDay
+    from callauction.columns import commands
     from callauction.errors import (
         AuctionError,
         BusyError,
@@ -34,6 +36,7 @@ if TYPE_CHECKING:
     from callauction.recording import RecordedAuction
     from callauction.refused import refusals
     from callauction.tables import audit, read_book, read_journal, read_trades
+    from callauction.ticks import Ticks
     from callauction.verdict import audit_auction, audit_events
     from callauction.words import (
         AuctionKind,
@@ -60,6 +63,7 @@ if TYPE_CHECKING:
         ReplyTag,
         Restriction,
         Side,
+        State,
         Traded,
         Uncross,
         Uncrossed,
@@ -70,6 +74,7 @@ __all__ = [
     "AuctionError",
     "AuctionKind",
     "Board",
+    "BoardDay",
     "BusyError",
     "COMMAND",
     "Change",
@@ -97,6 +102,7 @@ __all__ = [
     "OrderStatus",
     "Played",
     "Price",
+    "RECEIPT",
     "REPLY",
     "ReadTrade",
     "Receipt",
@@ -109,13 +115,16 @@ __all__ = [
     "Restriction",
     "Shown",
     "Side",
+    "State",
     "TRADE",
+    "Ticks",
     "Traded",
     "Uncross",
     "Uncrossed",
     "audit",
     "audit_auction",
     "audit_events",
+    "commands",
     "explain",
     "gains_of",
     "journal",
@@ -133,12 +142,15 @@ __version__ = "2026.11.26"
 
 _MODULES = ("journal", "plot", "report", "verdict")
 _LATER = {
+    "BoardDay": "board_day",
     "Gains": "gains",
     "Played": "outcomes",
     "RecordedAuction": "recording",
+    "Ticks": "ticks",
     "audit": "tables",
     "audit_auction": "verdict",
     "audit_events": "verdict",
+    "commands": "columns",
     "explain": "reasons",
     "gains_of": "gains",
     "read_book": "tables",

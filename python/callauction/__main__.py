@@ -1,10 +1,11 @@
-"""The command line: `python3 -m callauction report|audit|plot|convert`, each with `--help`.
+"""The command line: `python3 -m callauction report|audit|audit-auction|plot|convert`, each with
+`--help`.
 
 The statuses are the program's: 0; 1 for a bad file; 2 for a bad command line or a day that can't be
-opened; 3 where the program is missing, or a read or a write failed; 4 where an audit finds
-something unlawful; and 5 where it finds nothing unlawful, but not all was published or compared. An
-error is one line on standard error. What needs the library is imported where it is used, so that an
-audit runs without it.
+opened; 3 where the program or the library is missing, or a read or a write failed; 4 where an audit
+finds something unlawful; and 5 where it finds nothing unlawful, but not all was published or
+compared. An error is one line on standard error. What needs the library is imported where it is
+used, so that an audit runs without it.
 """
 import argparse
 import functools
@@ -54,13 +55,14 @@ class Parser(argparse.ArgumentParser):
 def main(words: list[str] | None = None) -> int:
     """Runs a command line; answers the status."""
     asked = _parser().parse_args(words)
+    asked.words = sys.argv[1:] if words is None else words
     try:
         status: int = asked.run(asked)
         sys.stdout.flush()
         return status
     except ProgramError as fault:
         return _fail("\n".join([fault.text, *getattr(fault, "__notes__", [])]), fault.status)
-    except (OSError, MemoryError) as fault:
+    except (OSError, MemoryError, ModuleNotFoundError) as fault:
         # The rest of a text that nobody reads is given up.
         if isinstance(fault, BrokenPipeError):
             os.dup2(os.open(os.devnull, os.O_WRONLY), sys.stdout.fileno())
@@ -91,11 +93,18 @@ def _parser() -> argparse.ArgumentParser:
                 "write the report of an order file, a journal or an extract as an HTML file",
             ),
             ("audit", "say whether what was published is lawful: of a journal or an extract"),
+            (
+                "audit-auction",
+                "say whether what was published of auctions is lawful: of their books alone",
+            ),
             ("plot", "draw a book, the course of the day, or who trades with whom"),
             ("convert", "make a journal of a CSV file of order events"),
         )
     }
-    runs = {"report": _report, "audit": _audit, "plot": _plot, "convert": _convert}
+    runs = {
+        "report": _report, "audit": _audit, "audit-auction": _audit_auction, "plot": _plot,
+        "convert": _convert,
+    }  # fmt: skip
     for name, run in runs.items():
         made[name].add_argument("file", help="the file to read, - for standard input")
         made[name].set_defaults(run=run)
@@ -106,15 +115,26 @@ def _parser() -> argparse.ArgumentParser:
     made["report"].add_argument(
         "--worth", help="of a day: a CSV file with the columns order and value, in ticks"
     )
-    for name in ("audit", "report"):
+    for name in ("audit", "audit-auction", "report"):
         command.add_options(made[name])
-    made["audit"].add_argument("-o", "--output", help="write a row for each instrument, as CSV")
-    made["audit"].add_argument("--explain", action="store_true", help="explain each finding")
+    for name in ("audit", "audit-auction"):
+        _add_verdicts(made[name])
     made["audit"].add_argument("--check", action="store_true", help="say how a file is understood")
+    made["audit-auction"].add_argument(
+        "--published", help="the file of what was published, where the books' hasn't it"
+    )
     command.add_reading(made["convert"])
     _add_conversion(made["convert"])
     made["convert"].add_argument("--orders", help="also write a CSV file of our ids and theirs")
     return parser
+
+
+def _add_verdicts(parser: argparse.ArgumentParser) -> None:
+    """The options of how verdicts are written."""
+    parser.add_argument("-o", "--output", help="write a row for each instrument, as CSV")
+    parser.add_argument("--findings", help="write all findings, as CSV, or as .json")
+    parser.add_argument("--json", action="store_true", help="print a line of JSON each")
+    parser.add_argument("--explain", action="store_true", help="explain each finding")
 
 
 _AFTER = "docs/FORMATS.md has order files, journals and statuses; docs/AUDIT.md has extracts."
@@ -164,17 +184,31 @@ def _day(asked: argparse.Namespace, content: bytes) -> Day:
 
 def _report(asked: argparse.Namespace) -> int:
     from callauction import report
-    from callauction.verdict import page
+    from callauction.verdict import evidence
 
     title = "A day of call auctions" if asked.file == "-" else pathlib.Path(asked.file).name
     content, watch = _content(asked.file), _watch("auctions")
-    if command.is_recorded(content):
-        values, size = _values(asked.worth), asked.tick_size
-        text = report.html_of(_day(asked, content), title, watch, values=values, tick_size=size)
-    else:
-        text = page.html_of(command.verdict_of(content, asked), title, watch)
+    if not command.is_recorded(content) and content:
+        _report_extract(content, title, asked)
+        return DONE
+    values, size = _values(asked.worth), asked.tick_size
+    facts, day = evidence.facts_of([content], asked.words), _day(asked, content)
+    text = report.html_of(day, title, watch, values, size, facts)
     pathlib.Path(asked.output).write_text(text, encoding="utf-8")
     return DONE
+
+
+def _report_extract(content: bytes, title: str, asked: argparse.Namespace) -> None:
+    from callauction.verdict import evidence, market_page, page
+
+    facts, path = evidence.facts_of([content], asked.words), pathlib.Path(asked.output)
+    if asked.by is not None:
+        market = command.market(content, asked)
+        market_page.write(market, path, title, facts, _watch("instruments"))
+        return
+    verdict = command.verdict_of(content, asked, _watch("auctions"))
+    text = page.html_of(verdict, title, _watch("pages"), facts)
+    path.write_text(text, encoding="utf-8")
 
 
 def _values(file: str | None) -> dict[int, float] | None:
@@ -234,8 +268,16 @@ def _convert(asked: argparse.Namespace) -> int:
     return DONE
 
 
+def _audit_auction(asked: argparse.Namespace) -> int:
+    files = [asked.file] + [asked.published] * (asked.published is not None)
+    contents = {pathlib.Path(file).name: _content(file) for file in files}
+    if len(contents) < len(files):
+        raise ValueError("both files have one name")
+    return command.audit_auctions(contents, asked, _watch("parts"))
+
+
 def _audit(asked: argparse.Namespace) -> int:
-    return command.audit(_content(asked.file), asked)
+    return command.audit(_content(asked.file), asked, _watch("parts"))
 
 
 if __name__ == "__main__":

@@ -45,9 +45,49 @@ uint32_t python_board_open(python_board *own, size_t count, const callauction_co
     return answer;
 }
 
-uint32_t python_board_call(python_board *own, size_t number, const callauction_command *command,
-                           callauction_receipt *receipt) {
+static uint32_t answer_of_member(python_board *own, size_t number, const callauction_command *command,
+                                 callauction_receipt *receipt) {
     ANSWER_OF_MEMBER(own, number, callauction_board_call(&own->members_[number], command, receipt));
+}
+
+static callauction_receipt receipt_of_member(python_board *own, size_t number, callauction_command command) {
+    callauction_receipt receipt = {0};
+    uint32_t error = answer_of_member(own, number, &command, &receipt);
+    if (error != CALLAUCTION_DONE) receipt = (callauction_receipt){.reply = {.id = error}};
+    return receipt;
+}
+
+int64_t python_board_enter(python_board *own, size_t number, uint32_t quantity, uint32_t limit, uint32_t peak,
+                           uint8_t side, uint8_t restriction, uint8_t has) {
+    callauction_command command = {.tag = CALLAUCTION_COMMAND_ENTER, .quantity = quantity, .limit = limit};
+    command.peak = peak;
+    command.side = side;
+    command.restriction = restriction;
+    command.has_limit = (has & PYTHON_HAS_LIMIT) != 0;
+    command.has_peak = (has & PYTHON_HAS_PEAK) != 0;
+    callauction_receipt receipt;
+    uint32_t error = answer_of_member(own, number, &command, &receipt);
+    if (error != CALLAUCTION_DONE) return -(int64_t)error;
+    const callauction_reply *reply = &receipt.reply;
+    uint32_t said = reply->tag == CALLAUCTION_REPLY_ENTERED ? reply->id : PYTHON_REFUSED + (uint32_t)reply->refusal;
+    return ((int64_t)receipt.number << 32) + said;
+}
+
+callauction_receipt python_board_change(python_board *own, size_t number, uint32_t id, uint32_t quantity,
+                                        uint32_t limit, uint8_t has) {
+    callauction_command command = {.tag = CALLAUCTION_COMMAND_CHANGE, .id = id, .quantity = quantity, .limit = limit};
+    command.has_limit = (has & PYTHON_HAS_LIMIT) != 0;
+    return receipt_of_member(own, number, command);
+}
+
+callauction_receipt python_board_call(python_board *own, size_t number, uint8_t tag, uint32_t id) {
+    return receipt_of_member(own, number, (callauction_command){.tag = tag, .id = id});
+}
+
+uint32_t python_board_apply_many(python_board *own, size_t number, const callauction_command *commands,
+                                 callauction_receipt *receipts, size_t count, size_t *applied) {
+    callauction_member *member = &own->members_[number];
+    ANSWER_OF_MEMBER(own, number, callauction_board_apply_many(member, commands, count, receipts, count, applied));
 }
 
 uint32_t python_board_look(python_board *own, size_t number, callauction_shown *shown) {
@@ -64,6 +104,31 @@ uint32_t python_board_trades(python_board *own, size_t number, size_t seen, call
                              size_t *copied, uint32_t *calls) {
     ANSWER_OF_MEMBER(own, number,
                      callauction_board_trades(&own->members_[number], seen, trades, count, copied, calls));
+}
+
+uint32_t python_board_orders(python_board *own, size_t number, uint32_t of, callauction_order *orders, size_t count,
+                             size_t *copied) {
+    uint32_t calls = 0;
+    ANSWER_OF_MEMBER(own, number,
+                     callauction_board_orders(&own->members_[number], of, orders, count, copied, &calls));
+}
+
+uint32_t python_board_expiring(python_board *own, size_t number, callauction_order *orders, size_t count,
+                               size_t *copied) {
+    uint32_t calls = 0;
+    ANSWER_OF_MEMBER(own, number, callauction_board_expiring(&own->members_[number], orders, count, copied, &calls));
+}
+
+static uint32_t clone_of_member(python_board *own, size_t number, python_auction *other) {
+    ANSWER_OF_MEMBER(own, number, callauction_board_clone(&own->members_[number], &other->handle_));
+}
+
+uint32_t python_board_clone(python_board *own, size_t number, python_auction *other) {
+    ANSWER_TAKEN(other, clone_of_member(own, number, other));
+}
+
+uint32_t python_board_state(python_board *own, size_t number, callauction_day_state *state) {
+    ANSWER_OF_MEMBER(own, number, callauction_board_state(&own->members_[number], state));
 }
 
 uint32_t python_board_history(python_board *own, size_t number, size_t seen, callauction_entry *entries, size_t count,

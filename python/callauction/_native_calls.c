@@ -116,6 +116,10 @@ uint32_t python_calls(python_auction *own, uint32_t *calls) {
     ANSWER_TAKEN(own, callauction_calls(&own->handle_, calls));
 }
 
+uint32_t python_state(python_auction *own, callauction_day_state *state) {
+    ANSWER_TAKEN(own, callauction_state(&own->handle_, state));
+}
+
 uint32_t python_config_of(python_auction *own, callauction_config *config) {
     ANSWER_TAKEN(own, callauction_config_of(&own->handle_, config));
 }

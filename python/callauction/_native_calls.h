@@ -54,6 +54,7 @@ uint32_t python_trades(python_auction *own, size_t seen, callauction_trade *trad
 uint32_t python_orders(python_auction *own, uint32_t member, callauction_order *orders, size_t count, size_t *copied);
 uint32_t python_expiring(python_auction *own, callauction_order *orders, size_t count, size_t *copied);
 uint32_t python_calls(python_auction *own, uint32_t *calls);
+uint32_t python_state(python_auction *own, callauction_day_state *state);
 uint32_t python_config_of(python_auction *own, callauction_config *config);
 uint32_t python_reset(python_auction *own);
 

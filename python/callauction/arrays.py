@@ -5,6 +5,8 @@ A flag is 0 or 1. callauction.h says which fields a tag needs, and docs/LIBRARY.
 import numpy
 from numpy.typing import NDArray
 
+from callauction.words import CommandTag, Restriction, Side
+
 Structs = NDArray[numpy.void]
 Shares = NDArray[numpy.uint64]
 
@@ -71,8 +73,35 @@ ORDER = numpy.dtype(
 a Restriction, and a market order has no limit.
 """
 
+RECEIPT = numpy.dtype([("reply", REPLY), ("number", "u4")], align=True)
+"""A receipt of 72 bytes: the reply to a call on a board, and its number there."""
+
 ENTRY = numpy.dtype([("command", COMMAND), ("reply", REPLY)], align=True)
 """An entry of a board's history of 96 bytes: a call with its reply."""
+
+
+_FLAGGED = {CommandTag.ENTER: ("limit", "peak"), CommandTag.CHANGE: ("limit",)}
+"""The numbers of commands that have a flag."""
+
+
+def wrong_field_of(command: numpy.void) -> str:
+    """The first field by which an element of an array of COMMAND is no command, as callauction.h
+    says; empty where it is one.
+    """
+    tag = int(command["tag"])
+    if not 1 <= tag <= len(CommandTag):
+        return f"tag {tag}"
+    if tag == CommandTag.ENTER and command["side"] not in (Side.BID, Side.ASK):
+        return f"side {command['side']}"
+    if tag == CommandTag.ENTER and command["restriction"] >= len(Restriction):
+        return f"restriction {command['restriction']}"
+    for name in _FLAGGED.get(CommandTag(tag), ()):
+        flag, value = command[f"has_{name}"], command[name]
+        if flag > 1:
+            return f"has_{name} {flag}"
+        if value and not flag:
+            return f"{name} {value} without has_{name}"
+    return ""
 
 
 def whole(name: str, array: object, kind: "numpy.dtype[numpy.void]", is_written: bool) -> Structs:

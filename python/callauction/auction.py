@@ -1,25 +1,37 @@
 """An auction in this process: see Auction."""
+import copy
 import inspect
+from collections.abc import Callable, Mapping
 from types import TracebackType
 from typing import Any, Self, cast
 
 import numpy
 
 from callauction import words
-from callauction._native import ffi, lib
-from callauction.arrays import COMMAND, ORDER, REPLY, TRADE, Shares, Structs, whole
-from callauction.errors import AuctionError, ClosedError, FullError, NoCommandError
+from callauction.arrays import (
+    COMMAND,
+    ORDER,
+    REPLY,
+    TRADE,
+    Shares,
+    Structs,
+    whole,
+)
+from callauction.errors import AuctionError, ClosedError, NotAppliedError
+from callauction.library import ffi, lib
 from callauction.limits import MOST_NUMBER
 from callauction.reading import (
     entered,
     error_of,
     fault_of,
     member_of,
+    not_applied,
     not_entered,
     number,
     numbers,
     price,
     read,
+    state_of,
 )
 from callauction.words import Command, Config, MarketOrders, Reply, ReplyTag, Restriction, Side
 
@@ -33,7 +45,8 @@ _HAS_LIMIT, _HAS_PEAK = int(lib.PYTHON_HAS_LIMIT), int(lib.PYTHON_HAS_PEAK)
 _enter, _indicate = lib.python_enter, lib.python_indicate
 _AT_ONCE = 1024
 """How many trades are copied by one call of the library."""
-_ALL_MEMBERS = int(lib.CALLAUCTION_ALL_MEMBERS)
+ALL_MEMBERS = int(lib.CALLAUCTION_ALL_MEMBERS)
+"""The number that means the orders of all."""
 
 
 class _Signature:
@@ -66,6 +79,24 @@ def config_of(found: Any) -> Config:
     most = found.range if found.has_range else None
     numbers = found.low, found.high, found.reference, found.max_open, found.max_calls
     return Config(*numbers, most)
+
+
+def copy_over(
+    other: object, clone: Callable[[Any], int], fault: Callable[[int], Exception] = error_of
+) -> None:
+    """Has a call of the library make what this auction holds a copy. Raises ValueError where it
+    has other limits, TypeError where it is no Auction, ClosedError where it was closed, and the
+    fault of another error.
+    """
+    if not isinstance(other, Auction):
+        raise TypeError(f"other must be an Auction, not {type(other).__name__}")
+    if other.is_closed:
+        raise ClosedError("other was closed")
+    answer = clone(other._own)
+    if answer == lib.CALLAUCTION_ERROR_IN_USE:
+        raise ValueError("other must have the same bounds, max_open and max_calls")
+    if answer:
+        raise fault(answer)
 
 
 class Auction:
@@ -275,9 +306,8 @@ class Auction:
         applied = ffi.new("size_t *")
         try:
             self._call(lib.python_apply_many, given, written, len(given), applied)
-        except (FullError, NoCommandError) as error:
-            count = applied[0]
-            raise type(error)(f"command {count}: {error}", count, replies[:count]) from None
+        except NotAppliedError as error:
+            raise not_applied(error, commands, replies, applied[0]) from None
         return replies
 
     # ---- what is shown
@@ -320,7 +350,7 @@ class Auction:
         bids before the asks. Orders that wait for another auction are among them. Raises TypeError
         or ValueError for a bad number, and MemoryError.
         """
-        of = _ALL_MEMBERS if member is None else number("member", member, _ALL_MEMBERS - 1)
+        of = ALL_MEMBERS if member is None else number("member", member, ALL_MEMBERS - 1)
         return self._orders(lib.python_orders, of)
 
     def expiring(self) -> Structs:
@@ -336,6 +366,12 @@ class Auction:
         copied = ffi.new("size_t *")
         self._call(function, *of, written, len(written), copied)
         return orders[: copied[0]].copy()
+
+    def state(self) -> words.State:
+        """Where the day is; no call of a member, and after the day too."""
+        found = ffi.new("callauction_day_state *")
+        self._call(lib.python_state, found)
+        return state_of(found)
 
     @property
     def calls(self) -> int:
@@ -368,34 +404,50 @@ class Auction:
     # ---- the whole auction
 
     def copy(self) -> Self:
-        """An auction of its own, a copy of this one as it is now. Raises MemoryError."""
-        other = type(self).__new__(type(self))
+        """An auction of its own, a copy of this one as it is now; what a subclass keeps beside it
+        is shared by both, but for copy.deepcopy. Raises MemoryError.
+        """
+        other = self._cloned()
+        other._keep(self._kept())
+        return other
+
+    def _cloned(self) -> Self:
+        """A copy of the auction alone."""
+        other = Auction.__new__(type(self))
         self._call(lib.python_clone, other._own)
         return other
+
+    def _kept(self) -> dict[str, object]:
+        """What a subclass keeps: its attributes, those of its slots among them."""
+        states = object.__getstate__(self)  # type: ignore[attr-defined]
+        kept = {name: it for state in states for name, it in (state or {}).items()}
+        del kept["_own"]
+        return kept
+
+    def _keep(self, kept: Mapping[str, object]) -> None:
+        """Keeps these attributes."""
+        for name, value in kept.items():
+            object.__setattr__(self, name, value)
 
     def copy_into(self, other: "Auction") -> None:
         """Makes another auction of the same bounds, `max_open` and `max_calls` a copy of this one,
         whatever it was, and takes no memory. Raises ValueError where it has others, TypeError where
         it is no Auction, and ClosedError where it was closed.
         """
-        if not isinstance(other, Auction):
-            raise TypeError(f"other must be an Auction, not {type(other).__name__}")
-        if other.is_closed:
-            raise ClosedError("other was closed")
-        answer = lib.python_clone(self._own, other._own)
-        if answer == lib.CALLAUCTION_ERROR_IN_USE:
-            raise ValueError("other must have the same bounds, max_open and max_calls")
-        if answer:
-            raise error_of(answer)
+        copy_over(other, lambda to: int(lib.python_clone(self._own, to)))
 
     def __copy__(self) -> Self:
         return self.copy()
 
-    def __deepcopy__(self, _: dict[int, object]) -> Self:
-        return self.copy()
+    def __deepcopy__(self, memo: dict[int, object]) -> Self:
+        other = memo[id(self)] = self._cloned()
+        other._keep(copy.deepcopy(self._kept(), memo))
+        return other
 
     def __reduce__(self) -> str:
-        raise TypeError("an Auction can't be pickled")
+        raise TypeError(
+            "an Auction can't be pickled: pickle its commands, and apply them to another one"
+        )
 
     def reset(self) -> None:
         """Goes back to the opening, as if it had just been opened."""

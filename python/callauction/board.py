@@ -1,18 +1,38 @@
 """A board in this process: one auction that members call from threads of their own. See Board."""
 import builtins
 import dataclasses
+import os
+import weakref
 from types import TracebackType
 from typing import TYPE_CHECKING, Any, Self, cast
 
 import numpy
 
 from callauction import words
-from callauction._native import ffi, lib
-from callauction.arrays import ENTRY, TRADE, Shares, Structs
-from callauction.auction import config_of, config_struct
-from callauction.errors import RefusedError
+from callauction.arrays import (
+    COMMAND,
+    ENTRY,
+    ORDER,
+    RECEIPT,
+    TRADE,
+    Shares,
+    Structs,
+    whole,
+)
+from callauction.auction import ALL_MEMBERS, Auction, config_of, config_struct, copy_over
+from callauction.errors import AuctionError, NotAppliedError
+from callauction.library import ffi, lib
 from callauction.limits import MOST_MEMBERS, MOST_NUMBER
-from callauction.reading import board_error_of, member_of, number, read
+from callauction.reading import (
+    board_error_of,
+    entered,
+    member_of,
+    not_applied,
+    not_entered,
+    number,
+    read,
+    state_of,
+)
 from callauction.words import Command, CommandTag, Config, MarketOrders, Reply, Restriction, Side
 
 if TYPE_CHECKING:
@@ -21,6 +41,13 @@ if TYPE_CHECKING:
 _MOST_SEEN = (1 << 63) - 1
 _AT_ONCE = 1024
 """How many trades or entries are copied by one call of the library."""
+_TERMS, _CHANGE = ("quantity", "limit", "peak"), ("id", "quantity", "limit")
+"""The numbers of commands, in the order in which the library takes them."""
+_BID, _ASK = Side.BID, Side.ASK
+_HAS_LIMIT, _HAS_PEAK = int(lib.PYTHON_HAS_LIMIT), int(lib.PYTHON_HAS_PEAK)
+_REFUSED, _LOW = int(lib.PYTHON_REFUSED), (1 << 32) - 1
+_enter, _change, _call = lib.python_board_enter, lib.python_board_change, lib.python_board_call
+_OF_ONE_PROCESS = "its board is one auction, which the threads of one process call"
 
 
 @dataclasses.dataclass(frozen=True, slots=True)
@@ -57,6 +84,16 @@ class Member:
     def __repr__(self) -> str:
         return f"<Member {self._number} of {self._board!r}>"
 
+    def __copy__(self) -> Self:
+        """The member itself."""
+        return self
+
+    def __deepcopy__(self, _: dict[int, object]) -> Self:
+        raise TypeError(f"a Member can't be copied: {_OF_ONE_PROCESS}")
+
+    def __reduce__(self) -> str:
+        raise TypeError(f"a Member can't be pickled: {_OF_ONE_PROCESS}")
+
     @property
     def number(self) -> int:
         """From 0; member 0 is the operator, who alone uncrosses."""
@@ -70,12 +107,22 @@ class Member:
         Raises FullError where the history has `max_calls` entries, TypeError or ValueError for a
         bad command, and with `check` RefusedError where the auction refuses it.
         """
-        receipt = ffi.new("callauction_receipt *")
-        self._call(lib.python_board_call, _struct_of(command), receipt)
-        reply = read(receipt.reply)
-        if check and isinstance(reply, words.Refused):
-            raise RefusedError(reply.refusal)
-        return Receipt(int(receipt.number), reply)
+        match command:
+            case words.Enter(side, quantity, limit, peak, restriction):
+                return self.enter(side, quantity, limit, peak, restriction, check=check)
+            case words.Change(id, quantity, limit):
+                return self.change(id, quantity, limit, check=check)
+            case words.Delete(id):
+                return self.delete(id, check=check)
+            case words.OrderStatus(id):
+                return self.order_status(id, check=check)
+            case words.Indicate():
+                return self.indicate(check=check)
+            case words.ReadTrade(number):
+                return self.read_trade(number, check=check)
+            case words.Uncross():
+                return self.uncross(check=check)
+        raise TypeError(f"command must be one of Command, not {type(command).__name__}")
 
     def enter(
         self,
@@ -88,33 +135,81 @@ class Member:
         check: bool = False,
     ) -> Receipt:
         """Enters an order, as Auction.enter."""
-        return self.call(words.Enter(side, quantity, limit, peak, restriction), check=check)
+        if side is not _BID and side is not _ASK:
+            member_of("side", side, Side)
+            raise ValueError("side must be BID or ASK")
+        if type(restriction) is not Restriction:
+            member_of("restriction", restriction, Restriction)
+        tick, has = (0, 0) if limit is None else (limit, _HAS_LIMIT)
+        shown = 0
+        if peak is not None:
+            shown, has = peak, has | _HAS_PEAK
+        if not type(quantity) is type(tick) is type(shown) is int:
+            quantity, tick, shown = _numbers(_TERMS, (quantity, tick, shown))
+        try:
+            answer = _enter(
+                self._own, self._number, quantity, tick, shown, side, restriction, has
+            )
+        except OverflowError:
+            raise _fault_of(_TERMS, (quantity, tick, shown)) from None
+        if answer < 0:
+            raise board_error_of(-answer)
+        said = answer & _LOW
+        if said < _REFUSED:
+            return _receipt(answer >> 32, entered(said))
+        return _receipt(answer >> 32, not_entered(_REFUSED - said, check))
 
     def change(
         self, id: int, quantity: int, limit: int | None = None, *, check: bool = False
     ) -> Receipt:
         """Changes an own order, as Auction.change."""
-        return self.call(words.Change(id, quantity, limit), check=check)
+        tick, has = (0, 0) if limit is None else (limit, _HAS_LIMIT)
+        if not type(id) is type(quantity) is type(tick) is int:
+            id, quantity, tick = _numbers(_CHANGE, (id, quantity, tick))
+        try:
+            receipt = _change(self._own, self._number, id, quantity, tick, has)
+        except OverflowError:
+            raise _fault_of(_CHANGE, (id, quantity, tick)) from None
+        return self._read(receipt, check)
 
     def delete(self, id: int, *, check: bool = False) -> Receipt:
         """Takes an own order out."""
-        return self.call(words.Delete(id), check=check)
+        return self._of_id(CommandTag.DELETE, id, check)
 
     def order_status(self, id: int, *, check: bool = False) -> Receipt:
         """What is open of an own order."""
-        return self.call(words.OrderStatus(id), check=check)
+        return self._of_id(CommandTag.ORDER_STATUS, id, check)
 
     def indicate(self, *, check: bool = False) -> Receipt:
         """The indicative price, as a call; `look` shows it without one."""
-        return self.call(words.Indicate(), check=check)
+        return self._of_id(CommandTag.INDICATE, 0, check)
 
     def read_trade(self, number: int, *, check: bool = False) -> Receipt:
         """The trade of the day with this number, from 1 on."""
-        return self.call(words.ReadTrade(number), check=check)
+        return self._of_id(CommandTag.READ_TRADE, number, check, "number")
 
     def uncross(self, *, check: bool = False) -> Receipt:
         """Determines the price and executes; for member 0 alone."""
-        return self.call(words.Uncross(), check=check)
+        return self._of_id(CommandTag.UNCROSS, 0, check)
+
+    def apply_many(self, commands: Structs) -> Structs:
+        """Records an array of COMMAND one after another, with no other member's call between them:
+        their receipts, a new array of RECEIPT. The `member` of a struct isn't read. No thread may
+        write the array meanwhile, or change its size.
+
+        Stops as Auction.apply_many; the `replies` of the error are the receipts before it. Raises
+        TypeError or ValueError for a bad array.
+        """
+        whole("commands", commands, COMMAND, is_written=False)
+        given = ffi.from_buffer("callauction_command[]", commands)
+        receipts = numpy.zeros(len(given), RECEIPT)
+        written = ffi.from_buffer("callauction_receipt[]", receipts, require_writable=True)
+        applied = ffi.new("size_t *")
+        try:
+            self._call(lib.python_board_apply_many, given, written, len(given), applied)
+        except NotAppliedError as error:
+            raise not_applied(error, commands, receipts, applied[0]) from None
+        return receipts
 
     # ---- what is shown
 
@@ -145,11 +240,41 @@ class Member:
         calls = ffi.new("uint32_t *")
         return self._copied(lib.python_board_trades, "callauction_trade[]", TRADE, seen, calls)
 
+    def orders(self, member: int | None = None) -> Structs:
+        """The open orders of a member of the board, or of all, as Auction.orders. Raises TypeError
+        or ValueError for a bad number, and MemoryError.
+        """
+        of = ALL_MEMBERS if member is None else number("member", member, ALL_MEMBERS - 1)
+        return self._orders(lib.python_board_orders, of)
+
+    def expiring(self) -> Structs:
+        """What an uncross now would take out, as Auction.expiring. Raises MemoryError."""
+        return self._orders(lib.python_board_expiring)
+
+    def state(self) -> words.State:
+        """Where the day is, after as many calls as it says."""
+        found = ffi.new("callauction_day_state *")
+        self._call(lib.python_board_state, found)
+        return state_of(found)
+
     def history(self, seen: int = 0) -> Structs:
         """The entries of the board's history after the first `seen`: a new array of ENTRY, for a
         thread that writes them down while the day runs. Raises as trades.
         """
         return self._copied(lib.python_board_history, "callauction_entry[]", ENTRY, seen)
+
+    def auction(self) -> Auction:
+        """An auction of its own, a copy of the board's as it is now. Raises MemoryError."""
+        other = Auction.__new__(Auction)
+        self._call(lib.python_board_clone, other._own)
+        return other
+
+    def copy_into(self, other: Auction) -> None:
+        """Makes an auction of the board's bounds, `max_open` and `max_calls` a copy of the board's,
+        whatever it was, and takes no memory. Raises as Auction.copy_into.
+        """
+        own, place = self._own, self._number
+        copy_over(other, lambda to: int(lib.python_board_clone(own, place, to)), board_error_of)
 
     @property
     def calls(self) -> int:
@@ -160,11 +285,37 @@ class Member:
 
     # ---- calls of the library
 
+    def _of_id(self, tag: CommandTag, id: int, check: bool, name: str = "id") -> Receipt:
+        """The receipt of the command that has no number but this one."""
+        if type(id) is not int:
+            (id,) = _numbers((name,), (id,))
+        try:
+            receipt = _call(self._own, self._number, tag, id)
+        except OverflowError:
+            raise _fault_of((name,), (id,)) from None
+        return self._read(receipt, check)
+
+    def _read(self, receipt: Any, check: bool) -> Receipt:
+        """The receipt that the library gave. Raises the exception of an error, and with `check`
+        RefusedError.
+        """
+        if not receipt.number:
+            raise board_error_of(receipt.reply.id)
+        return _receipt(receipt.number, read(receipt.reply, check))
+
     def _call(self, function: Any, *arguments: Any) -> None:
         """Calls the library for this member. Raises the exception of its error."""
         answer = function(self._own, self._number, *arguments)
         if answer:
             raise board_error_of(answer)
+
+    def _orders(self, function: Any, *of: int) -> Structs:
+        """The orders that this call of the library writes."""
+        orders = numpy.zeros(self._board.config.max_open, ORDER)
+        written = ffi.from_buffer("callauction_order[]", orders, require_writable=True)
+        copied = ffi.new("size_t *")
+        self._call(function, *of, written, len(written), copied)
+        return orders[: copied[0]].copy()
 
     def _copied(
         self, function: Any, kind: str, dtype: "numpy.dtype[Any]", seen: int, *more: Any
@@ -189,12 +340,16 @@ class Board:
 
     `members` says how many; the other numbers are those of Auction. `board[3]` is the member with
     the number 3, and `board.members` has all: each goes to a thread of its own. Member 0 is the
-    operator.
+    operator. The end of a `with` block closes the board; `day` then has its day. copy.copy gives
+    the board itself.
+
+    After a fork each process has its own board. One that another thread was calling just then
+    raises BusyError for good in the child.
 
     Raises TypeError or ValueError with the name of a bad argument, and MemoryError.
     """
 
-    __slots__ = ("_config", "_is_closed", "_members", "_own", "__weakref__")
+    __slots__ = ("_config", "_day", "_members", "_own", "__weakref__")
 
     def __init__(
         self,
@@ -216,11 +371,22 @@ class Board:
             raise board_error_of(answer)
         self._config = config_of(config)
         self._members = tuple(Member(self, self._own, it) for it in builtins.range(count))
-        self._is_closed = False
+        self._day: "BoardDay | None" = None
+        _boards.add(self)
 
     def __repr__(self) -> str:
-        state = "closed board" if self._is_closed else "board"
+        state = "closed board" if self.is_closed else "board"
         return f"<{state} of {len(self._members)} members>"
+
+    def __copy__(self) -> Self:
+        """The board itself."""
+        return self
+
+    def __deepcopy__(self, _: dict[int, object]) -> Self:
+        raise TypeError(f"a Board can't be copied: {_OF_ONE_PROCESS}")
+
+    def __reduce__(self) -> str:
+        raise TypeError(f"a Board can't be pickled: {_OF_ONE_PROCESS}; pickle its day")
 
     def __enter__(self) -> Self:
         return self
@@ -231,7 +397,7 @@ class Board:
         raised: BaseException | None,
         traceback: TracebackType | None,
     ) -> None:
-        if not self._is_closed and kind is None:
+        if kind is None:
             self.close()
 
     def __len__(self) -> int:
@@ -253,14 +419,27 @@ class Board:
     @property
     def is_closed(self) -> bool:
         """Whether it was closed."""
-        return self._is_closed
+        return self._day is not None
+
+    @property
+    def day(self) -> "BoardDay":
+        """The day of a board that was closed. Raises AuctionError before."""
+        if self._day is None:
+            raise AuctionError("the board isn't closed, so its day isn't over")
+        return self._day
 
     def close(self) -> "BoardDay":
-        """Closes the board: the day with its history. From then on calls raise ClosedError, also a
-        second close.
+        """Closes the board, and answers its day with the history; of a board that was closed the
+        same day again. From then on calls of its members raise ClosedError.
 
         Raises BusyError, and closes nothing, while a call of a member is running.
         """
+        if self._day is None:
+            self._day = self._closed()
+        return self._day
+
+    def _closed(self) -> "BoardDay":
+        """The day of the board, which is closed."""
         from callauction.board_day import BoardDay
 
         room = numpy.zeros(self._config.max_calls, ENTRY)
@@ -271,45 +450,54 @@ class Board:
         answer = lib.python_board_close(self._own, entries, len(room), counted, written)
         if answer:
             raise board_error_of(answer)
-        self._is_closed = True
         return BoardDay(self._config, room[: written[0]].copy(), tuple(counts.tolist()))
 
 
-def _struct_of(command: Command) -> Any:
-    """A command as a struct of the library; its member is the handle's. Raises TypeError or
-    ValueError with the name of a bad number.
+_boards: "weakref.WeakSet[Board]" = weakref.WeakSet()
+"""The boards of this process."""
+
+
+def _keep_busy() -> None:
+    """In a forked child: boards that a thread of the parent was calling stay as they are, each
+    member busy, since what that thread had of them is never given back.
     """
-    made = ffi.new("callauction_command *")
-    match command:
-        case words.Enter(side, quantity, limit, peak, restriction):
-            member_of("side", side, Side)
-            member_of("restriction", restriction, Restriction)
-            if side is Side.NONE:
-                raise ValueError("side must be BID or ASK")
-            made.tag, made.side, made.restriction = CommandTag.ENTER, side, restriction
-            _set_terms(made, quantity, limit)
-            if peak is not None:
-                made.has_peak, made.peak = 1, number("peak", peak, MOST_NUMBER)
-        case words.Change(id, quantity, limit):
-            made.tag, made.id = CommandTag.CHANGE, number("id", id, MOST_NUMBER)
-            _set_terms(made, quantity, limit)
-        case words.Delete(id):
-            made.tag, made.id = CommandTag.DELETE, number("id", id, MOST_NUMBER)
-        case words.OrderStatus(id):
-            made.tag, made.id = CommandTag.ORDER_STATUS, number("id", id, MOST_NUMBER)
-        case words.Indicate():
-            made.tag = CommandTag.INDICATE
-        case words.ReadTrade(place):
-            made.tag, made.id = CommandTag.READ_TRADE, number("number", place, MOST_NUMBER)
-        case words.Uncross():
-            made.tag = CommandTag.UNCROSS
-        case _:
-            raise TypeError(f"command must be one of Command, not {type(command).__name__}")
+    for board in [*_boards]:
+        is_busy = board._own.is_busy_
+        if any(is_busy[number] for number in range(len(board))):
+            for number in range(len(board)):
+                is_busy[number] = True
+            ffi.gc(board._own, None)
+
+
+os.register_at_fork(after_in_child=_keep_busy)
+
+
+# ---- the numbers of a command, and receipts
+
+
+def _numbers(names: tuple[str, ...], values: tuple[object, ...]) -> tuple[int, ...]:
+    """The integers that the values of these arguments are. Raises TypeError or ValueError for the
+    first that is none, or that no journal has.
+    """
+    return tuple(number(name, value, MOST_NUMBER) for name, value in zip(names, values))
+
+
+def _fault_of(names: tuple[str, ...], values: tuple[object, ...]) -> Exception:
+    """The first fault of the values of these arguments, of which one doesn't fit."""
+    try:
+        _numbers(names, values)
+    except (TypeError, ValueError) as fault:
+        return fault
+    return OverflowError("an argument doesn't fit the library's number")
+
+
+_new = object.__new__
+_set_number, _set_reply = (vars(Receipt)[name].__set__ for name in ("number", "reply"))
+
+
+def _receipt(number: int, reply: Reply) -> Receipt:
+    """A receipt, made as fast as can be."""
+    made = _new(Receipt)
+    _set_number(made, number)
+    _set_reply(made, reply)
     return made
-
-
-def _set_terms(made: Any, quantity: int, limit: int | None) -> None:
-    """Sets the quantity and the limit of a struct. Raises TypeError or ValueError."""
-    made.quantity = number("quantity", quantity, MOST_NUMBER)
-    if limit is not None:
-        made.has_limit, made.limit = 1, number("limit", limit, MOST_NUMBER)

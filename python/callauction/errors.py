@@ -32,7 +32,8 @@ class NotAppliedError(AuctionError):
     """A command wasn't applied, and none after it.
 
     `applied` says how many commands of the call were applied before it, and `replies` are their
-    replies, an array of REPLY of that length (None where the call was of one command).
+    replies, an array of REPLY of that length, of a board's member of RECEIPT (None where the call
+    was of one command).
     """
 
     def __init__(self, text: str, applied: int = 0, replies: Structs | None = None) -> None:

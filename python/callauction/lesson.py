@@ -1,19 +1,28 @@
 """What the lessons of python/notebooks use: small books, exercises that look at what was to be
 kept, and a slider. All prices and trades are the proved library's and program's.
 """
+import base64
 import dataclasses
-from collections.abc import Mapping, Sequence
-from typing import TYPE_CHECKING
+import html
+import io
+import math
+import numbers
+from collections.abc import Callable, Mapping, Sequence
+from typing import TYPE_CHECKING, Any, cast
 
 import pandas
 
 from callauction import plot
+from callauction.library import ffi, lib
 from callauction.outcomes import queue_of
+from callauction.plot.parts import thousands, whole_steps
 from callauction.reasons import Explanation
 from callauction.recording import RecordedAuction
-from callauction.words import NoPrice, Price, Refused, Side
+from callauction.words import NoPrice, Price, Refused, Reply, Side
+from callauction.written import text_of
 
 if TYPE_CHECKING:
+    from matplotlib.axes import Axes
     from matplotlib.figure import Figure
 
 BID, ASK = Side.BID, Side.ASK
@@ -21,6 +30,10 @@ Order = tuple[Side, int, int | None]
 """An order of a lesson: its side, its shares, and its limit in ticks, None at market."""
 MOVED = ("limit", "price", "volume", "surplus")
 """The columns of what an order's limit does."""
+LOW, HIGH = 1, 1000
+"""The lowest and the highest tick of a lesson's auctions."""
+MOST_SHARES = 1_000_000_000
+"""The most shares that an order may have."""
 
 
 def auction_of(
@@ -29,7 +42,7 @@ def auction_of(
     """An auction with these orders, the first one of member 1, the second one of member 2 and so
     on. Raises RefusedError for one that is refused.
     """
-    auction = RecordedAuction(low=1, high=1000, reference=reference, range=range)
+    auction = RecordedAuction(low=LOW, high=HIGH, reference=reference, range=range)
     for member, (side, quantity, limit) in enumerate(orders, 1):
         auction.enter(member, side, quantity, limit, check=True)
     return auction
@@ -39,6 +52,19 @@ def show(auction: RecordedAuction, command: int | None = None) -> Explanation:
     """Draws the book, and answers why it has its price."""
     plot.book(auction, command)
     return auction.explain(command)
+
+
+def said(reply: Reply) -> str:
+    """A reply as the program prints it, with the reason of a refusal."""
+    if isinstance(reply, Refused):
+        return f"refused: {ffi.string(lib.callauction_refusal_text(reply.refusal)).decode()}"
+    return text_of(reply)
+
+
+def executed(auction: RecordedAuction) -> pandas.Series:
+    """The shares of each order, by its number, that an uncross now executes."""
+    orders = queue_of(auction).orders.set_index("order").sort_index()
+    return cast(pandas.Series, orders["executed"])
 
 
 # ---- exercises
@@ -67,36 +93,67 @@ class Exercise:
     quantity: int | None = None
     is_market: bool = False
 
-    def check(self, *added: Order, reference: int | None = None) -> str:
+    def check(self, *added: object, reference: object = None, **others: object) -> str:
         """Whether the kept book and these orders are what is wanted: `solved`, or what is missing.
-        A `reference` other than the exercise's is taken only where no order may be added.
+        An order is `(side, shares, limit)`. A `reference` other than the exercise's is taken only
+        where no order may be added. Whatever is given, the answer is a sentence.
         """
-        if fault := self._added_fault(added, reference):
+        if any(map(_has_dots, [*added, reference, *others.values()])):
+            return f"not yet: {self._wanted()} in the place of the dots"
+        fault = self._added_fault(added, reference) if not others else self._form()
+        if fault:
             return f"not yet: {fault}"
-        opened = self.reference if reference is None else reference
-        with RecordedAuction(reference=opened, range=self.range) as auction:
-            for member, (side, quantity, limit) in enumerate([*self.kept, *added], 1):
-                reply = auction.enter(member, side, quantity, limit)
+        opened = self.reference if reference is None else cast(int, reference)
+        with RecordedAuction(LOW, HIGH, opened, range=self.range) as auction:
+            for member, order in enumerate([*self.kept, *cast("list[Order]", added)], 1):
+                reply = auction.enter(member, *order)
                 if isinstance(reply, Refused):
-                    return f"not yet: order {member} is refused, {reply.refusal.name}"
+                    return f"not yet: order {member} is {said(reply)}"
             missing = [*self._price_faults(auction), *self._trade_faults(auction)]
             if not missing:
                 return "solved"
             return "\n".join(["not yet:", *missing, *auction.explain()])
 
-    def _added_fault(self, added: Sequence[Order], reference: int | None) -> str:
+    def _wanted(self) -> str:
+        """What is to be given."""
+        return "put side, shares and limit of an order" if self.more else "put a reference"
+
+    def _form(self) -> str:
+        """How it is given."""
+        return (
+            "give an order in brackets of its own, check((side, shares, limit))"
+            if self.more
+            else "give no order but a reference, such as check(reference=300)"
+        )
+
+    def _added_fault(self, added: Sequence[object], reference: object) -> str:
         """What is wrong with the orders themselves, or with a reference that is to be kept."""
+        if any(isinstance(it, str) or not isinstance(it, Sequence) for it in added):
+            return self._form()
         if len(added) != self.more:
-            return f"add {self.more} to the {len(self.kept)} orders, not {len(added)}"
+            if not self.more:
+                return self._form()
+            were = "was" if len(added) <= 1 else "were"
+            kept = f"the {_counted(len(self.kept))} of the book"
+            return f"add {_counted(self.more)} to {kept}; {len(added) or 'none'} {were} added"
         if reference is not None and self.more:
             return f"keep the reference, {self.reference}"
-        for side, quantity, limit in added:
-            if self.side is not None and self.side is not side:
-                return f"the added order is to be of the side {self.side.name.lower()}"
-            if self.quantity is not None and self.quantity != quantity:
-                return f"the added order is to have {self.quantity:,} shares"
-            if self.is_market and limit is not None:
-                return "the added order is to be at market"
+        if reference is not None and not _is_tick(reference):
+            return f"the reference is a tick from {LOW} to {HIGH}, not {_shown(reference)}"
+        for place, order in enumerate(added, len(self.kept) + 1):
+            if fault := _order_fault(cast("Sequence[object]", order)) or self._other_fault(order):
+                return f"order {place}: {fault}"
+        return ""
+
+    def _other_fault(self, order: Any) -> str:
+        """In what an order isn't as it was asked for."""
+        side, quantity, limit = order
+        if self.side not in (None, side):
+            return f"its side is to be {cast(Side, self.side).name}"
+        if self.quantity not in (None, quantity):
+            return f"it is to have {self.quantity:,} shares"
+        if self.is_market and limit is not None:
+            return "it is to be at market: its limit is None"
         return ""
 
     def _price_faults(self, auction: RecordedAuction) -> list[str]:
@@ -133,8 +190,84 @@ class Exercise:
             faults.append("the uncross is interrupted")
         pairs = [(int(trade["bid"]), int(trade["ask"])) for trade in queue.trades]
         if self.pairs is not None and sorted(pairs) != sorted(self.pairs):
-            faults.append(f"the trades are those of {pairs}")
+            with_whom = ", ".join(f"{bid} with {ask}" for bid, ask in pairs) or "none"
+            faults.append(f"the trades, bid with ask: {with_whom}")
         return faults
+
+
+def _counted(orders: int) -> str:
+    """A number of orders."""
+    return "1 order" if orders == 1 else f"{orders} orders"
+
+
+def _order_fault(order: Sequence[object]) -> str:
+    """What is wrong with an order as such: `(side, shares, limit)`."""
+    if len(order) != 3:
+        parts = "1 part" if len(order) == 1 else f"{len(order)} parts"
+        return f"it has {parts}, and not three: (side, shares, limit)"
+    side, quantity, limit = order
+    if side is not BID and side is not ASK:
+        return f"its side is BID or ASK, not {_shown(side)}"
+    if not _is_whole(quantity) or not 1 <= cast(int, quantity) <= MOST_SHARES:
+        return f"its shares are a whole number from 1 to {MOST_SHARES:,}, not {_shown(quantity)}"
+    if limit is not None and not _is_tick(limit):
+        return f"its limit is a tick from {LOW} to {HIGH}, or None at market, not {_shown(limit)}"
+    return ""
+
+
+def _has_dots(given: object) -> bool:
+    """Whether this is the dots of the notebook, or has them."""
+    return given is ... or (isinstance(given, tuple | list) and any(it is ... for it in given))
+
+
+def _is_tick(number: object) -> bool:
+    """Whether this is a tick of a lesson's auctions."""
+    return _is_whole(number) and LOW <= cast(int, number) <= HIGH
+
+
+def _is_whole(number: object) -> bool:
+    """Whether this is a whole number: numpy's are, a bool isn't."""
+    return isinstance(number, numbers.Integral) and not isinstance(number, bool)
+
+
+def _shown(value: object) -> str:
+    """A wrong value as it was written, cut where it is long."""
+    text = repr(value)
+    return text if len(text) <= 30 else f"{text[:27]}..."
+
+
+@dataclasses.dataclass(frozen=True)
+class Experiment:
+    """An exercise on one number: `measure` is what a choice brings, in these `words` (a format of
+    one number), and is to be from `low` to `high`. A choice is from `least` to `most`.
+    """
+
+    measure: Callable[[float], float]
+    words: str
+    low: float
+    high: float
+    least: float
+    most: float
+
+    def check(self, *given: object, **named: object) -> str:
+        """Whether this choice, one number, brings what is wanted: `solved`, or what it brings
+        instead. Whatever is given, the answer is a sentence.
+        """
+        choices = [*given, *named.values()]
+        if any(it is ... for it in choices):
+            return "not yet: put a number in the place of the dots"
+        span = f"from {self.least:g} to {self.most:g}"
+        if len(choices) != 1:
+            return f"not yet: choose one number {span}, such as check({self.least:g})"
+        [choice] = choices
+        is_number = isinstance(choice, numbers.Real) and not isinstance(choice, bool)
+        if not is_number or not self.least <= cast(float, choice) <= self.most:
+            return f"not yet: choose a number {span}, not {_shown(choice)}"
+        found = self.measure(float(cast(float, choice)))
+        words = self.words.format(found)
+        if not math.isfinite(found) or not self.low <= found <= self.high:
+            return f"not yet: {words}, and not {self.low:g} to {self.high:g}"
+        return f"solved: {words}"
 
 
 # ---- a slider
@@ -164,53 +297,100 @@ def _numbers(shown: Price | NoPrice) -> tuple[int | None, ...]:
 
 
 def draw_moved(
-    orders: Sequence[Order], place: int, limit: int, limits: Sequence[int]
+    orders: Sequence[Order], place: int, limit: int, found: pandas.DataFrame
 ) -> "Figure":
-    """Draws the book with this limit of an order, and beside it price, volume and surplus against
-    that limit. Answers the figure.
+    """Draws the book with this limit of an order; beside it what each limit does (`moved`): volume
+    and surplus, the limit upright as in the book, and the price. Answers the figure.
     """
     import matplotlib.pyplot as pyplot
 
-    figure, panels = pyplot.subplot_mosaic(
-        [["book", "price"], ["book", "shares"]],
-        figsize=(11, 4.4),
-        layout="constrained",
-        gridspec_kw={"width_ratios": (3, 2)},
+    figure, (book, shares, price) = pyplot.subplots(
+        1, 3, figsize=(11, 4.2), layout="constrained", gridspec_kw={"width_ratios": (5, 3, 3)}
     )
     with auction_of(*_with(orders, place, limit)) as auction:
-        plot.book(auction, ax=panels["book"])
-    found = moved(orders, place, limits)
-    for panel, names in (("price", ["price"]), ("shares", ["volume", "surplus"])):
-        axes = panels[panel]
-        for name, mark in zip(names, ("o", "s")):
-            axes.plot(found["limit"], found[name].astype("float64"), marker=mark, label=name)
-        axes.axvline(limit, color="black", linestyle=":")
-        axes.set_ylabel("price (ticks)" if panel == "price" else "shares")
-        axes.legend(fontsize="small")
-    panels["shares"].set_xlabel(f"limit of order {place + 1} (ticks)")
+        plot.book(auction, ax=book)
+    whose = f"limit of order {place + 1} (ticks)"
+    limits = found["limit"].astype("float64")
+    for name, mark in (("volume", "o"), ("surplus", "s")):
+        shares.plot(found[name].astype("float64"), limits, marker=mark, label=name)
+    shares.axhline(limit, color="black", linestyle=":")
+    _label(shares, "shares", whose)
+    price.plot(limits, found["price"].astype("float64"), marker="o", label="price")
+    price.axvline(limit, color="black", linestyle=":")
+    _label(price, whose, "price (ticks)")
     return figure
+
+
+def _label(axes: "Axes", across: str, upright: str) -> None:
+    """What the axes of a panel are, in whole numbers, and its legend above it."""
+    whole_steps(axes.xaxis, thousands, 4)
+    whole_steps(axes.yaxis, str)
+    axes.set_xlabel(across)
+    axes.set_ylabel(upright)
+    axes.legend(fontsize="small", loc="lower left", bbox_to_anchor=(0, 1), ncols=2, frameon=False)
+
+
+_MOVE = (
+    "this.parentNode.parentNode.querySelectorAll('img').forEach((it, place) => "
+    "it.style.display = place == this.value ? '' : 'none');"
+    "this.nextElementSibling.textContent = this.dataset.limits.split(' ')[this.value]"
+)
+"""What a move of the slider does in the browser."""
 
 
 def slide(orders: Sequence[Order], place: int, limits: Sequence[int]) -> None:
     """A slider that moves the limit of the order at this place, from 0 on, through `limits`: the
-    book, and price, volume and surplus against the limit. Without ipywidgets the picture doesn't
-    move.
+    book, and price, volume and surplus against the limit. All pictures are in the cell, so that it
+    needs nothing but the browser, and moves in a stored notebook too. Out of a notebook the picture
+    of the order's own limit is shown.
     """
     import matplotlib.pyplot as pyplot
 
-    def draw(limit: int) -> None:
-        draw_moved(orders, place, limit, limits)
+    found = moved(orders, place, limits)
+    own = orders[place][2]
+    start = own if own is not None and own in limits else limits[0]
+    if not _is_in_notebook():
+        draw_moved(orders, place, start, found)
         pyplot.show()
-
-    start = orders[place][2]
-    assert start is not None
-    try:
-        import ipywidgets
-    except ImportError:
-        print("The slider needs Debian's python3-ipywidgets.")
-        draw(start)
         return
-    slider = ipywidgets.IntSlider(
-        value=start, min=min(limits), max=max(limits), description="limit", continuous_update=False
+    from IPython.display import HTML, display
+
+    display(HTML(slider_of(orders, place, limits, start, found)))
+
+
+def _is_in_notebook() -> bool:
+    """Whether a notebook shows what is displayed."""
+    try:
+        from IPython import get_ipython
+    except ImportError:
+        return False
+    return hasattr(get_ipython(), "kernel")
+
+
+def slider_of(
+    orders: Sequence[Order], place: int, limits: Sequence[int], start: int, found: pandas.DataFrame
+) -> str:
+    """The slider as HTML: a picture for each limit, of which one is seen."""
+    pictures = []
+    for limit, (_, row) in zip(limits, found.iterrows()):
+        words = html.escape(f"limit {limit}: " + ", ".join(f"{k} {row[k]}" for k in MOVED[1:]))
+        style = "" if limit == start else ' style="display:none"'
+        data = _png(draw_moved(orders, place, limit, found))
+        pictures.append(f'<img alt="{words}"{style} src="data:image/png;base64,{data}">')
+    listed = " ".join(map(str, limits))
+    slider = (
+        f'<label>limit of order {place + 1}: <input type="range" min="0" max="{len(limits) - 1}" '
+        f'value="{[*limits].index(start)}" data-limits="{listed}" oninput="{_MOVE}"> '
+        f"<output>{start}</output></label>"
     )
-    ipywidgets.interact(draw, limit=slider)
+    return f"<div>{slider}<div>{''.join(pictures)}</div></div>"
+
+
+def _png(figure: "Figure") -> str:
+    """A figure as a PNG in base64; it is closed."""
+    import matplotlib.pyplot as pyplot
+
+    kept = io.BytesIO()
+    figure.savefig(kept, format="png", dpi=80)
+    pyplot.close(figure)
+    return base64.b64encode(kept.getvalue()).decode("ascii")

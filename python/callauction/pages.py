@@ -2,7 +2,7 @@
 import base64
 import html
 import io
-from collections.abc import Iterable, Sequence
+from collections.abc import Iterable, Iterator, Mapping, Sequence
 
 import matplotlib
 import numpy
@@ -20,7 +20,8 @@ body { font: 1rem/1.5 system-ui, sans-serif; color: #1a1a1a; background: #fff;
 h1 { font-size: 1.6rem; line-height: 1.2; } h2 { font-size: 1.3rem; margin-top: 2.5rem;
   border-top: 2px solid #1a1a1a; padding-top: .5rem; } h3 { font-size: 1.05rem; }
 nav ul { padding: 0; list-style: none; display: flex; flex-wrap: wrap; gap: .25rem 1rem; }
-a { color: #00548a; }
+a { color: #00548a; } .desk { max-width: 78rem; } .desk p, .desk ol { max-width: 54rem; }
+h1, h2, h3 { overflow-wrap: anywhere; } .desk td.text { overflow-wrap: break-word; }
 .wide { overflow-x: auto; } .wide:focus-visible { outline: 3px solid #00548a; }
 .hint { display: none; font-weight: 400; }
 table { border-collapse: collapse; font-variant-numeric: tabular-nums; margin: 1rem 0; }
@@ -94,22 +95,23 @@ def near_price(book: pandas.DataFrame) -> pandas.DataFrame:
 
 
 def html_table(
-    frame: pandas.DataFrame, caption: str, name: str, counts: Iterable[str] = ()
-) -> str:
+    frame: pandas.DataFrame, caption: str, name: str, counts: Iterable[str] = (),
+    links: Mapping[str, str] = {}, most: int = MOST_ROWS,
+) -> str:  # fmt: skip
     """A table with a caption, whose first column heads its rows; in the columns `counts` thousands
-    are parted. A wide one scrolls, and says so on a narrow screen; a short one is kept on one page
-    of paper.
+    are parted, first cells are links by `links`, and `most` rows are shown. A wide one scrolls, and
+    says so on a narrow screen; a short one is kept on one page of paper.
     """
-    more = f" (the first {MOST_ROWS} of {len(frame):,})" if len(frame) > MOST_ROWS else ""
+    more = f" (the first {most} of {len(frame):,})" if len(frame) > most else ""
     columns = [str(column) for column in frame.columns]
     kinds = [_kind(frame[name]) for name in frame]
     heads = "".join(f'<th scope="col"{kind}>{name}</th>' for name, kind in zip(columns, kinds))
     counted = [column in {*counts} for column in columns]
     texts = [
         [shown_cell(value, "", is_count) for value, is_count in zip(row, counted)]
-        for row in frame[:MOST_ROWS].itertuples(index=False)
+        for row in frame[:most].itertuples(index=False)
     ]
-    rows = "".join(_row(columns, kinds, row) for row in texts)
+    rows = "".join(_row(columns, kinds, row, links.get(row[0], "")) for row in texts)
     label = html.escape(caption + more)
     hint = f'<span class="hint">{SCROLLS}</span>' if _width(columns, texts) > NARROW else ""
     look = "wide short" if len(texts) <= MOST_SHORT else "wide long"
@@ -137,9 +139,10 @@ def _width(columns: Sequence[str], rows: Sequence[Sequence[str]]) -> int:
     return sum(longest) + 2 * len(longest)
 
 
-def _row(columns: Sequence[str], kinds: Sequence[str], row: Sequence[str]) -> str:
+def _row(columns: Sequence[str], kinds: Sequence[str], row: Sequence[str], link: str) -> str:
     """A row, which is marked where it is the auction price's."""
     first, *others = (html.escape(cell) for cell in row)
+    first = f'<a href="{html.escape(link)}">{first}</a>' if link else first
     is_price = "best" in columns and others[-1] != ""
     cells = "".join(f"<td{kind}>{value}</td>" for kind, value in zip(kinds[1:], others))
     opening = '<tr class="price">' if is_price else "<tr>"
@@ -161,8 +164,8 @@ def html_image(figure: Figure, text: str, name: str) -> str:
     return f'<figure><img alt="{html.escape(text)}" src="{source}"></figure>'
 
 
-def html_page(title: str, parts: list[tuple[str, str]]) -> str:
-    """The page of sections, each with its heading."""
+def html_page(title: str, parts: list[tuple[str, str]], look: str = "") -> str:
+    """The page of sections, each with its heading; `look` is the class of the body."""
     links = "".join(
         f'<li><a href="#part-{place}">{html.escape(head)}</a></li>'
         for place, (head, _) in enumerate(parts, 1)
@@ -175,7 +178,15 @@ def html_page(title: str, parts: list[tuple[str, str]]) -> str:
     return (
         '<!DOCTYPE html>\n<html lang="en">\n<head>\n<meta charset="utf-8">\n'
         '<meta name="viewport" content="width=device-width, initial-scale=1">\n'
-        f"<title>{html.escape(title)}</title>\n<style>{LOOK}</style>\n</head>\n<body>\n"
+        f"<title>{html.escape(title)}</title>\n<style>{LOOK}</style>\n</head>\n"
+        f"<body{f' class={look}' * bool(look)}>\n"
         f"<header><h1>{html.escape(title)}</h1>\n<nav aria-label=\"Sections\"><ul>{links}</ul>"
         f"</nav></header>\n<main>\n{sections}</main>\n</body>\n</html>\n"
     )
+
+
+def evidence_parts(facts: Mapping[str, str]) -> Iterator[tuple[str, str]]:
+    """What a page is of and by."""
+    if facts:
+        lines = (f"<dt>{name}</dt><dd>{html.escape(it)}</dd>" for name, it in facts.items())
+        yield "Evidence", f"<dl>{''.join(lines)}</dl>"

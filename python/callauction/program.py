@@ -9,7 +9,7 @@ from typing import Self
 
 from callauction import finder
 from callauction.errors import AuctionError
-from callauction.statuses import BAD_DAY, BAD_FILE, DONE, FAILED, UNLAWFUL
+from callauction.statuses import BAD_DAY, BAD_FILE, DONE, FAILED, INCOMPLETE, UNLAWFUL
 
 FORMS = ("lines", "journal", "trades", "book")
 """The forms in which a day is printed (docs/FORMATS.md)."""
@@ -124,12 +124,12 @@ class Day:
 
 
 def _answer(words: list[str], content: bytes) -> tuple[int, str]:
-    """The status, which is DONE or UNLAWFUL, and what is printed. Raises ProgramError."""
+    """The status, DONE, UNLAWFUL or INCOMPLETE, and what is printed. Raises ProgramError."""
     try:
         ran = subprocess.run([program(), *words], input=content, capture_output=True)
     except OSError as fault:
         raise FailedError(f"callboard can't be run: {fault.strerror}") from None
-    if ran.returncode in (DONE, UNLAWFUL):
+    if ran.returncode in (DONE, UNLAWFUL, INCOMPLETE):
         return ran.returncode, ran.stdout.decode("ascii")
     text, *causes = ran.stderr.decode("utf-8", "replace").strip().splitlines() or [""]
     refused = fault_of(text, ran.returncode)

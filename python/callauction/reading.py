@@ -5,16 +5,17 @@ from typing import Any
 
 import numpy
 
-from callauction._native import ffi, lib
-from callauction.arrays import REPLY
+from callauction.arrays import REPLY, Structs, wrong_field_of
 from callauction.errors import (
     AuctionError,
     BusyError,
     ClosedError,
     FullError,
     NoCommandError,
+    NotAppliedError,
     RefusedError,
 )
+from callauction.library import ffi, lib
 from callauction.words import (
     AuctionKind,
     Changed,
@@ -29,6 +30,7 @@ from callauction.words import (
     Reply,
     ReplyTag,
     Side,
+    State,
     Traded,
     Uncrossed,
 )
@@ -81,8 +83,18 @@ def board_error_of(answer: int) -> Exception:
     if answer == lib.CALLAUCTION_ERROR_NO_MEMBER:
         return ClosedError("the object holds no member of a board")
     if answer in (lib.PYTHON_BUSY, lib.CALLAUCTION_ERROR_BUSY):
-        return BusyError("another call of this member is running")
+        return BusyError("another call of this member is running, or was at a fork")
     return error_of(answer)
+
+
+def not_applied(
+    error: NotAppliedError, commands: Structs, answers: Structs, applied: int
+) -> NotAppliedError:
+    """The error that the command after those that were applied had, with their answers."""
+    text = f"command {applied}: {error}"
+    if isinstance(error, NoCommandError):
+        text += f": {wrong_field_of(commands[applied])}"
+    return type(error)(text, applied, answers[:applied])
 
 
 # ---- replies
@@ -196,6 +208,12 @@ def reply_of(record: numpy.void) -> Reply:
     return read(reply)
 
 
+def state_of(found: Any) -> State:
+    """Where the day is, as a struct of the library says."""
+    kind = KINDS[found.auction - 1] if found.in_call else None
+    return State(kind, bool(found.extended), found.reference, found.calls, found.calls_left)
+
+
 # ---- the numbers of a command
 
 BITS = {"quantity": 64, "peak": 64, "id": 32, "number": 32, "limit": 32, "member": 8, "has": 8}
@@ -203,10 +221,12 @@ BITS = {"quantity": 64, "peak": 64, "id": 32, "number": 32, "limit": 32, "member
 
 
 def number(name: str, value: object, most: int) -> int:
-    """The integer that the value of this argument is. Raises TypeError where it is none, and
-    ValueError where it is below 0 or above `most`.
+    """The integer that the value of this argument is. Raises TypeError where it is none or a bool,
+    and ValueError where it is below 0 or above `most`.
     """
     try:
+        if isinstance(value, bool | numpy.bool_):
+            raise TypeError
         found = operator.index(value)  # type: ignore[arg-type]
     except TypeError:
         raise TypeError(f"{name} must be an integer, not {type(value).__name__}") from None

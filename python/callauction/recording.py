@@ -1,8 +1,11 @@
 """An auction that keeps its record, with its tables and its reasons: see RecordedAuction."""
+import copy
 import operator
+import os
 import threading
+import weakref
 from types import TracebackType
-from typing import Self, cast
+from typing import Any, Self, cast
 
 import numpy
 import pandas
@@ -11,13 +14,17 @@ from callauction import words
 from callauction.arrays import COMMAND, Shares, Structs, whole
 from callauction.auction import Auction
 from callauction.day_frames import DayTables, written_day
-from callauction.errors import NotAppliedError, RefusedError
+from callauction.errors import BusyError, NotAppliedError, RefusedError
 from callauction.limits import MOST_MEMBERS, MOST_NUMBER
 from callauction.program import Day
 from callauction.reading import number, reply_of
 from callauction.tables import orders_frame
 from callauction.words import Command, CommandTag, Config, MarketOrders, Reply, Restriction, Side
 from callauction.written import command_of
+
+_OWN = {"_auction", "_record", "_lock"}
+"""What a RecordedAuction keeps; a subclass may keep more."""
+
 
 class RecordedAuction(DayTables):
     """An Auction with the record of its day, and what the program says of that record.
@@ -28,7 +35,7 @@ class RecordedAuction(DayTables):
 
     Members are numbered from 0 to 63, and no number is above 4,294,967,295, as a journal has no
     others: ValueError else, and nothing is applied. Threads that use one object wait for one
-    another.
+    another; in a forked child one that another thread was using raises BusyError.
     """
 
     def __init__(
@@ -42,7 +49,8 @@ class RecordedAuction(DayTables):
     ) -> None:
         self._auction = Auction(low, high, reference, max_open, max_calls, range)
         self._record: list[tuple[int, Command, Reply]] = []
-        self._lock = threading.RLock()
+        self._lock: Any = threading.RLock()
+        _auctions.add(self)
 
     def __repr__(self) -> str:
         return f"<{type(self).__name__} of {self._auction!r}>"
@@ -181,6 +189,11 @@ class RecordedAuction(DayTables):
         with self._lock:
             return orders_frame(self._auction.expiring())
 
+    def state(self) -> words.State:
+        """As Auction.state."""
+        with self._lock:
+            return self._auction.state()
+
     @property
     def calls(self) -> int:
         """How many commands were applied, the refused ones among them."""
@@ -202,19 +215,26 @@ class RecordedAuction(DayTables):
     # ---- the whole auction
 
     def copy(self) -> Self:
-        """A copy of this auction as it is now, with a copy of its record. Raises MemoryError."""
+        """A copy of this auction as it is now, with a copy of its record; what a subclass keeps
+        beside these is shared by both, but for copy.deepcopy. Raises MemoryError.
+        """
         other = object.__new__(type(self))
+        vars(other).update(vars(self))
         with self._lock:
             other._auction = self._auction.copy()
             other._record = [*self._record]
         other._lock = threading.RLock()
+        _auctions.add(other)
         return other
 
     def __copy__(self) -> Self:
         return self.copy()
 
-    def __deepcopy__(self, _: dict[int, object]) -> Self:
-        return self.copy()
+    def __deepcopy__(self, memo: dict[int, object]) -> Self:
+        other = memo[id(self)] = self.copy()
+        for name in vars(self).keys() - _OWN:
+            setattr(other, name, copy.deepcopy(vars(self)[name], memo))
+        return other
 
     def reset(self) -> None:
         """Goes back to the opening, with an empty record."""
@@ -235,6 +255,36 @@ class RecordedAuction(DayTables):
             config, record = self._auction.config, [*self._record]
         entries = ((operator.index(member), command, reply) for member, command, reply in record)
         return written_day(config, MOST_MEMBERS, entries)
+
+
+_auctions: "weakref.WeakSet[RecordedAuction]" = weakref.WeakSet()
+"""The auctions of this process."""
+
+
+class _Kept:
+    """In a forked child the lock that a thread of the parent had, and never gives back."""
+
+    def __enter__(self) -> None:
+        raise BusyError("another thread was using the auction at the fork")
+
+    def __exit__(self, *_: object) -> None:
+        pass
+
+    def acquire(self, blocking: bool) -> bool:
+        """Whether the lock is free: never."""
+        return False
+
+
+def _keep_locks() -> None:
+    """In a forked child: auctions that a thread of the parent was using raise BusyError."""
+    for auction in [*_auctions]:
+        if auction._lock.acquire(blocking=False):
+            auction._lock.release()
+        else:
+            auction._lock = _Kept()
+
+
+os.register_at_fork(after_in_child=_keep_locks)
 
 
 def _look_at(member: object, command: Command) -> None:

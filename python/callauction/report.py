@@ -18,6 +18,7 @@ from callauction.pages import (
     BOOKED,
     caption_of,
     counted,
+    evidence_parts,
     html_image,
     html_page,
     html_table,
@@ -39,10 +40,12 @@ def html_of(
     watch: Watch = iter,
     values: Mapping[int, float] | None = None,
     tick_size: object = None,
+    facts: Mapping[str, str] = {},
 ) -> str:
     """The report of an order file or a journal. `watch` is given its steps, such as tqdm.tqdm.
     With `values` it has what the members gained (gains.gains_of), with a `tick_size` its pictures
-    have prices. Raises ProgramError, and ValueError for bad values or a bad tick size.
+    have prices; `facts` says what it is of and by. Raises ProgramError, and ValueError for bad
+    values or a bad tick size.
     """
     journal, books, trades = journal_of(day), books_of(day), trades_of(day)
     course, arrays = course_of(journal), played(journal)
@@ -58,7 +61,8 @@ def html_of(
     orders = outcomes_of(arrays)
     parts += [_members(orders), _orders(orders)]
     parts += [] if values is None else [_gains(gains_of(arrays, values))]
-    return html_page(title, [*parts, _refused(journal), _config(journal)])
+    parts += [_refused(journal), _config(journal), *evidence_parts(facts)]
+    return html_page(title, parts)
 
 
 # ---- the sections

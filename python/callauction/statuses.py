@@ -10,6 +10,6 @@ FAILED = 3
 UNLAWFUL = 4
 """Something that was recorded or published isn't lawful."""
 INCOMPLETE = 5
-"""Nothing is unlawful, but not all was published or compared; the package's command lines alone."""
+"""Nothing is unlawful, but not all was published or compared, or a journal is a broken copy."""
 BROKEN_OFF = 130
 """Broken off by the user."""

@@ -198,10 +198,12 @@ def _recorded(day: Day, count: int) -> list[str]:
 
 def audit_of(day: Day) -> pandas.DataFrame:
     """The recorded replies of a journal that aren't the lawful ones, with the columns of AUDIT. In
-    its `attrs` are the counts `entries`, `compared` and `unlawful`, and `is_legal`. Raises
-    ProgramError, also for an order file.
+    its `attrs` are the counts `entries`, `compared` and `unlawful`, `is_legal`, and for a file that
+    was cut within a line `is_cut`. Raises ProgramError, also for an order file.
     """
     lines = day.audited().splitlines()
+    is_cut = lines[-1].startswith("incomplete: ")
+    lines = lines[: len(lines) - is_cut]
     findings = [_FINDING.fullmatch(line) for line in lines[:-4]]
     rows = [(int(found[1]), found[2], found[3]) for found in findings if found]
     frame = pandas.DataFrame(rows, columns=list(AUDIT)).astype({"entry": "int64"})
@@ -209,6 +211,8 @@ def audit_of(day: Day) -> pandas.DataFrame:
         name, count = line.split()
         frame.attrs[name] = int(count)
     frame.attrs["is_legal"] = lines[-1] == "audit legal"
+    if is_cut:
+        frame.attrs["is_cut"] = True
     return frame
 
 

@@ -244,6 +244,20 @@ Reply = (
 
 
 @dataclasses.dataclass(frozen=True, slots=True)
+class State:
+    """Where the day is: the auction whose call phase it is, None after the day; whether an
+    interruption extended that call phase; the reference price; how many commands were applied, the
+    refused ones among them, and how many more may be.
+    """
+
+    auction: AuctionKind | None
+    is_extended: bool
+    reference: int
+    calls: int
+    calls_left: int
+
+
+@dataclasses.dataclass(frozen=True, slots=True)
 class MarketOrders:
     """The shares of the market orders that count."""
 

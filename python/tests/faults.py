@@ -55,8 +55,8 @@ def no_price_published(chance: random.Random, extract: Extract) -> Planted | Non
 
 def price_of_nothing(chance: random.Random, extract: Extract) -> Planted | None:
     found = _uncross(chance, extract, lambda outcome: outcome.tick is None)
-    if found is None:
-        return None
+    if found is None or not extract.places("new"):
+        return None  # without any order all books may be in doubt
     found[1].update(price="10.01", quantity="300", surplus="20", side="bid", trades="2")
     return "price", found[0]
 
@@ -158,10 +158,12 @@ def trade_of_another_auction(chance: random.Random, extract: Extract) -> Planted
 
 
 def wrong_place_kept(chance: random.Random, extract: Extract) -> Planted | None:
-    places = extract.places("replace")
-    if not places:
-        return None
-    row = extract.rows[chance.choice(places)]
+    found = [extract.rows[place] for place in extract.places("replace")]
+    marks = [(row["order"], row["time"]) for row in found]
+    alone = [row for row, mark in zip(found, marks) if marks.count(mark) == 1]
+    if not alone:
+        return None  # of two replaces of an order at one time either may be the first
+    row = chance.choice(alone)
     row["kept"] = "false" if row["kept"] == "true" else "true"
     return "priority", extract.rows.index(row)
 

@@ -21,6 +21,8 @@ NO_INTEGERS = [
     fractions.Fraction(5),
     numpy.float32(5),
     numpy.float64(5),
+    True,
+    numpy.bool_(True),
     numpy.array([5, 6]),
 ]
 

@@ -1,8 +1,12 @@
 """Members of a board on threads of their own, beside the rules."""
+import copy
+import dataclasses
+import pickle
 import random
 import subprocess
 import sys
 import threading
+from collections.abc import Callable
 from concurrent.futures import ThreadPoolExecutor
 from typing import Any
 
@@ -10,7 +14,11 @@ import numpy
 import pytest
 from callauction import (
     ENTRY,
+    RECEIPT,
+    Auction,
+    AuctionError,
     Board,
+    BoardDay,
     BusyError,
     Change,
     Changed,
@@ -21,6 +29,7 @@ from callauction import (
     Indicate,
     MarketOrders,
     Member,
+    NoCommandError,
     NoPrice,
     OpenOrder,
     Price,
@@ -31,14 +40,21 @@ from callauction import (
     Side,
     Uncross,
     Uncrossed,
+    commands,
     reply_of,
 )
 from callauction._native import ffi
+from callauction.arrays import Structs
 from days import by_the_rules
+from forks import in_a_child
 from printed import TOP
 
 MEMBERS, CALLS = 8, 12_500
 DAY: dict[str, int] = {"low": 1, "high": 1000, "reference": 500, "max_open": 65_536}
+MOST_FORKS = 300
+"""Until one came beside a call and one between two."""
+MOST_LOOKS = 100_000
+"""Whether a call runs, before a fork that should come beside one."""
 
 
 def trade(member: Member, calls: int) -> list[Receipt]:
@@ -130,14 +146,112 @@ def test_a_full_board() -> None:
 def test_a_closed_board() -> None:
     board = Board(2, **DAY)
     board[1].indicate()
+    with pytest.raises(AuctionError, match="the board isn't closed, so its day isn't over"):
+        board.day
     day = board.close()
     assert board.is_closed and day.counts == (0, 1)
-    calls: list[Any] = [board.close, board[0].indicate, board[0].history, board[0].ladder]
+    assert board.close() is board.day is day
+    calls: list[Any] = [board[0].indicate, board[0].history, board[0].ladder]
     for call in calls:
         with pytest.raises(ClosedError):
             call()
     assert board[1].look().calls == 1
     assert board[1].calls == 1
+
+
+def test_a_with_block_keeps_the_day() -> None:
+    with Board(2, **DAY) as board:
+        board[1].enter(Side.BID, 5, 500)
+    assert isinstance(board.day, BoardDay)
+    assert len(board.day.history) == 1 and board.close().counts == (0, 1)
+    with pytest.raises(RuntimeError):
+        with Board(2, **DAY) as other:
+            raise RuntimeError
+    assert not other.is_closed and other[1].indicate().number == 1
+
+
+def test_a_copy_is_the_board_itself() -> None:
+    board = Board(2, **DAY)
+    other, member = copy.copy(board), copy.copy(board[1])
+    assert other is board and member is board[1]
+    member.enter(Side.BID, 5, 500)
+    assert len(other.close().history) == 1
+    assert board.is_closed and repr(board) == "<closed board of 2 members>"
+
+
+def test_what_belongs_to_one_process() -> None:
+    board = Board(2, **DAY)
+    why = "its board is one auction, which the threads of one process call"
+    for made, kind in ((board, "Board"), (board[1], "Member")):
+        with pytest.raises(TypeError, match=f"^a {kind} can't be pickled: {why}"):
+            pickle.dumps(made)
+        with pytest.raises(TypeError, match=f"^a {kind} can't be copied: {why}$"):
+            copy.deepcopy(made)
+    day = pickle.loads(pickle.dumps(board.close()))
+    assert day.counts == (0, 0) and len(day.history) == 0
+
+
+CALLS_OF_A_BOARD: list[Callable[[Board], object]] = [
+    lambda board: board[0].uncross(),
+    lambda board: board[2].enter(Side.BID, 5, 500),
+    lambda board: board[2].look(),
+    lambda board: board[2].calls,
+    lambda board: board[2].ladder(),
+    lambda board: board[2].trades(),
+    lambda board: board[2].history(),
+    Board.close,
+]
+
+
+@pytest.mark.parametrize("call", CALLS_OF_A_BOARD)
+def test_a_board_that_was_called_at_a_fork_is_busy_in_the_child(
+    call: Callable[[Board], object]
+) -> None:
+    board, still = Board(3, **DAY), Board(3, **DAY)
+    board._own.is_busy_[1] = True  # as while a thread calls it
+    assert in_a_child(lambda: call(board)) == 3
+    assert in_a_child(lambda: in_a_child(lambda: call(board)) == 3 and call(board)) == 3
+    assert in_a_child(lambda: call(still)) == 0
+    board._own.is_busy_[1] = False
+    assert in_a_child(lambda: call(board)) == 0
+    assert board[1].indicate().number == 1
+
+
+def wait_for_a_call(board: Board, number: int) -> None:
+    """Returns while a thread calls the board as this member, or after so many looks without one.
+
+    The look and the fork behind it have the interpreter's lock, the call doesn't.
+    """
+    for _ in range(MOST_LOOKS):
+        if board._own.is_busy_[number]:
+            return
+
+
+def test_forks_beside_calls_never_hang() -> None:
+    """A child whose parent was calling the board just then raises BusyError, others go on: which of
+    both a fork meets is chance, so either is right, and a child that waits or fails is not.
+    """
+    board = Board(3, low=1, high=65_536, max_calls=1_048_576)
+    is_over = threading.Event()
+
+    def work() -> None:
+        while not is_over.is_set():
+            board[1].ladder()
+            board[1].indicate()
+
+    ends: set[int] = set()
+    with ThreadPoolExecutor(1) as pool:
+        task = pool.submit(work)
+        for turn in range(MOST_FORKS):
+            if turn % 2:
+                wait_for_a_call(board, 1)
+            ends.add(in_a_child(board[2].indicate))
+            if ends >= {0, 3}:
+                break
+        is_over.set()
+        task.result()
+    assert ends <= {0, 3}
+    assert board[2].indicate().number == board.members[1].calls + 1
 
 
 def test_the_tables_of_its_day() -> None:
@@ -219,3 +333,90 @@ def test_the_example_prints_its_lines() -> None:
     words = [sys.executable, str(example)]
     ran = subprocess.run(words, capture_output=True, text=True, check=True, timeout=100)
     assert ran.stdout == example.with_suffix(".txt").read_text(encoding="utf-8")
+
+
+def test_a_copy_of_the_boards_auction_goes_on_by_itself() -> None:
+    board = Board(2, **DAY, max_calls=9)
+    board[1].enter(Side.BID, 5, 500)
+    copied = board[0].auction()
+    assert (copied.calls, copied.config) == (1, board.config)
+    assert copied.enter(0, Side.ASK, 5, 500) == Entered(2)
+    assert isinstance(copied.uncross(), Uncrossed)
+    assert board[1].orders()["id"].tolist() == [1] and board[1].look().calls == 1
+    board[1].copy_into(copied)
+    assert (copied.calls, len(copied.trades()), len(copied.orders())) == (1, 0, 1)
+    with pytest.raises(ValueError, match="^other"):
+        board[0].copy_into(Auction())
+    with pytest.raises(TypeError, match="^other"):
+        board[0].copy_into("other")  # type: ignore[arg-type]
+    board.close()
+    with pytest.raises(ClosedError, match="^the board"):
+        board[0].auction()
+    with pytest.raises(ClosedError, match="^the board"):
+        board[0].copy_into(copied)
+    assert copied.calls == 1
+    copied.close()
+    with pytest.raises(ClosedError, match="^other"):
+        Board(2).members[0].copy_into(copied)
+
+
+def test_copies_are_lawful_beginnings_while_others_call() -> None:
+    board = Board(4, **DAY, max_calls=4_000)
+    with ThreadPoolExecutor(3) as pool:
+        trading = [pool.submit(trade, board[number], 1_000) for number in (1, 2, 3)]
+        copies = [board[0].auction() for _ in range(40)]
+        for task in trading:
+            task.result()
+    history = board[0].history()
+    seen = [copied.calls for copied in copies]
+    assert seen == sorted(seen)
+    for copied in copies:
+        replayed = Auction(*dataclasses.astuple(board.config))
+        replayed.apply_many(history["command"][: copied.calls].copy())
+        assert replayed.orders().tolist() == copied.orders().tolist()
+        assert replayed.state() == copied.state()
+
+
+def test_many_calls_have_no_other_between() -> None:
+    board = Board(4, **DAY, max_calls=6_000)
+    orders = commands(side=[Side.BID, Side.ASK] * 20, limit=[500] * 40, quantity=[3] * 40)
+
+    def calls(member: Member) -> list[Structs]:
+        return [member.apply_many(orders) for _ in range(25)]
+
+    with ThreadPoolExecutor(3) as pool:
+        alone = pool.submit(trade, board[1], 500)
+        tasks = [pool.submit(calls, board[number]) for number in (2, 3)]
+        receipts = [it for task in tasks for it in task.result()]
+        alone.result()
+    history = board[0].history()
+    assert len(history) == 500 + 2 * 25 * 40
+    for made in receipts:
+        first = int(made["number"][0])
+        assert made.dtype == RECEIPT and made.dtype.itemsize == ffi.sizeof("callauction_receipt")
+        assert made["number"].tolist() == list(range(first, first + 40))
+        assert (history["reply"][first - 1 : first + 39] == made["reply"]).all()
+    assert board.close().counts == (0, 500, 1_000, 1_000)
+
+
+def test_many_calls_end_at_the_first_error() -> None:
+    board = Board(2, **DAY, max_calls=5)
+    made = commands(side=[Side.BID] * 4, quantity=[7] * 4)
+    made["member"] = 63
+    assert len(board[1].apply_many(made[:0])) == 0
+    made["has_limit"][2] = 9
+    with pytest.raises(NoCommandError, match="^command 2: .*has_limit 9$") as stopped:
+        board[1].apply_many(made)
+    assert stopped.value.applied == 2 and stopped.value.replies is not None
+    assert stopped.value.replies["number"].tolist() == [1, 2]
+    assert board[0].look().calls == 2
+    made["has_limit"][2] = 0
+    with pytest.raises(FullError) as full:
+        board[0].apply_many(made)
+    assert full.value.applied == 3 and full.value.replies is not None
+    assert reply_of(full.value.replies["reply"][2]) == Entered(5)
+    with pytest.raises(TypeError, match="^commands"):
+        board[1].apply_many([1, 2])  # type: ignore[arg-type]
+    board.close()
+    with pytest.raises(ClosedError):
+        board[1].apply_many(made)

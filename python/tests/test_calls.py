@@ -266,6 +266,42 @@ def test_a_copy_of_a_subclass() -> None:
         assert type(other) is Named
 
 
+class Traced(Auction):
+    """One that keeps what it was given, in its slot and its attributes."""
+
+    __slots__ = ("count", "__dict__")
+
+    def __init__(self, log: list[int], **numbers: int) -> None:
+        super().__init__(**numbers)
+        self.log, self.count, self.own = log, 0, self
+
+    def delete(self, member: int, id: int, *, check: bool = False) -> Deleted | Refused:
+        """As Auction, and logs the id."""
+        self.log.append(id)
+        self.count += 1
+        return super().delete(member, id, check=check)
+
+
+def test_a_copy_keeps_what_a_subclass_keeps() -> None:
+    with Traced([], high=300) as auction:
+        auction.delete(1, 7)
+        shallow, deep = auction.copy(), copy.deepcopy(auction)
+        assert type(shallow) is type(deep) is Traced
+        assert shallow.log is auction.log and shallow.own is auction
+        assert deep.log == [7] and deep.log is not auction.log and deep.own is deep
+        shallow.delete(1, 8)
+        deep.delete(1, 9)
+        assert (auction.log, deep.log) == ([7, 8], [7, 9])
+        assert (auction.count, shallow.count, deep.count) == (1, 2, 2)
+        assert auction.calls == 1 and shallow.calls == deep.calls == 2
+        assert copy.copy(auction).config.high == 300
+
+
+def test_an_auction_isnt_pickled() -> None:
+    with pytest.raises(TypeError, match="^an Auction can't be pickled: pickle its commands, and"):
+        pickle.dumps(Auction())
+
+
 def test_a_reset() -> None:
     with Auction(max_calls=3, reference=50) as auction:
         auction.enter(1, BID, 5)

@@ -1,4 +1,5 @@
 """Arrays of commands: agreement with single calls, garbage, and arrays that are refused."""
+import re
 from collections.abc import Callable
 from typing import Any
 
@@ -80,13 +81,28 @@ def test_the_first_struct_of_no_command_ends_it() -> None:
     commands["tag"][3] = 99
     with Auction() as auction:
         replies = numpy.zeros(5, REPLY)
-        with pytest.raises(NoCommandError, match="^command 3: ") as raised:
+        with pytest.raises(NoCommandError, match="^command 3: .*: tag 99$") as raised:
             auction.apply_many(commands, replies)
         assert raised.value.applied == 3
         assert replied(raised.value)["id"].tolist() == [1, 2, 3]
         assert replies["id"].tolist() == [1, 2, 3, 0, 0]
         assert isinstance(raised.value, ValueError)
         assert auction.calls == 3
+
+
+@pytest.mark.parametrize("field, number, text", [
+    ("tag", 0, "tag 0"),
+    ("side", 0, "side 0"),
+    ("restriction", 3, "restriction 3"),
+    ("has_limit", 2, "has_limit 2"),
+    ("has_limit", 0, "limit 1 without has_limit"),
+    ("peak", 7, "peak 7 without has_peak"),
+])
+def test_the_wrong_field_is_named(field: str, number: int, text: str) -> None:
+    commands = some(1)
+    commands[field] = number
+    with Auction() as auction, pytest.raises(NoCommandError, match=f": {text}$"):
+        auction.apply_many(commands)
 
 
 def test_a_full_auction_ends_it() -> None:
@@ -207,6 +223,7 @@ def agrees(commands: Structs) -> None:
             assert applied == len(commands)
         except NoCommandError as error:
             assert error.applied == applied < len(commands)
+            assert re.search(r": (tag|side|restriction|has_|limit|peak)[^:]*\d", str(error))
             replies = replied(error)
         wanted = [other.apply(member, command) for member, command in given]
         assert [reply_of(reply) for reply in replies] == wanted

@@ -4,7 +4,7 @@ from collections.abc import Iterator
 
 import pandas
 import pytest
-from callauction import Auction, ClosedError, Enter, RecordedAuction, Restriction, Side
+from callauction import Auction, Board, ClosedError, Enter, RecordedAuction, Restriction, Side
 from callauction.arrays import Structs
 from callauction.tables import ORDERS
 from days import EXAMPLES, options_of
@@ -197,3 +197,36 @@ def test_a_copy_over_an_auction_of_other_limits_is_refused() -> None:
             auction.copy_into("other")  # type: ignore[arg-type]
     with Auction() as auction, pytest.raises(ClosedError):
         auction.copy_into(other)
+
+
+def test_a_board_lists_what_an_auction_does() -> None:
+    for seed in range(30):
+        options, text = orders.order_file("short", seed)
+        numbers = [options[name] for name in NUMBERS]
+        with Board(64, *numbers) as board, opened(options) as auction:
+            for member, *fields in (line.split(",") for line in text.splitlines() if line):
+                if auction.is_full:
+                    break
+                command = command_of(fields)
+                assert board[int(member)].call(command).reply == auction.apply(int(member), command)
+                asking = board[63]
+                assert asking.orders().tolist() == auction.orders().tolist()
+                assert asking.orders(int(member)).tolist() == auction.orders(int(member)).tolist()
+                assert asking.expiring().tolist() == auction.expiring().tolist()
+
+
+def test_a_board_lists_the_orders_that_an_uncross_would_take_out() -> None:
+    board = Board(3)
+    board[1].enter(Side.BID, 7, 200)
+    board[2].enter(Side.BID, 5, 199, restriction=Restriction.OPENING_ONLY)
+    assert board[0].orders()["id"].tolist() == [1, 2]
+    assert board[1].orders(2)["quantity"].tolist() == [5]
+    assert board[1].orders(200).tolist() == []
+    assert board[1].expiring()["id"].tolist() == [2]
+    with pytest.raises(ValueError, match="^member"):
+        board[1].orders(256)
+    board.close()
+    with pytest.raises(ClosedError):
+        board[1].orders()
+    with pytest.raises(ClosedError):
+        board[1].expiring()

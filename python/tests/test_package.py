@@ -8,7 +8,8 @@ from pathlib import Path
 
 import callauction
 import pytest
-from callauction import Auction, RecordedAuction, Side, program, statuses, verdict
+from callauction import Auction, RecordedAuction, Side, finder, library, program, statuses
+from callauction import verdict
 from callauction.journal import from_frame
 from callauction.verdict import findings
 from test_journal import ADLER_AND_BIRK
@@ -44,6 +45,51 @@ def test_an_audit_needs_no_library() -> None:
         "print(audit_events.__module__)"
     )
     assert printed(code) == "callauction.verdict.audits"
+
+
+NEEDING = [
+    "from callauction import Auction",
+    "import callauction.board",
+    "from callauction import reply_of",
+    "from callauction.lesson import show",
+]
+
+
+@pytest.mark.parametrize("code", NEEDING)
+def test_without_a_library_a_sentence_says_what_to_run(code: str) -> None:
+    """As with PYTHONPATH=python in the repository, where no library is built."""
+    caught = f"try:\n    {code}\nexcept ModuleNotFoundError as fault:\n    print(fault.name, fault)"
+    folder = Path(__file__).resolve().parents[1]
+    words = [sys.executable, "-P", "-c", caught]
+    ran = subprocess.run(
+        words, capture_output=True, text=True, check=True, env={"PYTHONPATH": str(folder)}
+    )
+    assert ran.stdout == (
+        f"callauction._native {folder}/callauction has no built library: run `library/build "
+        "/tmp/callauction && python/build /tmp/callauction /tmp/python` in the repository and set "
+        "PYTHONPATH=/tmp/python, or install the wheel\n"
+    )
+
+
+def test_without_a_library_a_command_line_says_what_to_run_in_one_line(tmp_path: Path) -> None:
+    folder = Path(__file__).resolve().parents[1]
+    orders = folder.parent / "examples/opening.csv"
+    words = [sys.executable, "-P", "-m", "callauction", "plot", str(orders), "--course", "-o"]
+    environment = {"PYTHONPATH": str(folder), "CALLBOARD": str(finder.program())}
+    ran = subprocess.run(
+        [*words, str(tmp_path / "course.svg")], capture_output=True, text=True, env=environment
+    )
+    assert (ran.returncode, ran.stdout) == (3, "")
+    [line] = ran.stderr.splitlines()
+    assert line.startswith(f"callauction: {folder}/callauction has no built library: run `")
+
+
+def test_a_library_for_another_python_is_named(tmp_path: Path) -> None:
+    (tmp_path / "_native.cpython-39-x86_64-linux-gnu.so").touch()
+    assert library.missing(tmp_path).startswith(
+        f"the library of {tmp_path}, _native.cpython-39-x86_64-linux-gnu.so, is built for another "
+        "Python than this 3.11: use /usr/bin/python3, or run `library/build "
+    )
 
 
 def test_the_version_is_that_of_the_program() -> None:

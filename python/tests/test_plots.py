@@ -7,8 +7,8 @@ import matplotlib.pyplot as pyplot
 import numpy
 import pandas
 import pytest
-from callauction import Side, plot
-from callauction.course import INDICATIVE, UNCROSSES, course_of
+from callauction import Side, commands, plot
+from callauction.course import INDICATIVE, UNCROSSES, Course, course_of
 from callauction.outcomes import queue_of
 from callauction.plot import parts
 from callauction.program import Day
@@ -36,15 +36,23 @@ def labels(axes: Axes) -> list[str]:
 
 
 def steps(axes: Axes, label: str) -> tuple[list[float], list[float]]:
-    data = named(axes, label).get_data()
+    patch = named(axes, label)
+    assert patch.orientation == "horizontal"
+    data = patch.get_data()
     return [*data.values], [*data.edges]
 
 
 def bars(axes: Axes, label: str) -> list[tuple[float, float, float]]:
-    """The tick, the begin and the end of each upright bar."""
+    """The tick, the begin and the end of each bar, which lies across."""
     lines = [segment.tolist() for segment in named(axes, label).get_segments()]
-    assert all(line[0][0] == line[1][0] for line in lines)
-    return [(line[0][0], line[0][1], line[1][1]) for line in lines]
+    assert all(line[0][1] == line[1][1] for line in lines)
+    return [(line[0][1], line[0][0], line[1][0]) for line in lines]
+
+
+def marks(axes: Axes, label: str) -> list[tuple[int, int]]:
+    """The tick and the shares of each mark of a book."""
+    line = named(axes, label)
+    return [*zip(line.get_ydata(), line.get_xdata())]
 
 
 def points(axes: Axes, label: str) -> list[tuple[int, int]]:
@@ -53,7 +61,7 @@ def points(axes: Axes, label: str) -> list[tuple[int, int]]:
 
 
 def ticks(axes: Axes) -> list[str]:
-    return [text.get_text() for text in axes.get_xticklabels()]
+    return [text.get_text() for text in axes.get_yticklabels()]
 
 
 def stored(name: str) -> pandas.DataFrame:
@@ -75,15 +83,15 @@ def test_a_book_is_drawn_by_its_table() -> None:
     assert bars(axes, "executable volume") == [
         (198, 0, 200), (199, 0, 500), (201, 0, 500), (202, 0, 400)
     ]
-    assert points(axes, "best limits") == [(199, 500), (201, 500)]
-    assert points(axes, "price 201") == [(201, 500)]
+    assert marks(axes, "best limits") == [(199, 500), (201, 500)]
+    assert marks(axes, "price 201") == [(201, 500)]
     assert bars(axes, "surplus") == [(201, 500, 600)]
     [(tick, low, high)] = bars(axes, "reference 200")
     assert (tick, low) == (200, 0) and high > 600
     assert axes.get_title(loc="left") == (
         "opening, before command 6\nprice 201, volume 500, surplus 100 bid"
     )
-    assert (axes.get_xlabel(), axes.get_ylabel()) == ("limit (ticks)", "quantity (shares)")
+    assert (axes.get_xlabel(), axes.get_ylabel()) == ("quantity (shares)", "limit (ticks)")
     assert {"199", "201"} <= {*ticks(axes)}
     assert labels(axes) == [
         "demand", "supply", "executable volume", "best limits", "surplus", "price 201",
@@ -109,11 +117,11 @@ def test_each_example_is_drawn_by_its_table(file: Path) -> None:
         best = rising[rising["best"] == 1]
         if len(best):
             listed.add("best limits")
-            assert points(axes, "best limits") == [*zip(best["limit"], best["volume"])]
+            assert marks(axes, "best limits") == [*zip(best["limit"], best["volume"])]
         for price in rising[rising["rule"] != ""].itertuples():
             listed.add(f"price {price.limit}")
             assert str(price.limit) in ticks(axes)
-            assert points(axes, f"price {price.limit}") == [(price.limit, price.volume)]
+            assert marks(axes, f"price {price.limit}") == [(price.limit, price.volume)]
             if price.surplus:
                 listed.add("surplus")
                 assert bars(axes, "surplus") == [
@@ -142,26 +150,28 @@ def test_a_book_without_limits_is_drawn() -> None:
     assert steps(axes, "demand") == ([100], [199, 201])
 
 
-@pytest.mark.parametrize("reference, side", [(1, "left"), (188, ""), (212, ""), (900, "right")])
+@pytest.mark.parametrize("reference, side", [(1, "below"), (188, ""), (212, ""), (900, "above")])
 def test_a_far_reference_is_an_arrow_at_the_edge(reference: int, side: str) -> None:
     axes = plot.book(stored("surplus_bid"), reference=reference)
-    low, high = axes.get_xlim()
+    low, high = axes.get_ylim()
     if not side:
         assert f"reference {reference}" in labels(axes) and low < reference < high
         return
-    assert (low, high) == (197, 203) and f"reference {reference}" not in labels(axes)
+    assert low == 197 and f"reference {reference}" not in labels(axes)
+    assert max(steps(axes, "demand")[1]) == 203
     [arrow] = axes.texts
     assert arrow.get_text() == f"reference {reference}" and arrow.arrow_patch is not None
-    assert arrow.xy[0] == (0 if side == "left" else 1)
+    (_, end), (_, begin) = arrow.xy, arrow.xyann
+    assert (end == 0 < begin) if side == "below" else (0.5 < begin < end < 1)
 
 
 def test_prices_are_decimals_where_a_tick_size_is_known() -> None:
     axes = plot.book(stored("surplus_bid"), reference=200, tick_size="0.05")
-    assert axes.get_xlabel() == "limit (price, tick size 0.05)"
+    assert axes.get_ylabel() == "limit (price, tick size 0.05)"
     assert {"9.95", "10.05"} <= {*ticks(axes)} and "price 10.05" in labels(axes)
     assert "price 10.05, volume 500" in axes.get_title(loc="left")
     axes = plot.book(stored("surplus_bid"), named=lambda tick: f"at {tick}")
-    assert axes.get_xlabel() == "limit (price)" and "at 201" in ticks(axes)
+    assert axes.get_ylabel() == "limit (price)" and "at 201" in ticks(axes)
     with pytest.raises(ValueError, match="tick_size 0 isn't above 0"):
         plot.book(stored("surplus_bid"), tick_size=0)
 
@@ -178,7 +188,9 @@ def test_a_recorded_auction_knows_its_reference() -> None:
     with RecordedAuction(reference=150) as auction:
         auction.enter(1, Side.BID, 5, 160)
         auction.enter(2, Side.ASK, 5, 140)
-        assert points(plot.book(auction), "price 150") == [(150, 5)]
+        axes = plot.book(auction)
+        assert marks(axes, "price 150") == [(150, 5)]
+        assert axes.get_title(loc="left").startswith("opening\nprice 150, ")
         auction.uncross()
         assert "reference 150" in labels(plot.book(auction, 3))
         auction.enter(1, Side.BID, 5, 170)
@@ -233,7 +245,7 @@ def test_what_is_drawn_is_kept_at_each_size(
     for name in ("surplus_bid", "far_limit"):
         figure, axes = pyplot.subplots(figsize=size, layout=layout)
         plot.book(stored(name), reference=200, ax=axes)
-        top = axes.transData.transform((0, max(max(steps(axes, "demand")[0]), 1)))[1]
+        top = axes.transData.transform((0, max(steps(axes, "demand")[1])))[1]
         assert drawn(axes, tmp_path, 1 if size[0] < 4 else 2)
         # No curve runs behind the legend.
         assert top <= axes.get_legend().get_window_extent().y0 + 1
@@ -337,8 +349,8 @@ def test_a_course_is_drawn_by_its_data(tmp_path: Path) -> None:
     axes, volume_axes = plot.indicative(course)
     line = named(axes, "indicative price")
     wanted = course.indicative["price"].astype("float64").to_numpy()
-    assert numpy.array_equal(line.get_ydata(), wanted, equal_nan=True)
-    assert line.get_xdata().tolist() == course.indicative["command"].tolist()
+    assert numpy.array_equal(line.get_ydata()[:-1], wanted, equal_nan=True)
+    assert [*line.get_xdata()][:-1] == course.indicative["command"].tolist()
     assert points(axes, "price of an interrupted uncross") == [(3, 206), (7, 206)]
     assert points(axes, "auction price") == [(8, 206)]
     [area] = [artist for artist in volume_axes.collections]
@@ -347,7 +359,9 @@ def test_a_course_is_drawn_by_its_data(tmp_path: Path) -> None:
         "interrupted 206", "opening no price", "interrupted 206", "intraday 206"
     ]
     assert (axes.get_ylabel(), volume_axes.get_ylabel()) == ("price (ticks)", "volume (shares)")
-    assert labels(axes) == ["indicative price", "auction price", "price of an interrupted uncross"]
+    assert labels(axes) == [
+        "no price", "indicative price", "auction price", "price of an interrupted uncross"
+    ]  # fmt: skip
     assert drawn(axes, tmp_path, 0) and drawn(volume_axes, tmp_path)
 
 
@@ -381,6 +395,32 @@ def test_a_day_without_prices_has_no_axis_of_prices(content: bytes) -> None:
     assert words == ["no price on this day", *["opening no price"] * bool(content)]
 
 
+@pytest.mark.parametrize("before", [0, 1, 150, 3_000])
+def test_a_price_that_comes_last_and_stays_is_seen(before: int, tmp_path: Path) -> None:
+    orders = "1,enter,bid,5,100\n" * before + "1,enter,bid,5,200\n2,enter,ask,5,200\n"
+    course = course_of(Day(orders.encode("ascii")))
+    axes, volume_axes = plot.indicative(course)
+    axes.figure.savefig(tmp_path / "course.png")
+    line = named(axes, "indicative price")
+    shown = ~numpy.isnan(line.get_ydata())
+    span = numpy.array(line.get_xdata())[shown]
+    assert set(line.get_ydata()[shown]) == {200}
+    assert span[0] == before + 2 and span[-1] == axes.get_xlim()[1]
+    width = (span[-1] - span[0]) / axes.get_xlim()[1] * axes.get_window_extent().width
+    assert width >= 5
+    [area] = volume_axes.collections
+    extents = area.get_paths()[0].get_extents()
+    assert (extents.x1, extents.y1) == (span[-1], 5)
+
+
+def test_a_course_of_many_commands_is_shown_whole() -> None:
+    shown = {"command": range(4, 80_004, 4), "price": 200, "volume": 5, "surplus": 0}
+    looks = pandas.DataFrame(shown)
+    course = Course(looks.assign(side="none").astype(INDICATIVE), course_of(Day(b"")).uncrosses)
+    axes, _ = plot.indicative(course)
+    assert axes.get_xlim()[1] > 80_000
+
+
 # ---- orders
 
 
@@ -406,11 +446,15 @@ def queued() -> RecordedAuction:
     return auction
 
 
+def rows(axes: Axes) -> list[str]:
+    """The names of the rows of a queue, the first one at the top."""
+    return [text.get_text() for text in axes.get_yticklabels()]
+
+
 def test_a_queue_has_the_fills_of_its_orders(tmp_path: Path) -> None:
     with queued() as auction:
         axes = plot.queue(auction, Side.BID)
-        words = [text.get_text() for text in axes.get_yticklabels()]
-        assert words == [
+        assert rows(axes) == [
             "order 3, member 3, market",
             "order 2, member 2, at 201, shows 40",
             "order 4, member 4, at 201",
@@ -419,6 +463,8 @@ def test_a_queue_has_the_fills_of_its_orders(tmp_path: Path) -> None:
         opened, executed = axes.containers
         assert [bar.get_width() for bar in opened] == [50, 100, 60, 100]
         assert [bar.get_width() for bar in executed] == [50, 100, 30, 0]
+        words = [text.get_text() for text in axes.texts]
+        assert words == ["50 of 50", "100 of 100", "30 of 60", "0 of 100"]
         heights = [bar.get_y() for bar in opened]
         assert heights == sorted(heights, reverse=True)
         assert axes.get_title(loc="left") == (
@@ -430,17 +476,84 @@ def test_a_queue_has_the_fills_of_its_orders(tmp_path: Path) -> None:
         assert "bids at 20.1 in their priority" in at.get_title(loc="left")
         market = plot.queue(auction, Side.BID, limit="market")
         assert [bar.get_width() for bar in market.containers[0]] == [50]
-        with pytest.raises(ValueError, match="no ask stands there before command 6"):
+        with pytest.raises(ValueError, match="^there is no ask at 200 in the opening auction$"):
             plot.queue(auction, Side.ASK, limit=200)
 
 
-def test_a_long_queue_is_shown_around_its_last_fill(tmp_path: Path) -> None:
+def test_a_long_queue_at_one_limit_has_rows_of_as_many_orders(tmp_path: Path) -> None:
     orders = "".join(f"1,enter,bid,{k + 1},200\n" for k in range(100))
     axes = plot.queue(Day(f"{orders}2,enter,ask,2000,200\n".encode("ascii")), Side.BID)
-    # 1 + .. + 62 are 1,953, so order 63 gets 47.
-    executed = [bar.get_width() for bar in axes.containers[1]]
-    assert len(executed) == 40 and executed[19:22] == [62, 47, 0]
-    assert "40 of 100\n2,000 of 5,050 shares executed" in axes.get_title(loc="left")
+    assert rows(axes)[:2] == ["at 200, 1 to 10 of 100 orders", "at 200, 11 to 20 of 100 orders"]
+    # 1 + .. + 62 are 1,953, so order 63 gets 47, and the row of 61 to 70 has 61 + 62 + 47.
+    assert [bar.get_width() for bar in axes.containers[1]][4:] == [455, 555, 170, 0, 0, 0]
+    assert [bar.get_width() for bar in axes.containers[0]][6] == sum(range(61, 71))
+    assert "100 orders in 10 groups\n2,000 of 5,050 shares" in axes.get_title(loc="left")
+    assert drawn(axes, tmp_path, 1)
+
+
+def test_a_long_queue_of_some_limits_has_a_row_of_each() -> None:
+    orders = [f"{k % 3},enter,ask,10,{200 + k % 8}\n" for k in range(80)]
+    axes = plot.queue(Day("".join([*orders, "1,enter,ask,7,market\n"]).encode("ascii")), Side.ASK)
+    assert rows(axes)[0] == "order 81, member 1, market"
+    assert rows(axes)[1:] == [
+        f"at {limit}, {part} of 10 orders"
+        for limit in range(200, 208)
+        for part in ("1 to 5", "6 to 10")
+    ]
+
+
+def crowd(count: int, deviation: float) -> RecordedAuction:
+    """Orders of 30 members around 200, a few at market."""
+    dice = numpy.random.default_rng(count)
+    limits = dice.normal(200, deviation, count).round().clip(1, 1000).astype(object)
+    limits[dice.random(count) < 0.05] = None
+    sides = dice.integers(1, 3, count)
+    auction = RecordedAuction()
+    orders = commands(
+        member=dice.integers(1, 31, count), side=sides, quantity=dice.integers(1, 500, count),
+        limit=limits,
+    )  # fmt: skip
+    auction.apply_many(orders)
+    return auction
+
+
+def apart(boxes: list[Any]) -> bool:
+    """Whether no box of the screen overlaps another one."""
+    return not any(
+        box.overlaps(other) for place, box in enumerate(boxes) for other in boxes[place + 1 :]
+    )
+
+
+@pytest.mark.parametrize(
+    "count, deviation", [(6, 2), (40, 4), (43, 4), (300, 15), (2000, 60), (2000, 2)]
+)
+@pytest.mark.parametrize("side", [Side.BID, Side.ASK])
+def test_a_queue_is_readable(count: int, deviation: float, side: Side) -> None:
+    with crowd(count, deviation) as auction:
+        axes = plot.queue(auction, side)
+        orders = queue_of(auction).orders
+    those = orders[orders["side"] == side.name.lower()]
+    for bars_of, name in zip(axes.containers, ("quantity", "executed")):
+        assert sum(bar.get_width() for bar in bars_of) == those[name].sum()
+    figure = axes.figure
+    figure.canvas.draw()
+    for texts in (axes.get_yticklabels(), axes.texts):
+        boxes = [text.get_window_extent() for text in texts]
+        assert len(boxes) == len(axes.containers[0]) and apart(boxes)
+        assert all(lies_within(box, figure.bbox) for box in boxes)
+        assert all(text.get_fontsize() >= 8 for text in texts)
+    is_single = len(axes.containers[0]) == len(those)
+    assert is_single == (count <= 43)
+    assert ("groups" in axes.get_title(loc="left")) != is_single
+
+
+def test_a_queue_on_given_axes_has_the_rows_that_fit() -> None:
+    figure, axes = pyplot.subplots(figsize=(6, 3), layout="constrained")
+    with crowd(60, 10) as auction:
+        plot.queue(auction, Side.BID, ax=axes)
+    figure.canvas.draw()
+    assert 3 <= len(rows(axes)) <= 12
+    assert apart([text.get_window_extent() for text in axes.get_yticklabels()])
 
 
 def test_an_allocation_has_a_span_for_each_fill_and_trade(tmp_path: Path) -> None:
@@ -449,13 +562,14 @@ def test_an_allocation_has_a_span_for_each_fill_and_trade(tmp_path: Path) -> Non
         auction.uncross()
         axes = plot.allocation(auction, 7)
         trades = auction.trades()
-    bids, asks, made = axes.containers
+    bids, made, asks = axes.containers
     assert [bar.get_width() for bar in bids] == [50, 100, 60]
     assert [bar.get_x() for bar in bids] == [0, 50, 150]
     assert [bar.get_width() for bar in asks] == [30, 180]
     assert [bar.get_width() for bar in made] == [30, 20, 100, 60] == trades["quantity"].tolist()
     words = [text.get_text() for text in axes.texts]
-    assert words[1] == "bid 2\nmember 2\n100" and "180" in words[-5]
+    assert words[1] == "bid 2\nmember 2\n100" and words[-1] == "ask 5\nmember 5\n180"
+    assert words[3:7] == ["30", "20", "100", "60"]
     assert axes.get_title(loc="left") == "opening, who trades with whom\n4 trades at 201"
     assert drawn(axes, tmp_path)
     for size in SIZES:
@@ -464,6 +578,29 @@ def test_an_allocation_has_a_span_for_each_fill_and_trade(tmp_path: Path) -> Non
         assert drawn(small, tmp_path, 1)
 
 
+@pytest.mark.parametrize("count, deviation", [(6, 2), (40, 4), (86, 4), (300, 15), (2000, 60)])
+def test_an_allocation_is_readable(count: int, deviation: float) -> None:
+    with crowd(count, deviation) as auction:
+        axes = plot.allocation(auction)
+        found = queue_of(auction)
+    sides = found.orders["side"][found.orders["executed"] > 0]
+    figure = axes.figure
+    figure.canvas.draw()
+    spans = [bar for container in axes.containers for bar in container]
+    assert len(axes.texts) == len(spans)
+    for text, bar in zip(axes.texts, spans):
+        assert lies_within(text.get_window_extent(), bar.get_window_extent())
+        assert text.get_fontsize() >= 8
+    counts = [(sides == "bid").sum(), len(found.trades), (sides == "ask").sum()]
+    for container, single in zip(axes.containers, counts):
+        assert sum(bar.get_width() for bar in container) == found.trades["quantity"].sum()
+        assert len(container) <= min(single, 40)
+    is_single = [len(container) for container in axes.containers] == counts
+    assert ("small ones drawn together" in axes.get_title(loc="left")) != is_single
+
+
 def test_without_trades_there_is_no_allocation() -> None:
     with pytest.raises(ValueError, match="nothing is executed by command 3"):
         plot.allocation(example("interruption"), 3)
+    with pytest.raises(ValueError, match="nothing is executed by an uncross now"):
+        plot.allocation(Day(b"1,enter,bid,5,200\n"))

@@ -16,6 +16,7 @@ from callauction.tables import audit_of
 from callauction.written import command_of, fields_of, text_of
 from days import EXAMPLES, auctions, by_the_rules, commands, day_of, form_of
 from hypothesis import given, settings, strategies
+from forks import in_a_child
 from printed import commands_of
 from test_tables import csv_of
 
@@ -165,6 +166,42 @@ def test_a_copy_goes_its_own_way() -> None:
         assert len(auction.journal()) == 2
 
 
+class Noted(RecordedAuction):
+    """One with notes of its own."""
+
+    def __init__(self) -> None:
+        super().__init__()
+        self.notes = ["first"]
+
+
+def test_a_copy_keeps_what_a_subclass_keeps() -> None:
+    with Noted() as auction:
+        shallow, deep = auction.copy(), copy.deepcopy(auction)
+        auction.notes.append("second")
+        assert type(shallow) is type(deep) is Noted
+        assert (shallow.notes, deep.notes) == (["first", "second"], ["first"])
+
+
+def test_an_auction_that_was_used_at_a_fork_is_busy_in_the_child() -> None:
+    with RecordedAuction() as used, RecordedAuction() as still:
+        is_held, is_over = threading.Event(), threading.Event()
+
+        def hold() -> None:
+            with used._lock:
+                is_held.set()
+                is_over.wait()
+
+        thread = threading.Thread(target=hold)
+        thread.start()
+        is_held.wait()
+        assert in_a_child(lambda: used.enter(1, Side.BID, 5, 200)) == 3
+        assert in_a_child(lambda: in_a_child(used.display) == 3 and used.display()) == 3
+        assert in_a_child(lambda: still.enter(1, Side.BID, 5, 200)) == 0
+        is_over.set()
+        thread.join()
+        assert used.enter(1, Side.BID, 5, 200) == words.Entered(1)
+
+
 def test_threads_wait_for_one_another() -> None:
     with RecordedAuction() as auction:
         threads = [
@@ -183,7 +220,8 @@ def test_threads_wait_for_one_another() -> None:
 def test_numbers_of_other_types_are_written_as_numbers() -> None:
     with RecordedAuction() as auction:
         member, quantity, limit = numpy.uint8(1), numpy.int64(5), numpy.int32(200)
-        auction.enter(member, Side.BID, quantity, limit, True)  # type: ignore[arg-type]
+        peak = numpy.int16(1)
+        auction.enter(member, Side.BID, quantity, limit, peak)  # type: ignore[arg-type]
         assert auction.day().content.splitlines()[1] == b"1,enter,bid,5,200,1,entered 1"
 
 
@@ -235,6 +273,7 @@ def test_changed_replies_are_found_alike(
     assert len(found) == found.attrs["unlawful"]
 
 
+@settings(deadline=None)
 @given(commands())
 def test_commands_are_written_and_read(given: tuple[int, words.Command]) -> None:
     member, command = given

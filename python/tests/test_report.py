@@ -1,4 +1,5 @@
 """The report of a day, and the command line. checks/report opens reports in a browser."""
+import hashlib
 import re
 import subprocess
 import sys
@@ -122,7 +123,10 @@ def test_a_report_is_written(tmp_path: Path) -> None:
     file = next(file for file in EXAMPLES if file.stem == "interruption")
     assert main(["report", str(file), *words_of(file), "-o", str(tmp_path / "day.html")]) == 0
     written = (tmp_path / "day.html").read_text(encoding="utf-8")
-    assert written == report.html_of(day_of(file), "interruption.csv")
+    whole = report.html_of(day_of(file), "interruption.csv")
+    assert sections(written) == [*sections(whole), "Evidence"]
+    assert hashlib.sha256(file.read_bytes()).hexdigest() in written
+    assert written.split("<main>")[1].startswith(whole.split("<main>")[1].split("</main>")[0])
 
 
 def test_values_and_a_tick_size_are_read(
@@ -223,7 +227,7 @@ def test_an_extract_is_converted_as_it_comes(tmp_path: Path) -> None:
     (["plot", str(EXAMPLES[0]), "--command", "1", "-o", "x.svg"], 2, "no book before command 1"),
     (["convert", str(EXAMPLES[0]), *CONVERSION, "-o", "x"], 1, "unknown column"),
     (["convert", str(TOP / "docs/AUDIT.md"), "--tick-size", "0", "--reference", "1", "-o", "x"], 1,
-     "unknown column"),
+     "has no names of columns: take out what is above these"),
     (["report", str(EXAMPLES[0]), "--low", "y", "-o", "x"], 2, "invalid literal"),
 ])
 def test_faults_are_one_line(

@@ -110,7 +110,7 @@ def test_a_fault_of_the_engine_is_found_in_its_auction_alone(seed: int, auction:
     )
     assert {finding.auction for finding in verdict.findings} <= {auction}
     items = {finding.item for finding in verdict.findings}
-    assert items <= {"trade", "count"}
+    assert items <= {"trade", "fill", "count"}
     for finding in verdict.findings:
         assert verdict.explain(finding)
 

@@ -28,16 +28,18 @@ def test_the_verdict_and_the_findings_come_first(tmp_path: Path) -> None:
     text = path.read_text(encoding="utf-8")
     assert sections(text) == [
         "Verdict",
-        "Finding 1: trade, row 10, 09:00:00,000, opening",
+        "Findings",
         "Opening, uncrossed, row 9, 09:00:00,000",
         "Members",
         "Orders",
+        "Evidence",
     ]
-    first = text.index("Finding 1: trade", text.index("<main>"))
+    first = text.index("Finding 1: trade, row 10, 09:00:00,000, opening</h3>")
+    assert text.index('<a href="#finding-1">10</a>') < first
     assert "<strong>unlawful</strong>: 1 finding. Compared: prices 1 of 1, " in text[:first]
     rule = "A17 entered 08:50:01,123 stands before C3 entered 08:50:02,400 at 20.02"
     assert rule in text[:first] and rule in text[first:]
-    [queue] = re.findall(r'<table id="queue-1">.*?</table>', text, re.S)
+    [queue] = re.findall(r'<table id="queue-1-table">.*?</table>', text, re.S)
     for cells in (("bid", "1", "A17", "Adler"), ("ask", "1", "B4", "Birk")):
         assert all(f">{cell}<" in queue for cell in cells)
     assert ">market<" in queue and ">20.02<" in queue
@@ -175,3 +177,54 @@ def test_bad_rows_and_notes_are_told() -> None:
     assert sections(text)[-2:] == ["Bad rows", "Notes"]
     assert "Rows that couldn't be read or were refused: 1." in html.unescape(text)
     assert len(frame_of(rows)) == len(rows)
+
+
+def test_times_are_as_short_as_they_can_be() -> None:
+    """All are of one day and in whole milliseconds."""
+    rows = small_day()
+    for row in rows:
+        row["time"] = f"2026-11-27T{row['time']}.120000"
+    text = html.unescape(page.html_of(verdict_of(rows), "day"))
+    assert "All times are of 2026-11-27." in text
+    assert "T08:" not in text and ".120000" not in text and "row 3, 09:00:00.12<" in text
+    rows[0]["time"] = "2026-11-26T09:00:00.123400"
+    rows[4]["quantity"] += 1
+    text = page.html_of(verdict_of(rows), "day")
+    assert "All times are of" not in text and "2026-11-27T" in text and "2026-11-26T" in text
+
+
+def test_many_findings_are_below_the_verdict() -> None:
+    rows = small_day()
+    for row in rows:
+        row["price"] = "10" if row.get("price") else ""
+    for row in [it for it in rows if it["event"] == "trade"][::2]:
+        row["quantity"] = int(row["quantity"]) + 1
+    verdict = verdict_of(rows, reference="10")
+    assert len(verdict.findings) > page.MOST_FIRST
+    text = page.html_of(verdict, "day")
+    links = re.findall(r'<a href="#part-', text[: text.index("<main>")])
+    assert len(links) == len(sections(text)) == 7
+    assert text.count('<h3 id="finding-') == min(len(verdict.findings), page.MOST_EXPLAINED)
+    assert {cells[6] for cells in cells_of(text, "queue-1-table")} == {"10.00"}
+
+
+def test_a_market_has_one_page_with_links(tmp_path: Path) -> None:
+    """The unlawful instrument comes first and has a page; the lawful one has none."""
+    rows = [dict(row, isin=name) for row in small_day() for name in ("DE 1", "DE2")]
+    wrong = next(row for row in rows if row["event"] == "uncross" and row["isin"] == "DE2")
+    wrong["surplus"] = int(wrong["surplus"]) + 1
+    frame_of(rows).to_csv(tmp_path / "day.csv", index=False)
+    (tmp_path / "days.csv").write_text(
+        "isin,reference,tick_size\nDE 1,10.00,0.01\nDE2,10.00,0.01\nDE3,1,1\n"
+    )
+    path = tmp_path / "market.html"
+    words = ["report", str(tmp_path / "day.csv"), "--by", "isin", "--days"]
+    assert main([*words, str(tmp_path / "days.csv"), "-o", str(path)]) == 0
+    text = path.read_text(encoding="utf-8")
+    names = [cells[0] for cells in cells_of(text, "instruments")]
+    assert '<a href="market/DE2.html">DE2</a>' in text and text.count("<a href=") == 3
+    assert [it.name for it in (tmp_path / "market").iterdir()] == ["DE2.html"]
+    assert "1 fault, 1 lawful, 1 unlawful" in text
+    own = (tmp_path / "market/DE2.html").read_text(encoding="utf-8")
+    assert "<strong>unlawful</strong>: 1 finding." in own
+    assert names[1:] == ["DE3", "DE 1"]

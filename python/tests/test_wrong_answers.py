@@ -4,12 +4,14 @@ and inputs that ended in a traceback. Each is a test by its name.
 from pathlib import Path
 from typing import Any
 
+import callauction
 import pandas
 import pytest
 from callauction import market
 from callauction.__main__ import main
 from callauction.verdict import (
     ColumnError,
+    ExtractError,
     Reading,
     Verdict,
     audit_events,
@@ -170,7 +172,9 @@ def test_the_order_of_trades_means_nothing_without_times() -> None:
 def test_rows_in_any_order_are_sorted_where_that_is_asked() -> None:
     rows = [dict(row, sequence=place) for place, row in enumerate(small_day())]
     assert verdict_of(rows[::-1], reading=Reading(sort=True)).word == "lawful"
-    verdict = verdict_of(rows[::-1])
+    with pytest.raises(ExtractError, match="in reverse order .*: say --sort$"):
+        verdict_of(rows[::-1])
+    verdict = verdict_of([rows[1], rows[0], *rows[2:]])
     assert any(name.startswith("times that come before") for name in verdict.notes)
 
 
@@ -252,7 +256,11 @@ def test_a_wrong_interruption_is_a_finding() -> None:
     rows[3]["auction"] = "interrupted"
     [finding] = verdict_of(rows).findings
     assert (finding.item, finding.lawful) == ("auction", "opening")
-    assert finding.rule == "The day has no range of prices, so no uncross is interrupted."
+    assert finding.rule == "An uncross that is interrupted has a price, and executes nothing."
+    del rows[3]["trades"]
+    verdict = verdict_of(rows)
+    assert verdict.word == "incomplete" and not verdict.findings
+    assert [finding.item for finding in verdict.doubtful] == ["auction"]
 
 
 def test_a_trade_stamped_in_another_auction_is_a_finding() -> None:
@@ -345,9 +353,14 @@ COMMAS = GERMAN.replace(",", ".").replace(";", ",")
      "the file has order events: say --reference and --tick-size"),
     (LINE, "event,order,side,price,quantity,Only\n", 1,
      "unknown column 'Only' (is it restriction?)"),
-    (LINE, "", 1, "record 1: not a day record"),
+    (LINE, "", 1, "the file is empty: it needs a header with the names of its columns"),
     (LINE, "event\n", 1, "the table has no column order, side, price, quantity"),
-    ([*LINE, "--where", "x"], "event,order,side,price,quantity\n", 1, "where 'x' is no condition"),
+    ([*LINE, "--where", "x"], "event,order,side,price,quantity\n", 2, "where 'x' is no condition"),
+    ([*LINE, "--where", "event = new"], "event,order,side,price,quantity\n", 2, "is no condition"),
+    ([*LINE, "--where", "event == a and side == b"], "event,order,side,price,quantity\n", 2,
+     "is no condition"),
+    ([*LINE, "--where", "price < much"], "event,order,side,price,quantity\n", 2,
+     "'much' is neither a number nor a time"),
     ([*LINE, "--values", "x"], "event,order,side,price,quantity\n", 2, "--values 'x' is none such"),
     ([*LINE, "--auctions", "noon"], "event,order,side,price,quantity\n", 2, "auctions 'noon' must"),
     ([*LINE, "--encoding", "no"], "event,order,side,price,quantity\n", 1, "no encoding 'no'"),
@@ -394,7 +407,8 @@ def test_the_lines_of_a_verdict(
     assert main([*LINE, *GERMAN_WORDS, "--auctions", "opening"]) == 4
     assert capsys.readouterr().out.splitlines() == [
         "row 4, 09:00:00, opening: price: recorded 20.01, lawful 20.02: It is the one best limit, "
-        "so 20.02 is the price, whatever its surplus.",
+        "so 20.02 is the price, whatever its surplus. 20.01 executes 1,200 with 100 ask left, and "
+        "20.02 executes 1,200 with 100 ask left.",
         "findings 1",
         "prices 1 of 1",
         "volumes 1 of 1",
@@ -410,7 +424,7 @@ def test_the_lines_of_a_verdict(
     assert capsys.readouterr().out.splitlines()[-1] == "incomplete"
     assert main([*LINE, *GERMAN_WORDS, "--check"]) == 0
     out = capsys.readouterr().out.splitlines()
-    assert out[0] == "event: Aktion (new, replace, cancel, uncross, trade or fill)"
+    assert out[0] == "event: Aktion (new, replace, cancel, uncross, trade, fill or bust)"
     assert "rows new 2" in out and "rows trade 1" in out and "bad rows 0" in out
 
 
@@ -465,3 +479,20 @@ def test_a_journal_that_was_cut_or_has_no_replies_is_incomplete(
     path.write_text("".join(f"{line}\n" for line in change(lines)), encoding="utf-8")
     assert main(["audit", str(path)]) == status
     assert capsys.readouterr().out.splitlines() == ["findings 0", *coverage, word]
+
+
+def test_a_journal_that_was_cut_within_a_line_is_incomplete(
+    tmp_path: Path, capsys: pytest.CaptureFixture[str]
+) -> None:
+    content = JOURNAL.read_text(encoding="utf-8")
+    lines = content.splitlines(keepends=True)
+    path = tmp_path / "day.csv"
+    path.write_text("".join(lines[:9]) + lines[9][:5], encoding="utf-8")
+    assert main(["audit", str(path)]) == 5
+    assert capsys.readouterr().out.splitlines() == [
+        "5 bytes follow entry 8", "findings 0", "replies 8 of 8", "auctions 2 of 3", "incomplete"
+    ]
+    found = callauction.audit(path)
+    assert found.empty and found.attrs["is_cut"] and found.attrs["entries"] == 8
+    path.write_text(content, encoding="utf-8")
+    assert "is_cut" not in callauction.audit(path).attrs

@@ -21,7 +21,7 @@ from distributed import Client, LocalCluster, Security
 
 Ran = subprocess.CompletedProcess[str]
 TOP = pathlib.Path(__file__).resolve().parents[2]
-PACKAGE = TOP / "python"
+PACKAGE = os.environ.get("CALLAUCTION_PACKAGE", TOP / "python")
 LOOPBACK = "127.0.0.1"
 SECONDS = 600
 """How long a test waits for what is to come: much longer than a slow machine takes."""

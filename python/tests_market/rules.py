@@ -9,9 +9,12 @@ sys.path.insert(0, str(pathlib.Path(__file__).resolve().parents[2]))
 
 from checks.generators import journals, orders  # noqa: E402
 from checks.model import answers  # noqa: E402
+from checks.model.files import whole_part  # noqa: E402
 
 AUCTIONS = ("opening", "intraday", "closing")
 UNLAWFUL, INCOMPLETE = 4, 5
+COUNTS = {"entries", "compared", "unlawful"}
+"""The lines of an audit that count."""
 
 Texts = dict[str, str]
 """Journals by their instruments; a character is a byte."""
@@ -20,11 +23,12 @@ Columns = dict[str, Any]
 
 
 def random_texts(count: int, kind: str = "short") -> Texts:
-    """The random journals of the first seeds; one in four, about, is spoiled."""
+    """The random journals of the first seeds, in whole lines; one in four, about, is spoiled."""
     texts = {}
     for seed in range(1, count + 1):
         given = orders.order_file(kind, seed)
-        texts[f"{kind} {seed}"] = journals.journal_of(kind, seed, *given)[1]
+        text = journals.journal_of(kind, seed, *given)[1]
+        texts[f"{kind} {seed}"] = text if text.endswith(("\n", "\r")) else text + "\n"
     return texts
 
 
@@ -39,12 +43,15 @@ def row_of(instrument: str, text: str) -> Columns:
     if fault:
         return {"instrument": instrument, "fault": fault.splitlines()[0]}
     row: Columns = {"instrument": instrument, "auctions": 0, "trades": 0}
-    row |= {name: int(count) for name, count in map(str.split, audit.splitlines()[-4:-1])}
+    counts = [line.split() for line in audit.splitlines() if line.split()[0] in COUNTS]
+    row |= {name: int(count) for name, count in counts}
     if status == UNLAWFUL:
         row["first_unlawful"] = int(audit.split(":")[0])
-    for line in answer(text, "lines")[1].splitlines():
+    whole = whole_part(text)
+    for line in answer(whole, "lines")[1].splitlines():
         take_uncross(row, line.split(": ", 1)[1].split())
-    row["day"] = (*AUCTIONS, "over")[row["auctions"]]
+    if whole == text:
+        row["day"] = (*AUCTIONS, "over")[row["auctions"]]
     return row
 
 
@@ -54,7 +61,9 @@ def status_of(rows: list[Columns]) -> int:
         return 1
     if any(row["unlawful"] for row in rows):
         return UNLAWFUL
-    is_whole = all(row["compared"] == row["entries"] and row["day"] == "over" for row in rows)
+    is_whole = all(
+        row["compared"] == row["entries"] and row.get("day") == "over" for row in rows
+    )
     return 0 if is_whole and any(row["compared"] for row in rows) else INCOMPLETE
 
 

@@ -19,12 +19,16 @@ NOT_OVER = {"G": f"{DAY}0,uncross,opening no price\n"}
 NOT_RECORDED = {"H": f"{DAY}1,ask,\n{DONE}"}
 UNLAWFUL = {"C": f"{DAY}1,ask,deleted\n1,ask,\n1,enter,bid,7,5,entered 2\n{DONE}"}
 BAD = {"D": "day,1,9\n"}
+CUT = {"J": f"{DAY}1,enter,bid,7,5,entered 1\n{DONE}"[:-3]}
+WITH_ROOM = {"K": f"{DAY}1,enter,bid,7,5,entered 1\n{DONE}" + "\0" * 99}
 MARKETS = [
     (LAWFUL, 0, "lawful"),
     (LAWFUL | NOT_OVER, 5, "incomplete"),
     (LAWFUL | NOT_RECORDED, 5, "incomplete"),
     ({"I": DAY}, 5, "incomplete"),
     ({"I": DAY + DONE.replace("opening no price", "")}, 5, "incomplete"),
+    (LAWFUL | CUT, 5, "incomplete"),
+    (LAWFUL | WITH_ROOM, 5, "incomplete"),
     (LAWFUL | UNLAWFUL | NOT_OVER, 4, "unlawful"),
     (LAWFUL | BAD, 1, "incomplete"),
     (LAWFUL | UNLAWFUL | BAD, 1, "unlawful"),

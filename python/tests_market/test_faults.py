@@ -9,6 +9,7 @@ import pytest
 import rules
 from callauction import market
 from callauction.market import forms, rows, runs, task, workers
+from callauction.market.__main__ import arguments
 from conftest import SECONDS, Keys, cluster, columns, runs_of, until, write
 from distributed import Client
 
@@ -25,7 +26,7 @@ def rows_with(faults: dict[str, str]) -> list[rules.Columns]:
 
 def test_bad_files(crew: Client | None, tmp_path: pathlib.Path) -> None:
     texts = {
-        "cut": f"{EMPTY_DAY}1,enter,bid,7,5,entered 1\n2,enter,as",
+        "cut": f"{EMPTY_DAY}1,enter,bid,7,5,entered 1\n2,enter,as\n",
         "empty": "",
         "orders": "1,enter,bid,7,5\n",
     }
@@ -50,10 +51,11 @@ def test_bad_files(crew: Client | None, tmp_path: pathlib.Path) -> None:
     assert columns(found) == rows_with(faults)
 
 
-def test_a_reply_that_was_cut_is_unlawful(client: Client, tmp_path: pathlib.Path) -> None:
+def test_a_reply_that_was_cut_accuses_nobody(client: Client, tmp_path: pathlib.Path) -> None:
     paths = write(tmp_path, {"cut": f"{EMPTY_DAY}1,ask,no price bid - ask -\n2,enter,bid,7,5,ente"})
     (row,) = columns(market.audit(paths, client))
-    assert (row["unlawful"], row["first_unlawful"]) == (1, 2)
+    assert (row["entries"], row["compared"], row["unlawful"]) == (1, 1, 0)
+    assert "day" not in row and "first_unlawful" not in row
 
 
 def test_programs_that_end_badly(
@@ -90,6 +92,17 @@ def test_limits_go_by_the_size() -> None:
     assert (table.memory, table.seconds) == (288 * MIB, 180)
     given = task.Request(("trades",), None, 7, 8).for_size(10 * MIB, forms.FORMS["trades"])
     assert (given.memory, given.seconds) == (7, 8)
+
+
+@pytest.mark.parametrize("memory, status", [("0", 2), ("7", 2), ("x", 2), ("-8", 2), ("8", 0)])
+def test_the_least_memory(memory: str, status: int, capsys: pytest.CaptureFixture[str]) -> None:
+    words = ["audit", "folder", "--memory", memory]
+    if status == 0:
+        assert arguments().parse_args(words).memory == int(memory)
+        return
+    with pytest.raises(SystemExit) as found:
+        arguments().parse_args(words)
+    assert found.value.code == status and "from 8 on" in capsys.readouterr().err
 
 
 def test_a_program_that_runs_out_of_memory(

@@ -6,6 +6,7 @@ import os
 import pathlib
 from collections.abc import Iterator
 
+import hypothesis
 import pytest
 import served
 
@@ -13,6 +14,9 @@ FAST = """
 sync = false
 [phases]
 call = 0
+[limits]
+orders = 65536
+calls = 1048576
 [members]
 rate = 100000
 burst = 100000
@@ -25,6 +29,9 @@ def pytest_configure(config: pytest.Config) -> None:
     which may run in any later test.
     """
     config.addinivalue_line("filterwarnings", "ignore:unclosed:ResourceWarning")
+    slow = [hypothesis.HealthCheck.too_slow]  # as a machine may be that has much else to do
+    hypothesis.settings.register_profile("patient", deadline=None, suppress_health_check=slow)
+    hypothesis.settings.load_profile("patient")
 
 
 @pytest.fixture(scope="session", autouse=True)

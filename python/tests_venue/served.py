@@ -4,18 +4,21 @@ import dataclasses
 import json
 import os
 import pathlib
+import random
 import re
 import socket
 import subprocess
 import sys
 import urllib.error
 import urllib.request
-from collections.abc import Iterator
+from collections.abc import Callable, Iterator
 from typing import Any
 
 HERE = pathlib.Path(__file__).resolve().parent
 PACKAGE = HERE.parent
 STAND_IN = HERE / "stand_in.py"
+NOTICED = re.compile(r"^venue: (.* halted: |.* goes on|codes are guessed|too many connections)")
+"""What is said on standard error of what goes on outside."""
 SECONDS = 300.0
 """How long a test waits for what is to come: much longer than a slow machine takes."""
 
@@ -25,11 +28,17 @@ def program() -> str:
     return os.environ.get("CALLBOARD") or str(STAND_IN)
 
 
+PORTS = range(20_000, 32_000)
+"""Ports below those that the system gives to whoever asks for any, as other tests do meanwhile."""
+
+
 def free_port() -> int:
-    """A port that nobody listens on."""
-    with socket.socket() as tried:
-        tried.bind(("127.0.0.1", 0))
-        return int(tried.getsockname()[1])
+    """A port that nobody listens on, and that nobody is given before it is used."""
+    while True:
+        port = random.choice(PORTS)
+        with socket.socket() as tried, contextlib.suppress(OSError):
+            tried.bind(("127.0.0.1", port))
+            return port
 
 
 @dataclasses.dataclass
@@ -41,6 +50,7 @@ class Served:
     code: str
     operator: str
     beamer: str
+    others: list[str]
 
     def call(
         self, path: str, body: Any = None, token: str = "", headers: dict[str, str] = {}
@@ -72,13 +82,18 @@ class Served:
         if self.child.poll() is None:
             self.child.terminate()
             _, error = self.child.communicate(timeout=SECONDS)
-            assert (self.child.returncode, error) == (0, ""), error
+            assert (self.child.returncode, unexpected(error)) == (0, []), error
 
     def join(self, name: str, code: str = "") -> str:
         """The token of a new member."""
         status, found = self.call("api/join", {"code": code or self.code, "name": name})
         assert status == 200, found
         return str(found["token"])
+
+
+def unexpected(error: str) -> list[str]:
+    """The lines on standard error but for those of NOTICED."""
+    return [line for line in error.splitlines() if not NOTICED.match(line)]
 
 
 def read(body: bytes) -> Any:
@@ -91,7 +106,8 @@ def read(body: bytes) -> Any:
 
 def environment(**more: str) -> dict[str, str]:
     """The environment of a venue."""
-    return os.environ | {"CALLBOARD": program(), "PYTHONPATH": str(PACKAGE)} | more
+    package = os.environ.get("CALLAUCTION_PACKAGE", str(PACKAGE))
+    return os.environ | {"CALLBOARD": program(), "PYTHONPATH": package} | more
 
 
 def words_of(*words: object) -> list[str]:
@@ -99,11 +115,16 @@ def words_of(*words: object) -> list[str]:
     return [sys.executable, "-m", "callauction.venue", *map(str, words)]
 
 
-def started(*words: object, **more: str) -> Served:
-    """A venue with these words, once it listens."""
+def started(*words: object, before: Callable[[], None] | None = None, **more: str) -> Served:
+    """A venue with these words, once it listens; `before` is called in its process."""
     pipe = subprocess.PIPE
     child = subprocess.Popen(
-        words_of(*words), env=environment(**more), stdout=pipe, stderr=pipe, text=True
+        words_of(*words),
+        env=environment(**more),
+        stdout=pipe,
+        stderr=pipe,
+        text=True,
+        preexec_fn=before,
     )
     try:
         return begun(child)
@@ -114,12 +135,18 @@ def started(*words: object, **more: str) -> Served:
 
 
 @contextlib.contextmanager
-def served(folder: pathlib.Path, day: str = "", *words: object, **more: str) -> Iterator[Served]:
+def served(
+    folder: pathlib.Path,
+    day: str = "",
+    *words: object,
+    before: Callable[[], None] | None = None,
+    **more: str,
+) -> Iterator[Served]:
     """A venue in this folder, of a day in TOML, which is ended at the end."""
     file = folder / "day.toml"
     file.write_text(day, encoding="utf-8")
     named = ["--day", file, "--folder", folder / "venue", "--port", free_port()]
-    found = started(*named, *words, **more)
+    found = started(*named, *words, before=before, **more)
     try:
         yield found
         found.end()
@@ -140,5 +167,6 @@ def begun(child: "subprocess.Popen[str]") -> Served:
         raise AssertionError(child.stderr.read())
     text = "".join(said)
     found = {name: value for name, value in re.findall(r"^(\w+) +(\S+)$", text, re.M)}
-    secrets = (found[name].partition("#")[2] for name in ("teacher", "beamer"))
-    return Served(child, found["members"], found.get("code", ""), *secrets)
+    teacher, beamer = (found[name].partition("#")[2] for name in ("teacher", "beamer"))
+    others = re.findall(r"^or +(\S+)$", text, re.M)
+    return Served(child, found["members"], found.get("code", ""), teacher, beamer, others)

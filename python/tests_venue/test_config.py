@@ -1,10 +1,12 @@
 """The file of a day, and each fault of it."""
+import os
 import pathlib
 from decimal import Decimal
 
 import pytest
 from callauction.prices import Grid
-from callauction.venue.config import ConfigError, Day, Instrument, Members, Plan
+from callauction.venue.config import Day, Instrument, Members, Plan
+from callauction.venue.fields import ConfigError
 
 ALL = """
 title = "Monday"
@@ -78,7 +80,7 @@ def test_an_empty_day_has_all_defaults(tmp_path: pathlib.Path) -> None:
         ("[phases]\ncall = true", "phases: call True is no whole number from 0 to 86400"),
         ("phases = 3", "phases is no table: [phases]"),
         ("[members]\nnames = ['A', 'A']", "members: names isn't a list in which each name is once"),
-        ("[members]\nnames = ['<b>']", "members: names '<b>' is no name of 1 to 24 characters"),
+        ("[members]\nnames = ['<b>']", "members: names '<b>' is no name of 1 to 40 characters"),
         ("[members]\nopen = false", "members: open is false, and there are no names"),
         ("[members]\nrate = 0", "members: rate isn't above 0"),
         ("[members]\nmost = 1\nnames = ['A', 'B']", "members: names has more than 1 names"),
@@ -91,9 +93,39 @@ def test_an_empty_day_has_all_defaults(tmp_path: pathlib.Path) -> None:
         ("[[instrument]]\nlow = '3'", "instrument XYZ: low, reference, high have to rise"),
         ("[[instrument]]\nrange = '-1'", "instrument XYZ: range -1 is below 0"),
         ("title = ", "Invalid value"),
+        ("a = " + "[" * 5000 + "]" * 5000, "has too many lists within lists"),
+        ("reserve = " + "9" * 5000, "4300 digits"),
+        ("[members]\nnames = [' ']", "members: names ' ' can't be read, or is a role's name"),
+        ("[members]\nnames = ['Teacher']", "members: names 'Teacher' can't be read"),
+        ("[members]\nnames = ['Anna', 'ANNA']", "members: names has two that look alike"),
+        ("[[round]]\nvalues = 'list'\nfile = '/dev/zero'", "/dev/zero: is no regular file"),
+        ("[[round]]\nvalues = 'list'\nfile = 'pipe'", "pipe: is no regular file"),
+        ("[[round]]\nvalues = 'list'\nfile = 'long'", "long: has more than 1048576 bytes"),
+        ("[[round]]\nvalues = 'chance'\nlow = '1'", "values by chance have a low and a high price"),
     ],
 )
 def test_each_fault(tmp_path: pathlib.Path, text: str, fault: str) -> None:
+    os.mkfifo(tmp_path / "pipe")
+    with open(tmp_path / "long", "wb") as long:
+        long.truncate(1 << 21)
     with pytest.raises(ConfigError) as found:
         read(tmp_path, text)
     assert fault in str(found.value)
+
+
+def test_a_day_that_windows_wrote(tmp_path: pathlib.Path) -> None:
+    assert read(tmp_path, '\ufefftitle = "Monday"\r\n').title == "Monday"
+
+
+def test_a_day_that_never_ends() -> None:
+    with pytest.raises(OSError, match="is no regular file"):
+        Day.read(pathlib.Path("/dev/zero"))
+
+
+def test_the_letters_of_a_day(tmp_path: pathlib.Path) -> None:
+    """They are UTF-8, with or without the mark by which some editors begin."""
+    assert read(tmp_path, "\ufefftitle = 'Börse'") == Day(title="Börse")
+    path = tmp_path / "day.toml"
+    path.write_bytes("title = 'Börse'".encode("cp1252"))
+    with pytest.raises(ConfigError, match="day.toml: isn't UTF-8"):
+        Day.read(path)

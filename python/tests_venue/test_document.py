@@ -27,11 +27,10 @@ def test_the_day_with_all_keys(tmp_path: pathlib.Path) -> None:
     assert Day.read(tmp_path / "day.toml").instruments[0].range == 50
 
 
-def test_the_robot(venue: Served, tmp_path: pathlib.Path) -> None:
-    [robot] = [block for block in blocks() if "import Client" in block]
-    assert len(robot.splitlines()) <= 20
-    path = tmp_path / "robot.py"
-    path.write_text(robot, encoding="utf-8")
+def test_the_robot(venue: Served) -> None:
+    [command] = [block for block in blocks() if "robot.py" in block]
+    path = DOCUMENT.parents[1] / command.split()[2]
+    assert len(path.read_text("utf-8").splitlines()) <= 20
     words = [sys.executable, str(path), venue.url, venue.code, "Robby"]
     with subprocess.Popen(
         words, env=served.environment(), stdout=subprocess.PIPE, text=True
@@ -51,6 +50,6 @@ def test_the_robot(venue: Served, tmp_path: pathlib.Path) -> None:
 
 def test_the_pictures() -> None:
     named = re.findall(r"!\[[^]]+\]\(([^)]+)\)", DOCUMENT.read_text("utf-8"))
-    assert len(named) == 3
+    assert len(named) == 4
     for name in named:
         assert (DOCUMENT.parent / name).read_bytes().startswith(b"\x89PNG")

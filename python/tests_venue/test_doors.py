@@ -121,7 +121,7 @@ def test_joining(venue: Served) -> None:
         ("", "Bert", "bad_code"),
         (venue.code, "", "bad_name"),
         (venue.code, "<i>", "bad_name"),
-        (venue.code, "a" * 25, "bad_name"),
+        (venue.code, "a" * 41, "bad_name"),
         (venue.code, "A\u200bnna", "bad_name"),
         (venue.code, " anna ", "name_taken"),
         (venue.code, "\uff21nna", "name_taken"),
@@ -137,11 +137,6 @@ def test_a_lost_telephone(venue: Served) -> None:
     assert (status, found["name"]) == (200, "Anna")
     assert venue.call("api/look/orders", token=first)[0] == 401
     assert venue.call("api/look/orders", token=found["token"])[0] == 200
-
-
-def test_wrong_codes_are_slowed_down(venue: Served) -> None:
-    statuses = [venue.call("api/join", {"code": "WRONG1", "name": "x"})[0] for _ in range(60)]
-    assert statuses[0] == 403 and 429 in statuses
 
 
 def test_names_with_codes_of_their_own(tmp_path: pathlib.Path) -> None:

@@ -1,13 +1,21 @@
-"""Gains beside a count share by share."""
+"""Gains beside a count share by share, and efficiency beside all that a class could have traded."""
 import itertools
+from collections.abc import Sequence
 
-from callauction.venue.gains import Value, gain_of, most_gain
+import pytest
+from callauction.venue.accounts import Accounts, Fill
+from callauction.venue.gains import Predicted, Uncovered, Value, gain_of, most_gain, predicted
 from hypothesis import given
 from hypothesis import strategies as st
 
-VALUES = st.builds(
-    Value, st.sampled_from(["bid", "ask"]), st.integers(1, 12), st.integers(1, 5)
-)
+HIGH = 12
+UNCOVERED = Uncovered(0, HIGH)
+SIDES = st.sampled_from(["bid", "ask"])
+VALUES = st.builds(Value, SIDES, st.integers(1, HIGH), st.integers(1, 5))
+Deal = tuple[int, int, int, int]
+"""A trade: the places of its buyer and its seller, its shares and its tick."""
+Class = tuple[list[Value | None], list[Deal]]
+"""The values of members, and their trades."""
 
 
 @given(st.lists(VALUES, max_size=6))
@@ -20,8 +28,194 @@ def test_the_most_gain_is_that_of_shares_in_their_order(values: list[Value]) -> 
 
 def test_a_gain() -> None:
     bid, ask = Value("bid", 600, 100), Value("ask", 400, 100)
-    fills = [("bid", 60, 540), ("ask", 10, 700), ("bid", 60, 500)]
-    assert gain_of(bid, fills) == 60 * 60 + 40 * 100
-    assert gain_of(ask, fills) == 10 * 300
-    assert gain_of(bid, [("bid", 10, 650)]) == -500
-    assert gain_of(bid, []) == 0
+    high = Uncovered(0, 1000)
+    assert gain_of(bid, [("bid", 60, 540), ("bid", 40, 500)], high) == 60 * 60 + 40 * 100
+    assert gain_of(ask, [("ask", 10, 700)], high) == 10 * 300
+    assert gain_of(bid, [("bid", 10, 650)], high) == -500
+    assert gain_of(bid, [], high) == 0
+
+
+def test_what_no_value_covers_costs() -> None:
+    bid, ask = Value("bid", 600, 100), Value("ask", 400, 100)
+    high = Uncovered(0, 1000)
+    assert gain_of(bid, [("bid", 150, 500)], high) == 100 * 100 - 50 * 500
+    assert gain_of(bid, [("ask", 10, 500)], high) == 10 * (500 - 1000)
+    assert gain_of(ask, [("ask", 110, 500)], high) == 100 * 100 + 10 * (500 - 1000)
+    assert gain_of(ask, [("bid", 10, 500)], high) == -10 * 500
+    assert gain_of(None, [("bid", 10, 500)], high) == -10 * 500
+    assert gain_of(None, [("ask", 10, 500)], high) == 10 * (500 - 1000)
+    assert gain_of(None, [("ask", 10, 500)], Uncovered(300, 700)) == 10 * (500 - 700)
+    assert gain_of(bid, [("bid", 110, 500)], Uncovered(300, 700)) == 100 * 100 - 10 * 200
+
+
+def test_what_one_buys_and_sells_again_is_no_loss() -> None:
+    bid = Value("bid", 600, 100)
+    fills = [("bid", 150, 500), ("ask", 50, 540)]
+    assert gain_of(bid, fills, UNCOVERED) == 100 * 100 + 50 * 40
+    itself = [("bid", 190, 10), ("ask", 190, 10)]
+    assert gain_of(Value("ask", 4, 100), itself, UNCOVERED) == 0
+
+
+def worth(value: Value | None, shares: int) -> int:
+    """What a member's shares are worth, one by one."""
+    covered = value.quantity if value else 0
+    found = 0
+    for place in range(abs(shares)):
+        is_own = value is not None and value.side == ("bid" if shares > 0 else "ask")
+        tick = value.tick if value and is_own and place < covered else 0 if shares > 0 else HIGH
+        found += tick if shares > 0 else -tick
+    return found
+
+
+def best_of_all(values: Sequence[Value | None], most: int) -> int:
+    """The greatest worth of all ways in which the members could have traded shares."""
+    ways = itertools.product(range(-most, most + 1), repeat=len(values))
+    return max(sum(map(worth, values, way)) for way in ways if sum(way) == 0)
+
+
+@given(st.lists(st.none() | st.builds(Value, SIDES, st.integers(0, HIGH), st.integers(1, 2)),
+                min_size=1, max_size=4))
+def test_the_most_gain_is_that_of_all_ways_to_trade(values: list[Value | None]) -> None:
+    assert most_gain([it for it in values if it]) == best_of_all(values, 5)
+
+
+@st.composite
+def classes(draw: st.DrawFn) -> Class:
+    """A class and its trades, most of which make no sense."""
+    values = draw(st.lists(st.none() | VALUES, min_size=1, max_size=6))
+    place = st.integers(0, len(values) - 1)
+    deals = st.tuples(place, place, st.integers(1, 9), st.integers(1, HIGH))
+    return values, draw(st.lists(deals, max_size=12))
+
+
+def fills_of(deals: Sequence[Deal], member: int) -> list[Fill]:
+    """A member's fills."""
+    found = []
+    for number, (buyer, seller, quantity, tick) in enumerate(deals, 1):
+        found += [Fill(number, 1, "bid", quantity, tick)] * (buyer == member)
+        found += [Fill(number, 2, "ask", quantity, tick)] * (seller == member)
+    return found
+
+
+@given(classes())
+def test_no_class_gains_more_than_was_possible(given: Class) -> None:
+    values, deals = given
+    total = 0
+    for place, value in enumerate(values):
+        fills = ((it.side, it.quantity, it.tick) for it in fills_of(deals, place))
+        total += gain_of(value, fills, UNCOVERED)
+    assert total <= most_gain([it for it in values if it])
+
+
+@given(st.lists(st.tuples(st.booleans(), classes()), min_size=1, max_size=4))
+def test_nor_where_values_change(given: list[tuple[bool, Class]]) -> None:
+    """Values come to all, or to some, between trades."""
+    accounts, deals = Accounts(UNCOVERED), list[Deal]()
+    for is_to_all, (values, more) in given:
+        handed = {str(place): value for place, value in enumerate(values) if value}
+        accounts.give(handed, is_to_all, len(deals))
+        deals += more
+    total = sum(accounts.gain_of(str(place), fills_of(deals, place)) for place in range(6))
+    assert total <= accounts.most(lambda member: fills_of(deals, int(member)))
+
+
+@given(classes(), st.sets(st.integers(0, 5)), st.integers(0, 12))
+def test_nor_where_members_leave(given: Class, leavers: set[int], before: int) -> None:
+    """What is possible without them is never less than what all gain, and never more than with
+    them.
+    """
+    values, deals = given
+    accounts = Accounts(UNCOVERED)
+    accounts.give({str(place): it for place, it in enumerate(values) if it}, True, 0)
+
+    def most(trades: int) -> int:
+        return accounts.most(lambda member: fills_of(deals[:trades], int(member)))
+
+    of_all = most(len(deals))
+    for place in leavers:
+        accounts.leave(str(place))
+    total = sum(accounts.gain_of(str(place), fills_of(deals, place)) for place in range(6))
+    assert total <= most(len(deals)) <= of_all
+    there = [it for place, it in enumerate(values) if it and place not in leavers]
+    assert most(0) == most_gain(there)
+    for place in leavers:
+        accounts.come_back(str(place))
+    assert most(before) == of_all
+
+
+def test_the_value_of_who_left_counts_as_far_as_it_was_used() -> None:
+    accounts = Accounts(UNCOVERED)
+    accounts.give({"Anna": Value("ask", 2, 5), "Robot": Value("bid", 9, 5)}, True, 0)
+    fills = {"Anna": [Fill(1, 1, "ask", 2, 4)], "Robot": [Fill(1, 2, "bid", 2, 4)]}
+    assert accounts.most(lambda member: fills[member]) == 5 * 7
+    accounts.leave("Robot")
+    assert accounts.most(lambda member: fills[member]) == 2 * 7
+    assert accounts.predicted(lambda member: fills[member]) == Predicted(2, 2, 2)
+    assert accounts.predicted(lambda member: []) is None
+    accounts.give({"Anna": Value("ask", 3, 5), "Bert": Value("bid", 5, 1)}, True, 1)
+    assert accounts.most(lambda member: fills.get(member, [])) == 2 * 7 + 2
+    accounts.come_back("Robot")
+    assert accounts.most(lambda member: fills.get(member, [])) == 2 * 7 + 2
+
+
+@given(st.lists(VALUES, max_size=6))
+def test_the_predicted_prices_are_those_at_which_most_gain(values: list[Value]) -> None:
+    """At each of them, and at no other, who trades may all be willing, and nobody else is."""
+    found = predicted(values)
+    if found is None:
+        assert most_gain(values) == 0
+        return
+
+    def shares(side: str, tick: int, is_more: bool) -> int:
+        sign = 1 if side == "bid" else -1
+        least = 1 if is_more else 0
+        return sum(it.quantity for it in values
+                   if it.side == side and sign * (it.tick - tick) >= least)
+
+    volume = found.volume
+
+    def clears(tick: int) -> bool:
+        sides = [(shares(side, tick, True), shares(side, tick, False)) for side in ("bid", "ask")]
+        return max(least for least, _ in sides) <= volume <= min(most for _, most in sides)
+
+    ticks = {it.tick for it in values}
+    assert {tick for tick in ticks if clears(tick)} == {
+        tick for tick in ticks if found.low <= tick <= found.high
+    }
+    assert clears(found.low) and clears(found.high)
+
+
+def test_a_hand_out_to_all_keeps_what_was_gained() -> None:
+    accounts = Accounts(UNCOVERED)
+    fills = [Fill(1, 1, "bid", 5, 4), Fill(2, 3, "bid", 5, 4)]
+    assert (accounts.has_values, accounts.gain_of("Anna", fills)) == (False, 0)
+    accounts.give({"Anna": Value("bid", 6, 5)}, True, 1)
+    assert accounts.gain_of("Anna", fills) == 10
+    accounts.give({"Anna": Value("bid", 12, 5)}, True, 2)
+    later = [*fills, Fill(3, 4, "bid", 1, 4)]
+    assert accounts.gain_of("Anna", later) == 10 + 8
+    assert accounts.most(lambda member: later) == 0
+
+
+def test_how_many_shares_a_value_still_covers() -> None:
+    accounts = Accounts(UNCOVERED)
+    fills = [Fill(1, 1, "ask", 3, 4), Fill(2, 3, "ask", 4, 4), Fill(3, 5, "bid", 1, 4)]
+    assert accounts.left_of("Anna", fills) is None
+    accounts.give({"Anna": Value("ask", 2, 5)}, True, 1)
+    assert accounts.left_of("Anna", fills) == 2
+    assert accounts.left_of("Anna", [*fills, Fill(4, 7, "ask", 9, 4)]) == 0
+
+
+def test_a_value_that_comes_late_counts_for_its_period() -> None:
+    accounts = Accounts(UNCOVERED)
+    accounts.give({"Anna": Value("ask", 2, 5)}, True, 0)
+    bought = [Fill(1, 1, "bid", 5, 4)]
+    assert accounts.gain_of("Bert", bought) == -20
+    accounts.give({"Bert": Value("bid", 6, 5)}, False, 1)
+    assert accounts.gain_of("Bert", bought) == 10
+    assert accounts.most(lambda member: []) == 20
+
+
+@pytest.mark.parametrize("tick, is_covered", [(2, False), (3, True), (7, True), (8, False)])
+def test_a_value_lies_where_others_cant_gain_of_nothing(tick: int, is_covered: bool) -> None:
+    assert Uncovered(3, 7).covers(tick) == is_covered

@@ -1,6 +1,7 @@
 """A venue in the process of the test, whose clocks and limits the test may set."""
 import asyncio
 import pathlib
+import time
 from collections.abc import AsyncIterator
 from typing import Any
 
@@ -8,10 +9,11 @@ import aiohttp
 import pytest
 import pytest_asyncio
 import served
-from callauction.venue import connection, rates
+from callauction.venue import connection, gates, rates, serving, views
 from callauction.venue.config import Day, Plan
 from callauction.venue.http import Site
 from callauction.venue.log import Log
+from callauction.venue.messages import MessageError, Order
 from callauction.venue.venue import MOST_CONNECTIONS, Venue
 
 pytestmark = pytest.mark.asyncio
@@ -72,6 +74,19 @@ async def test_a_member_is_connected_a_few_times_at_once(client: Any, inside: Ve
     assert len(inside.watchers) == MOST_CONNECTIONS
 
 
+async def test_a_removed_member_says_nothing_more(inside: Venue) -> None:
+    member, _ = await inside.join(inside.members.codes[""], "Anna")
+    board = inside.instruments["XYZ"]
+    board.start_call()
+    first, _ = inside.submit(member, Order(1, "XYZ", "enter,bid,1,200"))
+    assert (await first).reply == "entered 1"
+    inside.remove([member])
+    with pytest.raises(MessageError) as found:
+        inside.submit(member, Order(9, "XYZ", "enter,bid,1,200"))
+    assert found.value.code == "bad_token"
+    assert (await member.done[2].answer).reply == "deleted"
+
+
 async def test_a_log_that_fails_and_goes_on(
     tmp_path: pathlib.Path, monkeypatch: pytest.MonkeyPatch
 ) -> None:
@@ -112,3 +127,62 @@ async def test_a_bucket() -> None:
     assert [bucket.takes() for _ in range(2)] == [True, False]
     now[0] = 100.0
     assert [bucket.takes() for _ in range(4)] == [True, True, True, False]
+
+
+async def test_looks_at_trades_come_in_pages(client: Any, inside: Venue) -> None:
+    """Three members look at 15,000 trades as fast as they may: orders hardly wait."""
+    [instrument] = inside.instruments.values()
+    instrument.trades.extend(views.Trade(it, 2 * it, 2 * it + 1, 1, 200) for it in range(1, 15_001))
+    instrument.start_call()
+    found = [await inside.join(inside.members.codes[""], f"member {it}") for it in range(4)]
+    (me, _), *others = found
+
+    async def look(token: str, first: int) -> list[int]:
+        headers = {"Authorization": f"Bearer {token}"}
+        async with client.get(f"/api/look/trades?first={first}", headers=headers) as answer:
+            return [it["trade"] for it in (await answer.json()).get("trades", [])]
+
+    assert await look(others[0][1], 1) == [*range(1, 501)]
+    assert await look(others[0][1], 14_901) == [*range(14_901, 15_001)]
+    assert await look(others[0][1], 15_001) == []
+
+    async def looks(token: str) -> None:
+        while True:
+            await look(token, 1)
+            await asyncio.sleep(0.05)
+
+    looking = [asyncio.create_task(looks(token)) for _, token in others]
+    waits = []
+    for number in range(1, 31):
+        begin = time.monotonic()
+        answer, _ = inside.submit(me, Order(number, "XYZ", "enter,bid,1,200"))
+        assert (await answer).reply == f"entered {number}"
+        waits.append(time.monotonic() - begin)
+        await asyncio.sleep(0.05)
+    for task in looking:
+        task.cancel()
+    assert sorted(waits)[len(waits) // 2] < 0.2, sorted(waits)
+
+
+async def test_who_has_said_who_it_is_may_be_silent(
+    inside: Venue, monkeypatch: pytest.MonkeyPatch
+) -> None:
+    """Behind gates that wait for a fifth of a second."""
+    for name in ("HEAD_SECONDS", "IDLE_SECONDS"):
+        monkeypatch.setattr(gates, name, 0.2)
+    monkeypatch.setattr(gates, "SWEEP_SECONDS", 0.02)
+    own = gates.Gates()
+    site = Site(inside, served.program(), frozenset(["127.0.0.1"]), own)
+    _, token = await inside.join(inside.members.codes[""], "Anna")
+    async with serving.served(site.application(), own, "127.0.0.1", 0) as port:
+        async with aiohttp.ClientSession() as web:
+            url = f"http://127.0.0.1:{port}/api/socket"
+            async with web.ws_connect(url) as silent, web.ws_connect(url) as known:
+                await known.send_json({"type": "hello", "token": token, "topics": []})
+                assert (await known.receive_json())["type"] == "welcome"
+                async with asyncio.timeout(served.SECONDS):
+                    assert (await silent.receive()).type is aiohttp.WSMsgType.CLOSED
+                await asyncio.sleep(0.5)
+                await known.send_json({"type": "nothing"})
+                assert (await known.receive_json())["error"] == "not_allowed"
+                assert len(own) == 1

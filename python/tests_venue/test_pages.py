@@ -3,28 +3,20 @@
 With VENUE_PICTURES their pictures are kept in that folder.
 """
 import contextlib
-import os
 import pathlib
 import re
 import time
-from collections.abc import Callable, Iterator
+from collections.abc import Iterator
 from typing import Any
 
 import contrast
 import pytest
 import served
-from callauction.venue import Client
-from selenium import webdriver
-from selenium.common.exceptions import StaleElementReferenceException, WebDriverException
-from selenium.webdriver.chrome.options import Options
-from selenium.webdriver.chrome.service import Service
+from browsing import PAGES, SCREEN, TELEPHONE, Page, browser, enters, joins, opened
+from callauction.venue import Client, messages
 from selenium.webdriver.common.by import By
-from selenium.webdriver.support.wait import WebDriverWait
 
-PAGES = served.PACKAGE / "callauction/venue/pages"
 MOST_BYTES = 200 * 1024
-SECONDS = 120
-TELEPHONE, SCREEN = (390, 1000), (1280, 1000)
 DAY = """
 title = "Monday's lesson"
 language = "en"
@@ -39,72 +31,6 @@ low = "1.00"
 high = "9.00"
 reference = "5.00"
 """
-
-
-class Page:
-    """A page in a window of its own browser."""
-
-    def __init__(self, driver: webdriver.Chrome, url: str, size: tuple[int, int]) -> None:
-        self.driver = driver
-        driver.set_window_size(*size)
-        driver.get(url)
-
-    def text(self, name: str) -> str:
-        """What is written in an element."""
-        return str(self.driver.find_element(By.ID, name).text)
-
-    def waits(self, holds: Callable[["Page"], bool]) -> None:
-        """Waits until this holds. Raises TimeoutException."""
-        waiting = WebDriverWait(
-            self.driver, SECONDS, 0.05, ignored_exceptions=[StaleElementReferenceException]
-        )
-        waiting.until(lambda _: holds(self))
-
-    def types(self, **values: str) -> None:
-        """Fills fields."""
-        for name, value in values.items():
-            field = self.driver.find_element(By.ID, name)
-            field.clear()
-            field.send_keys(value)
-
-    def clicks(self, selector: str) -> None:
-        """Clicks on what is there by then."""
-        def is_clicked(page: "Page") -> bool:
-            with contextlib.suppress(WebDriverException):
-                page.driver.find_element(By.CSS_SELECTOR, selector).click()
-                return True
-            return False
-
-        self.waits(is_clicked)
-
-    def picture(self, name: str = "") -> bytes:
-        """Its picture, which is kept where it has a name and a folder is named."""
-        found = bytes(self.driver.get_screenshot_as_png())
-        if name and (folder := os.environ.get("VENUE_PICTURES")):
-            pathlib.Path(folder, f"{name}.png").write_bytes(found)
-        return found
-
-    def errors(self) -> list[str]:
-        """What the browser complains of."""
-        driver: Any = self.driver
-        return [str(it) for it in driver.get_log("browser") if it["level"] == "SEVERE"]
-
-
-@contextlib.contextmanager
-def browser(folder: pathlib.Path) -> Iterator[webdriver.Chrome]:
-    """A browser without a window, and without a network beyond this machine."""
-    options: Any = Options()
-    words = ["--headless=new", "--no-sandbox", "--disable-gpu", "--hide-scrollbars", "--lang=en"]
-    words += ["--host-resolver-rules=MAP * ~NOTFOUND, EXCLUDE 127.0.0.1"]
-    for word in [*words, f"--user-data-dir={folder}"]:
-        options.add_argument(word)
-    options.binary_location = "/usr/bin/chromium"
-    options.set_capability("goog:loggingPrefs", {"browser": "ALL"})
-    driver = webdriver.Chrome(service=Service("/usr/bin/chromedriver"), options=options)
-    try:
-        yield driver
-    finally:
-        driver.quit()
 
 
 @pytest.fixture(scope="module")
@@ -134,39 +60,34 @@ def test_the_pages_are_small_and_name_nothing_elsewhere() -> None:
             assert found == "http://www.w3.org/2000/svg"
 
 
+ENTRY = re.compile(r'(?:^|[{,] ?)\s*(\w+): ("(?:[^"\\]|\\.)*"(?:\s*\+ "(?:[^"\\]|\\.)*")*)', re.M)
+"""A key of texts.js, and its words."""
+MADE = re.compile("[A-Z]|(e|n|help|how|next|order|robot|surplus|why)_|opening|intraday|closing")
+"""Keys that pages make: of errors, refusals, and kinds of things."""
+
+
+def words_of(text: str) -> dict[str, list[str]]:
+    """The keys of a language, with the gaps of each."""
+    return {key: sorted(re.findall(r"\{\d\}", words)) for key, words in ENTRY.findall(text)}
+
+
 def test_both_languages_have_all_words() -> None:
     text = (PAGES / "texts.js").read_text("utf-8")
-    english, german = re.split(r"^  de: \{", text, flags=re.M)
-    key = re.compile(r"(?:^|[{,] ?)\s*(\w+): \"", re.M)
-    of_languages = [set(key.findall(it)) for it in (english, german)]
-    assert of_languages[0] == of_languages[1] and len(of_languages[0]) > 100
+    english, german = map(words_of, re.split(r"^  de: \{", text, flags=re.M))
+    assert english == german and len(english) > 200
     asked = set()
     for file in PAGES.iterdir():
         if file.name != "texts.js":
             text = file.read_text("utf-8")
-            asked |= set(re.findall(r"data-text=\"(\w+)\"|\btext\(\"(\w+)\"\)", text))
-    wanted = {first or second for first, second in asked}
-    assert wanted <= of_languages[0]
-
-
-def joins(page: Page, code: str, name: str) -> None:
-    page.waits(lambda it: it.driver.find_element(By.ID, "join").is_displayed())
-    page.types(code=code.lower(), name=name)
-    page.clicks("#join button")
-    page.waits(lambda it: it.text("who") == name)
-
-
-def enters(page: Page, side: str, quantity: str, price: str) -> None:
-    page.clicks(f"input[value={side}]")
-    page.types(quantity=quantity, price=price)
-    page.clicks("#send")
-    page.waits(lambda it: it.text("news") == "Order entered")
-
-
-def rows(page: Page, table: str) -> list[list[str]]:
-    """The cells of the rows of a table."""
-    found = page.driver.find_elements(By.CSS_SELECTOR, f"#{table} tbody tr")
-    return [[it.text for it in row.find_elements(By.TAG_NAME, "td")] for row in found]
+            found = re.findall(
+                r"data-text=\"(\w+)\"|\btext\(\"(\w+)\"[,)]|NumberFault\(\"(\w+)\"", text
+            )
+            asked |= {"".join(names) for names in found}
+    assert asked <= {*english}
+    others = "".join(it.read_text("utf-8") for it in PAGES.iterdir() if it.name != "texts.js")
+    unused = [key for key in english if key not in asked and not MADE.match(key)]
+    assert [key for key in unused if f'"{key}"' not in others] == []
+    assert {f"e_{code}" for code in messages.ERRORS} <= {*english}
 
 
 def can_be_read(lesson: dict[str, Any]) -> None:
@@ -179,61 +100,160 @@ def can_be_read(lesson: dict[str, Any]) -> None:
 def test_a_lesson(lesson: dict[str, Any]) -> None:
     venue, anna, bert = lesson["venue"], lesson["anna"], lesson["bert"]
     teacher, beamer = lesson["teacher"], lesson["beamer"]
-    anna.waits(lambda it: it.driver.find_element(By.ID, "join").is_displayed())
+    anna.waits(lambda it: it.shows("join"))
     joins(anna, venue.code, "Anna")
     joins(bert, venue.code, "Bert")
-    beamer.waits(lambda it: it.text("code") == venue.code)
-    teacher.waits(lambda it: {row[0] for row in rows(it, "members")} == {"Anna", "Bert"})
-    assert not anna.driver.find_element(By.ID, "send").is_enabled()
+    beamer.waits(lambda it: it.text("code") == venue.code and it.text("count") == "2")
+    teacher.clicks("#tab-class")
+    teacher.waits(lambda it: {row[1] for row in it.rows("members")} == {"Anna", "Bert"})
+    assert anna.is_off("#send")
     can_be_read(lesson)
     venue.do("give", values=[
         {"member": "Anna", "side": "bid", "price": "6.00", "quantity": 100},
         {"member": "Bert", "side": "ask", "price": "4.00", "quantity": 100},
     ])
-    anna.waits(lambda it: "each worth 6.00 EUR" in it.text("value"))
+    anna.waits(lambda it: "each is worth 6.00 EUR to you" in it.text("value"))
+    bert.waits(lambda it: it.find("input[value=ask]").is_selected())
     teacher.clicks("[data-do=start]")
-    anna.waits(lambda it: it.text("phase") == "Call phase · Opening auction")
+    anna.waits(lambda it: it.text("phase") == "Opening auction · call phase")
     enters(anna, "bid", "100", "5,40")
+    assert anna.text("said") == "Order 1 entered: buy 100 at 5.40"
     enters(bert, "ask", "60", "5.10")
-    anna.waits(lambda it: "5.10" in it.text("figures") or "5.40" in it.text("figures"))
-    bert.waits(lambda it: [row[1] for row in rows(it, "orders")] == ["5.10"])
+    anna.waits(lambda it: "Indicative price\n5.40" in it.text("figures"))
+    bert.waits(lambda it: [row[:3] for row in it.rows("orders")] == [["Sell", "60", "5.10"]])
+    assert bert.find("input[value=ask]").is_selected(), "the side stays"
+    teacher.clicks("#tab-settings")
     teacher.clicks("input[value=all]")
     beamer.waits(lambda it: bool(it.driver.find_elements(By.CSS_SELECTOR, "#book path.bids")))
-    for name in ("anna", "teacher", "beamer"):
-        assert len(lesson[name].picture()) > 10_000
     can_be_read(lesson)
     teacher.clicks("[data-do=uncross]")
-    anna.waits(lambda it: "Price 5.40, Volume 60" in it.text("result"))
-    anna.waits(lambda it: [row[:3] for row in rows(it, "fills")] == [["Buy", "60", "5.40"]])
+    anna.waits(lambda it: it.text("result") == "Opening auction: price 5.40, volume 60")
+    anna.waits(lambda it: it.text("own-result") == "You bought 60 at 5.40.")
+    anna.waits(lambda it: [row[:3] for row in it.rows("fills")] == [["Buy", "60", "5.40"]])
     anna.waits(lambda it: "Your gain: 36.00 EUR" in it.text("value"))
-    anna.waits(lambda it: [row[2:4] for row in rows(it, "orders")] == [["40", "60"]])
-    beamer.waits(lambda it: rows(it, "trades") == [["1", "Anna", "Bert", "60", "5.40"]])
-    beamer.waits(lambda it: "60 %" in it.text("efficiency"))
+    anna.waits(lambda it: [row[1:4] for row in it.rows("orders")] == [["40", "5.40", "60"]])
     for name in ("anna", "bert", "teacher", "beamer"):
         assert len(lesson[name].picture()) > 10_000
         assert lesson[name].errors() == []
 
 
+def test_the_screen_after_an_uncross(lesson: dict[str, Any]) -> None:
+    beamer, teacher = lesson["beamer"], lesson["teacher"]
+    beamer.waits(lambda it: it.text("result") == "5.40")
+    assert beamer.text("result-volume") == "60"
+    beamer.waits(lambda it: it.rows("trades") == [["Anna", "Bert", "60"]])
+    beamer.waits(lambda it: "60 %" in it.text("efficiency"))
+    beamer.waits(lambda it: it.text("why") == (
+        "60 shares, the most, can be traded at each of 5.10 and 5.40.\n"
+        "What is left over is all to buy, so the highest of them is the price: 5.40."))
+    assert "5.40" in beamer.text("crossing"), "the crossing stays"
+    size = "return parseFloat(getComputedStyle(document.getElementById(arguments[0])).fontSize)"
+    beamer.resizes((1920, 1080))
+    assert beamer.runs(size, "result") >= 120
+    beamer.resizes(SCREEN)
+    beamer.clicks("#replay")
+    beamer.waits(lambda it: it.text("replay-at") == "Order 2 of 2 · Price 5.40")
+    beamer.waits(lambda it: it.text("replay-at") == "" and it.text("replay") == "Replay")
+    teacher.clicks("#tab-class")
+    teacher.waits(lambda it: [[row[0], row[1], row[4]] for row in it.rows("members")] == [
+        ["2", "Anna", "36.00"], ["1", "Bert", "84.00"]])
+    teacher.clicks("[data-sort=gain] button")
+    assert [row[1] for row in teacher.rows("members")] == ["Bert", "Anna"]
+    assert teacher.find("[data-sort=gain]").get_attribute("aria-sort") == "descending"
+    can_be_read(lesson)
+
+
 def test_a_change_and_a_delete(lesson: dict[str, Any]) -> None:
     venue, anna = lesson["venue"], lesson["anna"]
     venue.do("start")
-    anna.waits(lambda it: it.text("phase") == "Call phase · Intraday auction")
-    anna.clicks("#orders tbody button:nth-of-type(1)")
+    anna.waits(lambda it: it.text("phase") == "Intraday auction · call phase")
+    anna.clicks("#orders tbody [data-name=change]")
+    assert anna.text("order-head") == "Change order 1"
     anna.types(quantity="30", price="5.20")
     anna.clicks("#send")
-    anna.waits(lambda it: [row[1:3] for row in rows(it, "orders")] == [["5.20", "30"]])
-    anna.clicks("#orders tbody button:nth-of-type(2)")
-    anna.waits(lambda it: rows(it, "orders") == [])
-    assert anna.text("news") == "Order deleted"
+    anna.waits(lambda it: [row[1:3] for row in it.rows("orders")] == [["30", "5.20"]])
+    assert anna.text("said").startswith("Order 1 changed: 30 at 5.20")
+    anna.clicks("#orders tbody [data-name=delete]")
+    anna.waits(lambda it: it.rows("orders") == [])
+    assert anna.text("said") == "Order 1 deleted"
 
 
-def test_a_refusal_is_said(lesson: dict[str, Any]) -> None:
+def test_a_market_order_leaves_the_price_free(lesson: dict[str, Any]) -> None:
+    anna = lesson["anna"]
+    anna.clicks("#market")
+    assert not anna.find("#price").is_enabled()
+    anna.types(quantity="10")
+    anna.clicks("#send")
+    anna.waits(lambda it: it.text("said").endswith(" entered: buy 10 at market"))
+    anna.waits(lambda it: it.find("#price").is_enabled() and not it.find("#market").is_selected())
+    enters(anna, "bid", "10", "4.00")
+    anna.waits(lambda it: [row[2] for row in it.rows("orders")] == ["market", "4.00"])
+    for _ in range(2):
+        anna.clicks("#orders tbody [data-name=delete]")
+        anna.waits(lambda it: not it.text("said") or it.text("said").endswith("deleted"))
+    anna.waits(lambda it: it.rows("orders") == [])
+
+
+REFUSED = [
+    ({"quantity": "5", "price": "9.01"}, "Limit price: from 1.00 to 9.00.", "price"),
+    ({"quantity": "5", "price": "5.005"}, "Limit price: in steps of 0.01.", "price"),
+    ({"quantity": "5", "price": ""}, "Limit price: enter a number.", "price"),
+    ({"quantity": "0", "price": "5"}, "Quantity: at least 1.", "quantity"),
+    ({"quantity": "1.000", "price": "5"},
+     "Quantity: “1.000” is no whole number. Write a thousand as 1000 or 1,000.", "quantity"),
+    ({"quantity": "1e3", "price": "5"},
+     "Quantity: “1e3” can't be read as one number. Write a thousand as 1000 or 1,000, "
+     "a fraction as in 1,234.5.", "quantity"),
+]
+
+
+@pytest.mark.parametrize("typed, said, field", REFUSED)
+def test_a_fault_is_said_and_stays(
+    lesson: dict[str, Any], typed: dict[str, str], said: str, field: str
+) -> None:
     bert = lesson["bert"]
     bert.clicks("input[value=ask]")
-    bert.types(quantity="5", price="9.01")
+    bert.types(**typed)
     bert.clicks("#send")
-    bert.waits(lambda it: it.text("news") == "refused: price out of bounds")
+    bert.waits(lambda it: it.text("said") == said)
+    kept = {name: bert.find(f"#{name}").get_attribute("value") for name in typed}
+    assert kept == typed and bert.find("input[value=ask]").is_selected()
+    assert bert.runs("return document.activeElement.id") == field
+    assert bert.find(f"#{field}").get_attribute("aria-invalid") == "true"
     assert contrast.faults(bert.driver, "dark") == contrast.faults(bert.driver, "light") == []
+
+
+def test_two_presses_are_one(lesson: dict[str, Any], tmp_path: pathlib.Path) -> None:
+    """Of who joins, and of the teacher."""
+    venue, teacher = lesson["venue"], lesson["teacher"]
+    twice = "const it = document.querySelector(arguments[0]); it.click(); it.click()"
+    asked = "return performance.getEntriesByName(location.origin + arguments[0]).length"
+    with opened(tmp_path, venue.url) as page:
+        page.waits(lambda it: it.shows("join"))
+        page.types(code=venue.code, name="Hasty")
+        page.runs(twice, "#join button")
+        page.waits(lambda it: it.text("who") == "Hasty")
+        assert page.runs(asked, "/api/join") == 1
+    venue.do("remove", member="Hasty")
+    teacher.clicks("#tab-auction")
+    before = teacher.runs(asked, "/api/operator")
+    teacher.runs(twice, "[data-do=freeze]")
+    teacher.waits(lambda it: not it.is_off("[data-do=thaw]"))
+    teacher.runs(twice, "[data-do=thaw]")
+    teacher.waits(lambda it: not it.is_off("[data-do=freeze]"))
+    assert teacher.runs(asked, "/api/operator") == before + 2
+
+
+def test_what_the_auction_refuses_stays_in_the_form(lesson: dict[str, Any]) -> None:
+    bert = lesson["bert"]
+    bert.types(quantity="7", price="5.00")
+    bert.clicks("#more summary")
+    bert.find("#only").send_keys("the opening alone")
+    bert.clicks("#send")
+    bert.waits(lambda it: it.text("said") == "Refused: the auction that it is for is past.")
+    assert bert.find("#quantity").get_attribute("value") == "7"
+    bert.find("#only").send_keys("every auction")
+    bert.clicks("#more summary")
 
 
 def test_a_member_comes_again_and_speaks_german(lesson: dict[str, Any]) -> None:
@@ -241,54 +261,112 @@ def test_a_member_comes_again_and_speaks_german(lesson: dict[str, Any]) -> None:
     anna.driver.refresh()
     anna.waits(lambda it: it.text("who") == "Anna")
     anna.clicks("#language")
-    anna.waits(lambda it: it.text("phase") == "Aufrufphase · Untertägige Auktion")
-    assert anna.driver.find_element(By.TAG_NAME, "html").get_attribute("lang") == "de"
-    assert "5,40" in anna.text("result")
+    anna.waits(lambda it: it.text("phase") == "Untertägige Auktion · Aufrufphase")
+    assert anna.find("html").get_attribute("lang") == "de"
+    anna.waits(lambda it: "5,40" in it.text("figures"))
+    anna.types(quantity="1.000", price="4.50")
+    assert anna.text("preview") == "Sie geben ein: Kauf von 1.000 zu 4,50, zusammen 4.500,00 EUR"
     anna.clicks("#language")
+    anna.types(quantity="", price="")
+
+
+def test_who_leaves_is_asked(lesson: dict[str, Any]) -> None:
+    bert = lesson["bert"]
+    bert.clicks("#leave")
+    bert.clicks("#asking-no")
+    assert bert.text("who") == "Bert" and not bert.shows("asking")
+
+
+def test_two_tabs_of_a_telephone(lesson: dict[str, Any], tmp_path: pathlib.Path) -> None:
+    """They are one member, who leaves in both, and joins again in both."""
+    venue = lesson["venue"]
+    with opened(tmp_path, venue.url) as page:
+        driver: Any = page.driver
+        joins(page, venue.code, "Tim")
+        first = driver.current_window_handle
+        driver.switch_to.new_window("tab")
+        driver.get(venue.url)
+        page.waits(lambda it: it.text("who") == "Tim")
+        page.clicks("#leave")
+        page.clicks("#asking-yes")
+        page.waits(lambda it: it.shows("join"))
+        second = driver.current_window_handle
+        driver.switch_to.window(first)
+        page.waits(lambda it: it.shows("join") and not it.shows("trading"))
+        joins(page, venue.do("code", member="Tim")["code"], "Tim")
+        driver.switch_to.window(second)
+        page.waits(lambda it: it.text("who") == "Tim" and it.shows("trading"))
+    venue.do("remove", member="Tim")
+
+
+@pytest.mark.parametrize("page", ["teacher", "beamer"])
+def test_a_page_without_its_token_says_how_it_is_opened(
+    lesson: dict[str, Any], tmp_path: pathlib.Path, page: str
+) -> None:
+    with opened(tmp_path, f"{lesson['venue'].url}{page}") as found:
+        found.waits(lambda it: f"the line that begins with “{page}”" in it.text("closed"))
+        assert not found.shows("open") and found.errors() == []
 
 
 VALUES = [("bid", 7.2), ("bid", 6.6), ("bid", 6.1), ("bid", 5.7), ("bid", 5.2), ("bid", 4.6),
           ("ask", 3.1), ("ask", 3.9), ("ask", 4.3), ("ask", 4.9), ("ask", 5.5), ("ask", 6.4)]
 """What a crowd was handed out. It bids a little less than its values, and asks a little more."""
+ORDER = (10, 4, 8, 2, 11, 6, 3, 9, 1, 7, 5)
+"""Who enters after whom."""
 
 
 def test_a_crowd(lesson: dict[str, Any]) -> None:
-    """The pictures of docs/VENUE.md: a class in its call phase."""
+    """The pictures of docs/VENUE.md: a class in its call phase, and what came of it."""
     venue, pages = lesson["venue"], [lesson[name] for name in ("anna", "teacher", "beamer")]
+    beamer = lesson["beamer"]
     names = ["Anna", *(f"Student {number}" for number in range(2, len(VALUES) + 1))]
     tokens = {name: venue.join(name) for name in names[1:]}
-    venue.do("give", values=[
+    venue.do("uncross")
+    venue.do("next", round=2)
+    lesson["teacher"].clicks("#tab-auction")
+    venue.do("give", to="all", replace=True, values=[
         {"member": name, "side": side, "price": f"{value:.2f}", "quantity": 100}
         for name, (side, value) in zip(names, VALUES)
     ])
+    for page, size in zip(pages, ((390, 844), (1280, 800), (1280, 720))):
+        page.resizes(size)
+    venue.do("start")
+    lesson["anna"].waits(lambda it: "7.20 EUR" in it.text("value") and not it.is_off("#send"))
     enters(lesson["anna"], "bid", "100", "6.90")
-    for place, (name, (side, value)) in enumerate(zip(names, VALUES)):
-        if name in tokens:
-            price = value - 0.2 if side == "bid" else value + 0.2
-            with Client(venue.url, tokens[name]) as member:
-                member.enter(side, 50 + 10 * (place % 6), f"{price:.2f}")
-            time.sleep(0.15)
-    venue.do("end")
+    for place in ORDER:
+        name, (side, value) = names[place], VALUES[place]
+        price = value - 0.2 if side == "bid" else value + 0.2
+        with Client(venue.url, tokens[name]) as member:
+            member.enter(side, 50 + 10 * (place % 6), f"{price:.2f}")
+        time.sleep(0.3)  # so that the course of the price can be seen
     for page in pages:
-        page.waits(lambda it: it.text("phase") == "Call ended · Intraday auction")
-        page.waits(lambda it: "Price" in it.text("figures"))
+        page.waits(lambda it: "Indicative price\n5.50" in it.text("figures"))
     for name in ("member", "teacher", "beamer"):
         page = lesson["anna" if name == "member" else name]
-        page.driver.execute_script("window.scrollTo(0, 0)")
+        page.runs("window.scrollTo(0, 0)")
         assert len(page.picture(name)) > 10_000
+    venue.do("end")
+    for page in pages:
+        page.waits(lambda it: it.text("phase") == "Opening auction · call ended")
     venue.do("uncross")
-    lesson["beamer"].waits(lambda it: len(rows(it, "trades")) > 3)
-    lesson["beamer"].waits(lambda it: " %" in it.text("efficiency"))
+    beamer.waits(lambda it: len(it.rows("trades")) > 1 and " %" in it.text("efficiency"))
+    beamer.waits(lambda it: bool(it.text("why")))
+    beamer.picture("result")
+    venue.do("start")
+    venue.do("uncross")
+    beamer.waits(lambda it: it.text("result") == "no price, nothing was executed")
+    beamer.find("#which").send_keys("Opening auction")
+    beamer.waits(lambda it: it.text("result") == "5.50" and len(it.rows("trades")) > 2)
+    beamer.clicks("#replay")
+    beamer.waits(lambda it: it.text("replay-at").startswith("Order 12 of 12"))
     can_be_read(lesson)
     assert all(page.errors() == [] for page in pages)
 
 
 def test_each_field_has_a_name(lesson: dict[str, Any]) -> None:
-    lesson["anna"].clicks("#more summary")
     for name in ("anna", "teacher", "beamer"):
         driver = lesson[name].driver
+        lesson[name].runs("for (const it of document.querySelectorAll('details')) it.open = true")
         for field in driver.find_elements(By.CSS_SELECTOR, "input, select, button"):
             if field.is_displayed():
                 assert field.accessible_name, field.get_attribute("outerHTML")
-        wide = driver.execute_script("return document.documentElement.scrollWidth - innerWidth")
-        assert wide <= 0

@@ -184,39 +184,6 @@ def test_two_instruments_and_their_members(tmp_path: pathlib.Path) -> None:
         assert venue.call("api/download/members/A", token=venue.operator)[1] == "number,name\n"
 
 
-def test_more_members_than_numbers(tmp_path: pathlib.Path) -> None:
-    with served.served(tmp_path, FAST) as venue:
-        tokens = joined(venue, 65)
-        venue.do("start")
-
-        async def first_orders() -> list[str]:
-            codes = []
-            for token in tokens:
-                async with AsyncClient(venue.url, token) as me:
-                    try:
-                        await me.enter("bid", 1, "2.00")
-                        codes.append("")
-                    except VenueError as fault:
-                        codes.append(fault.code)
-            return codes
-
-        assert asyncio.run(first_orders()) == [""] * 63 + ["instrument_full"] * 2
-
-
-def joined(venue: Served, count: int) -> list[str]:
-    """The tokens of new members, who join no faster than they may."""
-    tokens: list[str] = []
-    while len(tokens) < count:
-        body = {"code": venue.code, "name": f"robot {len(tokens)}"}
-        status, found = venue.call("api/join", body)
-        if status == 200:
-            tokens.append(found["token"])
-        else:
-            assert found["error"] == "too_fast"
-            time.sleep(0.3)
-    return tokens
-
-
 def test_commands_are_kept_for_the_operator(tmp_path: pathlib.Path) -> None:
     day = FAST.replace("sync = false", "sync = false\nreserve = 3")
     with served.served(tmp_path, day + "[[instrument]]\ncalls = 5\n") as venue:

@@ -125,6 +125,13 @@ impl DayState {
         self.auction
     }
 
+    /// Whether an interruption extended this call phase.
+    pub(crate) fn is_extended(&self) -> bool
+        ensures { result ≡ self.now.state.extended }
+    {
+        self.extended
+    }
+
     /// The last auction price, or the one that was handed in.
     pub(crate) fn reference(&self) -> u32
         ensures { result ≡ self.now.state.reference }

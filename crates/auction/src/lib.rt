@@ -171,6 +171,13 @@ impl Auction {
         self.day.auction()
     }
 
+    /// Whether an interruption extended the current call phase.
+    pub fn is_extended(&self) -> bool
+        ensures { result ≡ self.now.state.extended }
+    {
+        self.day.is_extended()
+    }
+
     /// The reference price in ticks: the last auction price of the day, and before it that of the config.
     pub fn reference(&self) -> u32
         ensures { result ≡ self.now.state.reference }

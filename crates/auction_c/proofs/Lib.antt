@@ -7,3 +7,4 @@ mod CopiedEntryLaws
 pub mod LadderTicksLaws
 mod ManyLaws
 mod OpenLaws
+mod ManyCallLaws

@@ -19,20 +19,21 @@ pub map-some : {B : Type 0} (f : B → BoardMember) (xs : List B) → map (λ b.
 map-some f [] = refl
 map-some f (x ∷ xs) = ap (λ ys. Some (f x) ∷ ys) (map-some f xs)
 
-pub holds_new_members : {B : Type 0} (f : B → BoardMember) (config : Config) (n : ℕ) (b : Book) (boxes : List B)
-    (members : List BoardMember) (handles : List AuctionMember)
-    → map f boxes ≡ members → members ≡ new_board_members (opened_board config n b) n
-    → map (λ (h : AuctionMember). h.boxed.value) handles ≡ map (λ x. Some (f x)) boxes → HoldsNewMembers config handles
-holds_new_members f config n b boxes members handles is_b is_m is_h =
-    let new = new_board_members (opened_board config n b) n in
+pub holds_new_members : {B : Type 0} (f : B → BoardMember) (identity : ℕ) (config : Config) (n : ℕ) (b : Book)
+    (boxes : List B) (members : List BoardMember) (handles : List AuctionMember)
+    → map f boxes ≡ members → members ≡ new_board_members (opened_board identity config n b) n
+    → map (λ (h : AuctionMember). h.boxed.value) handles ≡ map (λ x. Some (f x)) boxes
+    → HoldsNewMembers identity config handles
+holds_new_members f identity config n b boxes members handles is_b is_m is_h =
+    let new = new_board_members (opened_board identity config n b) n in
     let all : map (λ (h : AuctionMember). h.boxed.value) handles ≡ map Some new =
     is_h ∙ map-some f boxes ∙ ap (map Some) (is_b ∙ is_m) in
     let long : length handles ≡ n =
     sym (length-map handles (λ (h : AuctionMember). h.boxed.value)) ∙ ap length all ∙ length-map new Some
-    ∙ new_board_members-length (opened_board config n b) n in
+    ∙ new_board_members-length (opened_board identity config n b) n in
     record {
       book = b;
-      boxed = all ∙ ap (λ (k : ℕ). map Some (new_board_members (opened_board config k b) k)) (sym long);
+      boxed = all ∙ ap (λ (k : ℕ). map Some (new_board_members (opened_board identity config k b) k)) (sym long);
     }
 
 pub as_many : {B : Type 0} (f : B → BoardMember) (p : OpenedBoard) (n m : ℕ) (boxes : List B)

@@ -1,12 +1,14 @@
 -- What a call from C does to the board's member that its handle holds, and what it writes.
 use Rattle.std.specs.Prelude.{◌≡◌, ◌≢◌, ◌<◌, ◌⊎◌, ◌++◌, ℕ, List, [], ◌∷◌, length, map, get_or, min, take, drop}
-use Rattle.std.specs.Prelude.{Bool, ◌||◌, not, nat_eq, nat_lt, Option, None, Some, is_some, IsSomeAnd}
+use Rattle.std.specs.Prelude.{All, Bool, ◌||◌, not, nat_eq, nat_lt, Option, None, Some, is_some, IfSome, IsSomeAnd}
 use Rattle.std.specs.List.{list_any}
 use Rattle.logbook.specs.Pages.{Book}
+use Rattle.auction_terms.specs.Auxiliary.RunningAuction.{RunningAuction, auction_after}
 use Rattle.auction_terms.specs.Day.{IsLegal, calls_of}
 use Rattle.auction_terms.specs.declared.Config.{Config}
 use Rattle.auction_terms.specs.declared.Command.{Command}
 use Rattle.auction_terms.specs.declared.Entry.{Entry}
+use Rattle.auction_terms.specs.declared.OpenOrder.{OpenOrder}
 use Rattle.board_terms.specs.Closings.{IsAccount}
 use Rattle.board_terms.specs.CallsAndLooks.{CallsOnce, EndsWithCall, IsLook, SeesFullHistory}
 use Rattle.board_terms.specs.declared.calls.CallFault.{CallFault}
@@ -17,15 +19,18 @@ use Rattle.shared_board.specs.BoardViews.{OpenedBoard, BoardMember, FloorView, I
 use Rattle.shared_board.specs.BoardViews.{SeesStory, floor_view}
 use Rattle.shared_board.specs.BoardViews.{new_board_members, opened_board, ladder_after, tape_after}
 use Rattle.auction_c.specs.declared.member_handle.AuctionMember.{AuctionMember}
+use Rattle.auction_c.specs.declared.structs.AuctionDayState.{AuctionDayState}
 use Rattle.auction_c.specs.declared.structs.AuctionEntry.{AuctionEntry}
 use Rattle.auction_c.specs.declared.structs.AuctionMarketOrders.{AuctionMarketOrders}
+use Rattle.auction_c.specs.declared.structs.AuctionOrder.{AuctionOrder}
 use Rattle.auction_c.specs.declared.structs.AuctionReceipt.{AuctionReceipt}
 use Rattle.auction_c.specs.declared.structs.AuctionShown.{AuctionShown}
 use Rattle.auction_c.specs.declared.structs.AuctionTrade.{AuctionTrade}
 use Rattle.auction_c.specs.declared.errors.TheConstants.{BAD_LENGTH, BEHIND, BUSY, CLOSED, FULL, MISSING_MEMBER}
-use Rattle.auction_c.specs.declared.errors.TheConstants.{NO_MEMBER, OVERTAKEN}
+use Rattle.auction_c.specs.declared.errors.TheConstants.{NO_MEMBER, NO_MEMORY, OVERTAKEN}
 use Rattle.auction_c.specs.Calling.{ladder_error, ticks_of}
-use Rattle.auction_c.specs.Encoding.{display_out, market_out, reply_out, trade_out}
+use Rattle.auction_c.specs.Encoding.{display_out, market_out, order_out, reply_out, state_out}
+use Rattle.auction_c.specs.Encoding.{trade_out}
 use Rattle.auction_c.specs.Entries.{AreEntries}
 
 abbrev pub receipt_out : Receipt → AuctionReceipt
@@ -84,6 +89,10 @@ pub record SeesMore (m : BoardMember) : Type 0 where
 abbrev pub IsShowError : BoardMember → ℕ → Type 0
 IsShowError m error = IsLockError error ⊎ ((error ≡ BEHIND) × SeesMore m)
 
+-- the same of a list of orders or a new copy, which take memory
+abbrev pub IsListError : BoardMember → ℕ → Type 0
+IsListError m error = IsShowError m error ⊎ (error ≡ NO_MEMORY)
+
 -- the same of a ladder, whose arrays may have other lengths than there are ticks, which is looked at first
 abbrev pub IsLadderError : BoardMember → ℕ → ℕ → ℕ → Type 0
 IsLadderError m bids asks error =
@@ -117,6 +126,28 @@ pub record ShowsTrades (seen : ℕ) (room trades : List AuctionTrade) (copied ca
       ≡ map trade_out (take copied (drop seen (tape_after old.board.config (calls_of history)))) ++ drop copied room
   pub calls_are : calls ≡ length history
 
+-- the orders that are listed of the auction, as many as fit, after all calls that the member has seen now
+pub record ShowsOrders (listed : RunningAuction → List OpenOrder) (room orders : List AuctionOrder) (copied calls : ℕ)
+    (old new : BoardMember) : Type 0 where
+  pub history : List Entry
+  pub sees : SeesHistory old new history
+  pub copied_is : copied ≡ min (length (listed (auction_after old.board.config (calls_of history)))) (length room)
+  pub orders_are : orders
+      ≡ map order_out (take copied (listed (auction_after old.board.config (calls_of history)))) ++ drop copied room
+  pub calls_are : calls ≡ length history
+
+-- where the day is after all calls that the member has seen now
+pub record ShowsState (out : AuctionDayState) (old new : BoardMember) : Type 0 where
+  pub history : List Entry
+  pub sees : SeesHistory old new history
+  pub state_is : out ≡ state_out (auction_after old.board.config (calls_of history))
+
+-- the copy is the board's auction after all calls that the member has seen now
+pub record IsClone (copy : RunningAuction) (old new : BoardMember) : Type 0 where
+  pub history : List Entry
+  pub sees : SeesHistory old new history
+  pub copy_is : copy ≡ auction_after old.board.config (calls_of history)
+
 -- the entries of the history after the first ones, as many as fit, of all calls that the member has seen now
 pub record ShowsEntries (seen : ℕ) (room entries : List AuctionEntry) (copied : ℕ) (old new : BoardMember)
     : Type 0 where
@@ -135,12 +166,14 @@ pub record HoldAccounts (f : FloorView) (handles : List AuctionMember) : Type 0 
   pub all : length handles ≡ f.board.members
   pub each : (k : ℕ) (d : AuctionMember) → k < length handles → HoldsAccount f k (get_or handles k d).boxed.value
 
--- what is wrong with the member at this place: another number, or an account that isn't one of this legal history
+-- what is wrong with the member at this place: another board, another number, or an account that isn't one of this
+-- legal history
 abbrev pub IsAccountError : FloorView → ℕ → BoardMember → ℕ → Type 0
 IsAccountError f place m error =
-    ((m.view.number ≢ place) × (error ≡ MISSING_MEMBER))
-    ⊎ ((m.view.number ≡ place) × (error ≡ BEHIND) × IsLegal f.board.config f.history
-    × (IsAccount (calls_of f.history) m.view → ⊥))
+    ((m.board.identity ≢ f.board.identity) × (error ≡ MISSING_MEMBER))
+    ⊎ (((m.view.number ≢ place) × (error ≡ MISSING_MEMBER))
+    ⊎ ((m.board ≡ f.board) × (m.view.number ≡ place) × (error ≡ BEHIND) × IsLegal f.board.config f.history
+    × (IsAccount (calls_of f.history) m.view → ⊥)))
 
 -- the same of a handle
 abbrev pub IsHandleError : FloorView → ℕ → Option BoardMember → ℕ → Type 0
@@ -189,8 +222,13 @@ pub record WritesClosing (board : OpenedBoard) (handles : List AuctionMember) (e
 abbrev pub is_in_use : List AuctionMember → Bool
 is_in_use handles = list_any (λ (h : AuctionMember). is_some h.boxed.value) handles
 
--- each handle holds the member with its place's number, all of one new board of this config
-pub record HoldsNewMembers (config : Config) (handles : List AuctionMember) : Type 0 where
+-- no two boards of the handles have the same identity: each member's board is the one with its identity
+abbrev pub AreOfBoards : (ℕ → OpenedBoard) → List AuctionMember → Type 0
+AreOfBoards boards handles =
+    All (λ (h : AuctionMember). IfSome h.boxed.value (λ (m : BoardMember). m.board ≡ boards m.board.identity)) handles
+
+-- each handle holds the member with its place's number, all of one new board of this identity and config
+pub record HoldsNewMembers (identity : ℕ) (config : Config) (handles : List AuctionMember) : Type 0 where
   pub book : Book
   pub boxed : map (λ (h : AuctionMember). h.boxed.value) handles
-      ≡ map Some (new_board_members (opened_board config (length handles) book) (length handles))
+      ≡ map Some (new_board_members (opened_board identity config (length handles) book) (length handles))

@@ -1,5 +1,5 @@
--- How replies, displays, trades, ladders and configs are written for C.
-use Rattle.std.specs.Prelude.{ℕ, Bool, Option, Some, None, if◌then◌else◌, is_some, unwrap_or}
+-- How replies, displays, trades, ladders, states and configs are written for C.
+use Rattle.std.specs.Prelude.{ℕ, ◌-◌, Bool, Option, Some, None, if◌then◌else◌, is_some, unwrap_or}
 use Rattle.auction_terms.specs.declared.Config.{Config}
 use Rattle.auction_terms.specs.declared.Side.{Side}
 use Rattle.auction_terms.specs.declared.Side.TheVariants.{Bid, Ask}
@@ -17,11 +17,13 @@ use Rattle.auction_terms.specs.declared.Restriction.TheVariants.{Unrestricted, O
 use Rattle.auction_terms.specs.declared.Reply.{Reply}
 use Rattle.auction_terms.specs.declared.Reply.TheVariants.{Entered, Changed, Deleted, OpenOrder, Indicated, Traded}
 use Rattle.auction_terms.specs.declared.Reply.TheVariants.{Uncrossed, Interrupted, Refused as IsRefused}
+use Rattle.auction_terms.specs.Auxiliary.RunningAuction.{RunningAuction}
 use Rattle.auction_terms.specs.Book.{tick_of}
 use Rattle.auction_terms.specs.Ladder.{LadderView}
 use Rattle.auction_terms.specs.Refusals.{refusal_number}
 use Rattle.auction_c.specs.declared.structs.AuctionCommand.{AuctionCommand}
 use Rattle.auction_c.specs.declared.structs.AuctionConfig.{AuctionConfig}
+use Rattle.auction_c.specs.declared.structs.AuctionDayState.{AuctionDayState}
 use Rattle.auction_c.specs.declared.structs.AuctionMarketOrders.{AuctionMarketOrders}
 use Rattle.auction_c.specs.declared.structs.AuctionOrder.{AuctionOrder}
 use Rattle.auction_c.specs.declared.structs.AuctionReply.{AuctionReply}
@@ -129,6 +131,22 @@ trade_out t = record { quantity = t.quantity; bid = t.bid; ask = t.ask; tick = t
 -- the quantities of the market orders
 abbrev pub market_out : LadderView → AuctionMarketOrders
 market_out ladder = record { bids = ladder.market_bids; asks = ladder.market_asks }
+
+-- the auction whose call phase it is, 0 after the day
+abbrev pub current_auction_out : Option AuctionKind → ℕ
+current_auction_out None = 0
+current_auction_out (Some kind) = auction_kind_out kind
+
+-- where the day is
+abbrev pub state_out : RunningAuction → AuctionDayState
+state_out a = record {
+  reference = a.state.reference;
+  calls = a.calls;
+  calls_left = a.config.max_calls - a.calls;
+  auction = current_auction_out a.state.auction;
+  in_call = flag_out (is_some a.state.auction);
+  extended = flag_out a.state.extended;
+}
 
 abbrev pub config_out : Config → AuctionConfig
 config_out c = record {

@@ -8,3 +8,4 @@ pub mod Encoding
 pub mod ReadBack
 pub mod Entries
 pub mod BoardCalls
+pub mod ManyCalls

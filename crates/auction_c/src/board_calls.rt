@@ -1,35 +1,41 @@
 //! The exports of a board's members.
-ghost use Rattle.std.specs.Prelude.{◌≡◌, ◌≢◌, ◌<◌, ◌≤◌, true, false, length};
-ghost use Rattle.std.specs.Prelude.{All, None, IfNone, IfSome, IsNone, IsSomeAnd};
+ghost use Rattle.std.specs.Prelude.{◌≡◌, ◌≢◌, ◌<◌, ◌≤◌, ℕ, true, false, length};
+ghost use Rattle.std.specs.Prelude.{None, IfNone, IfSome, IsNone, IsSome, IsSomeAnd};
 ghost use Rattle.auction_c.specs.BoardCalls.{HoldsAfter, HoldsNewMembers, RecordsCall, ShowsDisplay, is_in_use};
-ghost use Rattle.auction_c.specs.BoardCalls.{ShowsEntries, ShowsLadder, ShowsTrades, WritesClosing, first_boxed};
-ghost use Rattle.auction_c.specs.BoardCalls.{IsCloseError, lacks_room};
-ghost use Rattle.auction_c.specs.BoardCalls.{FindsFull, IsBehindBoard, IsCallError, IsLadderError, IsShowError};
+ghost use Rattle.auction_c.specs.BoardCalls.{ShowsEntries, ShowsLadder, ShowsState, ShowsTrades, WritesClosing};
+ghost use Rattle.auction_c.specs.BoardCalls.{AreOfBoards, IsCloseError, first_boxed, lacks_room};
+ghost use Rattle.auction_c.specs.BoardCalls.{FindsFull, IsBehindBoard, IsCallError, IsClone, IsLadderError};
+ghost use Rattle.auction_c.specs.BoardCalls.{IsListError, IsShowError};
+ghost use Rattle.auction.specs.OpenOrders as limits;
 ghost use Rattle.auction_c.specs.Calling.{fault_number, ladder_error, ticks_of};
 ghost use Rattle.auction_c.specs.Decoding as decoded_as;
 ghost use Rattle.auction_c.specs.Encoding as encoded_as;
+ghost use Rattle.auction_c.specs.ManyCalls.{CallsMany, IsSameFrom};
 ghost use Rattle.auction_c.specs.declared.errors.TheConstants.{BAD_LENGTH, BEHIND, FULL, NO_MEMBER};
 ghost use Rattle.board_terms.specs.BoardOpening.{board_fault};
 ghost use Rattle.shared_board.specs.BoardViews.{OpenedBoard};
 
 use crate::board::calling::{call_one, look_one};
+use crate::board::calling_many::call_many;
+use crate::board::cloning::{clone_over_same, cloned};
 use crate::board::closing::close_all;
 use crate::board::opening::{fill, is_in_use};
-use crate::board::showing::{show_entries, show_ladder, show_trades};
+use crate::board::showing::{show_entries, show_ladder, show_state, show_trades};
 use crate::decoding::{command_in, config_in};
 use crate::encoding::config_out;
 use crate::errors::{
-    BAD_CAPACITY, DONE, FULL, IN_USE, NO_COMMAND, NO_CONFIG, NO_MEMBER, NO_MEMORY,
+    BAD_CAPACITY, BAD_LENGTH, DONE, FULL, IN_USE, NO_COMMAND, NO_CONFIG, NO_MEMBER, NO_MEMORY,
 };
+use crate::handle::AuctionHandle;
 use crate::member_handle::AuctionMember;
 use crate::structs::{
-    AuctionCommand, AuctionConfig, AuctionEntry, AuctionMarketOrders, AuctionReceipt, AuctionShown,
-    AuctionTrade,
+    AuctionCommand, AuctionConfig, AuctionDayState, AuctionEntry, AuctionMarketOrders,
+    AuctionReceipt, AuctionShown, AuctionTrade,
 };
 use std::alloc::Global;
 
 /// Opens a board with as many members as there are handles: each handle then holds the member with its place's number,
-/// from 0.
+/// from 0. The caller gives each board an identity of its own, which a closing knows its members by.
 ///
 /// Where a handle holds a member already it answers `IN_USE`. Else it answers `NO_CONFIG` for a struct that is no
 /// config, then `BAD_CAPACITY` for more than 255 handles, then `BAD_BOUNDS`, `BAD_REFERENCE` or `BAD_CAPACITY`, the
@@ -39,8 +45,10 @@ pub extern "C" fn callauction_board_open(
     alloc: Global,
     members: &mut [AuctionMember],
     config: &AuctionConfig,
+    identity: u64,
 ) -> u32
-    ensures done { result ≡ 0 → IsSomeAnd (decoded_as.config_in config.now) (λ c. HoldsNewMembers c members.new) }
+    ensures done { result ≡ 0 →
+        IsSomeAnd (decoded_as.config_in config.now) (λ c. HoldsNewMembers identity c members.new) }
     ensures refused { 0 < result → members.new ≡ members.old }
     ensures busy { is_in_use members.old ≡ true → result ≡ IN_USE }
     ensures none { is_in_use members.old ≡ false → IsNone (decoded_as.config_in config.now) → result ≡ NO_CONFIG }
@@ -59,7 +67,7 @@ pub extern "C" fn callauction_board_open(
     let Some(decoded) = config_in(config) else {
         return NO_CONFIG;
     };
-    fill(alloc, members, decoded)
+    fill(alloc, members, identity, decoded)
 }
 
 /// Calls a command of the handle's member on its board, and writes its receipt. The struct's `member` isn't read.
@@ -91,6 +99,38 @@ pub extern "C" fn callauction_board_call(
         return NO_COMMAND;
     };
     call_one(member.boxed.get_mut(), decoded, receipt)
+}
+
+/// Calls commands of the handle's member one after another, each as `callauction_board_call`, up to the first error,
+/// which it answers. No other call comes between them. It writes the receipts of those that were recorded, and how many
+/// they are.
+///
+/// It answers `BAD_LENGTH` where there aren't as many receipts as commands; else `BUSY` where another call had the
+/// board at each try, or `CLOSED`, and then calls none; else the first error of a command.
+#[unsafe(no_mangle)]
+pub extern "C" fn callauction_board_apply_many(
+    member: &mut AuctionMember,
+    commands: &[AuctionCommand],
+    receipts: &mut [AuctionReceipt],
+    applied: &mut usize,
+) -> u32
+    ensures called { IsSome member.old.boxed.value → length receipts.old ≡ length commands.now →
+        HoldsAfter (CallsMany commands.now receipts.new applied.new result)
+        member.old.boxed.value member.new.boxed.value }
+    ensures length { IsSome member.old.boxed.value → length receipts.old ≢ length commands.now →
+        (result ≡ BAD_LENGTH) × (applied.new ≡ 0) × (member.new.boxed.value ≡ member.old.boxed.value) }
+    ensures missing { IfNone member.old.boxed.value
+        ((result ≡ NO_MEMBER) × (applied.new ≡ 0) × (member.new.boxed.value ≡ None)) }
+    ensures rest { IsSameFrom applied.new receipts.old receipts.new }
+{
+    *applied = 0;
+    if !member.is_open {
+        return NO_MEMBER;
+    }
+    if receipts.len() != commands.len() {
+        return BAD_LENGTH;
+    }
+    call_many(member.boxed.get_mut(), commands, receipts, applied)
 }
 
 /// Shows the handle's member how many calls there were, and the display after them. It takes no lock.
@@ -160,6 +200,65 @@ pub extern "C" fn callauction_board_trades(
     show_trades(member.boxed.get_mut(), seen, trades, copied, calls)
 }
 
+/// Makes the other handle hold an auction of its own, a copy of the board's after all calls, which the member has seen
+/// then. Where it holds an auction of the board's bounds and room already, that one is written over, and no memory is
+/// taken.
+///
+/// Where the other handle holds an auction of other bounds or room it answers `IN_USE`; else `BUSY` or `CLOSED`; else
+/// `NO_MEMORY`, where the other handle holds none and memory is refused; else `BEHIND`.
+#[unsafe(no_mangle)]
+pub extern "C" fn callauction_board_clone(
+    alloc: Global,
+    member: &mut AuctionMember,
+    other: &mut AuctionHandle,
+) -> u32
+    ensures done { result ≡ 0 → IsSomeAnd other.new.boxed.value (λ a.
+        HoldsAfter (IsClone a) member.old.boxed.value member.new.boxed.value) }
+    ensures fault { 0 < result → member.new.boxed.value ≡ member.old.boxed.value }
+    ensures refused { 0 < result → other.new.boxed.value ≡ other.old.boxed.value }
+    ensures missing { IfNone member.old.boxed.value (result ≡ NO_MEMBER) }
+    ensures busy { IfSome member.old.boxed.value (λ m. IfSome other.old.boxed.value (λ a.
+        limits.has_same_limits m.board.config a.config ≡ false → result ≡ IN_USE)) }
+    ensures reused { IfSome member.old.boxed.value (λ m. IfSome other.old.boxed.value (λ a.
+        limits.has_same_limits m.board.config a.config ≡ true → 0 < result → IsShowError m result)) }
+    ensures fresh { IfSome member.old.boxed.value (λ m. IfNone other.old.boxed.value (
+        0 < result → IsListError m result)) }
+{
+    if !member.is_open {
+        return NO_MEMBER;
+    }
+    if other.is_open {
+        return clone_over_same(member.boxed.get_mut(), other.boxed.get_mut());
+    }
+    match cloned(alloc, member.boxed.get_mut()) {
+        Ok(copy) => {
+            other.hold_boxed(copy);
+            DONE
+        }
+        Err(error) => error,
+    }
+}
+
+/// Writes where the board's day is: the current auction, whether its call phase was extended, the reference price, and
+/// the calls, all of which the member has seen then.
+#[unsafe(no_mangle)]
+pub extern "C" fn callauction_board_state(
+    member: &mut AuctionMember,
+    state: &mut AuctionDayState,
+) -> u32
+    ensures done { result ≡ 0 →
+        HoldsAfter (ShowsState state.new) member.old.boxed.value member.new.boxed.value }
+    ensures fault { 0 < result → member.new.boxed.value ≡ member.old.boxed.value }
+    ensures missing { IfNone member.old.boxed.value (result ≡ NO_MEMBER) }
+    ensures error { IfSome member.old.boxed.value (λ m. 0 < result → IsShowError m result) }
+    ensures same { 0 < result → state.new ≡ state.old }
+{
+    if !member.is_open {
+        return NO_MEMBER;
+    }
+    show_state(member.boxed.get_mut(), state)
+}
+
 /// Copies the entries of the board's history after the first `seen` of them, as many as there is room for. The member
 /// has seen all calls then.
 #[unsafe(no_mangle)]
@@ -222,7 +321,8 @@ pub extern "C" fn callauction_board_config_of(
 /// where the history has room for fewer than `max_calls` entries, or the counts aren't as many as the members; else
 /// `BUSY` where a call has the board, or `CLOSED` at a second close; else `MISSING_MEMBER` where the handles aren't as
 /// many as the members; else the error of the first handle that has one: `NO_MEMBER`, `MISSING_MEMBER` where its member
-/// has another number than its place, `BEHIND` where the account isn't one of the history.
+/// is one of another board than the first, or has another number than its place, `BEHIND` where the account isn't one
+/// of the history.
 #[unsafe(no_mangle)]
 pub extern "C" fn callauction_board_close(
     members: &mut [AuctionMember],
@@ -230,7 +330,7 @@ pub extern "C" fn callauction_board_close(
     counts: &mut [u32],
     written: &mut usize,
 ) -> u32
-    requires one_board { (board : OpenedBoard) × All (λ h. IfSome h.boxed.value (λ m. m.board ≡ board)) members.old }
+    requires identities { (boards : ℕ → OpenedBoard) × AreOfBoards boards members.old }
     ensures same { members.new ≡ members.old }
     ensures done { result ≡ 0 →
         (board : OpenedBoard) × WritesClosing board members.old entries.new counts.new written.new }

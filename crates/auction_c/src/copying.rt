@@ -1,6 +1,6 @@
 //! What an auction shows, copied into arrays of C.
 ghost use Rattle.std.specs.Prelude.{◌≡◌, ◌<◌, ◌++◌, true, false, length, map, min, take, drop};
-ghost use Rattle.auction.specs.OpenOrders.{has_same_limits};
+ghost use Rattle.auction.specs.OpenOrders as limits;
 ghost use Rattle.auction_c.specs.Calling.{ladder_error};
 ghost use Rattle.auction_c.specs.Encoding as encoded_as;
 ghost use Rattle.auction_c.specs.declared.errors.TheConstants.{DONE, IN_USE};
@@ -9,15 +9,15 @@ use crate::encoding::{order_out, trade_out};
 use crate::errors::{BAD_LENGTH, DONE, IN_USE};
 use crate::structs::{AuctionMarketOrders, AuctionOrder, AuctionTrade};
 use auction::Auction;
-use auction_terms::{OpenOrder, Side, Trade};
+use auction_terms::{Config, OpenOrder, Side, Trade};
 use tick_ladder::Ladder;
 
 /// Writes this auction over one of the same limits, and answers `DONE`. Where that has other limits it changes nothing,
 /// and answers `IN_USE`.
 pub(crate) fn copy_over(auction: &Auction, other: &mut Auction) -> u32
-    ensures same { has_same_limits auction.now.config other.old.config ≡ true →
+    ensures same { limits.has_same_limits auction.now.config other.old.config ≡ true →
         (result ≡ DONE) × (other.new ≡ auction.now) }
-    ensures other { has_same_limits auction.now.config other.old.config ≡ false →
+    ensures other { limits.has_same_limits auction.now.config other.old.config ≡ false →
         (result ≡ IN_USE) × (other.new ≡ other.old) }
 {
     if !auction.has_same_limits(other) {
@@ -25,6 +25,16 @@ pub(crate) fn copy_over(auction: &Auction, other: &mut Auction) -> u32
     }
     auction.copy_into(other);
     DONE
+}
+
+/// Whether two configs have the same bounds, and room for as many orders and calls.
+pub(crate) fn has_same_limits(config: Config, other: Config) -> bool
+    ensures { result ≡ limits.has_same_limits config other }
+{
+    config.low == other.low
+        && config.high == other.high
+        && config.max_open == other.max_open
+        && config.max_calls == other.max_calls
 }
 
 /// Writes trades for C, as many as there is room for, and answers how many.

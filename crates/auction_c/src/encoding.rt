@@ -4,7 +4,8 @@ ghost use Rattle.auction_c.specs.Decoding as decoded_as;
 ghost use Rattle.auction_c.specs.Encoding as encoded_as;
 ghost use Rattle.auction_c.specs.ReadBack.{reply_back};
 
-use crate::structs::{AuctionConfig, AuctionOrder, AuctionReply, AuctionTrade};
+use crate::structs::{AuctionConfig, AuctionDayState, AuctionOrder, AuctionReply, AuctionTrade};
+use auction::Auction;
 use auction_terms::{
     AuctionKind, Config, Display, Limit, OpenOrder, Price, Reply, Restriction, Side, Trade,
 };
@@ -202,6 +203,31 @@ pub(crate) fn trade_out(trade: Trade) -> AuctionTrade
         bid: trade.bid,
         ask: trade.ask,
         tick: trade.tick,
+    }
+}
+
+fn current_auction_out(current: Option<AuctionKind>) -> u8
+    ensures { result ≡ encoded_as.current_auction_out current }
+{
+    match current {
+        None => 0,
+        Some(kind) => auction_kind_out(kind),
+    }
+}
+
+/// Where the day of an auction is, as C reads it.
+pub(crate) fn state_out(auction: &Auction) -> AuctionDayState
+    ensures { result ≡ encoded_as.state_out auction.now }
+{
+    let current = auction.current();
+    let calls = auction.calls();
+    AuctionDayState {
+        reference: auction.reference(),
+        calls,
+        calls_left: auction.config().max_calls - calls,
+        auction: current_auction_out(current),
+        in_call: u8::from(current.is_some()),
+        extended: u8::from(auction.is_extended()),
     }
 }
 

@@ -27,10 +27,17 @@ impl AuctionHandle {
         let Ok(made) = Box::new(alloc, auction) else {
             return NO_MEMORY;
         };
+        self.hold_boxed(made);
+        DONE
+    }
+
+    /// Holds the auction.
+    pub(crate) fn hold_boxed(&mut self, made: Box<Auction>)
+        ensures { self.new.boxed.value ≡ Some made.value }
+    {
         *self = AuctionHandle {
             boxed: AuctionBox::of(made),
             is_open: true,
         };
-        DONE
     }
 }

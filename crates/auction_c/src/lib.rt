@@ -37,7 +37,7 @@ use auction::Auction;
 use copying::{copy_ladder, copy_over, copy_trades};
 pub use decoding::ALL_MEMBERS;
 use decoding::config_in;
-use encoding::{config_out, display_out};
+use encoding::{config_out, display_out, state_out};
 use errors::fault_out;
 pub use errors::{
     BAD_BOUNDS, BAD_CAPACITY, BAD_LENGTH, BAD_MEMBER, BAD_REFERENCE, BEHIND, BUSY, CLOSED, DONE,
@@ -48,8 +48,8 @@ pub use handle::AuctionHandle;
 pub use member_handle::AuctionMember;
 use std::alloc::Global;
 pub use structs::{
-    AuctionCommand, AuctionConfig, AuctionEntry, AuctionMarketOrders, AuctionOrder, AuctionReceipt,
-    AuctionReply, AuctionShown, AuctionTrade,
+    AuctionCommand, AuctionConfig, AuctionDayState, AuctionEntry, AuctionMarketOrders,
+    AuctionOrder, AuctionReceipt, AuctionReply, AuctionShown, AuctionTrade,
 };
 
 /// Opens an auction, which the handle then holds: no orders, no trades, no calls, the reference of the config.
@@ -219,6 +219,22 @@ pub extern "C" fn callauction_calls(handle: &mut AuctionHandle, calls: &mut u32)
         return NO_AUCTION;
     }
     *calls = handle.boxed.get_mut().calls();
+    DONE
+}
+
+/// Writes where the day is: the current auction, whether its call phase was extended, the reference price, and the
+/// calls.
+#[unsafe(no_mangle)]
+pub extern "C" fn callauction_state(handle: &mut AuctionHandle, state: &mut AuctionDayState) -> u32
+    ensures error { result ≡ option_map_or (λ a. DONE) handle.old.boxed.value NO_AUCTION }
+    ensures auction { handle.new.boxed.value ≡ handle.old.boxed.value }
+    ensures state { state.new ≡
+        option_map_or (λ a. encoded_as.state_out a) handle.old.boxed.value state.old }
+{
+    if !handle.is_open {
+        return NO_AUCTION;
+    }
+    *state = state_out(handle.boxed.get_mut());
     DONE
 }
 

@@ -1,14 +1,18 @@
-//! The open orders of an auction, for C.
-ghost use Rattle.std.specs.Prelude.{◌≡◌, ◌<◌, ◌++◌, IsSome, IsNone, IfSome, length, map, min, take, drop};
+//! The open orders of an auction and of a board, for C.
+ghost use Rattle.std.specs.Prelude.{◌≡◌, ◌<◌, ◌++◌, IsSome, IsNone, IfNone, IfSome, IsSomeAnd};
+ghost use Rattle.std.specs.Prelude.{length, map, min, take, drop};
 ghost use Rattle.auction_terms.specs.Priority.{orders_in_priority, orders_expiring};
+ghost use Rattle.auction_c.specs.BoardCalls.{HoldsAfter, IsListError, ShowsOrders};
 ghost use Rattle.auction_c.specs.Decoding as decoded_as;
 ghost use Rattle.auction_c.specs.Encoding as encoded_as;
-ghost use Rattle.auction_c.specs.declared.errors.TheConstants.{BAD_MEMBER, NO_AUCTION, NO_MEMORY};
+ghost use Rattle.auction_c.specs.declared.errors.TheConstants.{BAD_MEMBER, NO_AUCTION, NO_MEMBER, NO_MEMORY};
 
+use crate::board::listing::{show_expiring, show_orders};
 use crate::copying::copy_orders;
 use crate::decoding::decoded_member;
-use crate::errors::{BAD_MEMBER, DONE, NO_AUCTION, NO_MEMORY};
+use crate::errors::{BAD_MEMBER, DONE, NO_AUCTION, NO_MEMBER, NO_MEMORY};
 use crate::handle::AuctionHandle;
+use crate::member_handle::AuctionMember;
 use crate::structs::AuctionOrder;
 use std::alloc::Global;
 
@@ -84,4 +88,65 @@ pub extern "C" fn callauction_expiring(
         }
         Err(_) => NO_MEMORY,
     }
+}
+
+/// As `callauction_orders`, of the board of the handle's member: the orders of the member `of`, or of all, after as
+/// many calls as it writes, all of which the handle's member has seen then.
+///
+/// It answers `BAD_MEMBER` where the number is neither a member's nor `ALL_MEMBERS`; else `BUSY` or `CLOSED`; else
+/// `NO_MEMORY` only where memory is refused, or `BEHIND`.
+#[unsafe(no_mangle)]
+pub extern "C" fn callauction_board_orders(
+    alloc: Global,
+    member: &mut AuctionMember,
+    of: u32,
+    orders: &mut [AuctionOrder],
+    copied: &mut usize,
+    calls: &mut u32,
+) -> u32
+    ensures done { result ≡ 0 → IsSomeAnd (decoded_as.decoded_member of) (λ o.
+        HoldsAfter (ShowsOrders (λ a. orders_in_priority o a.state) orders.old orders.new copied.new calls.new)
+        member.old.boxed.value member.new.boxed.value) }
+    ensures fault { 0 < result → member.new.boxed.value ≡ member.old.boxed.value }
+    ensures missing { IfNone member.old.boxed.value (result ≡ NO_MEMBER) }
+    ensures number { IsSome member.old.boxed.value → IsNone (decoded_as.decoded_member of) → result ≡ BAD_MEMBER }
+    ensures error { IfSome member.old.boxed.value (λ m. IsSome (decoded_as.decoded_member of) → 0 < result →
+        IsListError m result) }
+    ensures unchanged { 0 < result → (copied.new ≡ 0) × (orders.new ≡ orders.old) × (calls.new ≡ calls.old) }
+{
+    *copied = 0;
+    if !member.is_open {
+        return NO_MEMBER;
+    }
+    let Some(whose) = decoded_member(of) else {
+        return BAD_MEMBER;
+    };
+    show_orders(alloc, member.boxed.get_mut(), whose, orders, copied, calls)
+}
+
+/// As `callauction_expiring`, of the board of the handle's member, after as many calls as it writes, all of which the
+/// member has seen then.
+///
+/// It answers `BUSY` or `CLOSED`; else `NO_MEMORY` only where memory is refused, or `BEHIND`.
+#[unsafe(no_mangle)]
+pub extern "C" fn callauction_board_expiring(
+    alloc: Global,
+    member: &mut AuctionMember,
+    orders: &mut [AuctionOrder],
+    copied: &mut usize,
+    calls: &mut u32,
+) -> u32
+    ensures done { result ≡ 0 →
+        HoldsAfter (ShowsOrders (λ a. orders_expiring a.config a.state) orders.old orders.new copied.new calls.new)
+        member.old.boxed.value member.new.boxed.value }
+    ensures fault { 0 < result → member.new.boxed.value ≡ member.old.boxed.value }
+    ensures missing { IfNone member.old.boxed.value (result ≡ NO_MEMBER) }
+    ensures error { IfSome member.old.boxed.value (λ m. 0 < result → IsListError m result) }
+    ensures unchanged { 0 < result → (copied.new ≡ 0) × (orders.new ≡ orders.old) × (calls.new ≡ calls.old) }
+{
+    *copied = 0;
+    if !member.is_open {
+        return NO_MEMBER;
+    }
+    show_expiring(alloc, member.boxed.get_mut(), orders, copied, calls)
 }

@@ -114,6 +114,23 @@ pub struct AuctionOrder {
     pub has_limit: u8,
 }
 
+/// Where the day of an auction is.
+#[repr(C)]
+#[derive(Clone, Copy, Debug, PartialEq, Eq)]
+pub struct AuctionDayState {
+    /// The reference price: the last auction price of the day, and before it that of the config.
+    pub reference: u32,
+    /// How many commands were applied, and how many more may be.
+    pub calls: u32,
+    pub calls_left: u32,
+    /// The current auction, where `in_call` is 1: 1 opening, 2 intraday, 3 closing; else 0.
+    pub auction: u8,
+    /// 1 in a call phase, 0 after the day.
+    pub in_call: u8,
+    /// Whether an interruption extended the call phase.
+    pub extended: u8,
+}
+
 /// The shares of the market orders that count.
 #[repr(C)]
 #[derive(Clone, Copy, Debug, PartialEq, Eq)]

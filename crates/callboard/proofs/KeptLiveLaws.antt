@@ -1,10 +1,11 @@
 -- A session whose commands are kept.
-use Rattle.std.proofs.Common.{◌≡◌, ◌<◌, ◌≤◌, ℕ, Bool, true, false, Result, Ok, Err, refl, inl, inr, arith}
+use Rattle.std.proofs.Common.{◌≡◌, ◌<◌, ◌≤◌, ℕ, Bool, true, false, Some, Result, Ok, Err, refl, inl, inr, arith}
 use Rattle.auction_terms.specs.Auxiliary.RunningAuction.{RunningAuction}
 use Rattle.byte_streams.specs.declared.sink.Sink as sink
 use Rattle.byte_streams.specs.declared.source.Source as source
 use Rattle.journal.specs.declared.day.DayHeader.{DayHeader}
-use Rattle.journal_file.specs.declared.file.OpenFileFault.TheVariants.{Busy, Failed}
+use Rattle.journal_file.specs.declared.file.OpenFileFault.TheVariants.{Busy, Failed, Foreign, NotRegular, Stream}
+use Rattle.journal_file.specs.declared.file.OpenFileFault.TheVariants.{Shared}
 use Rattle.journal_file.specs.declared.journal.CommittedLines.{CommittedLines}
 use Rattle.kept_session.specs.KeptRun.{KeptEnds, RunsKept, ends_at, kept_ends}
 use Rattle.kept_session.specs.declared.fault.BeginFault.{BeginFault}
@@ -31,13 +32,19 @@ resume-small (resume.AnotherDay day) = omega arith
 resume-small (resume.Unlawful entry recorded) = omega arith
 
 begin-small : (f : BeginFault) → begin_status f ≤ 4
+begin-small begin.NotAJournal = omega arith
 begin-small (begin.Resume f) = resume-small f
+begin-small (begin.Damaged number bytes) = omega arith
 begin-small (begin.Device error) = omega arith
 begin-small begin.NoMemory = omega arith
 
 kept-small : (f : KeptFault) → kept_status f ≤ 4
 kept-small (kept.Day f) = open-small f
 kept-small (kept.Opening Busy) = omega arith
+kept-small (kept.Opening NotRegular) = omega arith
+kept-small (kept.Opening Foreign) = omega arith
+kept-small (kept.Opening Stream) = omega arith
+kept-small (kept.Opening Shared) = omega arith
 kept-small (kept.Opening (Failed error)) = omega arith
 kept-small (kept.Begin f) = begin-small f
 
@@ -104,9 +111,10 @@ module _ {D : Type 0} (files : JournalFiles D) (file : JournalFile) (day : DayHe
       (ends_at (reads.left reader) (writes.written out) (reads.failures reader) (writes.failures out))
       (ends_at (reads.left last_reader) (writes.written last_out) (reads.failures last_reader)
       (writes.failures last_out)) ended
-      → HasClosed files.device ended last.device closed.device is_closed → EndsWithStatus ended is_closed status
+      → HasClosed files.device ended last.device closed.device is_closed → files.left ≡ Some closed.device
+      → EndsWithStatus ended is_closed status
       → RunsKeptSession files file day reserve (ends_of reads writes reader last_reader out last_out) status
-  ran-kept reader last_reader out last_out start journal last closed ended is_closed status begun ran closing is =
+  ran-kept reader last_reader out last_out start journal last closed ended is_closed status begun ran closing left is =
       record {
         came = inr (record {
           start = start;
@@ -124,6 +132,7 @@ module _ {D : Type 0} (files : JournalFiles D) (file : JournalFile) (day : DayHe
           is_closed = is_closed;
           closed = closed;
           closing = closing;
+          left = left;
           status_is = is;
         });
         quiet = λ two. absurd (never-two ended is_closed status is two);

@@ -8,8 +8,9 @@ use Rattle.auction_terms.specs.declared.Entry.{Entry}
 use Rattle.auction_terms.specs.Day.{IsLegal, calls_of}
 use Rattle.day_audit.specs.Answers.{answers_in}
 use Rattle.day_audit.specs.AuditCounts.{counts_of}
-use Rattle.day_audit.specs.ResultsText.{printed_text}
+use Rattle.day_audit.specs.ResultsText.{copy_text}
 use Rattle.day_audit.specs.AuditPromises.{IsAuditedLegal}
+use Rattle.day_audit.proofs.WholeCopyLaws.{copies-whole}
 use Rattle.day_audit.proofs.LegalAuditLaws.{printed-legal}
 use Rattle.journal.specs.CallFields.{FitsRecord}
 use Rattle.journal.specs.DayRecord.{FitsDay}
@@ -20,6 +21,7 @@ use Rattle.journal.specs.WideReplies.{AreWide}
 use Rattle.journal.specs.declared.day.DayHeader.{DayHeader}
 use Rattle.journal.proofs.RunInputFitLaws.{run_input-fits}
 use Rattle.journal.proofs.JournalSizeLaws.{reads-history}
+use Rattle.kept_session.proofs.KeptPromiseLaws.{are-whole}
 use Rattle.callboard.specs.AuditRun.{finish_of}
 use Rattle.callboard.specs.BoardRun.{commands_of}
 use Rattle.callboard.specs.PrintedJournals.{AuctionJournalsAreLawful, BoardJournalsAreLawful, IsAuditedLawful}
@@ -95,9 +97,10 @@ audited day entries text fits opens legal all is =
     let read = reads-history day entries fits all legal.few in
     let (j, told, well) = printed-legal day entries fits all legal in
     let same : j ≡ recorded_day day (map recorded_call_by entries) = cc in
+    let lines = are-whole day entries fits all in
     subst IsAuditedLawful (sym is) (
-      recorded_day day (map recorded_call_by entries),
-      read,
+      record { recorded = recorded_day day (map recorded_call_by entries); behind = 0 },
+      copies-whole (journal_text day entries) _ lines read,
       opens,
       found (subst (λ (k : RecordedDay). IsAuditedLegal (answers_in k)) same well),
     )
@@ -105,8 +108,9 @@ audited day entries text fits opens legal all is =
     found : IsAuditedLegal (answers_in (recorded_day day (map recorded_call_by entries)))
         → (finish : Finish) (report : List ℕ)
         → (finish ≡ finish_of (counts_of (answers_in (recorded_day day (map recorded_call_by
-        entries)))).first_unlawful)
-        × (report ≡ printed_text false (recorded_day day (map recorded_call_by entries))) → finish ≡ Lawful
+        entries)))).first_unlawful 0)
+        × (report ≡ copy_text false (record { recorded = recorded_day day (map recorded_call_by entries); behind = 0 }))
+        → finish ≡ Lawful
     found none finish report is = rw none at is.0
 
 -- ---- the two ways to run an input

@@ -31,7 +31,7 @@ use Rattle.callboard.specs.Served.{day_of_settings}
 use Rattle.callboard.specs.Served.{is_session, words_status}
 use Rattle.callboard.specs.Status.{RunResult, file_status, open_status, run_status}
 use Rattle.callboard.specs.declared.fault.Fault.TheVariants as fault
-use Rattle.callboard.specs.declared.fault.Finish.TheVariants.{Lawful, Unlawful}
+use Rattle.callboard.specs.declared.fault.Finish.TheVariants.{Incomplete, Lawful, Unlawful}
 use Rattle.callboard.specs.declared.live.SessionFault.TheVariants as session
 
 pub file-small : (f : FileFault) → file_status f ≤ 4
@@ -53,11 +53,12 @@ open-small opening.NoMemory = omega arith
 
 -- ---- a run
 
-run-small : (run : RunResult) → run_status run ≤ 4
+run-small : (run : RunResult) → run_status run ≤ 5
 run-small (Ok Lawful) = omega arith
 run-small (Ok Unlawful) = omega arith
-run-small (Err (fault.File f)) = file-small f
-run-small (Err (fault.Open f)) = open-small f
+run-small (Ok Incomplete) = omega arith
+run-small (Err (fault.File f)) = omega (arith, file-small f)
+run-small (Err (fault.Open f)) = omega (arith, open-small f)
 run-small (Err fault.NoMemory) = omega arith
 run-small (Err fault.NotClosed) = omega arith
 run-small (Err fault.WriteFailed) = omega arith
@@ -72,6 +73,8 @@ run-quiet job ends (Ok Lawful) h (inl e) = absurd (omega (arith, e))
 run-quiet job ends (Ok Lawful) h (inr e) = absurd (omega (arith, e))
 run-quiet job ends (Ok Unlawful) h (inl e) = absurd (omega (arith, e))
 run-quiet job ends (Ok Unlawful) h (inr e) = absurd (omega (arith, e))
+run-quiet job ends (Ok Incomplete) h (inl e) = absurd (omega (arith, e))
+run-quiet job ends (Ok Incomplete) h (inr e) = absurd (omega (arith, e))
 run-quiet job ends (Err (fault.File f)) h e = h.kept
 run-quiet job ends (Err (fault.Open f)) h e = h.kept
 run-quiet job ends (Err fault.NoMemory) h e = h.kept
@@ -151,12 +154,12 @@ does-write files day (Some file) (Live reserve) ends status h f = h.write_failed
 
 pub does-small : {D : Type 0} (files : JournalFiles D) (day : DayHeader) (journal : Option JournalFile) (task : Task)
     (ends : Ends) (status : ℕ)
-    → DoesTask files day journal task ends status → status ≤ 4
+    → DoesTask files day journal task ends status → status ≤ 5
 does-small files day journal (Run form) ends status h = rw h.2 (run-small h.0)
 does-small files day journal (Floor form) ends status h = rw h.2 (run-small h.0)
 does-small files day journal (Audit results) ends status h = rw h.2 (run-small h.0)
-does-small files day None (Live reserve) ends status h = rw h.2 (session-small h.0)
-does-small files day (Some file) (Live reserve) ends status h = h.small
+does-small files day None (Live reserve) ends status h = rw h.2 (omega (arith, session-small h.0))
+does-small files day (Some file) (Live reserve) ends status h = omega (arith, h.small)
 
 -- a session with a journal
 pub does-kept : {D : Type 0} (files : JournalFiles D) (day : DayHeader) (journal : Option JournalFile)
@@ -197,7 +200,7 @@ not-help n status (inl is) fails kept (inr e) = kept (λ z. omega (arith, is, e,
 not-help n status (inr f) fails kept (inl e) = let late = fails f in absurd (omega (arith, late, e))
 not-help n status (inr f) fails kept (inr e) = let late = fails f in absurd (omega (arith, late, e))
 
-words-small : (kind : ErrorKind) → words_status kind ≤ 4
+words-small : (kind : ErrorKind) → words_status kind ≤ 5
 words-small kinds.InvalidValue = omega arith
 words-small kinds.UnknownArgument = omega arith
 words-small kinds.InvalidSubcommand = omega arith
@@ -217,7 +220,7 @@ words-small kinds.Format = omega arith
 words-small kinds.OutOfMemory = omega arith
 
 few-of-words : {W : Type 0} (kind : ErrorKind) (status : ℕ) → (status ≡ words_status kind) ⊎ W → (W → status ≡ 3)
-    → status ≤ 4
+    → status ≤ 5
 few-of-words kind status (inl is) fails = rw is (words-small kind)
 few-of-words kind status (inr f) fails = let late = fails f in omega (arith, late)
 

@@ -1,23 +1,24 @@
 -- What an audit of a journal writes.
-use Rattle.std.specs.Prelude.{◌≡◌, ℕ, Bool, Option, Some, None}
+use Rattle.std.specs.Prelude.{◌≡◌, ◌==◌, ℕ, Bool, Option, Some, None, if◌then◌else◌}
 use Rattle.auction.specs.ConfigFault.{open_fault}
 use Rattle.day_audit.specs.Answers.{answers_in}
 use Rattle.day_audit.specs.AuditCounts.{counts_of}
-use Rattle.day_audit.specs.ResultsText.{printed_text}
+use Rattle.day_audit.specs.JournalCopies.{JournalCopy, journal_copy}
+use Rattle.day_audit.specs.ResultsText.{copy_text}
 use Rattle.day_audit.specs.declared.fault.AuditFault.{AuditFault}
 use Rattle.day_audit.specs.declared.fault.AuditFault.TheVariants.{File, Open, WriteFailed}
-use Rattle.journal.specs.JournalFile.{RecordedDay, journal}
 use Rattle.callboard.specs.declared.fault.Fault.{Fault}
 use Rattle.callboard.specs.declared.fault.Fault.TheVariants as fault
 use Rattle.callboard.specs.declared.fault.Finish.{Finish}
-use Rattle.callboard.specs.declared.fault.Finish.TheVariants.{Lawful, Unlawful}
+use Rattle.callboard.specs.declared.fault.Finish.TheVariants.{Incomplete, Lawful, Unlawful}
 use Rattle.callboard.specs.FileRun.{Ends, Job, IsRunOf}
 use Rattle.callboard.specs.Status.{RunResult}
 
--- a day without an unlawful reply is lawful
-abbrev pub finish_of : Option ℕ → Finish
-finish_of None = Lawful
-finish_of (Some first_unlawful) = Unlawful
+-- A day with an unlawful reply is unlawful. Without one it is lawful where nothing is behind the whole lines of its
+-- journal.
+abbrev pub finish_of : Option ℕ → ℕ → Finish
+finish_of (Some first_unlawful) behind = Unlawful
+finish_of None behind = if behind == 0 then Lawful else Incomplete
 
 -- the fault of an audit as one of a run
 abbrev pub fault_of_audit : AuditFault → Fault
@@ -31,15 +32,15 @@ IsOfAudit fault.NoMemory = ⊥
 IsOfAudit fault.NotClosed = ⊥
 IsOfAudit f = Unit {0}
 
--- the replies that a journal has, compared with the lawful ones, with or without the results of its day
+-- the replies in the whole lines of a journal, compared with the lawful ones, with or without the results of its day
 abbrev pub audit_job : Bool → Job
 audit_job results = record {
-  Given = RecordedDay;
-  says = journal;
-  opening = λ recorded. open_fault recorded.day.config;
-  Text = λ recorded finish text.
-      (finish ≡ finish_of (counts_of (answers_in recorded)).first_unlawful)
-      × (text ≡ printed_text results recorded);
+  Given = JournalCopy;
+  says = journal_copy;
+  opening = λ copy. open_fault copy.recorded.day.config;
+  Text = λ copy finish text.
+      (finish ≡ finish_of (counts_of (answers_in copy.recorded)).first_unlawful copy.behind)
+      × (text ≡ copy_text results copy);
   Faults = IsOfAudit;
 }
 

@@ -1,8 +1,8 @@
 -- A journal that was printed, audited.
 use Rattle.std.specs.Prelude.{◌≡◌, ℕ, List, None, Ok, false}
+use Rattle.day_audit.specs.JournalCopies.{JournalCopy}
 use Rattle.journal.specs.DayRecord.{FitsDay}
 use Rattle.journal.specs.DayWithCalls.{DayWithCalls, run_input}
-use Rattle.journal.specs.JournalFile.{RecordedDay}
 use Rattle.journal.specs.declared.day.DayHeader.{DayHeader}
 use Rattle.settings.specs.declared.types.FloorForm.TheVariants as floor
 use Rattle.settings.specs.declared.types.Form.TheVariants.{Listing}
@@ -23,8 +23,8 @@ SettingsFitDay = (s : Settings) → IsInRange s → FitsDay (day_of_settings s)
 -- an audit reads a text, its day can be opened, and whatever it writes of it, it finds the day lawful
 abbrev pub IsAuditedLawful : List ℕ → Type 0
 IsAuditedLawful text =
-    (recorded : RecordedDay) × ((audit_job false).says text ≡ Ok recorded) × ((audit_job false).opening recorded ≡ None)
-    × ((finish : Finish) (report : List ℕ) → (audit_job false).Text recorded finish report → finish ≡ Lawful)
+    (copy : JournalCopy) × ((audit_job false).says text ≡ Ok copy) × ((audit_job false).opening copy ≡ None)
+    × ((finish : Finish) (report : List ℕ) → (audit_job false).Text copy finish report → finish ≡ Lawful)
 
 -- the text of a run on an auction that prints a journal, of the input that was given to it
 abbrev pub AuctionJournalsAreLawful : Type 0

@@ -6,6 +6,7 @@ use Rattle.clap.specs.Walk.{Text}
 use Rattle.clap.specs.declared.error.kind.ErrorKind.{ErrorKind}
 use Rattle.clap.specs.declared.error.kind.ErrorKind.TheVariants.{DisplayHelp, DisplayVersion, OutOfMemory}
 use Rattle.journal.specs.declared.day.DayHeader.{DayHeader}
+use Rattle.journal_file.specs.OpenedFile.{has_syncs, opened_file}
 use Rattle.journal_file.specs.Tracked.{tracked_device}
 use Rattle.journal_file.specs.declared.file.Opened.{Opened}
 use Rattle.journal_file.specs.declared.tracked.Tracked.{Tracked}
@@ -107,14 +108,19 @@ pub record ServesWords {D : Type 0} (files : JournalFiles D) (words : List Text)
   pub quiet : IsQuiet words status → ends.new ≡ ends.old
   pub read_failed : ends.ReadFailed → status ≡ 3
   pub write_failed : ends.WriteFailed → status ≡ 3
-  pub few : status ≤ 4
+  pub few : status ≤ 5
 
--- the files of the file system, of which no clause says what opening one gives
-abbrev pub host_files : JournalFiles (Tracked Opened)
-host_files = files_of tracked_device (λ file device. Unit {0}) (λ file fault. Unit {0})
+-- A file is synced with each commit where that is asked for, and else never.
+abbrev pub OpensAsAsked : JournalFile → Tracked Opened → Type 0
+OpensAsAsked file device = has_syncs device ≡ file.is_synced
+
+-- the files of the file system, of which no clause says what they hold
+abbrev pub host_files : Option (Tracked Opened) → JournalFiles (Tracked Opened)
+host_files left = files_of (tracked_device opened_file) OpensAsAsked (λ file fault. Unit {0}) left
 
 -- a status that the program answers to some words with some ends
 abbrev pub IsAnswer : ℕ → Type 0
 IsAnswer status = (words : List Text) × (left rest old new : Option (List ℕ))
-    × (reads reads_after writes writes_after : ℕ)
-    × AnswersCommandLine host_files words (ends_by left rest old new reads reads_after writes writes_after) status
+    × (reads reads_after writes writes_after : ℕ) × (file : Option (Tracked Opened))
+    × AnswersCommandLine (host_files file) words (ends_by left rest old new reads reads_after writes writes_after)
+    status

@@ -7,7 +7,7 @@ use Rattle.auction.specs.declared.OpenFault.TheVariants as opening
 use Rattle.callboard.specs.declared.fault.Fault.{Fault}
 use Rattle.callboard.specs.declared.fault.Fault.TheVariants as fault
 use Rattle.callboard.specs.declared.fault.Finish.{Finish}
-use Rattle.callboard.specs.declared.fault.Finish.TheVariants.{Lawful, Unlawful}
+use Rattle.callboard.specs.declared.fault.Finish.TheVariants.{Incomplete, Lawful, Unlawful}
 
 -- what came of a run: what it says of its day, or why it ended early
 abbrev pub RunResult : Type 0
@@ -29,10 +29,11 @@ status_of (fault.File f) = file_status f
 status_of (fault.Open f) = open_status f
 status_of f = 3
 
--- 0 for a lawful day, 4 for one that isn't
+-- 0 for a lawful day, 4 for one that isn't, 5 where a broken journal leaves it open
 abbrev pub finish_status : Finish → ℕ
 finish_status Lawful = 0
 finish_status Unlawful = 4
+finish_status Incomplete = 5
 
 -- of a run that was done, and else that of its fault
 abbrev pub run_status : RunResult → ℕ

@@ -35,16 +35,19 @@ pub enum Finish {
     Lawful,
     /// A reply that its journal has isn't the lawful one.
     Unlawful,
+    /// No such reply is in the whole lines of its journal, which is a broken copy.
+    Incomplete,
 }
 
 impl Finish {
-    /// The status that the program ends with: 0 for a lawful day, and else 4.
+    /// The status that the program ends with: 0 for a lawful day, 4 for one that isn't, 5 where that isn't known.
     pub fn status(self) -> u8
         ensures { result ≡ finish_status self }
     {
         match self {
             Finish::Lawful => 0,
             Finish::Unlawful => 4,
+            Finish::Incomplete => 5,
         }
     }
 }

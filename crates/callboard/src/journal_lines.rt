@@ -9,8 +9,8 @@ use crate::serve::{write_line, write_open_fault};
 use auction_terms::Config;
 use byte_streams::{Sink, write_all};
 use journal::DayHeader;
-use journal_file::OpenFileFault;
-use kept_session::{BeginFault, ResumeFault, UnlawfulEntry};
+use journal_file::{DeviceError, OpenFileFault};
+use kept_session::{BeginFault, CutOff, ResumeFault, UnlawfulEntry};
 use live_session::{Ending, LiveFault};
 use order_file::FileFault;
 use printed_lines::{Page, put_reply};
@@ -62,10 +62,21 @@ fn write_unlawful<E: Sink>(err: &mut E, entry: UnlawfulEntry, recorded: &[u8]) {
     let _ = write_all(err, page.as_slice());
 }
 
+/// Writes that the file of this name is no journal.
+fn write_not_a_journal<E: Sink>(err: &mut E, name: &str) {
+    let _ = write_all(err, b"journal ".as_slice());
+    let _ = write_all(err, name.as_bytes());
+    write_line(err, ": not a journal");
+}
+
 /// Writes the fault of a journal's text, and answers its status.
-fn write_file_fault<E: Sink>(err: &mut E, fault: FileFault) -> u8
+fn write_file_fault<E: Sink>(err: &mut E, fault: FileFault, name: &str) -> u8
     ensures { result ≡ resume_status (ResumeFault.File fault) }
 {
+    if matches!(fault, FileFault::NotADay) {
+        write_not_a_journal(err, name);
+        return 1;
+    }
     let fault = Fault::File(fault);
     if !matches!(fault, Fault::File(FileFault::NoMemory)) {
         let _ = write_all(err, b"journal ".as_slice());
@@ -75,11 +86,11 @@ fn write_file_fault<E: Sink>(err: &mut E, fault: FileFault) -> u8
 }
 
 /// Writes why a session doesn't go on with a journal, and answers the status.
-fn write_resume_fault<E: Sink>(err: &mut E, fault: &ResumeFault, day: DayHeader) -> u8
+fn write_resume_fault<E: Sink>(err: &mut E, fault: &ResumeFault, name: &str, day: DayHeader) -> u8
     ensures { result ≡ resume_status fault.now }
 {
     match fault {
-        ResumeFault::File(fault) => write_file_fault(err, *fault),
+        ResumeFault::File(fault) => write_file_fault(err, *fault, name),
         ResumeFault::AnotherDay(other) => {
             write_other_day(err, day, *other);
             2
@@ -91,14 +102,41 @@ fn write_resume_fault<E: Sink>(err: &mut E, fault: &ResumeFault, day: DayHeader)
     }
 }
 
+/// Writes how many bytes are behind a journal's lines, where this record would be.
+fn write_damage<E: Sink>(err: &mut E, number: u64, bytes: u64) {
+    let mut page = Page::new();
+    page.put("journal record ");
+    page.put_number(number);
+    page.put(": damaged, ");
+    page.put_number(bytes);
+    page.put(" bytes follow\n");
+    let _ = write_all(err, page.as_slice());
+}
+
+/// Writes the fault of a journal's file.
+fn write_device_fault<E: Sink>(err: &mut E, fault: Option<DeviceError>) {
+    match fault {
+        Some(DeviceError::Changed) => write_line(err, "journal changed by others"),
+        _ => write_line(err, "journal failed"),
+    }
+}
+
 /// Writes why a session doesn't begin on a journal's file, and answers the status.
-fn write_begin_fault<E: Sink>(err: &mut E, fault: &BeginFault, day: DayHeader) -> u8
+fn write_begin_fault<E: Sink>(err: &mut E, fault: &BeginFault, name: &str, day: DayHeader) -> u8
     ensures { result ≡ begin_status fault.now }
 {
     match fault {
-        BeginFault::Resume(fault) => write_resume_fault(err, fault, day),
-        BeginFault::Device(_) => {
-            write_line(err, "journal failed");
+        BeginFault::NotAJournal => {
+            write_not_a_journal(err, name);
+            1
+        }
+        BeginFault::Resume(fault) => write_resume_fault(err, fault, name, day),
+        BeginFault::Damaged(number, bytes) => {
+            write_damage(err, *number, *bytes);
+            1
+        }
+        BeginFault::Device(error) => {
+            write_device_fault(err, Some(*error));
             3
         }
         BeginFault::NoMemory => {
@@ -108,8 +146,24 @@ fn write_begin_fault<E: Sink>(err: &mut E, fault: &BeginFault, day: DayHeader) -
     }
 }
 
+/// Why a journal's file isn't opened.
+fn opening_line(fault: &OpenFileFault) -> &'static str {
+    match fault {
+        OpenFileFault::NotRegular => "journal open failed: a link, or no regular file",
+        OpenFileFault::Foreign => "journal open failed: another user's file",
+        OpenFileFault::Shared => "journal open failed: others may write it",
+        OpenFileFault::Stream => "journal open failed: it is the session's input or output",
+        OpenFileFault::Busy | OpenFileFault::Failed(_) => "journal open failed",
+    }
+}
+
 /// Writes why a session with a journal doesn't begin, and answers the status.
-pub(crate) fn write_kept_fault<E: Sink>(err: &mut E, fault: &KeptFault, day: DayHeader) -> u8
+pub(crate) fn write_kept_fault<E: Sink>(
+    err: &mut E,
+    fault: &KeptFault,
+    name: &str,
+    day: DayHeader,
+) -> u8
     ensures { result ≡ kept_status fault.now }
 {
     match fault {
@@ -118,12 +172,30 @@ pub(crate) fn write_kept_fault<E: Sink>(err: &mut E, fault: &KeptFault, day: Day
             write_line(err, "journal in use");
             2
         }
-        KeptFault::Opening(OpenFileFault::Failed(_)) => {
-            write_line(err, "journal open failed");
+        KeptFault::Opening(fault) => {
+            write_line(err, opening_line(fault));
             3
         }
-        KeptFault::Begin(fault) => write_begin_fault(err, fault, day),
+        KeptFault::Begin(fault) => write_begin_fault(err, fault, name, day),
     }
+}
+
+/// Writes what was cut off behind a journal's lines, if anything was, and the file that it is in.
+pub(crate) fn write_cut<E: Sink>(err: &mut E, name: &str, cut: Option<CutOff>) {
+    let Some(CutOff { number, bytes }) = cut else {
+        return;
+    };
+    let mut page = Page::new();
+    page.put("journal cut off after its last line: ");
+    page.put_number(bytes);
+    page.put(" bytes, kept in ");
+    let _ = write_all(err, page.as_slice());
+    let _ = write_all(err, name.as_bytes());
+    page.clear();
+    page.put(".cut-");
+    page.put_number(number);
+    page.put("\n");
+    let _ = write_all(err, page.as_slice());
 }
 
 /// Writes how many entries the journal has.
@@ -135,11 +207,13 @@ pub(crate) fn write_entries<E: Sink>(err: &mut E, count: u32) {
     let _ = write_all(err, page.as_slice());
 }
 
-/// Writes how a session ended, and answers its status, which a journal that can't be closed changes.
+/// Writes how a session ended, and answers its status, which a journal that can't be closed changes, for this fault of
+/// its file.
 pub(crate) fn write_ending<E: Sink>(
     err: &mut E,
     ended: Result<Ending, LiveFault>,
     is_closed: bool,
+    fault: Option<DeviceError>,
 ) -> u8
     ensures { EndsWithStatus ended is_closed result }
 {
@@ -163,6 +237,6 @@ pub(crate) fn write_ending<E: Sink>(
     if is_closed {
         return status;
     }
-    write_line(err, "journal failed");
+    write_device_fault(err, fault);
     3
 }

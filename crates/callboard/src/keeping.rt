@@ -1,7 +1,6 @@
 //! A live session whose commands are kept in a journal's file.
 
 ghost use Rattle.std.specs.Prelude.{◌≡◌, Err, IfErr, IfOk};
-ghost use Rattle.journal_file.specs.Device.{IsOnlyOutcome};
 ghost use Rattle.journal_file.specs.Settled.{IsSettled};
 ghost use Rattle.journal_file.specs.declared.file.OpenFileFault.{OpenFileFault};
 ghost use Rattle.live_session.specs.declared.fault.LiveFault.TheVariants.{CommitFailed};
@@ -9,12 +8,12 @@ ghost use Rattle.settings.specs.declared.types.JournalFile.{JournalFile};
 ghost use Rattle.callboard.specs.FileRun.{ends_of};
 ghost use Rattle.callboard.specs.KeptLive.{HasClosed, IsBegunFor, IsReason, RunsKeptSession, files_of};
 
-use crate::journal_lines::{write_ending, write_entries, write_kept_fault};
+use crate::journal_lines::{write_cut, write_ending, write_entries, write_kept_fault};
 use auction::Auction;
 use byte_streams::{Sink, Source};
 use journal::DayHeader;
-use journal_file::{CommittedLines, Device, OpenFileFault};
-use kept_session::{BeginFault, Begun, begin, run_kept};
+use journal_file::{CommittedLines, Device, DeviceError, OpenFileFault};
+use kept_session::{BeginFault, Begun, NotBegun, begin, run_kept};
 use live_session::{Ending, LiveFault, SessionTerms};
 use settings::JournalFile;
 use std::alloc::Global;
@@ -25,7 +24,6 @@ pub struct OpenedJournal<D: Device> {
     pub device: D,
     pub bytes: Vec<u8>,
     pub ghost read: { bytes.items ≡ D.seen device },
-    pub ghost durable: { IsOnlyOutcome (D.seen device) (D.may_leave device) },
 }
 
 /// What opens the file of a journal.
@@ -53,17 +51,20 @@ pub enum KeptFault {
     Begin(BeginFault),
 }
 
-/// Begins a session of this day on a file, which isn't opened where no auction can be.
+/// Begins a session of this day on a file, which isn't opened where no auction can be. Where no session begins on what
+/// it has, the file is left to `left`.
 fn begin_kept<D: Device + Drop, P: OpensJournal<D> + Drop>(
     alloc: Global,
     files: P,
     file: JournalFile<'_>,
     day: DayHeader,
+    left: &mut Option<D>,
 ) -> Result<Begun<D>, KeptFault>
     ensures begun { IfOk result (λ begun.
-        IsBegunFor (files_of D.Device (P.Opens files) (P.CannotOpen files)) file.entry day begun.journal
+        IsBegunFor (files_of D.Device (P.Opens files) (P.CannotOpen files) left.new) file.entry day begun.journal
         begun.auction) }
-    ensures reason { IfErr result (IsReason (files_of D.Device (P.Opens files) (P.CannotOpen files)) file.entry day) }
+    ensures reason { IfErr result
+        (IsReason (files_of D.Device (P.Opens files) (P.CannotOpen files) left.new) file.entry day) }
 {
     let auction = match Auction::open(alloc, day.config) {
         Ok(auction) => auction,
@@ -75,26 +76,38 @@ fn begin_kept<D: Device + Drop, P: OpensJournal<D> + Drop>(
     };
     match begin(alloc, auction, device, bytes.as_slice(), day) {
         Ok(begun) => Ok(begun),
-        Err(fault) => Err(KeptFault::Begin(fault)),
+        Err(NotBegun { device, fault }) => {
+            *left = Some(device);
+            Err(KeptFault::Begin(fault))
+        }
     }
 }
 
-/// Closes the journal of a session, unless a commit has failed. Whether it is closed.
+/// Closes the journal of a session, unless a commit has failed. Whether it is closed; where it isn't for a fault of the
+/// file, `fault` is that one.
 fn close_journal<D: Device>(
     journal: &mut CommittedLines<D>,
     ended: Result<Ending, LiveFault>,
+    fault: &mut Option<DeviceError>,
 ) -> bool
     requires { (ended ≡ Err CommitFailed → ⊥) → IsSettled D.seen D.may_leave journal.old }
     ensures { HasClosed D.Device ended journal.old.device journal.new.device result }
 {
     match ended {
         Err(LiveFault::CommitFailed) => false,
-        _ => journal.close().is_ok(),
+        _ => match journal.close() {
+            Ok(()) => true,
+            Err(error) => {
+                *fault = Some(error);
+                false
+            }
+        },
     }
 }
 
 /// Answers each record of the input as soon as its line has ended, with its command in the journal's file before its
-/// answer is written, and goes on with what the file has. It says how many entries that is.
+/// answer is written, and goes on with what the file has. It says how many entries that is, and what was cut off behind
+/// them. The file, as it is at the end, is left to `left`.
 pub fn serve_kept<R: Source, O: Sink, E: Sink, D: Device + Drop, P: OpensJournal<D> + Drop>(
     alloc: Global,
     reader: &mut R,
@@ -104,23 +117,28 @@ pub fn serve_kept<R: Source, O: Sink, E: Sink, D: Device + Drop, P: OpensJournal
     file: JournalFile<'_>,
     day: DayHeader,
     reserve: u32,
+    left: &mut Option<D>,
 ) -> u8
-    ensures { RunsKeptSession (files_of D.Device (P.Opens files) (P.CannotOpen files)) file.entry day reserve
+    ensures { RunsKeptSession (files_of D.Device (P.Opens files) (P.CannotOpen files) left.new) file.entry day reserve
         (ends_of R.Source O.Sink reader.old reader.new out.old out.new) result }
 {
     let Begun {
         mut journal,
         auction,
-    } = match begin_kept(alloc, files, file, day) {
+        cut,
+    } = match begin_kept(alloc, files, file, day, left) {
         Ok(begun) => begun,
-        Err(fault) => return write_kept_fault(err, &fault, day),
+        Err(fault) => return write_kept_fault(err, &fault, file.name, day),
     };
+    write_cut(err, file.name, cut);
     write_entries(err, auction.calls());
     let terms = SessionTerms {
         members: day.members,
         reserve,
     };
-    let ended = run_kept(alloc, reader, out, &mut journal, auction, terms);
-    let is_closed = close_journal(&mut journal, ended);
-    write_ending(err, ended, is_closed)
+    let mut fault = None;
+    let ended = run_kept(alloc, reader, out, &mut journal, auction, terms, &mut fault);
+    let is_closed = close_journal(&mut journal, ended, &mut fault);
+    *left = Some(journal.device);
+    write_ending(err, ended, is_closed, fault)
 }

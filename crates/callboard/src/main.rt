@@ -62,12 +62,16 @@ struct Files<'a> {
     host: &'a HostRuntime,
 }
 
-impl OpensJournal<Tracked<Opened>> for Files<'_> {
+impl<'a> OpensJournal<Tracked<Opened<'a>>> for Files<'a> {
+    ghost use Rattle.callboard.specs.Served.{OpensAsAsked};
+
+    ghost Opens = { λ _ file device. OpensAsAsked file device };
+
     fn open(
         self,
         alloc: Global,
         file: JournalFile<'_>,
-    ) -> Result<OpenedJournal<Tracked<Opened>>, OpenFileFault> {
+    ) -> Result<OpenedJournal<Tracked<Opened<'a>>>, OpenFileFault> {
         let syncing = if file.is_synced {
             Syncing::Each
         } else {
@@ -127,6 +131,7 @@ fn run_program<I: Ledger, O: Ledger, E: Ledger, T: Wait + Threads + Sync>(
     let owned: Vec<String> = env::args(host)?.collect(alloc)?;
     let words = lend(alloc, owned.as_slice())?;
     let files = Files { host };
+    let mut left = None;
     Ok(serve(
         alloc,
         words.as_slice(),
@@ -134,6 +139,7 @@ fn run_program<I: Ledger, O: Ledger, E: Ledger, T: Wait + Threads + Sync>(
         &mut out,
         &mut err,
         files,
+        &mut left,
         rt,
     ))
 }

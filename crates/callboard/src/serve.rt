@@ -250,7 +250,7 @@ fn write_run_fault<E: Sink>(
 /// What it prints goes to `out`, the help too; a fault is one line on `err`, and for a bad command line the text of
 /// `clap`, in either case with a line more where its likely cause is known. Where the input or the command line is bad,
 /// nothing goes to `out`, but where records are answered as they come. The file of a journal that the words name is
-/// opened by `files`.
+/// opened by `files`, and left to `left` as it is at the end.
 pub fn serve<
     'a,
     R: KeepsStart,
@@ -266,9 +266,10 @@ pub fn serve<
     out: &mut O,
     err: &mut E,
     files: P,
+    left: &mut Option<D>,
     rt: &T,
 ) -> u8
-    ensures { ServesWords (files_of D.Device (P.Opens files) (P.CannotOpen files)) (texts words.now)
+    ensures { ServesWords (files_of D.Device (P.Opens files) (P.CannotOpen files) left.new) (texts words.now)
         (ends_of R.Source O.Sink reader.old reader.new out.old out.new) result }
 {
     let settings = match settings(alloc, words) {
@@ -284,7 +285,7 @@ pub fn serve<
     let day = DayHeader { config, members };
     match task {
         Task::Live { reserve } => match journal {
-            Some(file) => serve_kept(alloc, reader, out, err, files, file, day, reserve),
+            Some(file) => serve_kept(alloc, reader, out, err, files, file, day, reserve, left),
             None => serve_live(alloc, reader, out, err, day, reserve),
         },
         Task::Audit { results } => {

@@ -52,12 +52,12 @@ struct Printed {
 #[derive(Drop)]
 struct NoFiles;
 
-impl OpensJournal<Tracked<Opened>> for NoFiles {
+impl<'a> OpensJournal<Tracked<Opened<'a>>> for NoFiles {
     fn open(
         self,
         _alloc: Global,
         _file: JournalFile<'_>,
-    ) -> Result<OpenedJournal<Tracked<Opened>>, OpenFileFault> {
+    ) -> Result<OpenedJournal<Tracked<Opened<'a>>>, OpenFileFault> {
         Err(OpenFileFault::Busy)
     }
 }
@@ -80,7 +80,17 @@ fn served<
         failures: Failures::<E>::new(errors),
     };
     let mut reader = StartKeeper::new(reader);
-    let status = serve(rt.alloc(), words, &mut reader, out, &mut err, files, rt);
+    let mut left = None;
+    let status = serve(
+        rt.alloc(),
+        words,
+        &mut reader,
+        out,
+        &mut err,
+        files,
+        &mut left,
+        rt,
+    );
     let ToMemory { bytes, failures: _ } = err;
     (status, bytes)
 }
@@ -117,7 +127,13 @@ fn run_to_memory<
 
 /// What a file of these bytes, run with these words, comes to.
 fn run<T: AllocGlobal + Wait + Threads + Sync>(rt: &T, words: &[&str], input: &[u8]) -> Printed {
-    run_to_memory::<Brand, Tracked<Opened>, NoFiles, T>(rt, Blank::new(1), words, input, NoFiles)
+    run_to_memory::<Brand, Tracked<Opened<'_>>, NoFiles, T>(
+        rt,
+        Blank::new(1),
+        words,
+        input,
+        NoFiles,
+    )
 }
 
 /// A file of these bytes, run with these words, gives this output, this error and this status.

@@ -2,3 +2,4 @@ pub mod AnswerLaws
 pub mod JournalAuditLaws
 pub mod LegalAuditLaws
 pub mod ResultLaws
+pub mod WholeCopyLaws

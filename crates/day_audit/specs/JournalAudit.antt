@@ -6,24 +6,28 @@ use Rattle.auction.specs.ConfigFault.{open_fault}
 use Rattle.auction.specs.declared.OpenFault.TheVariants.{NoMemory}
 use Rattle.order_file.specs.File.{FailsAsWanted}
 use Rattle.order_file.specs.declared.fault.FileFault.{FileFault}
-use Rattle.journal.specs.JournalFile.{RecordedDay}
-use Rattle.day_audit.specs.declared.counts.Counts.{Counts}
+use Rattle.day_audit.specs.declared.counts.Audited.{Audited}
 use Rattle.day_audit.specs.declared.fault.AuditFault.{AuditFault}
 use Rattle.day_audit.specs.declared.fault.AuditFault.TheVariants.{File, Open, WriteFailed}
 use Rattle.day_audit.specs.Answers.{answers_in}
 use Rattle.day_audit.specs.AuditCounts.{counts_of}
-use Rattle.day_audit.specs.ResultsText.{printed_text}
+use Rattle.day_audit.specs.JournalCopies.{JournalCopy}
+use Rattle.day_audit.specs.ResultsText.{copy_text}
 
--- What was counted and written, with or without the results, by what the journal says; a fault of the journal comes
--- before one of its day.
-abbrev pub IsAuditOf : Bool → Option (List ℕ) → Option (List ℕ) → Result RecordedDay FileFault
-    → Result Counts AuditFault → Type 0
+-- the whole lines' replies were counted, and the bytes behind them
+abbrev pub IsFoundOfCopy : JournalCopy → Audited → Type 0
+IsFoundOfCopy copy audited = (audited.counts ≡ counts_of (answers_in copy.recorded)) × (audited.behind ≡ copy.behind)
+
+-- What was counted and written, with or without the results, by what the copy of a journal says; a fault of the
+-- journal comes before one of its day.
+abbrev pub IsAuditOf : Bool → Option (List ℕ) → Option (List ℕ) → Result JournalCopy FileFault
+    → Result Audited AuditFault → Type 0
 IsAuditOf results old new said (Err (File f)) = FailsAsWanted f said
-IsAuditOf results old new (Ok j) (Err (Open f)) = f ≡ unwrap_or (open_fault j.day.config) NoMemory
-IsAuditOf results old new (Ok j) (Err WriteFailed) =
-    (open_fault j.day.config ≡ None) × AppendsBeginning old new (printed_text results j)
-IsAuditOf results old new (Ok j) (Ok counts) =
-    (open_fault j.day.config ≡ None) × (counts ≡ counts_of (answers_in j)) × Appends old new (printed_text results j)
+IsAuditOf results old new (Ok copy) (Err (Open f)) = f ≡ unwrap_or (open_fault copy.recorded.day.config) NoMemory
+IsAuditOf results old new (Ok copy) (Err WriteFailed) =
+    (open_fault copy.recorded.day.config ≡ None) × AppendsBeginning old new (copy_text results copy)
+IsAuditOf results old new (Ok copy) (Ok audited) =
+    (open_fault copy.recorded.day.config ≡ None) × IsFoundOfCopy copy audited × Appends old new (copy_text results copy)
 IsAuditOf results old new (Err f) r = ⊥
 
 -- nothing was written but by an audit that failed to write

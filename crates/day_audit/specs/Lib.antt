@@ -1,4 +1,5 @@
 pub mod Answers
+pub mod JournalCopies
 pub mod AuditCounts
 pub mod AuditText
 pub mod BegunAudit

@@ -1,5 +1,6 @@
 -- The results of a day, which an audit prints after its own lines where they are wanted.
-use Rattle.std.specs.Prelude.{ℕ, ◌+◌, Bool, true, false, if◌then◌else◌, List, [], ◌∷◌, ◌++◌, Option, Some, None, codes}
+use Rattle.std.specs.Prelude.{ℕ, ◌+◌, ◌==◌, Bool, true, false, if◌then◌else◌, List, [], ◌∷◌, ◌++◌, Option, Some, None}
+use Rattle.std.specs.Prelude.{codes, decimal}
 use Rattle.auction_terms.specs.declared.AuctionKind.{AuctionKind}
 use Rattle.auction_terms.specs.declared.Call.{Call}
 use Rattle.auction_terms.specs.declared.Config.{Config}
@@ -9,7 +10,9 @@ use Rattle.printed_lines.specs.ReplyLines.{line}
 use Rattle.printed_lines.specs.ReplyWords.{kind_word}
 use Rattle.journal.specs.JournalFile.{RecordedDay}
 use Rattle.day_audit.specs.Answers.{answers_in}
+use Rattle.day_audit.specs.AuditCounts.{counts_of}
 use Rattle.day_audit.specs.AuditText.{audit_text}
+use Rattle.day_audit.specs.JournalCopies.{JournalCopy}
 
 -- the line of a command's reply, if that is of an uncross that was accepted
 abbrev pub uncross_line : ℕ → Reply → List ℕ
@@ -34,6 +37,20 @@ abbrev pub results_if : Bool → RecordedDay → List ℕ
 results_if true j = results_text j.day.config j.calls
 results_if false j = []
 
--- all that an audit prints: what it found, and then the results of the day, where they are wanted
+-- what an audit found, and then the results of the day, where they are wanted
 abbrev pub printed_text : Bool → RecordedDay → List ℕ
 printed_text results j = audit_text (answers_in j) ++ results_if results j
+
+-- how many bytes are behind the whole lines of a broken copy, and which entry they follow
+abbrev pub broken_line : ℕ → ℕ → List ℕ
+broken_line behind entries =
+    codes "incomplete: " ++ (decimal behind ++ (codes " bytes follow entry " ++ (decimal entries ++ codes "\n")))
+
+abbrev pub behind_line : ℕ → ℕ → List ℕ
+behind_line behind entries = if behind == 0 then [] else broken_line behind entries
+
+-- all that an audit prints of a copy
+abbrev pub copy_text : Bool → JournalCopy → List ℕ
+copy_text results copy =
+    printed_text results copy.recorded
+    ++ behind_line copy.behind (counts_of (answers_in copy.recorded)).entries

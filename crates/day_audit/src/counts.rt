@@ -27,6 +27,15 @@ pub struct Counts {
     pub first_unlawful: Option<u64>,
 }
 
+/// What an audit of a copy of a journal has found.
+#[derive(Clone, Copy, Debug, PartialEq, Eq)]
+pub struct Audited {
+    /// What was counted of the entries of its whole lines.
+    pub counts: Counts,
+    /// How many bytes are behind these lines: those of a broken line, or of a journal's room.
+    pub behind: u64,
+}
+
 fn first_or(first: Option<u64>, place: u64) -> Option<u64>
     ensures { result ≡ first_or first place }
 {

@@ -6,6 +6,7 @@ ghost use Rattle.printed_lines.specs.Printing.{Prints};
 ghost use Rattle.printed_lines.specs.ReplyWords.{reply_text};
 ghost use Rattle.day_audit.specs.AuditText.{compared_line, counts_text, difference, difference_line, lawful_words};
 ghost use Rattle.day_audit.specs.AuditText.{recorded_words, unlawful_line};
+ghost use Rattle.day_audit.specs.ResultsText.{behind_line, broken_line};
 
 use crate::counts::{Counts, Finding};
 use auction_terms::Reply;
@@ -123,4 +124,41 @@ pub(crate) fn print_counts<S: Sink>(
     print_compared(printer, counts.compared)?;
     print_unlawful(printer, counts.unlawful)?;
     print_audit(printer, counts.first_unlawful)
+}
+
+fn put_broken(page: &mut Page, behind: u64, entries: u64)
+    requires { length page.old + LONGEST_LINE ≤ ROOM }
+    ensures { page.new ≡ page.old ++ broken_line behind entries }
+{
+    page.put("incomplete: ");
+    page.put_number(behind);
+    page.put(" bytes follow entry ");
+    page.put_number(entries);
+    page.put("\n");
+}
+
+fn print_broken<S: Sink>(
+    printer: &mut Printer<'_, S>,
+    behind: u64,
+    entries: u64,
+) -> Result<(), WriteFailed>
+    ensures { Prints S.Sink printer.old printer.new result (broken_line behind entries) }
+{
+    printer.make_room()?;
+    put_broken(&mut printer.page, behind, entries);
+    Ok(())
+}
+
+/// Prints how many bytes are behind the whole lines of a copy with as many entries, or nothing where it is whole.
+pub(crate) fn print_behind<S: Sink>(
+    printer: &mut Printer<'_, S>,
+    behind: u64,
+    entries: u64,
+) -> Result<(), WriteFailed>
+    ensures { Prints S.Sink printer.old printer.new result (behind_line behind entries) }
+{
+    if behind == 0 {
+        return Ok(());
+    }
+    print_broken(printer, behind, entries)
 }

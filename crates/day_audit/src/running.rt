@@ -6,26 +6,27 @@ ghost use Rattle.csv.specs.Records.{field_at, fields_of};
 ghost use Rattle.byte_streams.specs.Streams.{TakesAtMost};
 ghost use Rattle.byte_streams.specs.Writing.{WritesAll};
 ghost use Rattle.journal.specs.EntryRecord.{IsReplyText};
-ghost use Rattle.journal.specs.JournalFile.{journal};
 ghost use Rattle.journal.specs.declared.reading.TheConstants.{MAX_JOURNAL_BYTES};
 ghost use Rattle.printed_lines.specs.Printing.{Prints};
 ghost use Rattle.printed_lines.specs.ReplyWords.{reply_text};
 ghost use Rattle.day_audit.specs.Answers.{answers_in, finding_of};
-ghost use Rattle.day_audit.specs.BegunAudit.{IsNewAudit, IsSameDay, audited_day};
+ghost use Rattle.day_audit.specs.BegunAudit.{IsNewAudit, IsSameDay, audited_copy, audited_day};
 ghost use Rattle.day_audit.specs.AuditCounts.{counts_of, no_counts};
 ghost use Rattle.day_audit.specs.AuditText.{audit_text, differences};
-ghost use Rattle.day_audit.specs.ResultsText.{printed_text, results_text};
+ghost use Rattle.day_audit.specs.JournalCopies.{journal_copy};
+ghost use Rattle.day_audit.specs.ResultsText.{copy_text, printed_text, results_text};
 ghost use Rattle.day_audit.specs.JournalAudit.{IsAuditOf, KeepsText};
 
-use crate::counts::{Counts, Finding};
+use crate::copies::read_copy;
+use crate::counts::{Audited, Counts, Finding};
 use crate::fault::AuditFault;
-use crate::printing::{print_counts, print_finding};
+use crate::printing::{print_behind, print_counts, print_finding};
 use crate::results::print_results;
 use auction::Auction;
 use auction_terms::Reply;
 use byte_streams::{Sink, Source, WriteFailed};
 use csv::ByteRecord;
-use journal::{Journal, read_journal};
+use journal::Journal;
 use order_file::FileFault;
 use printed_lines::{Page, Printer, is_text_of};
 use std::alloc::Global;
@@ -124,59 +125,86 @@ impl<'a> Audit<'a> {
         self.print_results(printer)
     }
 
-    /// Writes the whole text of an audit, or at a failure a beginning of it.
-    fn write<S: Sink>(&mut self, writer: &mut S, results: bool) -> Result<(), WriteFailed>
+    /// Prints all of an audit of a copy that has as many bytes behind its whole lines.
+    fn print_copy<S: Sink>(
+        &mut self,
+        printer: &mut Printer<'_, S>,
+        results: bool,
+        behind: u64,
+    ) -> Result<(), WriteFailed>
         requires { IsNewAudit self.old }
-        ensures written { WritesAll S.Sink writer.old writer.new result (printed_text results (audited_day self.old)) }
+        ensures printed { Prints S.Sink printer.old printer.new result
+            (copy_text results (audited_copy self.old behind)) }
+        ensures counts { OnOk result (self.new.counts ≡ counts_of (answers_in (audited_day self.old))) }
+    {
+        self.print(printer, results)?;
+        print_behind(printer, behind, self.counts.entries)
+    }
+
+    /// Writes the whole text of such an audit, or at a failure a beginning of it.
+    fn write<S: Sink>(
+        &mut self,
+        writer: &mut S,
+        results: bool,
+        behind: u64,
+    ) -> Result<(), WriteFailed>
+        requires { IsNewAudit self.old }
+        ensures written { WritesAll S.Sink writer.old writer.new result
+            (copy_text results (audited_copy self.old behind)) }
         ensures counts { OnOk result (self.new.counts ≡ counts_of (answers_in (audited_day self.old))) }
     {
         let mut printer = Printer::new(writer);
-        self.print(&mut printer, results)?;
+        self.print_copy(&mut printer, results, behind)?;
         printer.flush()
     }
 }
 
-/// Audits a journal: reads it to its end, opens an auction of its day, applies its calls one by one, and compares each
-/// recorded reply, byte for byte, with the auction's own.
+/// Audits a journal: reads it to its end, opens an auction of its day, applies the calls of its whole lines one by one,
+/// and compares each recorded reply, byte for byte, with the auction's own.
 ///
 /// A line is written for each that differs, then how many entries there are, how many were compared and how many are
 /// unlawful, and whether the journal is legal or the place from 0 of its first unlawful entry. With `results` the
 /// lawful results of the day follow: the line of each uncross that was accepted, as a run prints it, and the auction
-/// that the day is in, or that it is over. A fault of the journal comes before one of its day, and nothing is written
-/// where either has a fault; a write that fails leaves a beginning.
+/// that the day is in, or that it is over. Of a copy that is broken off within a line, or has NULs behind its lines, a
+/// last line says how many bytes follow which entry. A fault of the journal comes before one of its day, and nothing is
+/// written where either has a fault; a write that fails leaves a beginning.
 pub fn audit_journal<R: Source, S: Sink>(
     alloc: Global,
     reader: &mut R,
     writer: &mut S,
     results: bool,
-) -> Result<Counts, AuditFault>
+) -> Result<Audited, AuditFault>
     // A read failed.
     ensures read_failed { IsErrOf result (AuditFault.File FileFault.ReadFailed)
         ↔ (R.failures reader.old < R.failures reader.new) }
     // A write failed.
     ensures write_failed { IsErrOf result AuditFault.WriteFailed ↔ (S.failures writer.old < S.failures writer.new) }
-    // Else, refused memory aside, it is the audit of what the journal says.
+    // Else, refused memory aside, it is the audit of what the whole lines say.
     ensures audit { IfSome (R.left reader.old) (λ bytes.
-        IsAuditOf results (S.written writer.old) (S.written writer.new) (journal bytes) result) }
+        IsAuditOf results (S.written writer.old) (S.written writer.new) (journal_copy bytes) result) }
     ensures kept { IfErr result (KeepsText (S.written writer.old) (S.written writer.new)) }
     // However long the journal is, at most `MAX_JOURNAL_BYTES + 1` bytes are taken.
     ensures taken { TakesAtMost (MAX_JOURNAL_BYTES + 1) (R.left reader.old) (R.left reader.new) }
 {
-    let journal = match read_journal(alloc, reader) {
-        Ok(journal) => journal,
+    let copy = match read_copy(alloc, reader) {
+        Ok(copy) => copy,
         Err(fault) => return Err(AuditFault::File(fault)),
     };
-    let auction = match Auction::open(alloc, journal.day.config) {
+    let auction = match Auction::open(alloc, copy.journal.day.config) {
         Ok(auction) => auction,
         Err(fault) => return Err(AuditFault::Open(fault)),
     };
+    let behind = copy.behind as u64;
     let mut audit = Audit {
-        journal: &journal,
+        journal: &copy.journal,
         auction,
         counts: Counts::none(),
     };
-    let Ok(()) = audit.write(writer, results) else {
+    let Ok(()) = audit.write(writer, results, behind) else {
         return Err(AuditFault::WriteFailed);
     };
-    Ok(audit.counts)
+    Ok(Audited {
+        counts: audit.counts,
+        behind,
+    })
 }

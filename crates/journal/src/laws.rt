@@ -1,8 +1,17 @@
 //! Laws of journals. Each is what the function's contract says; the functions do nothing.
 
+ghost use Rattle.std.specs.Prelude.{◌≡◌};
+ghost use Rattle.journal.specs.declared.entry.TheConstants.{MAX_REPLY};
+ghost use Rattle.journal.specs.declared.reading.TheConstants.{MAX_JOURNAL_BYTES};
 ghost use Rattle.journal.specs.JournalPromises.{AreUniqueTexts, AreFieldTexts, RunInputFits, GivesDay, JournalCallsFit};
 ghost use Rattle.journal.specs.JournalPromises.{LegalHasReplayTexts, OrderCallsFit, ReadsBack, ReadsHistory};
 ghost use Rattle.journal.specs.JournalPromises.{ReplayIsLegal};
+
+/// The limits of a journal and of its replies, in bytes, as FORMATS.md states them.
+pub fn stated_limits()
+    ensures journal { MAX_JOURNAL_BYTES ≡ 268_435_456 }
+    ensures reply { MAX_REPLY ≡ 256 }
+{}
 
 /// What is written as a journal is read back, and so is a history's journal, however long its lines are.
 pub fn reads_back()

@@ -19,7 +19,7 @@ pub use entry::MAX_REPLY;
 pub use kept::{keep_entry, print_kept_journal};
 pub use laws::{
     file_calls_fit, gives_day, legal_has_replay_texts, reads_back, replay_is_legal,
-    reply_texts_are_unique, run_input_fits,
+    reply_texts_are_unique, run_input_fits, stated_limits,
 };
 pub use printing::print_journal;
 pub use reading::{Journal, MAX_JOURNAL_BYTES, journal_of, read_journal};

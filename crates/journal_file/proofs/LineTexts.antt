@@ -14,7 +14,7 @@ line_found : (line rest : List ℕ) → IsInLine line → has_line (line ++ 10 �
 line_found [] rest inside = line-end 10 rest refl
 line_found (b ∷ line) rest inside = line-other b (line ++ 10 ∷ rest) inside.0 inside.1 ∙ line_found line rest inside.2
 
-committed-line : (line rest : List ℕ) → IsInLine line → committed (line ++ 10 ∷ rest) ≡ line ++ 10 ∷ committed rest
+pub committed-line : (line rest : List ℕ) → IsInLine line → committed (line ++ 10 ∷ rest) ≡ line ++ 10 ∷ committed rest
 committed-line [] rest inside = line-goes-on 10 rest (line-end 10 rest refl)
 committed-line (b ∷ line) rest inside =
     line-goes-on b (line ++ 10 ∷ rest) (line_found (b ∷ line) rest inside)

@@ -34,6 +34,15 @@ module _ {D : Type 0} (moment : D → ℕ) (left_since : D → ℕ → List ℕ 
         (λ q. inr (from_second c q)) (second.before t c (omega (arith, le, first.later)) left);
   }
 
+  -- What each moment leaves has more.
+  pub weaker : (old new : D) (P R : List ℕ → Type 0) → LeavesOnly moment left_since old new P
+      → ((c : List ℕ) → P c → R c) → LeavesOnly moment left_since old new R
+  weaker old new P R run from = record {
+    later = run.later;
+    each = λ c left. from c (run.each c left);
+    before = λ t c le left. ⊎_elim inl (λ p. inr (from c p)) (run.before t c le left);
+  }
+
   -- A run of two calls. After each, and so at each moment, a crash leaves what has P.
   pub two : (may_leave : D → List ℕ → Type 0) (only_now : (d : D) (c : List ℕ) → left_since d (moment d) c
       → may_leave d c) (old mid new : D) (P : List ℕ → Type 0)

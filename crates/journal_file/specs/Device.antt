@@ -2,7 +2,7 @@
 use Rattle.std.specs.Prelude.{◌<◌, ◌≡◌, ◌⊎◌, ℕ, ◌+◌, ◌-◌, ◌≤◌, min, max, List, ◌++◌, length, take, drop, get_or}
 use Rattle.std.specs.Prelude.{replicate, Result, IsErrOf}
 use Rattle.journal_file.specs.declared.device.DeviceError.{DeviceError}
-use Rattle.journal_file.specs.declared.device.DeviceError.TheVariants.{Failed, Full}
+use Rattle.journal_file.specs.declared.device.DeviceError.TheVariants.{Changed, Failed, Full}
 
 -- new is old with these bytes at this offset
 abbrev pub IsOverwritten : List ℕ → ℕ → List ℕ → List ℕ → Type 0
@@ -49,8 +49,10 @@ pub record LeavesOnly {D : Type 0} (moment : D → ℕ) (left_since : D → ℕ 
   -- for a run that began earlier
   pub before : (t : ℕ) (c : List ℕ) → t ≤ moment old → left_since new t c → left_since old t c ⊎ P c
 
--- `Failed` is reported only where the disk has failed since, and `Full` isn't
+-- `Failed` and `Changed` are reported only where the disk has failed since, or others have changed the file, and
+-- `Full` isn't
 pub record HasCause {T : Type 0} (before now : ℕ) (result : Result T DeviceError) : Type 0 where
   pub later : before ≤ now
   pub failed : IsErrOf result Failed → before < now
+  pub changed : IsErrOf result Changed → before < now
   pub not_full : IsErrOf result Full → ⊥

@@ -2,11 +2,12 @@
 //! Lines are written over the room, so that a crash leaves each byte as it was written or NUL, and the first NUL shows
 //! how far they came.
 
-ghost use Rattle.std.specs.Prelude.{◌≡◌, ◌<◌, ◌≤◌, ◌^◌, ◌+◌, ◌++◌, List, ℕ, length, OnOk, IsErrOf, take};
-ghost use Rattle.journal_file.specs.Committed.{committed, IsBegun};
+ghost use Rattle.std.specs.Prelude.{◌≡◌, ◌<◌, ◌≤◌, ◌^◌, ◌+◌, ◌++◌, List, ℕ, length, OnOk, IsErrOf, take, drop};
+ghost use Rattle.journal_file.specs.Committed.{committed, HasShortLines, HasTornEnd, IsBegun, Means};
 ghost use Rattle.journal_file.specs.Device.{IsOnlyOutcome, LeavesOnly};
 ghost use Rattle.journal_file.specs.Settled.{IsSettled};
 
+use crate::committed::{LONGEST_WRITE, committed_len};
 use crate::device::{Device, DeviceError};
 
 const MAX_BYTES: usize = 1 << 60;
@@ -41,11 +42,11 @@ impl<D: Device> CommittedLines<D> {
         }
     }
 
-    /// Adds whole lines. At `Ok` they are committed: from then on each crash leaves a file that has them.
-    /// At `Err`, open the file again.
+    /// Adds whole lines, none of them of `LONGEST_WRITE` bytes or more. At `Ok` they are committed: from then on each
+    /// crash leaves a file that has them. At `Err`, open the file again.
     pub fn commit(&mut self, lines: &[u8]) -> Result<(), DeviceError>
         requires settled { IsSettled D.seen D.may_leave self.old }
-        requires whole { committed lines.now ≡ lines.now }
+        requires short { HasShortLines lines.now }
 
         ensures settled { OnOk result (IsSettled D.seen D.may_leave self.new) }
         ensures committed { OnOk result
@@ -65,6 +66,7 @@ impl<D: Device> CommittedLines<D> {
         // It doesn't give up by itself.
         ensures causes { D.faults self.old.device ≤ D.faults self.new.device }
         ensures failed { IsErrOf result DeviceError.Failed → D.faults self.old.device < D.faults self.new.device }
+        ensures changed { IsErrOf result DeviceError.Changed → D.faults self.old.device < D.faults self.new.device }
         ensures full { IsErrOf result DeviceError.Full → 2 ^ 60 < self.old.end + length lines.now }
     {
         self.add(lines)
@@ -73,7 +75,7 @@ impl<D: Device> CommittedLines<D> {
     /// Makes room, and adds whole lines.
     fn add(&mut self, lines: &[u8]) -> Result<(), DeviceError>
         requires settled { IsSettled D.seen D.may_leave self.old }
-        requires whole { committed lines.now ≡ lines.now }
+        requires short { HasShortLines lines.now }
 
         ensures settled { OnOk result (IsSettled D.seen D.may_leave self.new) }
         ensures committed { OnOk result
@@ -86,10 +88,11 @@ impl<D: Device> CommittedLines<D> {
         // It doesn't give up by itself.
         ensures causes { D.faults self.old.device ≤ D.faults self.new.device }
         ensures failed { IsErrOf result DeviceError.Failed → D.faults self.old.device < D.faults self.new.device }
+        ensures changed { IsErrOf result DeviceError.Changed → D.faults self.old.device < D.faults self.new.device }
         ensures full { IsErrOf result DeviceError.Full → 2 ^ 60 < self.old.end + length lines.now }
     {
         self.make_room(lines.len())?;
-        self.put(lines)
+        self.put_all(lines)
     }
 
     /// Makes room for more than `count` bytes: after a line that a crash tears there is a NUL.
@@ -99,9 +102,10 @@ impl<D: Device> CommittedLines<D> {
         ensures settled { OnOk result (IsSettled D.seen D.may_leave self.new) }
         ensures same { OnOk result (committed (D.seen self.new.device) ≡ committed (D.seen self.old.device)) }
         ensures any_moment { LeavesOnly D.moment D.left_since self.old.device self.new.device
-            (λ c. committed c ≡ committed (D.seen self.old.device)) }
+            (Means (committed (D.seen self.old.device))) }
         ensures causes { D.faults self.old.device ≤ D.faults self.new.device }
         ensures failed { IsErrOf result DeviceError.Failed → D.faults self.old.device < D.faults self.new.device }
+        ensures changed { IsErrOf result DeviceError.Changed → D.faults self.old.device < D.faults self.new.device }
         ensures full { IsErrOf result DeviceError.Full → 2 ^ 60 < self.old.end + count }
     {
         if count < self.room {
@@ -117,10 +121,10 @@ impl<D: Device> CommittedLines<D> {
         Ok(())
     }
 
-    /// Writes whole lines over the room.
-    fn put(&mut self, lines: &[u8]) -> Result<(), DeviceError>
+    /// Writes whole lines over the room, as many at a time as one write may have.
+    fn put_all(&mut self, lines: &[u8]) -> Result<(), DeviceError>
         requires settled { IsSettled D.seen D.may_leave self.old }
-        requires whole { committed lines.now ≡ lines.now }
+        requires short { HasShortLines lines.now }
         requires room { length lines.now < self.old.room }
         ensures settled { OnOk result (IsSettled D.seen D.may_leave self.new) }
         ensures committed { OnOk result
@@ -129,6 +133,33 @@ impl<D: Device> CommittedLines<D> {
             (IsBegun (committed (D.seen self.old.device)) lines.now) }
         ensures causes { D.faults self.old.device ≤ D.faults self.new.device }
         ensures failed { IsErrOf result DeviceError.Failed → D.faults self.old.device < D.faults self.new.device }
+        ensures changed { IsErrOf result DeviceError.Changed → D.faults self.old.device < D.faults self.new.device }
+        ensures full { IsErrOf result DeviceError.Full → ⊥ }
+    {
+        let mut rest = lines;
+        'pieces: while !rest.is_empty() {
+            let (piece, more) = rest.split_at(piece_len(rest));
+            self.put(piece)?;
+            rest = more;
+        }
+        Ok(())
+    }
+
+    /// Writes whole lines over the room, no more than one write may have.
+    fn put(&mut self, lines: &[u8]) -> Result<(), DeviceError>
+        requires settled { IsSettled D.seen D.may_leave self.old }
+        requires whole { committed lines.now ≡ lines.now }
+        requires few { length lines.now ≤ LONGEST_WRITE }
+        requires room { length lines.now < self.old.room }
+        ensures settled { OnOk result (IsSettled D.seen D.may_leave self.new) }
+        ensures room { OnOk result (self.new.room + length lines.now ≡ self.old.room) }
+        ensures committed { OnOk result
+            (committed (D.seen self.new.device) ≡ committed (D.seen self.old.device) ++ lines.now) }
+        ensures any_moment { LeavesOnly D.moment D.left_since self.old.device self.new.device
+            (IsBegun (committed (D.seen self.old.device)) lines.now) }
+        ensures causes { D.faults self.old.device ≤ D.faults self.new.device }
+        ensures failed { IsErrOf result DeviceError.Failed → D.faults self.old.device < D.faults self.new.device }
+        ensures changed { IsErrOf result DeviceError.Changed → D.faults self.old.device < D.faults self.new.device }
         ensures full { IsErrOf result DeviceError.Full → ⊥ }
     {
         self.device.write_at(self.end, lines)?;
@@ -146,7 +177,7 @@ impl<D: Device> CommittedLines<D> {
 
         // A crash at any moment of the call leaves the lines from before it.
         ensures any_moment { LeavesOnly D.moment D.left_since self.old.device self.new.device
-            (λ c. committed c ≡ committed (D.seen self.old.device)) }
+            (Means (committed (D.seen self.old.device))) }
 
         // Over a whole session, as `commit`.
         ensures session { (since : D) (text before : List ℕ) → committed (D.seen self.old.device) ≡ text ++ before
@@ -156,6 +187,7 @@ impl<D: Device> CommittedLines<D> {
 
         ensures causes { D.faults self.old.device ≤ D.faults self.new.device }
         ensures failed { IsErrOf result DeviceError.Failed → D.faults self.old.device < D.faults self.new.device }
+        ensures changed { IsErrOf result DeviceError.Changed → D.faults self.old.device < D.faults self.new.device }
         ensures full { IsErrOf result DeviceError.Full → ⊥ }
     {
         self.cut()
@@ -167,9 +199,10 @@ impl<D: Device> CommittedLines<D> {
         ensures settled { OnOk result (IsSettled D.seen D.may_leave self.new) }
         ensures text { OnOk result (D.seen self.new.device ≡ committed (D.seen self.old.device)) }
         ensures any_moment { LeavesOnly D.moment D.left_since self.old.device self.new.device
-            (λ c. committed c ≡ committed (D.seen self.old.device)) }
+            (Means (committed (D.seen self.old.device))) }
         ensures causes { D.faults self.old.device ≤ D.faults self.new.device }
         ensures failed { IsErrOf result DeviceError.Failed → D.faults self.old.device < D.faults self.new.device }
+        ensures changed { IsErrOf result DeviceError.Changed → D.faults self.old.device < D.faults self.new.device }
         ensures full { IsErrOf result DeviceError.Full → ⊥ }
     {
         self.device.resize(self.end)?;
@@ -179,53 +212,103 @@ impl<D: Device> CommittedLines<D> {
     }
 }
 
-/// Cuts a file that a crash may have left, after its last whole line, where its lines end, as it was read.
-/// It may crash too.
-pub fn recover<D: Device>(device: &mut D, end: usize) -> Result<(), DeviceError>
-    // After a restart, what is read is what is on the disk.
+/// How many bytes the whole lines have that one write may have, from the first on.
+fn piece_len(lines: &[u8]) -> usize
+    ensures { result ≡ length (committed (take LONGEST_WRITE lines.now)) }
+{
+    let (front, _) = lines.split_at(lines.len().min(LONGEST_WRITE));
+    committed_len(front)
+}
+
+/// Cuts a file that a crash may have left, as it was read, after its last whole line, where its lines end. What was
+/// read may be a copy of the kernel's that never came to the disk, so the lines are written over themselves first. It
+/// may crash too.
+pub fn recover<D: Device>(device: &mut D, bytes: &[u8], end: usize) -> Result<(), DeviceError>
+    requires read { bytes.now ≡ D.seen device.old }
     requires end { end ≡ length (committed (D.seen device.old)) }
-    requires durable { IsOnlyOutcome (D.seen device.old) (D.may_leave device.old) }
+    requires torn { HasTornEnd (D.seen device.old) }
 
     ensures file { OnOk result (D.seen device.new ≡ committed (D.seen device.old)) }
     ensures same { OnOk result (committed (D.seen device.new) ≡ committed (D.seen device.old)) }
     ensures durable { OnOk result (IsOnlyOutcome (D.seen device.new) (D.may_leave device.new)) }
+    ensures aside { D.aside device.new ≡ D.aside device.old }
 
-    // A crash at any moment leaves the same lines.
-    ensures any_moment { LeavesOnly D.moment D.left_since device.old device.new
-        (λ c. committed c ≡ committed (D.seen device.old)) }
+    // Where what was read is on the disk, a crash at any moment leaves the same lines.
+    ensures any_moment { IsOnlyOutcome (D.seen device.old) (D.may_leave device.old)
+        → LeavesOnly D.moment D.left_since device.old device.new (Means (committed (D.seen device.old))) }
 
     // Over a whole session, as `commit`: a session goes on from what an earlier one left.
-    ensures session { (since : D) (text before : List ℕ) → committed (D.seen device.old) ≡ text ++ before
+    ensures session { IsOnlyOutcome (D.seen device.old) (D.may_leave device.old)
+        → (since : D) (text before : List ℕ) → committed (D.seen device.old) ≡ text ++ before
         → committed before ≡ before
         → LeavesOnly D.moment D.left_since since device.old (IsBegun text before)
         → LeavesOnly D.moment D.left_since since device.new (IsBegun text before) }
 
     ensures causes { D.faults device.old ≤ D.faults device.new }
     ensures failed { IsErrOf result DeviceError.Failed → D.faults device.old < D.faults device.new }
+    ensures changed { IsErrOf result DeviceError.Changed → D.faults device.old < D.faults device.new }
     ensures full { IsErrOf result DeviceError.Full → ⊥ }
 {
-    repair(device, end)
+    repair(device, bytes, end)
+}
+
+/// Writes the lines of a file over themselves, as they were read.
+fn settle<D: Device>(device: &mut D, bytes: &[u8], end: usize) -> Result<(), DeviceError>
+    requires read { bytes.now ≡ D.seen device.old }
+    requires end { end ≡ length (committed (D.seen device.old)) }
+    ensures seen { OnOk result (D.seen device.new ≡ D.seen device.old) }
+    ensures durable { OnOk result (IsOnlyOutcome (D.seen device.new) (D.may_leave device.new)) }
+    ensures aside { D.aside device.new ≡ D.aside device.old }
+    ensures any_moment { IsOnlyOutcome (D.seen device.old) (D.may_leave device.old)
+        → LeavesOnly D.moment D.left_since device.old device.new (λ c. c ≡ D.seen device.old) }
+    ensures causes { D.faults device.old ≤ D.faults device.new }
+    ensures failed { IsErrOf result DeviceError.Failed → D.faults device.old < D.faults device.new }
+    ensures changed { IsErrOf result DeviceError.Changed → D.faults device.old < D.faults device.new }
+    ensures full { IsErrOf result DeviceError.Full → ⊥ }
+{
+    let (lines, _) = bytes.split_at(end);
+    device.write_at(0, lines)?;
+    device.sync()?;
+    Ok(())
 }
 
 /// Cuts a file after its last whole line, where its lines end.
-fn repair<D: Device>(device: &mut D, end: usize) -> Result<(), DeviceError>
-    // After a restart, what is read is what is on the disk.
+fn cut<D: Device>(device: &mut D, end: usize) -> Result<(), DeviceError>
     requires end { end ≡ length (committed (D.seen device.old)) }
+    requires torn { HasTornEnd (D.seen device.old) }
     requires durable { IsOnlyOutcome (D.seen device.old) (D.may_leave device.old) }
-
     ensures file { OnOk result (D.seen device.new ≡ committed (D.seen device.old)) }
     ensures same { OnOk result (committed (D.seen device.new) ≡ committed (D.seen device.old)) }
     ensures durable { OnOk result (IsOnlyOutcome (D.seen device.new) (D.may_leave device.new)) }
-
-    // A crash at any moment leaves the same lines.
+    ensures aside { D.aside device.new ≡ D.aside device.old }
     ensures any_moment { LeavesOnly D.moment D.left_since device.old device.new
-        (λ c. committed c ≡ committed (D.seen device.old)) }
-
+        (Means (committed (D.seen device.old))) }
     ensures causes { D.faults device.old ≤ D.faults device.new }
     ensures failed { IsErrOf result DeviceError.Failed → D.faults device.old < D.faults device.new }
+    ensures changed { IsErrOf result DeviceError.Changed → D.faults device.old < D.faults device.new }
     ensures full { IsErrOf result DeviceError.Full → ⊥ }
 {
     device.resize(end)?;
     device.sync()?;
     Ok(())
+}
+
+/// Has the lines of a file on the disk, and cuts it after them.
+fn repair<D: Device>(device: &mut D, bytes: &[u8], end: usize) -> Result<(), DeviceError>
+    requires read { bytes.now ≡ D.seen device.old }
+    requires end { end ≡ length (committed (D.seen device.old)) }
+    requires torn { HasTornEnd (D.seen device.old) }
+    ensures file { OnOk result (D.seen device.new ≡ committed (D.seen device.old)) }
+    ensures same { OnOk result (committed (D.seen device.new) ≡ committed (D.seen device.old)) }
+    ensures durable { OnOk result (IsOnlyOutcome (D.seen device.new) (D.may_leave device.new)) }
+    ensures aside { D.aside device.new ≡ D.aside device.old }
+    ensures any_moment { IsOnlyOutcome (D.seen device.old) (D.may_leave device.old)
+        → LeavesOnly D.moment D.left_since device.old device.new (Means (committed (D.seen device.old))) }
+    ensures causes { D.faults device.old ≤ D.faults device.new }
+    ensures failed { IsErrOf result DeviceError.Failed → D.faults device.old < D.faults device.new }
+    ensures changed { IsErrOf result DeviceError.Changed → D.faults device.old < D.faults device.new }
+    ensures full { IsErrOf result DeviceError.Full → ⊥ }
+{
+    settle(device, bytes, end)?;
+    cut(device, end)
 }

@@ -1,52 +1,28 @@
-//! A device over a file of which no contract says what it does. Each call is made, and then noted, and the clauses
-//! speak of what was noted.
+//! A device over a file of which no contract says what it does. Each call is made and noted, and the clauses speak of
+//! what was noted.
 
-ghost use Rattle.std.specs.Prelude.{◌≡◌, List, ℕ, length};
-ghost use Rattle.journal_file.specs.Device.{IsOnlyOutcome};
+ghost use Rattle.std.specs.Prelude.{◌≡◌};
+ghost use Rattle.journal_file.specs.RawFault.{as_fault};
 
 use crate::device::{Device, DeviceError};
-use crate::record::Record;
-use std::io;
+use crate::raw_file::{RawFault, RawFile};
 
-const FOUND: u64 = 0;
-
-const WRITTEN: u64 = 1;
-
-const RESIZED: u64 = 2;
-
-const SYNCED: u64 = 3;
-
-/// A file that is really written. Nothing is promised of it: that it does what a `Device` says is assumed, by whoever
-/// reads the clauses of a `Tracked` as facts about a disk.
-pub trait RawFile {
-    /// Writes all of these over what is there.
-    fn write_all_at(&mut self, at: usize, bytes: &[u8]) -> io::Result<()>;
-
-    /// Cuts the file to a length, or lets it grow to it by zeros.
-    fn set_len(&mut self, len: usize) -> io::Result<()>;
-
-    /// Has all that was done put on the disk.
-    fn sync(&mut self) -> io::Result<()>;
-}
-
-/// A file, and a record of the calls on it.
+/// A file as a device.
 #[derive(Drop)]
 pub struct Tracked<F: RawFile> {
     file: F,
-    calls: Record,
 }
 
 impl<F: RawFile> Tracked<F> {
-    ghost use Rattle.journal_file.specs.Tracked.{tracked_seen, tracked_leaves};
+    ghost use Rattle.journal_file.specs.Events.{seen_of};
+    ghost use Rattle.journal_file.specs.Tracked.{tracked_seen};
 
-    /// A file that was found to hold these bytes, all of them on the disk.
-    pub fn over(file: F, bytes: &[u8]) -> Tracked<F>
-        ensures seen { tracked_seen result ≡ bytes.now }
-        ensures durable { IsOnlyOutcome bytes.now (tracked_leaves result) }
+    /// A file as a device that holds what was found, and was done with it since.
+    pub fn over(file: F) -> Tracked<F>
+        ensures seen { tracked_seen F.RawFile result ≡ seen_of (F.calls file) }
+        ensures file { result.file ≡ file }
     {
-        let mut calls = Record::new();
-        calls.note(&[FOUND, 0, 1], bytes);
-        Tracked { file, calls }
+        Tracked { file }
     }
 
     /// The file.
@@ -55,59 +31,50 @@ impl<F: RawFile> Tracked<F> {
     }
 }
 
+/// The fault of a call, as a device reports it.
+fn as_fault<T: Drop>(done: Result<T, RawFault>) -> Result<T, DeviceError>
+    ensures { result ≡ as_fault done }
+{
+    match done {
+        Ok(value) => Ok(value),
+        Err(RawFault::Failed) => Err(DeviceError::Failed),
+        Err(RawFault::Changed) => Err(DeviceError::Changed),
+    }
+}
+
 impl<F: RawFile> Device for Tracked<F> {
-    ghost use Rattle.journal_file.specs.Events.{seen_of, left_by, left_from, failures_of, counts, only};
+    ghost use Rattle.journal_file.specs.Events.{seen_of, left_by, left_from, failures_of, aside_of, counts, only};
+    ghost use Rattle.std.specs.Prelude.{length};
 
-    ghost seen = { λ d. seen_of d.calls.events };
+    ghost seen = { λ d. seen_of (F.calls d.file) };
 
-    ghost may_leave = { λ d c. left_by d.calls.events c };
+    ghost may_leave = { λ d c. left_by (F.calls d.file) c };
 
-    ghost moment = { λ d. length d.calls.events };
+    ghost moment = { λ d. length (F.calls d.file) };
 
-    ghost left_since = { λ d t c. left_from t d.calls.events c };
+    ghost left_since = { λ d t c. left_from t (F.calls d.file) c };
 
-    ghost faults = { λ d. failures_of d.calls.events };
+    ghost faults = { λ d. failures_of (F.calls d.file) };
 
-    ghost counts_now = { λ d t c le now. counts d.calls.events t c now };
+    ghost aside = { λ d. aside_of (F.calls d.file) };
 
-    ghost only_now = { λ d c left. only d.calls.events c left };
+    ghost counts_now = { λ d t c le now. counts (F.calls d.file) t c now };
+
+    ghost only_now = { λ d c left. only (F.calls d.file) c left };
 
     fn write_at(&mut self, at: usize, bytes: &[u8]) -> Result<(), DeviceError> {
-        match self.file.write_all_at(at, bytes) {
-            Ok(()) => {
-                self.calls.note(&[WRITTEN, at as u64, 1], bytes);
-                Ok(())
-            }
-            Err(_) => {
-                self.calls.note(&[WRITTEN, at as u64, 0], bytes);
-                Err(DeviceError::Failed)
-            }
-        }
+        as_fault(self.file.write_all_at(at, bytes))
     }
 
     fn resize(&mut self, len: usize) -> Result<(), DeviceError> {
-        match self.file.set_len(len) {
-            Ok(()) => {
-                self.calls.note(&[RESIZED, len as u64, 1], &[]);
-                Ok(())
-            }
-            Err(_) => {
-                self.calls.note(&[RESIZED, len as u64, 0], &[]);
-                Err(DeviceError::Failed)
-            }
-        }
+        as_fault(self.file.set_len(len))
     }
 
     fn sync(&mut self) -> Result<(), DeviceError> {
-        match self.file.sync() {
-            Ok(()) => {
-                self.calls.note(&[SYNCED, 0, 1], &[]);
-                Ok(())
-            }
-            Err(_) => {
-                self.calls.note(&[SYNCED, 0, 0], &[]);
-                Err(DeviceError::Failed)
-            }
-        }
+        as_fault(self.file.sync())
+    }
+
+    fn put_aside(&mut self, bytes: &[u8]) -> Result<u64, DeviceError> {
+        as_fault(self.file.put_aside(bytes))
     }
 }

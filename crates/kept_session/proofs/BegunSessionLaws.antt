@@ -1,208 +1,228 @@
 -- A session that begins on a file.
-use Rattle.std.proofs.Common.{◌≡◌, ◌≢◌, ◌<◌, ◌≤◌, ◌+◌, ◌^◌, ℕ, List, [], ◌∷◌, ◌++◌, Result, Ok, Err, length, refl}
-use Rattle.std.proofs.Common.{⊎_elim, inl, inr, sym, ap, subst, take, arith, ◌∙◌}
-use Rattle.std.proofs.lemmas.List.{append-nil}
-use Rattle.auction_terms.specs.Auxiliary.RunningAuction.{RunningAuction, opened_auction}
+use Rattle.std.proofs.Common.{◌≡◌, ◌≢◌, ◌<◌, ◌≤◌, ◌+◌, ◌^◌, ℕ, zero, suc, List, [], ◌∷◌, ◌++◌, Option, None, Some}
+use Rattle.std.proofs.Common.{Result, Ok, Err, length, refl}
+use Rattle.std.proofs.Common.{⊎_elim, sym, ap, subst, take, arith, ◌∙◌}
+use Rattle.std.specs.Prelude.{slice_index}
+use Rattle.std.proofs.lemmas.List.{append-nil, take_at}
+use Rattle.auction_terms.specs.Auxiliary.RunningAuction.{RunningAuction}
 use Rattle.journal.specs.JournalFile.{journal_of}
 use Rattle.journal.specs.JournalText.{journal_text}
 use Rattle.journal.specs.declared.day.DayHeader.{DayHeader}
-use Rattle.journal_file.specs.Committed.{IsBegun, committed}
-use Rattle.journal_file.specs.Device.{LeavesOnly}
-use Rattle.journal_file.specs.Settled.{IsSettled}
+use Rattle.journal_file.specs.Committed.{HasTornEnd, IsBegun, IsTornOf, Means, committed}
+use Rattle.journal_file.specs.Device.{HasCause, HasElapsed, LeavesOnly}
+use Rattle.journal_file.specs.declared.device.Device.{Ghosts}
 use Rattle.journal_file.specs.declared.device.DeviceError.{DeviceError}
 use Rattle.journal_file.specs.declared.device.DeviceError.TheVariants as device_error
-use Rattle.journal_file.specs.declared.journal.CommittedLines.{CommittedLines}
+use Rattle.journal_file.specs.declared.committed.TheConstants.{LONGEST_WRITE}
 use Rattle.journal_file.proofs.Chain.{begun_first}
-use Rattle.journal_file.proofs.Moments.{then}
-use Rattle.kept_session.specs.Begun.{AddsLines, HasBegun, HasNotBegun, LacksDay, LacksLines, MayGoOn, opening_lines}
-use Rattle.kept_session.specs.Resumed.{IsResumedFrom}
+use Rattle.journal_file.proofs.Lines.{parts}
+use Rattle.journal_file.proofs.Moments.{one, started, then, weaker}
+use Rattle.journal_file.proofs.TornEnds.{torn-end-from}
+use Rattle.kept_session.specs.Begun.{AddsLines, HasNotBegun, IsCause, IsLeftByBegin, IsPutAside}
+use Rattle.kept_session.specs.Begun.{IsStored, LacksLines, LacksRepair}
+use Rattle.kept_session.specs.Begun.{MayGoOn, opening_lines}
+use Rattle.kept_session.specs.declared.beginning.TheConstants.{SPARE}
 use Rattle.kept_session.specs.declared.fault.BeginFault.{BeginFault}
 use Rattle.kept_session.specs.declared.fault.BeginFault.TheVariants as begin_fault
-use Rattle.kept_session.specs.declared.fault.ResumeFault.{ResumeFault}
+use Rattle.kept_session.specs.declared.fault.CutOff.{CutOff}
+use Rattle.kept_session.specs.Resumed.{IsResumedFrom}
 use Rattle.kept_session.proofs.CommitLaws.{as-failure}
 
-none : (text : List ℕ) → length text ≡ 0 → text ≡ []
+pub none : (text : List ℕ) → length text ≡ 0 → text ≡ []
 none [] is = refl
 none (b ∷ bs) is = absurd (omega (arith, is))
 
-some : (text : List ℕ) → length text ≢ 0 → text ≢ []
+pub some : (text : List ℕ) → length text ≢ 0 → text ≢ []
 some text is empty = is (ap length empty)
 
-abbrev pub as-result : RunningAuction → Result RunningAuction ResumeFault
-as-result auction = Ok auction
+-- the lines of a file, as they were read
+pub front-lines : (file bytes : List ℕ) (end : ℕ) → bytes ≡ file → end ≡ length (committed file)
+    → take end bytes ≡ committed file
+front-lines file bytes end read is =
+    ap (λ (l : List ℕ). take end l) (read ∙ (parts file).split)
+    ∙ take_at (committed file) (parts file).end end (sym is)
 
-opened-as : (default : RunningAuction) → Result RunningAuction ResumeFault → RunningAuction
-opened-as default (Ok auction) = auction
-opened-as default result = default
+pub is-left-by-begin : (day : DayHeader) (file bytes lines : List ℕ) → bytes ≡ file → lines ≡ journal_text day []
+    → (length bytes ≤ length lines + SPARE) × IsTornOf lines bytes → IsLeftByBegin day file
+is-left-by-begin day file bytes lines read is left = rw (← read, ← is) left
 
-opened-same : (a b : RunningAuction) → as-result a ≡ as-result b → a ≡ b
-unfolding opened-as
-opened-same a b same = ap (opened-as a) same
+pub may-begin : (day : DayHeader) (file : List ℕ) → committed file ≡ [] → IsLeftByBegin day file → MayGoOn day file
+may-begin day file empty left = record { new_day = λ _. left; gone_on = λ lines. absurd (lines empty) }
 
-module _ {D : Type 0} (seen : D → List ℕ) (may_leave : D → List ℕ → Type 0) (moment : D → ℕ)
-    (left_since : D → ℕ → List ℕ → Type 0) where
-  -- a file that was repaired, and then got lines
-  adds-behind : (old mid new : D) (lines : List ℕ) → AddsLines seen moment left_since old mid []
-      → AddsLines seen moment left_since mid new lines → AddsLines seen moment left_since old new lines
-  adds-behind old mid new lines first second =
-      let same = first.all ∙ append-nil (committed (seen old)) in
-      record {
-        all = second.all ∙ ap (λ (t : List ℕ). t ++ lines) same;
-        leaves =
-            then moment left_since old mid new (IsBegun (committed (seen old)) [])
-            (IsBegun (committed (seen mid)) lines) (IsBegun (committed (seen old)) lines) first.leaves second.leaves
-            (λ c begun. begun_first (committed (seen old)) [] lines c begun)
-            (λ c begun. (begun.0, begun.1 ∙ ap (λ (t : List ℕ). t ++ committed (take begun.0 lines)) same));
-      }
-
-  pub begun-new : (day : DayHeader) (old : D) (first journal : CommittedLines D) (auction : RunningAuction)
-      (lines : List ℕ)
-      (end : ℕ) → end ≡ 0 → end ≡ length (committed (seen old)) → lines ≡ committed (seen old)
-      → (lines ≡ [] → as-result auction ≡ as-result (opened_auction day.config))
-      → AddsLines seen moment left_since old first.device []
-      → IsSettled seen may_leave journal
-      → AddsLines seen moment left_since first.device journal.device (journal_text day [])
-      → HasBegun seen may_leave moment left_since day old journal auction
-  begun-new day old first journal auction lines end is_zero end_is lines_are fresh repaired settled added =
-      let empty : committed (seen old) ≡ [] = none (committed (seen old)) (sym end_is ∙ is_zero) in
-      record {
-        settled = settled;
-        new_day =
-            λ _. (
-              opened-same auction (opened_auction day.config) (fresh (lines_are ∙ empty)),
-              adds-behind old first.device journal.device (journal_text day []) repaired added,
-            );
-        gone_on = λ nonempty. absurd (nonempty empty);
-      }
-
-  pub begun-on : (day : DayHeader) (old : D) (journal : CommittedLines D) (auction : RunningAuction) (lines : List ℕ)
-      (end : ℕ) → end ≢ 0 → end ≡ length (committed (seen old)) → lines ≡ committed (seen old)
-      → (lines ≢ [] → IsResumedFrom day (journal_of lines) (Ok auction))
-      → IsSettled seen may_leave journal
-      → AddsLines seen moment left_since old journal.device []
-      → HasBegun seen may_leave moment left_since day old journal auction
-  begun-on day old journal auction lines end not_zero end_is lines_are read settled repaired =
-      let nonempty : committed (seen old) ≢ [] =
-      some (committed (seen old)) (λ is_empty. not_zero (end_is ∙ is_empty)) in
-      record {
-        settled = settled;
-        new_day = λ empty. absurd (nonempty empty);
-        gone_on = λ _. (rw (← lines_are) (read (λ empty. nonempty (sym lines_are ∙ empty))), repaired);
-      }
-
--- ---- a session that didn't begin
-
-abbrev pub as-refused : ResumeFault → Result RunningAuction ResumeFault
-as-refused fault = Err fault
-
-weaker : {D : Type 0} (moment : D → ℕ) (left_since : D → ℕ → List ℕ → Type 0) (old new : D) (P Q : List ℕ → Type 0)
-    → ((c : List ℕ) → P c → Q c) → LeavesOnly moment left_since old new P → LeavesOnly moment left_since old new Q
-weaker moment left_since old new P Q from h = record {
-  later = h.later;
-  each = λ c left. from c (h.each c left);
-  before = λ t c le left. ⊎_elim inl (λ p. inr (from c p)) (h.before t c le left);
+pub can-go-on : (day : DayHeader) (file : List ℕ) (auction : RunningAuction) → (committed file ≡ [] → ⊥)
+    → HasTornEnd file → IsResumedFrom day (journal_of (committed file)) (Ok auction) → MayGoOn day file
+can-go-on day file auction lines torn read = record {
+  new_day = λ empty. absurd (lines empty);
+  gone_on = λ _. (torn, (auction, read));
 }
 
-module _ {D : Type 0} (seen : D → List ℕ) (moment : D → ℕ) (left_since : D → ℕ → List ℕ → Type 0) (faults : D → ℕ)
+-- nothing comes after the lines that a file has
+pub opening-none : (day : DayHeader) (lines : List ℕ) → (lines ≡ [] → ⊥) → opening_lines day lines ≡ []
+opening-none day [] some_lines = absurd (some_lines refl)
+opening-none day (b ∷ lines) some_lines = refl
+
+-- what a crash leaves of a first record, which one write can have, has a torn end
+pub torn-end-of-first : (first file : List ℕ) → length first ≤ LONGEST_WRITE → IsTornOf first file → HasTornEnd file
+torn-end-of-first first file few torn =
+    torn-end-from file (length first) (omega (arith, few))
+    (λ k behind. ⊎_elim (λ nul. nul) (λ same. same ∙ past first k behind) (torn k))
   where
-    -- a file that isn't repaired
-    pub lacks-repair : (old new : D) (error : DeviceError)
-        → (as-failure error ≡ as-failure device_error.Failed → faults old < faults new)
-        → (as-failure error ≡ as-failure device_error.Full → ⊥)
-        → LeavesOnly moment left_since old new (λ c. committed c ≡ committed (seen old))
-        → LacksLines seen moment left_since faults old [] error
-    lacks-repair old new device_error.Failed failed full leaves = record {
-      last = new;
-      failed = failed refl;
-      leaves =
-          weaker moment left_since old new (λ c. committed c ≡ committed (seen old)) (IsBegun (committed (seen old)) [])
-          (λ c same. (0, same ∙ sym (append-nil (committed (seen old))))) leaves;
-    }
-    lacks-repair old new device_error.Full failed full leaves = absurd (full refl)
+    past : (xs : List ℕ) (k : ℕ) → length xs ≤ k → slice_index xs k ≡ 0
+    past [] k le = refl
+    past (x ∷ xs) zero le = absurd (omega (arith, le))
+    past (x ∷ xs) (suc k) le = past xs k (omega (arith, le))
 
-    -- nor would more lines have come
-    lacks-more : (old : D) (lines : List ℕ) (error : DeviceError)
-        → LacksLines seen moment left_since faults old [] error
-        → LacksLines seen moment left_since faults old lines error
-    lacks-more old lines device_error.Failed h = record {
-      last = h.last;
-      failed = h.failed;
-      leaves =
-          weaker moment left_since old h.last (IsBegun (committed (seen old)) []) (IsBegun (committed (seen old)) lines)
-          (λ c begun. begun_first (committed (seen old)) [] lines c begun) h.leaves;
-    }
-    lacks-more old lines device_error.Full h = omega (arith, h)
+module _ {D : Type 0} (d : Ghosts D) where
+  pub as-begun : (old new : D) → LeavesOnly d.moment d.left_since old new (Means (committed (d.seen old)))
+      → LeavesOnly d.moment d.left_since old new (IsBegun (committed (d.seen old)) [])
+  as-begun old new leaves =
+      weaker d.moment d.left_since old new (Means (committed (d.seen old))) (IsBegun (committed (d.seen old)) []) leaves
+      (λ c means. (0, (means.0 ∙ sym (append-nil (committed (d.seen old))), means.1)))
 
-    -- the first line of a journal didn't come
-    pub lacks-day : (day : DayHeader) (old new : CommittedLines D) (lines : List ℕ) (error : DeviceError)
-        → lines ≡ journal_text day [] → old.end ≡ length (committed (seen old.device))
-        → (as-failure error ≡ as-failure device_error.Failed → faults old.device < faults new.device)
-        → (as-failure error ≡ as-failure device_error.Full → 2 ^ 60 < old.end + length lines)
-        → LeavesOnly moment left_since old.device new.device (IsBegun (committed (seen old.device)) lines)
-        → LacksDay seen moment left_since faults day old.device (begin_fault.Device error)
-    lacks-day day old new lines device_error.Failed is end failed full leaves = record {
-      last = new.device;
-      failed = failed refl;
-      leaves =
-          subst (λ (l : List ℕ). LeavesOnly moment left_since old.device new.device
-          (IsBegun (committed (seen old.device)) l)) is leaves;
-    }
-    lacks-day day old new lines device_error.Full is end failed full leaves =
-        omega (arith, end, full refl, ap length is)
+  -- what repairing a file adds: nothing
+  pub repaired : (old new : D) → committed (d.seen new) ≡ committed (d.seen old)
+      → (IsStored d old → LeavesOnly d.moment d.left_since old new (Means (committed (d.seen old))))
+      → AddsLines d old new []
+  repaired old new same leaves = record {
+    all = same ∙ sym (append-nil (committed (d.seen old)));
+    leaves = λ stored. as-begun old new (leaves stored);
+  }
 
-    -- after what was repaired
-    lacks-behind : (old mid : D) (lines : List ℕ) (error : DeviceError) → AddsLines seen moment left_since old mid []
-        → faults old ≤ faults mid → LacksLines seen moment left_since faults mid lines error
-        → LacksLines seen moment left_since faults old lines error
-    lacks-behind old mid lines device_error.Failed first risen h =
-        let same = first.all ∙ append-nil (committed (seen old)) in
-        record {
-          last = h.last;
-          failed = omega (arith, risen, h.failed);
-          leaves =
-              then moment left_since old mid h.last (IsBegun (committed (seen old)) [])
-              (IsBegun (committed (seen mid)) lines) (IsBegun (committed (seen old)) lines) first.leaves h.leaves
-              (λ c begun. begun_first (committed (seen old)) [] lines c begun)
-              (λ c begun. (begun.0, begun.1 ∙ ap (λ (t : List ℕ). t ++ committed (take begun.0 lines)) same));
-        }
-    lacks-behind old mid lines device_error.Full first risen h =
-        let same = first.all ∙ append-nil (committed (seen old)) in omega (arith, h, ap length same)
+  -- no call
+  pub not-touched : ((file : D) (c : List ℕ) → d.left_since file (d.moment file) c → d.may_leave file c)
+      → (old : D) → HasTornEnd (d.seen old)
+      → IsStored d old → LeavesOnly d.moment d.left_since old old (IsBegun (committed (d.seen old)) [])
+  not-touched only_now old torn stored =
+      let P = IsBegun (committed (d.seen old)) [] in
+      started d.moment d.left_since old P (λ c left. subst P (sym (stored c (only_now old c left)))
+      (0, (sym (append-nil (committed (d.seen old))), torn)))
 
-    -- the lines say another day, or are at fault
-    pub not-resumed : (day : DayHeader) (old : D) (lines : List ℕ) (fault : ResumeFault) → lines ≡ committed (seen old)
-        → (lines ≡ [] → as-refused fault ≡ as-result (opened_auction day.config))
-        → (lines ≢ [] → IsResumedFrom day (journal_of lines) (Err fault))
-        → HasNotBegun seen moment left_since faults day old (begin_fault.Resume fault)
-    not-resumed day old lines fault lines_are fresh read =
-        let nonempty : committed (seen old) ≢ [] = λ empty. absurd (cc (fresh (lines_are ∙ empty))) in
-        (nonempty, rw (← lines_are) (read (λ empty. nonempty (sym lines_are ∙ empty))))
+  -- a call that leaves the file as it is
+  pub untouched : ((file : D) (c : List ℕ) → d.left_since file (d.moment file) c → d.may_leave file c)
+      → (old new : D) → HasTornEnd (d.seen old)
+      → HasElapsed (d.moment old) (d.moment new) (d.left_since old) (d.left_since new) (d.may_leave new)
+      → ((c : List ℕ) → d.may_leave new c → d.may_leave old c)
+      → IsStored d old → LeavesOnly d.moment d.left_since old new (IsBegun (committed (d.seen old)) [])
+  untouched only_now old new torn time keeps stored =
+      let P = IsBegun (committed (d.seen old)) [] in
+      let here : (c : List ℕ) → d.may_leave old c → P c = λ c now.
+      subst P (sym (stored c now)) (0, (sym (append-nil (committed (d.seen old))), torn)) in
+      one d.moment d.left_since d.may_leave only_now old new P here time (λ c now. here c (keeps c now))
 
-    goes-on-from : (day : DayHeader) (text lines : List ℕ) (auction : RunningAuction) → lines ≡ text
-        → (lines ≢ [] → IsResumedFrom day (journal_of lines) (Ok auction)) → MayGoOn day text
-    goes-on-from day text lines auction is read some = (auction, rw (← is) (read (λ empty. some (sym is ∙ empty))))
+  -- one step after another
+  pub leaves-both : (old mid new : D) (lines : List ℕ) → committed (d.seen mid) ≡ committed (d.seen old)
+      → (IsStored d old → LeavesOnly d.moment d.left_since old mid (IsBegun (committed (d.seen old)) []))
+      → (IsStored d old → LeavesOnly d.moment d.left_since mid new (IsBegun (committed (d.seen mid)) lines))
+      → IsStored d old → LeavesOnly d.moment d.left_since old new (IsBegun (committed (d.seen old)) lines)
+  leaves-both old mid new lines same first second stored =
+      then d.moment d.left_since old mid new (IsBegun (committed (d.seen old)) [])
+      (IsBegun (committed (d.seen mid)) lines) (IsBegun (committed (d.seen old)) lines) (first stored) (second stored)
+      (λ c begun. begun_first (committed (d.seen old)) [] lines c begun)
+      (λ c begun. subst (λ (t : List ℕ). IsBegun t lines c) same begun)
 
-    -- the file isn't repaired
-    pub not-repaired : (day : DayHeader) (old : D) (lines : List ℕ) (auction : RunningAuction) (error : DeviceError)
-        → lines ≡ committed (seen old)
-        → (lines ≢ [] → IsResumedFrom day (journal_of lines) (Ok auction))
-        → LacksLines seen moment left_since faults old [] error
-        → HasNotBegun seen moment left_since faults day old (begin_fault.Device error)
-    not-repaired day old lines auction error lines_are read lacks = (
-      goes-on-from day (committed (seen old)) lines auction lines_are read,
-      lacks-more old (opening_lines day (committed (seen old))) error lacks,
-    )
+  -- by the device's error
+  pub cause-by-error : (old last : D) (end : ℕ) (lines : List ℕ) (error : DeviceError)
+      → end ≡ length (committed (d.seen old))
+      → (as-failure error ≡ as-failure device_error.Failed → d.faults old < d.faults last)
+      → (as-failure error ≡ as-failure device_error.Changed → d.faults old < d.faults last)
+      → (as-failure error ≡ as-failure device_error.Full → 2 ^ 60 < end + length lines)
+      → IsCause d old last lines error
+  cause-by-error old last end lines device_error.Failed end_is failed changed full = failed refl
+  cause-by-error old last end lines device_error.Changed end_is failed changed full = changed refl
+  cause-by-error old last end lines device_error.Full end_is failed changed full = omega (arith, end_is, full refl)
 
-    -- a new journal doesn't get its first line
-    pub not-kept : (day : DayHeader) (old mid : D) (end : ℕ) (fault : BeginFault) → end ≡ 0
-        → end ≡ length (committed (seen old)) → AddsLines seen moment left_since old mid [] → faults old ≤ faults mid
-        → LacksDay seen moment left_since faults day mid fault
-        → HasNotBegun seen moment left_since faults day old fault
-    not-kept day old mid end (begin_fault.Resume fault) is_zero end_is first risen h = absurd h
-    not-kept day old mid end begin_fault.NoMemory is_zero end_is first risen h =
-        none (committed (seen old)) (sym end_is ∙ is_zero)
-    not-kept day old mid end (begin_fault.Device error) is_zero end_is first risen h =
-        let empty : committed (seen old) ≡ [] = none (committed (seen old)) (sym end_is ∙ is_zero) in (
-          λ some. absurd (some empty),
-          subst (λ (l : List ℕ). LacksLines seen moment left_since faults old l error)
-              (sym (ap (opening_lines day) empty)) (lacks-behind old mid (journal_text day []) error first risen h),
-        )
+  abbrev pub as-aside : DeviceError → Result ℕ DeviceError
+  as-aside error = Err error
+
+  pub aside-cause : (old last : D) (error : DeviceError) → HasCause (d.faults old) (d.faults last) (as-aside error)
+      → IsCause d old last [] error
+  aside-cause old last device_error.Failed cause = cause.failed refl
+  aside-cause old last device_error.Changed cause = cause.changed refl
+  aside-cause old last device_error.Full cause = absurd (cause.not_full refl)
+
+  -- that of a step is that of all
+  pub cause-before : (old mid last : D) (lines : List ℕ) (error : DeviceError)
+      → committed (d.seen mid) ≡ committed (d.seen old) → d.faults old ≤ d.faults mid → IsCause d mid last lines error
+      → IsCause d old last lines error
+  cause-before old mid last lines device_error.Failed same risen cause = omega (arith, risen, cause)
+  cause-before old mid last lines device_error.Changed same risen cause = omega (arith, risen, cause)
+  cause-before old mid last lines device_error.Full same risen cause = omega (arith, cause, ap length same)
+
+  -- nor would more lines have come
+  pub cause-of-more : (old last : D) (lines : List ℕ) (error : DeviceError) → IsCause d old last [] error
+      → IsCause d old last lines error
+  cause-of-more old last lines device_error.Failed cause = cause
+  cause-of-more old last lines device_error.Changed cause = cause
+  cause-of-more old last lines device_error.Full cause = omega (arith, cause)
+
+  pub lacks-more : (old last : D) (lines : List ℕ) (error : DeviceError) → LacksLines d old last [] error
+      → LacksLines d old last lines error
+  lacks-more old last lines error lacks = record {
+    cause = cause-of-more old last lines error lacks.cause;
+    leaves =
+        λ stored. weaker d.moment d.left_since old last (IsBegun (committed (d.seen old)) [])
+        (IsBegun (committed (d.seen old)) lines) (lacks.leaves stored)
+        (λ c begun. begun_first (committed (d.seen old)) [] lines c begun);
+  }
+
+  pub same-lines-of : (old mid : D) → AddsLines d old mid [] → committed (d.seen mid) ≡ committed (d.seen old)
+  same-lines-of old mid adds = adds.all ∙ append-nil (committed (d.seen old))
+
+  -- after a step that adds nothing
+  pub lacks-behind : (old mid last : D) (lines : List ℕ) (error : DeviceError) → AddsLines d old mid []
+      → d.faults old ≤ d.faults mid → IsCause d mid last lines error
+      → (IsStored d old → LeavesOnly d.moment d.left_since mid last (IsBegun (committed (d.seen mid)) lines))
+      → LacksLines d old last lines error
+  lacks-behind old mid last lines error first risen cause leaves =
+      let same = same-lines-of old mid first in
+      record {
+        cause = cause-before old mid last lines error same risen cause;
+        leaves = leaves-both old mid last lines same first.leaves leaves;
+      }
+
+  pub adds-behind : (old mid last : D) (lines : List ℕ) → AddsLines d old mid []
+      → committed (d.seen last) ≡ committed (d.seen mid) ++ lines
+      → (IsStored d old → LeavesOnly d.moment d.left_since mid last (IsBegun (committed (d.seen mid)) lines))
+      → AddsLines d old last lines
+  adds-behind old mid last lines first all leaves =
+      let same = same-lines-of old mid first in
+      record {
+        all = all ∙ ap (λ (t : List ℕ). t ++ lines) same;
+        leaves = leaves-both old mid last lines same first.leaves leaves;
+      }
+
+  -- what was put aside stays so
+  pub put-aside-behind : (old mid last : D) (cut : Option CutOff) → d.aside last ≡ d.aside mid
+      → IsPutAside d old mid cut → IsPutAside d old last cut
+  put-aside-behind old mid last None is put = (put.0, is ∙ put.1)
+  put-aside-behind old mid last (Some cut) is put = (put.0, put.1, is ∙ put.2)
+
+  pub still-stored : (old mid : D) → d.seen mid ≡ d.seen old
+      → ((c : List ℕ) → d.may_leave mid c → d.may_leave old c) → IsStored d old → IsStored d mid
+  still-stored old mid same crash stored = λ c left. stored c (crash c left) ∙ sym same
+
+  -- a file that was being begun isn't repaired
+  pub not-repaired-new : (day : DayHeader) (old last : D) (fault : BeginFault) → committed (d.seen old) ≡ []
+      → IsLeftByBegin day (d.seen old) → LacksRepair d old last fault → HasNotBegun d day old last fault
+  not-repaired-new day old last begin_fault.NotAJournal empty left lacks = absurd lacks
+  not-repaired-new day old last (begin_fault.Resume fault) empty left lacks = absurd lacks
+  not-repaired-new day old last (begin_fault.Damaged n bytes) empty left lacks = absurd lacks
+  not-repaired-new day old last begin_fault.NoMemory empty left lacks = absurd lacks
+  not-repaired-new day old last (begin_fault.Device error) empty left lacks = (
+    may-begin day (d.seen old) empty left,
+    lacks-more old last (opening_lines day (committed (d.seen old))) error lacks,
+  )
+
+  -- nor one that has lines, after a step that adds none
+  pub not-repaired-on : (day : DayHeader) (old mid last : D) (fault : BeginFault) → MayGoOn day (d.seen old)
+      → AddsLines d old mid [] → d.faults old ≤ d.faults mid → (IsStored d old → IsStored d mid)
+      → LacksRepair d mid last fault → HasNotBegun d day old last fault
+  not-repaired-on day old mid last begin_fault.NotAJournal may first risen still lacks = absurd lacks
+  not-repaired-on day old mid last (begin_fault.Resume fault) may first risen still lacks = absurd lacks
+  not-repaired-on day old mid last (begin_fault.Damaged n bytes) may first risen still lacks = absurd lacks
+  not-repaired-on day old mid last begin_fault.NoMemory may first risen still lacks = absurd lacks
+  not-repaired-on day old mid last (begin_fault.Device error) may first risen still lacks = (
+    may,
+    lacks-more old last (opening_lines day (committed (d.seen old))) error
+        (lacks-behind old mid last [] error first risen lacks.cause (λ stored. lacks.leaves (still stored))),
+  )

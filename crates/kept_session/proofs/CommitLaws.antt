@@ -1,23 +1,31 @@
 -- A commit.
 use Rattle.std.proofs.Common.{◌≡◌, ◌≤◌, ◌<◌, ◌+◌, ◌^◌, ◌++◌, ℕ, Bool}
-use Rattle.std.proofs.Common.{true, false, List, [], ◌∷◌, length, inl, inr, refl}
-use Rattle.std.proofs.Common.{Result, Err, ap, arith}
+use Rattle.std.proofs.Common.{true, false, List, [], ◌∷◌, length, inl, inr, refl, ◌∙◌}
+use Rattle.std.proofs.Common.{Result, Err, ap, arith, sym, subst}
+use Rattle.std.proofs.lemmas.List.{append-nil}
 use Rattle.auction_terms.specs.declared.Entry.{Entry}
 use Rattle.journal.specs.KeptLines.{HasEntryLines}
-use Rattle.journal_file.specs.Committed.{IsBegun, committed}
+use Rattle.journal_file.specs.Committed.{HasShortLines, IsBegun, committed}
 use Rattle.journal_file.specs.Device.{LeavesOnly}
 use Rattle.journal_file.specs.Events.{Event, failures_of}
 use Rattle.journal_file.specs.declared.device.DeviceError.{DeviceError}
 use Rattle.journal_file.specs.declared.device.DeviceError.TheVariants as device_error
 use Rattle.journal_file.specs.declared.journal.CommittedLines.{CommittedLines}
-use Rattle.journal_file.proofs.LineTexts.{committed-lines}
-use Rattle.kept_session.specs.Kept.{IsCauseOfFailure, IsLater, text_tried}
-use Rattle.kept_session.proofs.PrintableLineLaws.{calls-text, each-in-line, insides}
+use Rattle.journal_file.proofs.Pieces.{whole-lines}
+use Rattle.kept_session.specs.Kept.{HoldsAtLast, IsCauseOfFailure, IsLater, text_kept}
+use Rattle.kept_session.proofs.PrintableLineLaws.{calls-text, each-in-line, each-short, insides}
 
--- the lines of entries are whole
+-- the lines of entries are whole, and one write can have each
+pub entry-lines-short : (text : List ℕ) → ((kept : List Entry) × HasEntryLines text kept) → HasShortLines text
+entry-lines-short text (kept, lines) = record {
+  lines = insides kept;
+  is = lines.0 ∙ calls-text 0 kept;
+  inside = each-in-line kept lines.1;
+  short = each-short kept lines.1;
+}
+
 pub entry-lines-whole : (text : List ℕ) → ((kept : List Entry) × HasEntryLines text kept) → committed text ≡ text
-entry-lines-whole text (kept, lines) =
-    rw (lines.0, calls-text 0 kept) (committed-lines (insides kept) (each-in-line kept lines.1))
+entry-lines-whole text kept = whole-lines text (entry-lines-short text kept)
 
 abbrev pub as-failure : DeviceError → Result (Unit {0}) DeviceError
 as-failure error = Err error
@@ -30,11 +38,13 @@ module _ {D : Type 0} (seen : D → List ℕ) (moment : D → ℕ) (left_since :
         → IsLater seen moment left_since faults journal journal before after is_broken is_broken
     refused journal before after is_broken broken note = record {
       more = [];
+      lost = [];
       whole = refl;
-      text = ap text_tried note;
+      text = ap text_kept note ∙ sym (append-nil (text_kept before));
       leaves = λ well. absurd (cc (broken, well));
       all = λ well. absurd (cc (broken, well));
-      stays = λ is. (is, refl, refl);
+      holds = λ well is. absurd (cc (broken, well));
+      stays = λ is. (is, refl, refl, refl);
       later = omega (arith, ap failures_of note);
       failed = λ well is. absurd (cc (broken, well));
       well = λ well. absurd (cc (broken, well));
@@ -51,10 +61,14 @@ module _ {D : Type 0} (seen : D → List ℕ) (moment : D → ℕ) (left_since :
           → IsLater seen moment left_since faults old new before after was_broken false
       made note all = record {
         more = lines;
+        lost = [];
         whole = whole;
-        text = ap text_tried note;
-        leaves = λ well. leaves;
-        all = λ well. all;
+        text = ap text_kept note;
+        leaves =
+            λ well. subst (λ (l : List ℕ). LeavesOnly moment left_since old.device new.device
+            (IsBegun (committed (seen old.device)) l)) (sym (append-nil lines)) leaves;
+        all = λ well. (all, refl);
+        holds = λ well broken. absurd (cc broken);
         stays = λ broken. absurd (cc (was_well, broken));
         later = omega (arith, ap failures_of note);
         failed = λ well broken. absurd (cc broken);
@@ -67,11 +81,15 @@ module _ {D : Type 0} (seen : D → List ℕ) (moment : D → ℕ) (left_since :
           → IsCauseOfFailure seen faults old.device new.device lines
           → IsLater seen moment left_since faults old new before after was_broken true
       failed note cause = record {
-        more = lines;
-        whole = whole;
-        text = ap text_tried note;
+        more = [];
+        lost = lines;
+        whole = refl;
+        text = ap text_kept note ∙ sym (append-nil (text_kept before));
         leaves = λ well. leaves;
         all = λ well. absurd (cc well);
+        holds =
+            λ well broken. subst (λ (l : List ℕ). HoldsAtLast moment left_since new.device l lines)
+            (sym (append-nil (committed (seen old.device)))) (moment old.device, leaves.later, leaves.each);
         stays = λ broken. absurd (cc (was_well, broken));
         later = omega (arith, ap failures_of note);
         failed = λ well broken. omega (arith, ap failures_of note);
@@ -84,7 +102,9 @@ module _ {D : Type 0} (seen : D → List ℕ) (moment : D → ℕ) (left_since :
     pub fault-cause : (old new : CommittedLines D) (lines : List ℕ) (error : DeviceError)
         → old.end ≡ length (committed (seen old.device))
         → (as-failure error ≡ as-failure device_error.Failed → faults old.device < faults new.device)
+        → (as-failure error ≡ as-failure device_error.Changed → faults old.device < faults new.device)
         → (as-failure error ≡ as-failure device_error.Full → 2 ^ 60 < old.end + length lines)
         → IsCauseOfFailure seen faults old.device new.device lines
-    fault-cause old new lines device_error.Failed end failed full = inl (failed refl)
-    fault-cause old new lines device_error.Full end failed full = inr (omega (arith, end, full refl))
+    fault-cause old new lines device_error.Failed end failed changed full = inl (failed refl)
+    fault-cause old new lines device_error.Changed end failed changed full = inl (changed refl)
+    fault-cause old new lines device_error.Full end failed changed full = inr (omega (arith, end, full refl))

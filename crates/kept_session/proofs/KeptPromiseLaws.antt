@@ -1,6 +1,7 @@
 -- Journals that are kept: whole lines, of which the first are left, and with which a session goes on.
-use Rattle.std.proofs.Common.{◌≡◌, ◌+◌, ◌++◌, ◌∷◌, ◌∙◌, [], ℕ, List, Bool, Some, true, false, Ok, refl, sym}
+use Rattle.std.proofs.Common.{◌≡◌, ◌≤◌, ◌+◌, ◌++◌, ◌∷◌, ◌∙◌, [], ℕ, List, Bool, Some, true, false, Ok, refl, sym}
 use Rattle.std.proofs.Common.{ap, append_assoc, arith, map, take, length, nat_lt, length-append}
+use Rattle.std.proofs.lemmas.List.{append-nil}
 use Rattle.std.proofs.lemmas.Slice.Eq.{bytes_eq-Decides}
 use Rattle.csv.specs.Records.{field_at}
 use Rattle.auction_terms.specs.declared.Call.{Call}
@@ -14,18 +15,20 @@ use Rattle.printed_lines.specs.ReplyWords.{reply_text}
 use Rattle.journal.specs.EntryRecord.{call_part, reply_part}
 use Rattle.journal.specs.JournalFile.{RecordedDay, journal, journal_of, recorded_day}
 use Rattle.journal.specs.JournalText.{journal_text, recorded_call_by}
-use Rattle.journal.specs.PrintedJournal.{call_lines}
+use Rattle.journal.specs.PrintedJournal.{call_lines, day_line}
 use Rattle.journal.specs.declared.day.DayHeader.{DayHeader}
 use Rattle.journal.specs.declared.reading.TheConstants.{MAX_JOURNAL_BYTES}
 use Rattle.journal.proofs.JournalSizeLaws.{reads-history}
 use Rattle.journal.proofs.JournalTextLaws.{text-by-lines}
-use Rattle.journal_file.specs.Committed.{committed, joined}
+use Rattle.journal_file.specs.Committed.{HasShortLines, committed, joined}
+use Rattle.journal_file.specs.declared.committed.TheConstants.{LONGEST_WRITE}
 use Rattle.journal_file.proofs.LineTexts.{committed-lines, first_lines}
 use Rattle.kept_session.specs.KeptPromises.{AreWholeLines, LawfulIsGoneOnWith, LeavesFirstEntries}
 use Rattle.kept_session.specs.Replayed.{replayed}
 use Rattle.kept_session.proofs.PrintableLineLaws.{calls-text, day-in-line, day_inside, each-in-line, first-insides}
 use Rattle.kept_session.proofs.PrintableLineLaws.{in-lines, insides}
-use Rattle.kept_session.proofs.PrintableLineLaws.{first-and-more, insides-both, day-text}
+use Rattle.kept_session.proofs.PrintableLineLaws.{day-short, day-text, each-short, first-and-more}
+use Rattle.kept_session.proofs.PrintableLineLaws.{first-and-more-short, insides-both}
 
 -- ---- whole lines
 
@@ -44,10 +47,24 @@ are-whole day entries fits h =
     (first-and-more (day_inside day) (insides entries) (day-in-line day) (in-lines day.members entries h)))
 
 -- one that begins
-pub day-whole : (day : DayHeader) (text : List ℕ) → text ≡ journal_text day [] → committed text ≡ text
-day-whole day text is =
-    rw (is, as-lines day []) (committed-lines (day_inside day ∷ insides [])
-    (first-and-more (day_inside day) (insides []) (day-in-line day) (each-in-line [] tt)))
+pub day-lines : (day : DayHeader) (text : List ℕ) → text ≡ journal_text day [] → HasShortLines text
+day-lines day text is = record {
+  lines = day_inside day ∷ insides [];
+  is = is ∙ as-lines day [];
+  inside = first-and-more (day_inside day) (insides []) (day-in-line day) (each-in-line [] tt);
+  short = first-and-more-short (day_inside day) (insides []) (day-short day) (each-short [] tt);
+}
+
+pub day-few : (day : DayHeader) → length (journal_text day []) ≤ LONGEST_WRITE
+unfolding call_lines
+day-few day =
+    omega (
+      arith,
+      day-short day,
+      ap length (text-by-lines day [] ∙ append-nil (day_line day)),
+      ap length (day-text day),
+      length-append (day_inside day) (10 ∷ []),
+    )
 
 -- ---- the first of them
 
@@ -65,7 +82,7 @@ pub leaves-first : LeavesFirstEntries
 leaves-first day before entries file fits h begun =
     let lines = first_lines (insides entries) (in-lines day.members entries h) begun.0 in (
       lines.0,
-      begun.1 ∙ ap (λ (t : List ℕ). journal_text day before ++ committed (take begun.0 t)) (calls-text 0 entries)
+      begun.1.0 ∙ ap (λ (t : List ℕ). journal_text day before ++ committed (take begun.0 t)) (calls-text 0 entries)
           ∙ ap (λ (t : List ℕ). journal_text day before ++ t)
           (lines.1 ∙ ap joined (first-insides lines.0 entries))
           ∙ journal-both day before (take lines.0 entries),
@@ -140,8 +157,8 @@ journal-read bytes j e = by_less (nat_lt MAX_JOURNAL_BYTES (length bytes)) refl 
     by_less true t q = cc (rw t at q)
     by_less false t q = rw t at q
 
-pub gone-on : LawfulIsGoneOnWith
-gone-on day entries fits h legal = record {
+pub is-gone-on : LawfulIsGoneOnWith
+is-gone-on day entries fits h legal = record {
   recording = recorded_day day (map recorded_call_by entries);
   read = journal-read (journal_text day entries) _ (reads-history day entries fits h legal.few);
   day_is = refl;

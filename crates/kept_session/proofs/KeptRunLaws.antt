@@ -12,6 +12,7 @@ use Rattle.journal_file.specs.Settled.{IsSettled}
 use Rattle.journal_file.specs.declared.journal.CommittedLines.{CommittedLines}
 use Rattle.journal_file.proofs.Lines.{bool_cases}
 use Rattle.journal_file.proofs.Moments.{started}
+use Rattle.journal_file.proofs.TornEnds.{torn-end-room}
 use Rattle.live_session.specs.Answered.{Answered}
 use Rattle.live_session.specs.Talk.{HasBrokenOff, EndsSession, HasAnswered, HasRead}
 use Rattle.live_session.specs.declared.conversation.Conversation.{Ghosts}
@@ -19,7 +20,7 @@ use Rattle.live_session.specs.declared.fault.Ending.{Ending}
 use Rattle.live_session.specs.declared.fault.LiveFault.{LiveFault}
 use Rattle.live_session.specs.declared.fault.LiveFault.TheVariants as fault
 use Rattle.live_session.specs.declared.terms.SessionTerms.{SessionTerms}
-use Rattle.kept_session.specs.Kept.{IsCauseOfFailure, IsSameOrLater, text_tried}
+use Rattle.kept_session.specs.Kept.{HoldsAtLast, IsCauseOfFailure, IsLater, IsSameOrLater, text_kept}
 use Rattle.kept_session.specs.KeptRun.{KeptEnds, RunsKept, ends_at, kept_ends}
 
 -- the device stays the one that it was
@@ -62,6 +63,9 @@ module _ {C : Type 0} (c : Ghosts C) where
     device = as-read old new (h.before ++ h.last) h.device;
     text = h.text;
     entries = h.entries;
+    answers = h.answers;
+    answers_are = h.answers_are;
+    committed_first = record { text = h.committed_first.text; entries = h.committed_first.entries };
     reads = h.reads;
   }
 
@@ -100,31 +104,63 @@ module _ {D : Type 0} (seen : D → List ℕ) (may_leave : D → List ℕ → Ty
     | inr well ↦ well
   ]
 
+  -- the lines since nothing was committed
+  text-since : before ≡ [] → (later : IsLater seen moment left_since faults old new before after false is_broken)
+      → text_kept after ≡ later.more
+  text-since none later = later.text ∙ ap (λ (e : List Event). text_kept e ++ later.more) none
+
+  -- the lines of a commit that failed
+  abbrev pub lost-of : IsSameOrLater seen moment left_since faults old new before after false is_broken → List ℕ
+  lost-of (inl same) = []
+  lost-of (inr later) = later.lost
+
   pub leaves : ((d : D) (c : List ℕ) → left_since d (moment d) c → may_leave d c) → IsSettled seen may_leave old
-      → before ≡ [] → IsSameOrLater seen moment left_since faults old new before after false is_broken
-      → LeavesOnly moment left_since old.device new.device (IsBegun (committed (seen old.device)) (text_tried after))
+      → before ≡ [] → (later : IsSameOrLater seen moment left_since faults old new before after false is_broken)
+      → LeavesOnly moment left_since old.device new.device
+      (IsBegun (committed (seen old.device)) (text_kept after ++ lost-of later))
   leaves only_now settled none (inl same) =
-      rw (same.journal, same.calls, none) (started moment left_since old.device
-      (IsBegun (committed (seen old.device)) []) (λ c left. (
+      let text : text_kept after ++ [] ≡ [] =
+      append-nil (text_kept after) ∙ ap text_kept (same.calls ∙ none) in
+      subst (λ (j : CommittedLines D). LeavesOnly moment left_since old.device j.device
+      (IsBegun (committed (seen old.device)) (text_kept after ++ []))) (sym same.journal)
+      (subst (λ (t : List ℕ). LeavesOnly moment left_since old.device old.device
+      (IsBegun (committed (seen old.device)) t)) (sym text)
+      (started moment left_since old.device (IsBegun (committed (seen old.device)) []) (λ c left.
+      subst (IsBegun (committed (seen old.device)) []) (sym (settled.durable c (only_now old.device c left))) (
         0,
-        ap committed (settled.durable c (only_now old.device c left))
-            ∙ sym (append-nil (committed (seen old.device))),
-      )))
+        (
+          sym (append-nil (committed (seen old.device))),
+          torn-end-room (seen old.device) (committed (seen old.device)) old.room settled.file refl,
+        ),
+      ))))
   leaves only_now settled none (inr later) =
-      rw (later.text, none) (later.leaves refl)
+      subst (λ (t : List ℕ). LeavesOnly moment left_since old.device new.device
+      (IsBegun (committed (seen old.device)) (t ++ later.lost))) (sym (text-since none later)) (later.leaves refl)
 
   pub all-kept : before ≡ [] → IsSameOrLater seen moment left_since faults old new before after false is_broken
-      → is_broken ≡ false → committed (seen new.device) ≡ committed (seen old.device) ++ text_tried after
+      → is_broken ≡ false → committed (seen new.device) ≡ committed (seen old.device) ++ text_kept after
   all-kept none (inl same) well =
       rw (same.journal, same.calls, none) (sym (append-nil (committed (seen old.device))))
-  all-kept none (inr later) well = rw (later.text, none) (later.all well)
+  all-kept none (inr later) well = rw (later.text, none) (later.all well).0
 
   -- one has
-  pub caused : before ≡ [] → IsSameOrLater seen moment left_since faults old new before after false is_broken
-      → 0 < failures_of after → IsCauseOfFailure seen faults old.device new.device (text_tried after)
+  pub caused : before ≡ [] → (later : IsSameOrLater seen moment left_since faults old new before after false is_broken)
+      → 0 < failures_of after
+      → IsCauseOfFailure seen faults old.device new.device (text_kept after ++ lost-of later)
   caused none (inl same) some = absurd (omega (arith, ap failures_of same.calls, ap failures_of none, some))
   caused none (inr later) some = elim (bool_cases is_broken) [
-    | inl broken ↦ rw (later.text, none) (later.cause refl broken)
+    | inl broken ↦ subst (λ (t : List ℕ). IsCauseOfFailure seen faults old.device new.device (t ++ later.lost))
+        (sym (text-since none later)) (later.cause refl broken)
+    | inr well ↦ absurd (omega (arith, later.well well, ap failures_of none, some))
+  ]
+
+  pub holds : before ≡ [] → (later : IsSameOrLater seen moment left_since faults old new before after false is_broken)
+      → 0 < failures_of after
+      → HoldsAtLast moment left_since new.device (committed (seen old.device) ++ text_kept after) (lost-of later)
+  holds none (inl same) some = absurd (omega (arith, ap failures_of same.calls, ap failures_of none, some))
+  holds none (inr later) some = elim (bool_cases is_broken) [
+    | inl broken ↦ subst (λ (t : List ℕ). HoldsAtLast moment left_since new.device
+        (committed (seen old.device) ++ t) later.lost) (sym (text-since none later)) (later.holds refl broken)
     | inr well ↦ absurd (omega (arith, later.well well, ap failures_of none, some))
   ]
 
@@ -137,20 +173,22 @@ runs-kept : {C D : Type 0} (c : Ghosts C) (seen : D → List ℕ) (may_leave : D
     → EndsSession c terms start talk last result
     → IsSameOrLater seen moment left_since faults old new before after false is_broken
     → (is_broken ≡ false → IsSettled seen may_leave new)
-    → seen_as c talk ≡ begun [] 0 → seen_as c last ≡ ended (text_tried after) (failures_of after)
+    → seen_as c talk ≡ begun [] 0 → seen_as c last ≡ ended (text_kept after) (failures_of after)
     → RunsKept seen may_leave moment left_since faults terms start old new begun ended result
 runs-kept c seen may_leave moment left_since faults only_now terms start talk last result old new before after is_broken
     begun
     ended settled none ran later steady first at_last = record {
-      entries = text_tried after;
+      entries = text_kept after;
+      lost = lost-of seen may_leave moment left_since faults old new before after is_broken later;
       failures = failures_of after;
       session =
-          subst (λ (e : KeptEnds). EndsSession kept_ends terms start e (ended (text_tried after) (failures_of after))
+          subst (λ (e : KeptEnds). EndsSession kept_ends terms start e (ended (text_kept after) (failures_of after))
           result) first
           (subst (λ (e : KeptEnds). EndsSession kept_ends terms start (seen_as c talk) e result) at_last
           (as-ends c terms start talk last result ran));
       leaves =
           leaves seen may_leave moment left_since faults old new before after is_broken only_now settled none later;
+      held = holds seen may_leave moment left_since faults old new before after is_broken none later;
       failed = caused seen may_leave moment left_since faults old new before after is_broken none later;
       all =
           λ zero_failures. let well : is_broken ≡ false =
@@ -179,7 +217,7 @@ pub kept-by : {C D R O : Type 0} (c : Ghosts C) (seen : D → List ℕ) (may_lea
     → IsSameOrLater seen moment left_since faults first_journal last_journal before after was_broken is_broken
     → (is_broken ≡ false → IsSettled seen may_leave last_journal)
     → seen_as c talk ≡ ends_of_both reads writes input output [] 0
-    → seen_as c last ≡ ends_of_both reads writes last_input last_output (text_tried after) (failures_of after)
+    → seen_as c last ≡ ends_of_both reads writes last_input last_output (text_kept after) (failures_of after)
     → new_input ≡ last_input → new_output ≡ last_output
     → RunsKept seen may_leave moment left_since faults terms start old new (ends_of_both reads writes input output)
     (ends_of_both reads writes new_input new_output) result
@@ -197,7 +235,7 @@ kept-by {D = D} {R = R} {O = O} c seen may_leave moment left_since faults only_n
     (sym new_is) later)))
     (λ is_well. subst (λ (j : CommittedLines D). IsSettled seen may_leave j) (sym new_is) (steady is_well))
     first
-    (at_last ∙ sym (ap₂ (λ (r : R) (w : O). ends_of_both reads writes r w (text_tried after) (failures_of after))
+    (at_last ∙ sym (ap₂ (λ (r : R) (w : O). ends_of_both reads writes r w (text_kept after) (failures_of after))
     input_is output_is))
 
 -- the journal is settled after a session that no commit has broken off

@@ -2,7 +2,8 @@ pub mod CommitLaws
 pub mod KeptRunLaws
 mod ReplayLaws
 mod ResumeLaws
+mod LineLengthLaws
 mod PrintableLineLaws
-mod KeptPromiseLaws
+pub mod KeptPromiseLaws
 mod BegunSessionLaws
 mod FromOpeningLaws

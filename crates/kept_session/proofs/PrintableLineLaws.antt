@@ -2,6 +2,7 @@
 use Rattle.std.proofs.Common.{◌≡◌, ◌≤◌, ◌<◌, ◌+◌, ◌/◌, ◌%◌, ◌++◌, ◌∷◌, ◌∙◌}
 use Rattle.std.proofs.Common.{[], ℕ, zero, suc, List, Bool, Some, None, true}
 use Rattle.std.proofs.Common.{false, refl, sym, ap, append_assoc, arith, map, nat_le, nat_lt, rules, take, All, decimal}
+use Rattle.std.proofs.Common.{length, length-append}
 use Rattle.std.specs.Prelude.{◌==◌, Option, codes}
 use Rattle.std.specs.Fmt.{digit_glyph, digits, digits_onto}
 use Rattle.std.specs.List.{list_all, AllByRecursion}
@@ -25,7 +26,10 @@ use Rattle.journal.specs.PrintedJournal.{call_line, call_lines, comma_fields, da
 use Rattle.journal.specs.declared.day.DayHeader.{DayHeader}
 use Rattle.journal.proofs.RecordLineLaws.{and-left, and-right}
 use Rattle.journal.proofs.ReplyTextLaws.{reply-printable}
+use Rattle.journal.proofs.ReplyLengthLaws.{reply-short}
 use Rattle.journal_file.specs.Committed.{IsInLine, joined}
+use Rattle.journal_file.specs.declared.committed.TheConstants.{LONGEST_WRITE}
+use Rattle.kept_session.proofs.LineLengthLaws.{call-fields-short, number-short, optional-short}
 
 abbrev IsPrintable : List ℕ → Type 0
 IsPrintable text = list_all is_printable text ≡ true
@@ -152,11 +156,35 @@ pub first-and-more : (line : List ℕ) (lines : List (List ℕ)) → IsInLine li
 first-and-more line lines h all zero d lt = h
 first-and-more line lines h all (suc k) d lt = all k d (omega (arith, lt))
 
+pub first-and-more-short : (line : List ℕ) (lines : List (List ℕ)) → length line < LONGEST_WRITE
+    → All (λ line. length line < LONGEST_WRITE) lines → All (λ line. length line < LONGEST_WRITE) (line ∷ lines)
+first-and-more-short line lines h all zero d lt = h
+first-and-more-short line lines h all (suc k) d lt = all k d (omega (arith, lt))
+
+call-short : (entry : Entry) → IsWideReply entry.reply → length (inside_call entry) < LONGEST_WRITE
+unfolding inside_call
+call-short entry h =
+    let fields = comma_fields (command_fields entry.command) in
+    omega (
+      arith,
+      number-short entry.member,
+      call-fields-short entry.command,
+      reply-short entry.reply h,
+      length-append (decimal entry.member) (fields ++ (44 ∷ reply_text entry.reply)),
+      length-append fields (44 ∷ reply_text entry.reply),
+    )
+
 pub each-in-line : (entries : List Entry) → AreWide entries → All IsInLine (insides entries)
 unfolding insides
 each-in-line [] h = λ k d lt. absurd (omega (arith, lt))
 each-in-line (e ∷ es) h =
     first-and-more (inside_call e) (insides es) (in-line (inside_call e) (call-printable e h.0)) (each-in-line es h.1)
+
+pub each-short : (entries : List Entry) → AreWide entries → All (λ line. length line < LONGEST_WRITE) (insides entries)
+unfolding insides
+each-short [] h = λ k d lt. absurd (omega (arith, lt))
+each-short (e ∷ es) h =
+    first-and-more-short (inside_call e) (insides es) (call-short e h.0) (each-short es h.1)
 
 replies-wide : (members : ℕ) (entries : List Entry) → AllByRecursion (FitsJournal members) entries → AreWide entries
 replies-wide members [] h = tt
@@ -209,3 +237,17 @@ day-in-line day = in-line (inside_day day) (both (codes "day") (ticks_text day.c
         (number day.config.max_open)
         (both (decimal day.config.max_calls) (44 ∷ number_field day.config.range)
         (number day.config.max_calls) (optional day.config.range)))
+
+pub day-short : (day : DayHeader) → length (day_inside day) < LONGEST_WRITE
+unfolding day_inside inside_day
+day-short day =
+    simp length-append (omega (
+      arith,
+      number-short day.config.low,
+      number-short day.config.high,
+      number-short day.config.reference,
+      number-short day.members,
+      number-short day.config.max_open,
+      number-short day.config.max_calls,
+      optional-short day.config.range,
+    ))

@@ -9,10 +9,16 @@ use Rattle.journal_file.specs.declared.journal.CommittedLines.{CommittedLines}
 use Rattle.journal_file.proofs.Chain.{chain}
 use Rattle.journal_file.proofs.Lines.{committed-append}
 
--- the lines of all commits so far, and where one has failed those that it was to commit
-abbrev pub text_tried : List Event → List ℕ
-text_tried [] = []
-text_tried ((call, at, done, bytes) ∷ older) = text_tried older ++ bytes
+-- the lines of all commits so far that haven't failed
+abbrev pub text_kept : List Event → List ℕ
+text_kept [] = []
+text_kept ((call, at, true, bytes) ∷ older) = text_kept older ++ bytes
+text_kept ((call, at, false, bytes) ∷ older) = text_kept older
+
+-- From some moment on, not after the last, a crash leaves these lines, and the first of those that were lost.
+abbrev pub HoldsAtLast : {D : Type 0} → (D → ℕ) → (D → ℕ → List ℕ → Type 0) → D → List ℕ → List ℕ → Type 0
+HoldsAtLast moment left_since last lines lost =
+    (t : ℕ) × (t ≤ moment last) × ((c : List ℕ) → left_since last t c → IsBegun lines lost c)
 
 -- nothing was to be committed
 pub record HasNothingToCommit {D : Type 0} (old new : CommittedLines D) (before after : List Event)
@@ -27,25 +33,30 @@ abbrev pub IsCauseOfFailure : {D : Type 0} → (D → List ℕ) → (D → ℕ) 
 IsCauseOfFailure seen faults old new lines =
     (faults old < faults new) ⊎ (2 ^ 60 < length (committed (seen old)) + length lines)
 
--- More lines were to be committed since. Where none had failed before, a crash at any moment since leaves what had been
--- committed, and the first of these lines; and where none has failed now, all of them are committed.
+-- More lines were committed since, and where a commit has failed, its lines are lost. Where none had failed before, a
+-- crash at any moment since leaves what had been committed, and the first of all these lines; and where one has failed
+-- now, it at last leaves those that were committed and the first of the lost.
 pub record IsLater {D : Type 0} (seen : D → List ℕ) (moment : D → ℕ) (left_since : D → ℕ → List ℕ → Type 0)
     (faults : D → ℕ) (old new : CommittedLines D) (before after : List Event)
     (was_broken is_broken : Bool) : Type 0 where
   pub more : List ℕ
+  pub lost : List ℕ
   pub whole : committed more ≡ more
-  pub text : text_tried after ≡ text_tried before ++ more
+  pub text : text_kept after ≡ text_kept before ++ more
   pub leaves : was_broken ≡ false
-      → LeavesOnly moment left_since old.device new.device (IsBegun (committed (seen old.device)) more)
-  pub all : is_broken ≡ false → committed (seen new.device) ≡ committed (seen old.device) ++ more
+      → LeavesOnly moment left_since old.device new.device (IsBegun (committed (seen old.device)) (more ++ lost))
+  pub all : is_broken ≡ false → (committed (seen new.device) ≡ committed (seen old.device) ++ more) × (lost ≡ [])
+  pub holds : was_broken ≡ false → is_broken ≡ true
+      → HoldsAtLast moment left_since new.device (committed (seen old.device) ++ more) lost
   -- after a failure nothing is committed
-  pub stays : was_broken ≡ true → (is_broken ≡ true) × (new ≡ old) × (more ≡ [])
+  pub stays : was_broken ≡ true → (is_broken ≡ true) × (new ≡ old) × (more ≡ []) × (lost ≡ [])
   pub later : failures_of before ≤ failures_of after
   pub failed : was_broken ≡ false → is_broken ≡ true → failures_of before < failures_of after
   pub well : is_broken ≡ false → failures_of after ≡ failures_of before
   -- a commit doesn't give up by itself
   pub risen : faults old.device ≤ faults new.device
-  pub cause : was_broken ≡ false → is_broken ≡ true → IsCauseOfFailure seen faults old.device new.device more
+  pub cause : was_broken ≡ false → is_broken ≡ true
+      → IsCauseOfFailure seen faults old.device new.device (more ++ lost)
 
 abbrev pub IsSameOrLater : {D : Type 0} → (D → List ℕ) → (D → ℕ) → (D → ℕ → List ℕ → Type 0) → (D → ℕ)
     → CommittedLines D
@@ -84,49 +95,70 @@ module _ {D : Type 0} (seen : D → List ℕ) (moment : D → ℕ) (left_since :
         ap (λ (l : List ℕ). first.more ++ l) stuck.2 ∙ append-nil first.more in
         record {
           more = first.more;
+          lost = first.lost;
           whole = first.whole;
           text =
               second.text ∙ ap (λ (l : List ℕ). l ++ second.more) first.text
-              ∙ append_assoc (text_tried ea) first.more second.more ∙ ap (λ (l : List ℕ). text_tried ea ++ l) none;
+              ∙ append_assoc (text_kept ea) first.more second.more ∙ ap (λ (l : List ℕ). text_kept ea ++ l) none;
           leaves =
               λ well. subst (λ (j : CommittedLines D). LeavesOnly moment left_since a.device j.device
-              (IsBegun (committed (seen a.device)) first.more)) (sym stuck.1) (first.leaves well);
+              (IsBegun (committed (seen a.device)) (first.more ++ first.lost))) (sym stuck.1) (first.leaves well);
           all = λ well. absurd (cc (stuck.0, well));
-          stays = λ was. let before = first.stays was in (stuck.0, stuck.1 ∙ before.1, before.2);
+          holds =
+              λ was is. subst (λ (j : CommittedLines D). HoldsAtLast moment left_since j.device
+              (committed (seen a.device) ++ first.more) first.lost) (sym stuck.1) (first.holds was broken);
+          stays = λ was. let before = first.stays was in (stuck.0, stuck.1 ∙ before.1, before.2, before.3);
           later = omega (arith, first.later, second.later);
           failed = λ was is. omega (arith, first.failed was broken, second.later);
           well = λ is. absurd (cc (stuck.0, is));
           risen = omega (arith, first.risen, second.risen);
           cause =
-              λ was is. subst (λ (j : CommittedLines D). IsCauseOfFailure seen faults a.device j.device first.more)
-              (sym stuck.1) (first.cause was broken);
+              λ was is. subst (λ (j : CommittedLines D). IsCauseOfFailure seen faults a.device j.device
+              (first.more ++ first.lost)) (sym stuck.1) (first.cause was broken);
         }
 
     on-well : (a b c : CommittedLines D) (ea eb ec : List Event) (p q r : Bool) → q ≡ false
         → IsLater seen moment left_since faults a b ea eb p q → IsLater seen moment left_since faults b c eb ec q r
         → IsLater seen moment left_since faults a c ea ec p r
-    on-well a b c ea eb ec p q r well first second = record {
-      more = first.more ++ second.more;
-      whole =
-          committed-append first.more second.more first.whole ∙ ap (λ (l : List ℕ). first.more ++ l) second.whole;
-      text =
-          second.text ∙ ap (λ (l : List ℕ). l ++ second.more) first.text
-          ∙ append_assoc (text_tried ea) first.more second.more;
-      leaves =
-          λ was. chain moment left_since a.device b.device c.device (committed (seen a.device)) first.more second.more
-          (committed (seen b.device)) (first.all well) first.whole (first.leaves was) (second.leaves well);
-      all =
-          λ is. second.all is ∙ ap (λ (l : List ℕ). l ++ second.more) (first.all well)
-          ∙ append_assoc (committed (seen a.device)) first.more second.more;
-      stays = λ was. absurd (cc ((first.stays was).0, well));
-      later = omega (arith, first.later, second.later);
-      failed = λ was is. omega (arith, first.later, second.failed well is);
-      well = λ is. second.well is ∙ first.well well;
-      risen = omega (arith, first.risen, second.risen);
-      cause =
-          λ was is. later-cause a.device b.device c.device first.more second.more (first.all well) first.risen
-          (second.cause well is);
-    }
+    on-well a b c ea eb ec p q r well first second =
+        let (kept, none) = first.all well in
+        let both : first.more ++ (second.more ++ second.lost) ≡ (first.more ++ second.more) ++ second.lost =
+        sym (append_assoc first.more second.more second.lost) in
+        let all : first.more ++ first.lost ≡ first.more =
+        ap (λ (l : List ℕ). first.more ++ l) none ∙ append-nil first.more in
+        let kept_both : committed (seen b.device) ++ second.more
+        ≡ committed (seen a.device) ++ (first.more ++ second.more) =
+        ap (λ (l : List ℕ). l ++ second.more) kept
+        ∙ append_assoc (committed (seen a.device)) first.more second.more in record {
+          more = first.more ++ second.more;
+          lost = second.lost;
+          whole =
+              committed-append first.more second.more first.whole ∙ ap (λ (l : List ℕ). first.more ++ l) second.whole;
+          text =
+              second.text ∙ ap (λ (l : List ℕ). l ++ second.more) first.text
+              ∙ append_assoc (text_kept ea) first.more second.more;
+          leaves =
+              λ was. subst (λ (l : List ℕ). LeavesOnly moment left_since a.device c.device
+              (IsBegun (committed (seen a.device)) l)) both
+              (chain moment left_since a.device b.device c.device (committed (seen a.device)) first.more
+              (second.more ++ second.lost) (committed (seen b.device)) kept first.whole
+              (subst (λ (l : List ℕ). LeavesOnly moment left_since a.device b.device
+              (IsBegun (committed (seen a.device)) l)) all (first.leaves was))
+              (second.leaves well));
+          all = λ is. let last = second.all is in (last.0 ∙ kept_both, last.1);
+          holds =
+              λ was is. subst (λ (l : List ℕ). HoldsAtLast moment left_since c.device l second.lost) kept_both
+              (second.holds well is);
+          stays = λ was. absurd (cc ((first.stays was).0, well));
+          later = omega (arith, first.later, second.later);
+          failed = λ was is. omega (arith, first.later, second.failed well is);
+          well = λ is. second.well is ∙ first.well well;
+          risen = omega (arith, first.risen, second.risen);
+          cause =
+              λ was is. subst (IsCauseOfFailure seen faults a.device c.device) both
+              (later-cause a.device b.device c.device first.more (second.more ++ second.lost) kept first.risen
+              (second.cause well is));
+        }
 
     on-later : (a b c : CommittedLines D) (ea eb ec : List Event) (p q r : Bool)
         → IsLater seen moment left_since faults a b ea eb p q → IsLater seen moment left_since faults b c eb ec q r

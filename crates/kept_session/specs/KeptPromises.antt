@@ -1,5 +1,5 @@
 -- What holds of journals that are kept.
-use Rattle.std.specs.Prelude.{◌≡◌, ℕ, List, ◌++◌, take, Result, Ok}
+use Rattle.std.specs.Prelude.{◌≡◌, ℕ, List, ◌++◌, take, Option, Result, Ok}
 use Rattle.std.specs.List.{AllByRecursion}
 use Rattle.auction_terms.specs.declared.Entry.{Entry}
 use Rattle.auction_terms.specs.Auxiliary.RunningAuction.{RunningAuction, auction_after, opened_auction}
@@ -16,7 +16,9 @@ use Rattle.journal_file.specs.declared.journal.CommittedLines.{CommittedLines}
 use Rattle.live_session.specs.declared.fault.Ending.{Ending}
 use Rattle.live_session.specs.declared.fault.LiveFault.{LiveFault}
 use Rattle.live_session.specs.declared.terms.SessionTerms.{SessionTerms}
-use Rattle.kept_session.specs.Begun.{HasBegun, opening_lines}
+use Rattle.journal_file.specs.declared.device.Device.{Ghosts}
+use Rattle.kept_session.specs.Begun.{HasBegun, IsStored, opening_lines}
+use Rattle.kept_session.specs.declared.fault.CutOff.{CutOff}
 use Rattle.kept_session.specs.KeptRun.{KeptEnds, RunsKept}
 use Rattle.kept_session.specs.Replayed.{replayed}
 
@@ -47,14 +49,14 @@ LawfulIsGoneOnWith =
     (day : DayHeader) (entries : List Entry) → FitsDay day → AllByRecursion (FitsJournal day.members) entries
     → IsLegal day.config entries → IsGoneOnWith day entries
 
--- From the opening of its file on, a crash at any moment of a session leaves what the file had, and the first of these
--- lines and of those of its entries.
-abbrev pub LeavesFromOpening : {D : Type 0} → (D → List ℕ) → (D → List ℕ → Type 0) → (D → ℕ)
-    → (D → ℕ → List ℕ → Type 0) → (D → ℕ) → Type 0
-LeavesFromOpening {D = D} seen may_leave moment left_since faults =
-    (day : DayHeader) (opened : D) (begun ended : CommittedLines D) (auction : RunningAuction) (terms : SessionTerms)
-    (first last : List ℕ → ℕ → KeptEnds) (result : Result Ending LiveFault)
-    → HasBegun seen may_leave moment left_since day opened begun auction
-    → (ran : RunsKept seen may_leave moment left_since faults terms auction begun ended first last result)
-    → LeavesOnly moment left_since opened ended.device
-    (IsBegun (committed (seen opened)) (opening_lines day (committed (seen opened)) ++ ran.entries))
+-- From the opening of its file on, if what was read was on the disk, a crash at any moment of a session leaves what the
+-- file had, and the first of these lines and of those of its entries, those of a failed commit at last.
+abbrev pub LeavesFromOpening : {D : Type 0} → Ghosts D → Type 0
+LeavesFromOpening {D = D} d =
+    (day : DayHeader) (opened : D) (begun ended : CommittedLines D) (auction : RunningAuction) (cut : Option CutOff)
+    (terms : SessionTerms) (first last : List ℕ → ℕ → KeptEnds) (result : Result Ending LiveFault)
+    → HasBegun d day opened begun auction cut
+    → (ran : RunsKept d.seen d.may_leave d.moment d.left_since d.faults terms auction begun ended first last result)
+    → IsStored d opened
+    → LeavesOnly d.moment d.left_since opened ended.device
+    (IsBegun (committed (d.seen opened)) (opening_lines day (committed (d.seen opened)) ++ (ran.entries ++ ran.lost)))

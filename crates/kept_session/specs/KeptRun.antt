@@ -10,10 +10,10 @@ use Rattle.live_session.specs.declared.conversation.Conversation.{Ghosts}
 use Rattle.live_session.specs.declared.fault.Ending.{Ending}
 use Rattle.live_session.specs.declared.fault.LiveFault.{LiveFault}
 use Rattle.live_session.specs.declared.terms.SessionTerms.{SessionTerms}
-use Rattle.kept_session.specs.Kept.{IsCauseOfFailure}
+use Rattle.kept_session.specs.Kept.{HoldsAtLast, IsCauseOfFailure}
 
 -- What is known of the ends of a session: bytes that are left to read, the text that was written, the lines of entries
--- that were to be committed, and how often each has failed.
+-- that were committed, and how often each has failed.
 pub record KeptEnds : Type 0 where
   pub left : Option (List ℕ)
   pub written : Option (List ℕ)
@@ -45,16 +45,20 @@ ends_at left written reads writes entries commits = record {
   commit_failures = commits;
 }
 
--- It ran as any session does, and these lines of entries were to be committed. A crash at any moment of it leaves what
--- was committed before, and the first of them; where no commit has failed, all of them are committed, and none fails
--- but where the file does, or has no room.
+-- It ran as any session does, and these lines of entries were committed; where a commit has failed, its own are lost. A
+-- crash at any moment of it leaves what was committed before, and the first of both. Where no commit has failed, all of
+-- them are committed. Where one has, a crash at last leaves them all and the first of the lost, and the file has
+-- failed, or had no room.
 pub record RunsKept {D : Type 0} (seen : D → List ℕ) (may_leave : D → List ℕ → Type 0) (moment : D → ℕ)
     (left_since : D → ℕ → List ℕ → Type 0) (faults : D → ℕ) (terms : SessionTerms) (start : RunningAuction)
     (old new : CommittedLines D) (begun ended : List ℕ → ℕ → KeptEnds) (result : Result Ending LiveFault) : Type 0 where
   pub entries : List ℕ
+  pub lost : List ℕ
   pub failures : ℕ
   pub session : EndsSession kept_ends terms start (begun [] 0) (ended entries failures) result
-  pub leaves : LeavesOnly moment left_since old.device new.device (IsBegun (committed (seen old.device)) entries)
-  pub failed : 0 < failures → IsCauseOfFailure seen faults old.device new.device entries
+  pub leaves : LeavesOnly moment left_since old.device new.device
+      (IsBegun (committed (seen old.device)) (entries ++ lost))
+  pub held : 0 < failures → HoldsAtLast moment left_since new.device (committed (seen old.device) ++ entries) lost
+  pub failed : 0 < failures → IsCauseOfFailure seen faults old.device new.device (entries ++ lost)
   pub all : failures ≡ 0
       → IsSettled seen may_leave new × (committed (seen new.device) ≡ committed (seen old.device) ++ entries)

@@ -4,7 +4,7 @@ ghost use Rattle.std.specs.Prelude.{◌≡◌, [], Bool, false};
 ghost use Rattle.journal_file.specs.Settled.{IsSettled};
 
 use byte_streams::{Sink, Source, SourceFailed, WriteFailed, write_all};
-use journal_file::{CommittedLines, Device, Record};
+use journal_file::{CommittedLines, Device, DeviceError, Record};
 use live_session::{CommitFailed, Conversation};
 
 /// Which call is noted.
@@ -20,6 +20,8 @@ pub struct KeptConversation<'a, R: Source, O: Sink, D: Device> {
     pub calls: Record,
     /// Whether a commit has failed. From then on nothing is committed.
     pub is_broken: bool,
+    /// Why it has.
+    pub fault: Option<DeviceError>,
     pub ghost steady: { is_broken ≡ false → IsSettled D.seen D.may_leave journal.now },
 }
 
@@ -43,6 +45,7 @@ impl<'a, R: Source, O: Sink, D: Device> KeptConversation<'a, R, O, D> {
             journal,
             calls: Record::new(),
             is_broken: false,
+            fault: None,
         }
     }
 }
@@ -50,14 +53,14 @@ impl<'a, R: Source, O: Sink, D: Device> KeptConversation<'a, R, O, D> {
 impl<R: Source, O: Sink, D: Device> Conversation for KeptConversation<'_, R, O, D> {
     ghost use Rattle.std.specs.Prelude.{◌≡◌, Some, false};
     ghost use Rattle.journal_file.specs.Events.{failures_of};
-    ghost use Rattle.kept_session.specs.Kept.{IsSameOrLater, same, on, text_tried};
+    ghost use Rattle.kept_session.specs.Kept.{IsSameOrLater, same, on, text_kept};
     ghost use Rattle.std.proofs.Common.{◌∙◌, refl};
 
     ghost left = { λ c. R.left c.input.now };
 
     ghost written = { λ c. O.written c.output.now };
 
-    ghost committed = { λ c. Some (text_tried c.calls.events) };
+    ghost committed = { λ c. Some (text_kept c.calls.events) };
 
     ghost read_failures = { λ c. R.failures c.input.now };
 
@@ -107,8 +110,9 @@ impl<R: Source, O: Sink, D: Device> Conversation for KeptConversation<'_, R, O, 
                 self.is_broken = false;
                 Ok(())
             }
-            Err(_error) => {
+            Err(error) => {
                 self.calls.note(&[COMMIT, 0, 0], entries);
+                self.fault = Some(error);
                 Err(CommitFailed)
             }
         }

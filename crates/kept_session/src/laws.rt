@@ -16,7 +16,8 @@ pub fn lawful_is_gone_on_with()
     ensures { LawfulIsGoneOnWith }
 {}
 
-/// From the opening of its file on, a session that has begun leaves what the file had, and the first of its entries.
+/// From the opening of its file on, where what was read was on the disk, a session that has begun leaves what the file
+/// had, and the first of its entries.
 pub fn leaves_from_opening<D: Device>()
-    ensures { LeavesFromOpening D.seen D.may_leave D.moment D.left_since D.faults }
+    ensures { LeavesFromOpening D.Device }
 {}

@@ -12,7 +12,7 @@ mod running;
 
 pub use beginning::{Begun, begin};
 pub use conversation::KeptConversation;
-pub use fault::{BeginFault, ResumeFault, UnlawfulEntry};
+pub use fault::{BeginFault, CutOff, NotBegun, ResumeFault, UnlawfulEntry};
 pub use laws::{lawful_is_gone_on_with, leaves_first_entries, leaves_from_opening};
 pub use resuming::resume;
 pub use running::run_kept;

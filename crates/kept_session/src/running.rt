@@ -6,7 +6,7 @@ ghost use Rattle.kept_session.specs.KeptRun.{RunsKept, ends_at};
 use crate::conversation::KeptConversation;
 use auction::Auction;
 use byte_streams::{Sink, Source};
-use journal_file::{CommittedLines, Device};
+use journal_file::{CommittedLines, Device, DeviceError};
 use live_session::{Ending, LiveFault, SessionTerms, run_live};
 use std::alloc::Global;
 
@@ -14,7 +14,8 @@ use std::alloc::Global;
 /// answer is written.
 ///
 /// A crash at any moment leaves what the journal had, and the lines of the first of the session's entries; among them
-/// are, from the moment in which an answer may be written, all up to its own.
+/// are, from the moment in which an answer may be written, all up to its own. Where a commit failed, `fault` is that
+/// of the file.
 pub fn run_kept<R: Source, O: Sink, D: Device>(
     alloc: Global,
     input: &mut R,
@@ -22,6 +23,7 @@ pub fn run_kept<R: Source, O: Sink, D: Device>(
     journal: &mut CommittedLines<D>,
     auction: Auction,
     terms: SessionTerms,
+    fault: &mut Option<DeviceError>,
 ) -> Result<Ending, LiveFault>
     requires { IsSettled D.seen D.may_leave journal.old }
     ensures { RunsKept D.seen D.may_leave D.moment D.left_since D.faults terms auction journal.old journal.new
@@ -30,5 +32,6 @@ pub fn run_kept<R: Source, O: Sink, D: Device>(
 {
     let mut talk = KeptConversation::new(input, output, journal);
     let ended = run_live(alloc, &mut talk, auction, terms);
+    *fault = talk.fault;
     ended
 }

@@ -1,6 +1,6 @@
 -- A session from turn to turn.
 use Rattle.std.proofs.Common.{◌≡◌, ◌≤◌, ◌+◌, ℕ, List, [], ◌++◌, length, Option, Some, None, Ok, Err}
-use Rattle.std.proofs.Common.{refl, ap, sym, subst, append_assoc, arith, ◌∙◌}
+use Rattle.std.proofs.Common.{inl, inr, refl, ap, sym, subst, append_assoc, arith, ◌∙◌}
 use Rattle.std.specs.Prelude.{IfSome}
 use Rattle.std.proofs.lemmas.List.{append-nil}
 use Rattle.std.proofs.KnownBytes.{Appends-nil, Consumes-kept, Consumes-nil, Consumes-trans}
@@ -19,7 +19,7 @@ use Rattle.live_session.specs.Gathered.{Gathers, IsCommitted}
 use Rattle.live_session.specs.Giving.{GivesGathered, HasGiven, IsEmptied, IsUnread}
 use Rattle.live_session.specs.Hearing.{HasAnsweredAll, HasHeard, IsNewSession}
 use Rattle.live_session.specs.InputLines.{Lines, lines_once_read, lines_of, no_lines}
-use Rattle.live_session.specs.Talk.{AppendsBetween, EndsSession, HasAnswered, HasRead}
+use Rattle.live_session.specs.Talk.{AppendsAtLeast, AppendsBetween, EndsSession, HasAnswered, HasRead}
 use Rattle.live_session.specs.Talk.{IsAnswered, IsAnswerTo, MayBeWritten}
 use Rattle.live_session.specs.declared.conversation.Conversation.{Ghosts}
 use Rattle.live_session.specs.declared.fault.LiveFault.{LiveFault}
@@ -181,6 +181,29 @@ between-all : (a b d : Option (List ℕ)) (least text more most : List ℕ) → 
 between-all a b d least text more most h k is =
     between-some a b d least text more most h (text, [], append-nil text, k) is
 
+-- all of a text is a beginning of it
+begins-all-of : (a b : Option (List ℕ)) (text : List ℕ) → Appends a b text → AppendsBeginning a b text
+begins-all-of a b text h = (text, [], append-nil text, h)
+
+-- a beginning of a text came after another text
+begins-after : (a b d : Option (List ℕ)) (first text all : List ℕ) → first ++ text ≡ all → Appends a b first
+    → AppendsBeginning b d text → AppendsBeginning a d all
+begins-after a b d first text all is h (done, rest, parts, wrote) = (
+  first ++ done,
+  rest,
+  append_assoc first done rest ∙ ap (λ (t : List ℕ). first ++ t) parts ∙ is,
+  appends-more a b d first done h wrote,
+)
+
+-- all of a text, and nothing more
+at-least-all : (a b : Option (List ℕ)) (text : List ℕ) → Appends a b text → AppendsAtLeast a b text
+at-least-all a b text h = ([], subst (Appends a b) (sym (append-nil text)) h)
+
+-- all of a text, and then a beginning of another
+at-least-first : (a b d : Option (List ℕ)) (first text : List ℕ) → Appends a b first → AppendsBeginning b d text
+    → AppendsAtLeast a d first
+at-least-first a b d first text h (done, rest, parts, wrote) = (done, appends-more a b d first done h wrote)
+
 module _ {C : Type 0} (c : Ghosts C) (terms : SessionTerms) (start : RunningAuction) (base now : C)
     (heard bytes : List ℕ) where
   abbrev before : Answered
@@ -204,6 +227,12 @@ module _ {C : Type 0} (c : Ghosts C) (terms : SessionTerms) (start : RunningAuct
           entries =
               between-least _ _ (call_lines 0 before.entries) (call_lines 0 whole.entries) entries.0 entries.1
               h.answered.entries;
+          answers = before;
+          answers_are = inl (inl refl);
+          committed_first = record {
+            text = begins-all-of _ _ before.text h.answered.text;
+            entries = at-least-all _ _ (call_lines 0 before.entries) h.answered.entries;
+          };
           reads = h.reads;
         },
         h.answered.writes,
@@ -269,12 +298,13 @@ module _ {C : Type 0} (c : Ghosts C) (terms : SessionTerms) (start : RunningAuct
           ∙ (entries-begin answers whole first).1
 
       -- not all was given
-      pub breaks-giving : (d : C) (after : Responder) (f : LiveFault) → GivesGathered c now d responder after (Err f)
+      pub breaks-giving : IsAnswerTo terms start (heard ++ bytes) answers → (d : C) (after : Responder) (f : LiveFault)
+          → GivesGathered c now d responder after (Err f)
           → EndsSession c terms start base d (Err f)
-      breaks-giving d after fault.ReadFailed h = absurd h
-      breaks-giving d after fault.NoMemory h =
+      breaks-giving are d after fault.ReadFailed h = absurd h
+      breaks-giving are d after fault.NoMemory h =
           subst (λ (x : C). EndsSession c terms start base x (Err fault.NoMemory)) (sym h) (breaks-unanswered just)
-      breaks-giving d after fault.WriteFailed h = (
+      breaks-giving are d after fault.WriteFailed h = (
         record {
           before = heard;
           last = bytes;
@@ -287,12 +317,18 @@ module _ {C : Type 0} (c : Ghosts C) (terms : SessionTerms) (start : RunningAuct
               between-all _ _ _ (call_lines 0 before.entries) (kept_text responder.entries) _ (call_lines 0
               whole.entries)
               just.answered.entries h.committed entry-parts;
+          answers = answers;
+          answers_are = inr are;
+          committed_first = record {
+            text = begins-after _ _ _ before.text _ answers.text gathers.text just.answered.text h.written;
+            entries = at-least-all _ _ (call_lines 0 answers.entries) (committed-all d h.committed);
+          };
           reads = reads-same d h.unread;
         },
         rw just.answered.writes at h.writes,
         h.commits ∙ just.answered.commits,
       )
-      breaks-giving d after fault.CommitFailed h = (
+      breaks-giving are d after fault.CommitFailed h = (
         record {
           before = heard;
           last = bytes;
@@ -305,6 +341,14 @@ module _ {C : Type 0} (c : Ghosts C) (terms : SessionTerms) (start : RunningAuct
           entries =
               between-some _ _ _ (call_lines 0 before.entries) (kept_text responder.entries) _
               (call_lines 0 whole.entries) just.answered.entries h.committed entry-parts;
+          answers = before;
+          answers_are = inl (inl refl);
+          committed_first = record {
+            text = begins-all-of _ _ before.text (rw h.written just.answered.text);
+            entries =
+                at-least-first _ _ _ (call_lines 0 before.entries) (kept_text responder.entries)
+                just.answered.entries h.committed;
+          };
           reads = reads-same d h.unread;
         },
         h.writes ∙ just.answered.writes,

@@ -1,6 +1,7 @@
 -- What a session owes to the device that it talks with.
 use Rattle.std.specs.Prelude.{◌≡◌, ◌<◌, ◌≤◌, ◌⊎◌, ℕ, ◌+◌, List, ◌++◌, length, Option, IfSome, Result, Ok, Err}
 use Rattle.std.specs.Io.KnownBytes.{Appends, Consumes}
+use Rattle.byte_streams.specs.Streams.{AppendsBeginning}
 use Rattle.auction_terms.specs.Auxiliary.RunningAuction.{RunningAuction}
 use Rattle.journal.specs.PrintedJournal.{call_lines}
 use Rattle.live_session.specs.Answered.{Answered, answered, answered_whole, ending_of}
@@ -72,8 +73,17 @@ abbrev pub AppendsBetween : Option (List ℕ) → Option (List ℕ) → List ℕ
 AppendsBetween old new least most = (done : List ℕ) × (more : List ℕ) × (rest : List ℕ) × (least ++ more ≡ done)
     × (done ++ rest ≡ most) × Appends old new done
 
+-- known bytes grew by all of this text, and perhaps by more
+abbrev pub AppendsAtLeast : Option (List ℕ) → Option (List ℕ) → List ℕ → Type 0
+AppendsAtLeast old new least = (more : List ℕ) × Appends old new (least ++ more)
+
+-- What was written begins these answers, whose entries are all committed: no answer was written before its entry was.
+pub record HasCommittedFirst {C : Type 0} (c : Ghosts C) (old new : C) (answers : Answered) : Type 0 where
+  pub text : AppendsBeginning (c.written old) (c.written new) answers.text
+  pub entries : AppendsAtLeast (c.committed old) (c.committed new) (call_lines 0 answers.entries)
+
 -- The session broke off while it answered what its last read had brought, `last`. All that had come before is
--- answered, and of the rest a beginning.
+-- answered, and of the rest a beginning, of which the entries are committed.
 pub record HasBrokenOff {C : Type 0} (c : Ghosts C) (terms : SessionTerms) (start : RunningAuction) (old new : C)
     : Type 0
   where
@@ -86,6 +96,9 @@ pub record HasBrokenOff {C : Type 0} (c : Ghosts C) (terms : SessionTerms) (star
     pub entries : AppendsBetween (c.committed old) (c.committed new)
         (call_lines 0 (answered terms start before).entries)
         (call_lines 0 (answered_whole terms start (before ++ last)).entries)
+    pub answers : Answered
+    pub answers_are : IsAnswerTo terms start before answers ⊎ IsAnswerTo terms start (before ++ last) answers
+    pub committed_first : HasCommittedFirst c old new answers
     pub reads : c.read_failures new ≡ c.read_failures old
 
 -- what came of a session on this auction

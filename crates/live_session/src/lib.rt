@@ -18,7 +18,7 @@ mod terms;
 pub use channels::Channels;
 pub use conversation::{CommitFailed, Conversation};
 pub use fault::{BadRecord, Ending, LiveFault};
-pub use line::MAX_RECORD_BYTES;
+pub use line::{MAX_RECORD_BYTES, stated_limit};
 pub use run::{ROOM_OF_A_READ, run_live};
 pub use terms::SessionTerms;
 

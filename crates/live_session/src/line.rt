@@ -6,6 +6,7 @@ ghost use Rattle.csv.specs.declared.parser.State.TheVariants as st;
 ghost use Rattle.live_session.specs.Answered.{line_fault};
 ghost use Rattle.live_session.specs.InputLines.{IsFirstLineEnd, is_marked, is_quote_open, line_state_after};
 ghost use Rattle.live_session.specs.Spot.{state_of};
+ghost use Rattle.live_session.specs.declared.line.TheConstants.{MAX_RECORD_BYTES};
 
 use crate::fault::BadRecord;
 use crate::spot::Spot;
@@ -14,6 +15,11 @@ use std::alloc::AllocError;
 
 /// How many bytes a record may have at most, its line end not counted.
 pub const MAX_RECORD_BYTES: usize = 1_048_576;
+
+/// The limit, as FORMATS.md states it.
+pub fn stated_limit()
+    ensures { MAX_RECORD_BYTES ≡ 1_048_576 }
+{}
 
 /// The place of the first line end.
 pub(crate) fn first_line_end(bytes: &[u8]) -> Option<usize>

@@ -2,6 +2,7 @@
 ghost use Rattle.std.specs.Prelude.{◌≡◌, ◌+◌, ◌<◌, ◌≤◌, ◌⊎◌, ◌≢◌, [], ℕ, List, length, IfOk, IfErr, Err, MatchBool};
 ghost use Rattle.auction_terms.specs.declared.Entry.{Entry};
 ghost use Rattle.auction_terms.specs.declared.limits.TheConstants.{MAX_CALLS};
+ghost use Rattle.auction_terms.specs.Day.{calls_of};
 ghost use Rattle.board_terms.specs.MemberView.{MemberView, placed_calls, newcomer, after_call};
 ghost use Rattle.board_terms.specs.CallsAndLooks.{CallsOnce, EndsWithCall, SeesFullHistory, IsLook};
 
@@ -85,7 +86,8 @@ impl<K: BoardIdentity> Member<K> {
     /// Calls a command on the board. It waits for the lock, and for readers of the copy that is next.
     ///
     /// A recorded call is in the history after all that this member had seen and calls of others only; its receipt has
-    /// its place there and the auction's reply at that place; the member's own calls are the ones before and this one.
+    /// its place there and the auction's reply at that place; the member's own calls are the ones before and this one,
+    /// and it has now seen the calls of a legal history that ends with this one and its reply.
     /// After a fault nothing was recorded, and the member is as it was, except that at `HistoryFull` it has seen the
     /// whole history, of at least `max_calls` entries. A member that has seen at least `max_calls` calls gets no other
     /// fault but `Behind`, which comes only where the member has seen more than the history has, or counted other calls
@@ -99,7 +101,8 @@ impl<K: BoardIdentity> Member<K> {
     where
         Version<K>: Absorb<Update<K>, State = ()>,
         ensures call { IfOk result (λ r. CallsOnce K.config self.old self.new command r) }
-        ensures by_history { IfOk result (λ r. (h : List Entry) × EndsWithCall K.config h self.old.number command r) }
+        ensures by_history { IfOk result (λ r. (h : List Entry) × (calls_of h ≡ self.new.seen)
+            × EndsWithCall K.config h self.old.number command r) }
         ensures full { result ≡ Err CallFault.HistoryFull → SeesFullHistory K.config self.old self.new }
         ensures full_only { K.config.max_calls ≤ length self.old.seen →
             (result ≡ Err CallFault.HistoryFull) ⊎ ((h k : ℕ) × (result ≡ Err (CallFault.Behind h k))) }

@@ -1,14 +1,18 @@
 -- What playing scripts owes.
-use Rattle.std.specs.Prelude.{◌≡◌, ℕ, ◌+◌, ◌≤◌, List, [], ◌∷◌, ◌++◌, All, length, Option, None, Some, map, take, drop}
+use Rattle.std.specs.Prelude.{◌≡◌, ◌≢◌, ◌⊎◌, ℕ, ◌+◌, ◌<◌, ◌≤◌, List, [], ◌∷◌, ◌++◌, All, length, map, take, drop}
+use Rattle.std.specs.Prelude.{Option, None, Some}
+use mathlib.Core.List.{IsPrefix}
 use Rattle.auction_terms.specs.declared.limits.TheConstants.{MAX_CALLS}
 use Rattle.auction_terms.specs.declared.Config.{Config}
+use Rattle.auction_terms.specs.declared.Call.{Call}
 use Rattle.auction_terms.specs.declared.Command.{Command}
 use Rattle.auction_terms.specs.declared.Entry.{Entry}
+use Rattle.auction_terms.specs.Day.{calls_of}
 use Rattle.board_terms.specs.MemberView.{MemberView, PlacedCall, placed_call}
 use Rattle.board_terms.specs.CallsAndLooks.{EndsWithCall}
 use Rattle.board_terms.specs.declared.calls.Receipt.{Receipt}
 use Rattle.board_terms.specs.declared.calls.CallFault.{CallFault}
-use Rattle.board_terms.specs.declared.calls.CallFault.TheVariants.{HistoryFull}
+use Rattle.board_terms.specs.declared.calls.CallFault.TheVariants.{HistoryFull, Behind}
 use Rattle.member_floor.specs.declared.script.Script.{Script}
 
 -- the calls of these receipts, each at its place
@@ -17,11 +21,21 @@ recorded_calls [] xs = []
 recorded_calls (r ∷ rs) [] = []
 recorded_calls (r ∷ rs) (x ∷ xs) = placed_call r.number x ∷ recorded_calls rs xs
 
--- the receipts answer the first of these commands, each by some legal history
-abbrev pub AreAnswered : Config → ℕ → List Receipt → List Command → Type 0
-AreAnswered c m [] xs = Unit {0}
-AreAnswered c m (r ∷ rs) [] = ⊥
-AreAnswered c m (r ∷ rs) (x ∷ xs) = ((h : List Entry) × EndsWithCall c h m x r) × AreAnswered c m rs xs
+-- a legal history that begins with all that a member had seen, and ends with its call and the reply, at the receipt's
+-- number
+pub record EndsWithReceipt (c : Config) (seen : List Call) (m : ℕ) (x : Command) (r : Receipt) (h : List Entry) : Type 0
+  where
+    pub ends : EndsWithCall c h m x r
+    pub begins : IsPrefix seen (calls_of ends.before)
+
+-- The receipts answer the first of these commands, each by the history that its member had seen then. The first begins
+-- with what the member had seen before its script, each other one with the one before it, and what the member has seen
+-- at the end with the last.
+abbrev pub AreAnswered : Config → ℕ → List Call → List Receipt → List Command → List Call → Type 0
+AreAnswered c m before [] xs after = IsPrefix before after
+AreAnswered c m before (r ∷ rs) [] after = ⊥
+AreAnswered c m before (r ∷ rs) (x ∷ xs) after =
+    (h : List Entry) × EndsWithReceipt c before m x r h × AreAnswered c m (calls_of h) rs xs after
 
 -- what came of a script
 pub record PlayedScript : Type 0 where
@@ -29,15 +43,17 @@ pub record PlayedScript : Type 0 where
   pub receipts : List Receipt
   pub fault : Option CallFault
 
--- the member's calls are those of the receipts; without a fault the script was played to its end, and where the history
--- was full the member has seen a full history
+-- The member's calls are those of the receipts, and what it has seen has grown by them and by others' calls. Without a
+-- fault the script was played to its end; where the history was full the member has seen a full history, and where it
+-- was behind it has seen more than the history has, or counted other calls.
 pub record PlaysScript (c : Config) (old : MemberView) (commands : List Command) (run : PlayedScript) : Type 0 where
   pub number : run.member.number ≡ old.number
   pub calls : run.member.calls ≡ old.calls + length run.receipts
   pub mine : run.member.mine ≡ old.mine ++ recorded_calls run.receipts commands
-  pub answered : AreAnswered c old.number run.receipts commands
+  pub answered : AreAnswered c old.number old.seen run.receipts commands run.member.seen
   pub whole : run.fault ≡ None → length run.receipts ≡ length commands
   pub full : run.fault ≡ Some HistoryFull → c.max_calls ≤ length run.member.seen
+  pub behind : (h k : ℕ) → run.fault ≡ Some (Behind h k) → (h < length run.member.seen) ⊎ (run.member.calls ≢ k)
 
 -- a member with its script's commands
 pub record MemberScript : Type 0 where

@@ -20,7 +20,7 @@ pub use blocks::Blocks;
 pub use calls::Calls;
 pub use fault::{FileFault, RecordFault};
 pub use field::number_of;
-pub use reading::{MAX_BYTES, bytes_after, bytes_of, calls_of_file, read_start};
+pub use reading::{MAX_BYTES, bytes_after, bytes_of, calls_of_file, read_start, stated_limit};
 pub use record::{
     Word, call_of_record, command_of, count_within, member_of, number_at, numbered_call, word_at,
 };

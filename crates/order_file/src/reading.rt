@@ -18,6 +18,11 @@ use std::alloc::Global;
 /// How many bytes an order file may have at most.
 pub const MAX_BYTES: usize = 67_108_864;
 
+/// The limit, as FORMATS.md states it.
+pub fn stated_limit()
+    ensures { MAX_BYTES ≡ 67_108_864 }
+{}
+
 // How many bytes are asked for at a time.
 const CHUNK: usize = 65_536;
 

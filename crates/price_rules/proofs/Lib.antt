@@ -7,3 +7,4 @@ pub mod PointLaws
 pub mod MarkLaws
 pub mod SelectedLaws
 pub mod CandidateLaws
+pub mod PriceTermsLaws

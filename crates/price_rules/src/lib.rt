@@ -9,6 +9,7 @@ ghost use Rattle.tick_ladder.specs.TickLadder.{OfEachBook};
 ghost use Rattle.price_rules.specs.ClampedPrice.{sided, price_from, priced_by, market_priced};
 ghost use Rattle.price_rules.specs.Candidates.{lead_of};
 ghost use Rattle.price_rules.specs.Around.{IsAround};
+ghost use Rattle.price_rules.specs.PriceTerms.{HasVolumeAndSurplus, IsBalancedBetween};
 ghost use Rattle.price_rules.specs.declared.surroundings.Around.{Around as AroundView};
 ghost use Rattle.price_rules.specs.Decision.{AreDecidingTicks, DecidesPrice, IsPriceNear, from_place, to_place};
 
@@ -159,6 +160,12 @@ pub fn determine_price(ladder: &Ladder, reference: u32) -> Decision
 
     // No tick has more volume than the price, and without a price none has any.
     ensures most { OfEachBook ladder.now (λ book. HasMostVolume book result.price) }
+
+    // Its volume is the lesser of demand and supply at its tick, its surplus their difference.
+    ensures terms { OfEachBook ladder.now (λ book. HasVolumeAndSurplus book result.price) }
+
+    // Strictly between the kept limits there is no surplus.
+    ensures balanced { OfEachBook ladder.now (λ book. IsBalancedBetween book result.price) }
 
     // Any book with the same quantities there has the same price.
     ensures deciding { DecidesPrice ladder.now reference result }

@@ -44,7 +44,7 @@ Formats: the manual page (man callboard) has journals too, docs/FORMATS.md of th
 faults and what is printed.
 
 Status: 0 done, 1 a bad input, 2 a bad command line or bounds, 3 no memory, a read or a write that failed or a board
-that couldn't be closed, 4 an audit that found a reply that isn't lawful";
+that couldn't be closed, 4 an audit that found a reply that isn't lawful, 5 an audit of a broken copy";
 
 const FLOOR_HELP: &str = "The members call at once on a board; prints how many calls each made";
 

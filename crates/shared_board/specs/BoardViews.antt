@@ -23,14 +23,20 @@ pub record Beginning : Type 0 where
 abbrev pub beginning : Book → List Call → Beginning
 beginning book log = record { book = book; log = log }
 
--- one opening: its config, its number of members, and the book of its story
+-- one opening: the identity that it was given, its config, its number of members, and the book of its story
 pub record OpenedBoard : Type 0 where
+  pub identity : ℕ
   pub config : Config
   pub members : ℕ
   pub book : Book
 
-abbrev pub opened_board : Config → ℕ → Book → OpenedBoard
-opened_board config members book = record { config = config; members = members; book = book }
+abbrev pub opened_board : ℕ → Config → ℕ → Book → OpenedBoard
+opened_board identity config members book = record {
+  identity = identity;
+  config = config;
+  members = members;
+  book = book;
+}
 
 -- what the lock keeps: the opening, and the history
 pub record FloorView : Type 0 where

@@ -1,14 +1,18 @@
 //! The floor, taken out of its lock: what it shows, and the closing, at which the history is handed out and each
 //! member's account is held against it.
-ghost use Rattle.std.specs.Prelude.{◌≡◌, ◌<◌, ◌⊎◌, length, IfErr, IfOk, IsTrue, MatchBool};
+ghost use Rattle.std.specs.Prelude.{◌≡◌, ◌≢◌, ◌<◌, ◌⊎◌, ◌++◌, ◌∷◌, [], ℕ, length, Err, IfErr, IfOk, IsTrue};
+ghost use Rattle.std.specs.Prelude.{MatchBool};
+ghost use Rattle.auction_terms.specs.Auxiliary.RunningAuction.{auction_after};
 ghost use Rattle.auction_terms.specs.Day.{IsLegal, calls_of};
+ghost use Rattle.board_terms.specs.CallsAndLooks.{CallsOnce, EndsWithCall, SeesFullHistory, entry};
 ghost use Rattle.board_terms.specs.Closings.{IsAccount};
-ghost use Rattle.shared_board.specs.BoardViews.{IsClosingOf, SeesStory, ladder_after, tape_after};
+ghost use Rattle.shared_board.specs.BoardViews.{IsBehindHistory, IsClosingOf, SeesStory, ladder_after, tape_after};
 
 use crate::floor::{BoxedFloor, SharedFloor};
 use crate::member::{Account, BoardFault, SharedMember};
-use auction_terms::{Entry, Trade};
-use board_terms::Closing;
+use auction::Auction;
+use auction_terms::{Command, Entry, Trade};
+use board_terms::{CallFault, Closing, Receipt};
 use std::marker::Model;
 use tick_ladder::Ladder;
 
@@ -53,12 +57,26 @@ fn is_account(floor: &SharedFloor, account: &Account) -> bool
 }
 
 impl TakenFloor {
+    /// The identity that its board was given.
+    pub fn identity(&self) -> u64
+        ensures { result ≡ self.now.board.identity }
+    {
+        self.room.floor.identity
+    }
+
     /// How many calls were recorded.
     pub fn calls(&self) -> u32
         ensures value { result ≡ length self.now.history }
         ensures legal { IsLegal self.now.board.config self.now.history }
     {
         self.room.floor.auction.calls()
+    }
+
+    /// The auction to which the history's calls were applied.
+    pub fn auction(&self) -> &Auction
+        ensures { result.now ≡ auction_after self.now.board.config (calls_of self.now.history) }
+    {
+        &self.room.floor.auction
     }
 
     /// The calls that were recorded, with their replies. They are a legal history.
@@ -118,6 +136,41 @@ impl SharedMember {
     {
         let TakenFloor { room } = floor;
         self.shared.give(room);
+    }
+
+    /// Calls a command on the floor that was taken, as `call`: the history goes on by this call alone. It is shown once
+    /// `give_called` gives the floor back.
+    pub fn call_taken(
+        &mut self,
+        floor: &mut TakenFloor,
+        command: Command,
+    ) -> Result<Receipt, CallFault>
+        requires { floor.old.board ≡ self.old.board }
+        ensures board { (self.new.board ≡ self.old.board) × (floor.new.board ≡ floor.old.board) }
+        ensures history { IfOk result (λ r.
+            floor.new.history ≡ floor.old.history ++ entry self.old.view.number command r.reply ∷ []) }
+        ensures call { IfOk result (λ r. CallsOnce self.old.board.config self.old.view self.new.view command r) }
+        ensures by_history { IfOk result (λ r.
+            EndsWithCall self.old.board.config floor.new.history self.old.view.number command r) }
+        ensures full { result ≡ Err CallFault.HistoryFull →
+            SeesFullHistory self.old.board.config self.old.view self.new.view }
+        ensures fault { IfErr result (λ e. e ≢ CallFault.HistoryFull → self.new ≡ self.old) }
+        ensures same { IfErr result (λ e. floor.new ≡ floor.old) }
+        ensures behind { (h k : ℕ) → result ≡ Err (CallFault.Behind h k) →
+            IsBehindHistory self.old.board.config self.old.view (CallFault.Behind h k) }
+    {
+        floor.room.floor.call(&mut self.account, command)
+    }
+
+    /// Gives the floor back after calls, and shows what is so now, if somebody has looked.
+    pub fn give_called(&mut self, floor: TakenFloor)
+        requires { floor.board ≡ self.old.board }
+        ensures { self.new ≡ self.old }
+    {
+        if self.shared.is_watched() {
+            self.shared.publish(floor.room.floor.shown());
+        }
+        self.give_floor(floor);
     }
 
     /// Ends the board, whose floor was taken: each call finds it closed, and looks show what was last.

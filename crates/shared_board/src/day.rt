@@ -3,9 +3,10 @@ use crate::story::Front;
 use auction_terms::Config;
 use std::marker::Model;
 
-/// One opening. Contracts see its config, how many members it has, and the book of its story.
+/// One opening. Contracts see its identity, its config, how many members it has, and the book of its story.
 #[derive(Drop)]
 pub(crate) struct Day {
+    pub(crate) identity: u64,
     pub(crate) config: Config,
     pub(crate) members: u8,
     pub(crate) story: Front,
@@ -16,5 +17,5 @@ impl Model for Day {
 
     ghost Value = { OpenedBoard };
 
-    ghost view = { λ d. opened_board d.config d.members d.story.book };
+    ghost view = { λ d. opened_board d.identity d.config d.members d.story.book };
 }

@@ -29,6 +29,7 @@ pub(crate) struct SharedFloor {
     pub(crate) head: Head,
     /// How many entries each number has.
     pub(crate) counted: Vec<u32>,
+    pub(crate) identity: u64,
     pub(crate) members: u8,
 }
 
@@ -39,7 +40,8 @@ impl Model for SharedFloor {
 
     ghost Value = { FloorView };
 
-    ghost view = { λ f. floor_view (opened_board f.auction.config f.members f.front.book) f.history.items };
+    ghost view = { λ f.
+        floor_view (opened_board f.identity f.auction.config f.members f.front.book) f.history.items };
 
     ghost invariant = { λ f.
         FloorInvariant f.auction.config f.members f.auction f.history.items f.front.log f.front.log f.counted.items
@@ -66,12 +68,15 @@ impl SharedFloor {
     pub(crate) fn call(&mut self, by: &mut Account, command: Command) -> Result<Receipt, CallFault>
         requires board { by.old.board ≡ self.old.board }
         ensures board { (self.new.board ≡ self.old.board) × (by.new.board ≡ by.old.board) }
+        ensures history { IfOk result (λ r.
+            self.new.history ≡ self.old.history ++ entry by.old.view.number command r.reply ∷ []) }
         ensures call { IfOk result (λ r. CallsOnce self.old.board.config by.old.view by.new.view command r) }
         ensures by_history { IfOk result (λ r.
             EndsWithCall self.old.board.config self.new.history by.old.view.number command r) }
         ensures full { result ≡ Err CallFault.HistoryFull →
             SeesFullHistory self.old.board.config by.old.view by.new.view }
         ensures fault { IfErr result (λ e. e ≢ CallFault.HistoryFull → by.new ≡ by.old) }
+        ensures same { IfErr result (λ e. self.new ≡ self.old) }
         ensures behind { (h k : ℕ) → result ≡ Err (CallFault.Behind h k) →
             IsBehindHistory self.old.board.config by.old.view (CallFault.Behind h k) }
     {

@@ -30,6 +30,7 @@ pub enum BoardFault {
 /// What a member knows. Contracts see its board and what it knows.
 #[derive(Drop)]
 pub(crate) struct Account {
+    pub(crate) identity: u64,
     pub(crate) config: Config,
     pub(crate) members: u8,
     pub(crate) number: u8,
@@ -48,7 +49,7 @@ impl Model for Account {
     ghost Value = { BoardMember };
 
     ghost view = { λ m.
-        board_member (opened_board m.config m.members m.seen.front.book)
+        board_member (opened_board m.identity m.config m.members m.seen.front.book)
         (member_view m.number m.calls m.last m.seen.front.log) };
 
     ghost invariant = { λ m.
@@ -174,6 +175,13 @@ impl SharedMember {
         ensures { result ≡ self.now.board.members }
     {
         self.account.members
+    }
+
+    /// The identity that its board was given.
+    pub fn identity(&self) -> u64
+        ensures { result ≡ self.now.board.identity }
+    {
+        self.account.identity
     }
 
     /// What its board was opened with.

@@ -57,6 +57,7 @@ fn no_copies(
 #[tactic(auto, using(crate::proofs::FirstFloorLaws::first_floor_invariant))]
 fn first_floor(
     alloc: Global,
+    identity: u64,
     config: Config,
     members: u8,
     auction: Auction,
@@ -67,7 +68,7 @@ fn first_floor(
     requires small { config.max_calls ≤ MAX_CALLS }
     requires front { front.log ≡ [] }
     requires head { head.word.book ≡ front.book }
-    ensures { IfOk result (λ room. room.floor.value.board ≡ opened_board config members front.book) }
+    ensures { IfOk result (λ room. room.floor.value.board ≡ opened_board identity config members front.book) }
 {
     let floor = SharedFloor {
         auction,
@@ -75,6 +76,7 @@ fn first_floor(
         front,
         head,
         counted: vec![in alloc; 0u32; usize::from(members)]?,
+        identity,
         members,
     };
     Ok(BoxedFloor {
@@ -113,6 +115,7 @@ fn member_with(
     SharedMember {
         shared,
         account: Account {
+            identity: day.identity,
             config: day.config,
             members: day.members,
             number,
@@ -144,13 +147,15 @@ fn new_members(
 
 fn begun(
     alloc: Global,
+    identity: u64,
     config: Config,
     members: u8,
     auction: Auction,
 ) -> Result<Vec<SharedMember>, AllocError>
     requires auction { auction ≡ opened_auction config }
     requires small { config.max_calls ≤ MAX_CALLS }
-    ensures { IfOk result (λ ms. (b : Book) × (ms.items ≡ new_board_members (opened_board config members b) members)) }
+    ensures { IfOk result (λ ms.
+        (b : Book) × (ms.items ≡ new_board_members (opened_board identity config members b) members)) }
 {
     let (head, front) = new_story();
     let display = auction.display();
@@ -158,8 +163,17 @@ fn begun(
         front: front.again(),
         shown: Shown { calls: 0, display },
     };
-    let room = first_floor(alloc, config, members, auction, front.again(), head)?;
+    let room = first_floor(
+        alloc,
+        identity,
+        config,
+        members,
+        auction,
+        front.again(),
+        head,
+    )?;
     let day = Day {
+        identity,
         config,
         members,
         story: front,
@@ -169,19 +183,24 @@ fn begun(
 }
 
 /// Opens a board with `members` members, which come in the order of their numbers, from 0, each with no calls and
-/// nothing seen. All room that the day needs is taken here.
+/// nothing seen. All room that the day needs is taken here. The identity is one that no other board has.
 ///
 /// The answer is `BadBounds`, `BadReference` or `BadCapacity`, the first of these that holds, exactly where the config
 /// or the number of members is out of its limits, 1 to `MAX_MEMBERS` members among them. Else it is `NoMemory` where
 /// room was refused.
-pub fn open(alloc: Global, config: Config, members: u8) -> Result<Vec<SharedMember>, OpenFault>
+pub fn open(
+    alloc: Global,
+    identity: u64,
+    config: Config,
+    members: u8,
+) -> Result<Vec<SharedMember>, OpenFault>
     ensures opening { IfOk result (λ ms.
-        (b : Book) × (ms.items ≡ new_board_members (opened_board config members b) members)) }
+        (b : Book) × (ms.items ≡ new_board_members (opened_board identity config members b) members)) }
     ensures refused { IfSome (board_fault config members) (λ fault. result ≡ Err fault) }
     ensures memory { board_fault config members ≡ None → IfErr result (λ fault. fault ≡ OpenFault.NoMemory) }
 {
     let auction = open_auction(alloc, config, members)?;
-    match begun(alloc, config, members, auction) {
+    match begun(alloc, identity, config, members, auction) {
         Ok(board) => Ok(board),
         Err(_) => Err(OpenFault::NoMemory),
     }

@@ -10,15 +10,26 @@ from callauction.market.forms import FORMS
 from callauction.market.names import SUFFIX
 
 EPILOG = """statuses: 0 all is lawful and was compared; 4 a reply is unlawful; 5 nothing is
-unlawful, but a reply was not recorded or a day is not over; 1 a file or a table is bad, whether or
-not a reply is unlawful; 2 the words are wrong, or another run writes the result; 3 there is no
-program, no scheduler or no worker, or a result can't be written; 130 broken off"""
+unlawful, but a reply was not recorded, a day is not over or a journal was cut; 1 a file or a table
+is bad, whether or not a reply is unlawful; 2 the words are wrong, or another run writes the
+result; 3 there is no program, no scheduler or no worker, or a result can't be written; 130 broken
+off"""
+
+LEAST_MIB = 8
+"""Below it a signal may end the program, whose stack and static data take some."""
 
 
 def positive(text: str) -> int:
     """A whole number above zero. Raises ValueError for another text."""
     if int(text) < 1:
         raise ValueError(text)
+    return int(text)
+
+
+def enough(text: str) -> int:
+    """MiB of memory. Raises ArgumentTypeError where the program might be ended by a signal."""
+    if not text.isdecimal() or int(text) < LEAST_MIB:
+        raise argparse.ArgumentTypeError(f"{text!r} isn't a number from {LEAST_MIB} on")
     return int(text)
 
 
@@ -29,7 +40,10 @@ def add_run_options(verb: argparse.ArgumentParser) -> None:
     verb.add_argument("-o", "--output", type=pathlib.Path, metavar="FILE", help="the result, CSV")
     verb.add_argument("--resume", action="store_true", help="go on where a run to FILE stopped")
     verb.add_argument(
-        "--memory", type=positive, metavar="MIB", help="of a run on a file (64, and 8 times it)"
+        "--memory",
+        type=enough,
+        metavar="MIB",
+        help=f"of a run on a file, at least {LEAST_MIB} (64, and 8 times it)",
     )
     verb.add_argument(
         "--seconds", type=positive, metavar="N", help="of a run on a file (60, and 60 for 4 MiB)"

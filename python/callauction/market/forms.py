@@ -9,12 +9,18 @@ from callauction.words import AUCTIONS
 
 BLOCK = 1 << 18
 """How many bytes of the program's output are looked at together."""
-AUDIT_END = 4
-"""How many lines an audit ends with: its counts and the verdict."""
-AUDIT = re.compile(rb"entries (\d+)\ncompared (\d+)\nunlawful (\d+)\naudit (?:legal|bad \d+)\n")
+AUDIT_END = 5
+"""How many lines an audit ends with: its counts, the verdict, and what a broken copy has behind."""
+BEHIND = rb"(incomplete: \d+ bytes follow entry \d+\n)?"
+"""The last line of the audit of a broken copy."""
+COUNTS = re.compile(rb"entries (\d+)\ncompared (\d+)\nunlawful (\d+)\naudit (?:legal|bad \d+)\n")
+AUDIT = re.compile(
+    rb"^(entries \d+\ncompared \d+\nunlawful \d+\naudit (?:legal|bad \d+)\n)" + BEHIND + rb"\Z",
+    re.MULTILINE,
+)
 RESULTS = re.compile(
     rb"^(entries \d+\ncompared \d+\nunlawful \d+\naudit (?:legal|bad \d+)\n)"
-    rb"((?:\d+: .*\n)*)(?:day (over)|in (opening|intraday|closing))\n\Z",
+    rb"((?:\d+: .*\n)*)(?:day (over)|in (opening|intraday|closing))\n" + BEHIND + rb"\Z",
     re.MULTILINE,
 )
 RESULTS_END = AUDIT_END + 2 * len(AUCTIONS) + 1
@@ -82,7 +88,8 @@ def line_at(block: bytes, place: int) -> bytes:
 def read_audit(blocks: Blocks) -> Columns:
     """The counts, and the number of the first entry that differs. Raises OutputFault."""
     first, last = ends_of(blocks, AUDIT_END)
-    return read_counts(last) | read_first(first)
+    found = AUDIT.search(last)
+    return read_counts(found[1] if found else b"") | read_first(first)
 
 
 def ends_of(blocks: Blocks, count: int) -> tuple[bytes, bytes]:
@@ -96,7 +103,7 @@ def ends_of(blocks: Blocks, count: int) -> tuple[bytes, bytes]:
 
 def read_counts(text: bytes) -> Columns:
     """The counts of an audit. Raises OutputFault."""
-    counts = AUDIT.fullmatch(text)
+    counts = COUNTS.fullmatch(text)
     if not counts:
         raise OutputFault("the program printed no audit")
     return dict(zip(("entries", "compared", "unlawful"), map(int, counts.groups())))
@@ -109,8 +116,8 @@ def read_first(block: bytes) -> Columns:
 
 
 def read_results(blocks: Blocks) -> Columns:
-    """What an audit says, what the auctions that ended gave, and which auction the day is in.
-    Raises OutputFault.
+    """What an audit says, what the auctions that ended gave, and which auction the day is in, if
+    the journal isn't a broken copy. Raises OutputFault.
     """
     first, last = ends_of(blocks, RESULTS_END)
     found = RESULTS.search(last)
@@ -126,7 +133,7 @@ def read_results(blocks: Blocks) -> Columns:
     day = (found[3] or found[4]).decode()
     if day != (*AUCTIONS, OVER)[columns["auctions"]]:
         raise OutputFault("the program printed another day than its results")
-    return columns | {"day": day}
+    return columns | {"day": None if found[5] else day}
 
 
 def read_lines(blocks: Blocks) -> Columns:

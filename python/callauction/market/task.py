@@ -28,11 +28,13 @@ from callauction.market.forms import (
 )
 from callauction.market.names import instrument_of, line_of
 from callauction.market.rows import Found, Row
-from callauction.statuses import DONE, UNLAWFUL
+from callauction.statuses import DONE, INCOMPLETE, UNLAWFUL
 
 MIB = 1 << 20
-GOOD = {DONE, UNLAWFUL}
-"""The statuses of the program that go with a good file: all is lawful, or something isn't."""
+GOOD = {DONE, UNLAWFUL, INCOMPLETE}
+"""The statuses of the program that go with a good file: all is lawful, or something isn't, or a
+journal is a broken copy.
+"""
 NO_MEMORY = "out of memory"
 """What the program says where it gets no memory."""
 LEAST_MEMORY, MEMORY_OF_BYTE = 64 * MIB, 8

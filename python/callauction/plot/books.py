@@ -15,14 +15,13 @@ from callauction.plot.parts import (
     VOLUME,
     Namer,
     finish,
+    mark_shares,
     mark_ticks,
     namer_of,
     new_axes,
     numbers,
     points,
-    thousands,
     unit_of,
-    whole_steps,
 )
 from callauction.tables import book_at
 
@@ -35,6 +34,8 @@ REACH = 10
 """A reference of no more ticks beyond the book than this, or than the book is wide, is drawn in its
 place; one further off is an arrow at the edge.
 """
+BELOW, ABOVE = "below", "above"
+"""Where such a reference lies."""
 
 
 class HasBook(Protocol):
@@ -58,9 +59,9 @@ def book(
     tick_size: object = None,
     ax: Axes | None = None,
 ) -> Axes:
-    """Draws a book: demand and supply as steps at the limits, where the higher end of each
-    holds; the executable volume at each limit; the best limits, the auction price with
-    its volume and surplus, and the reference.
+    """Draws a book, its limits upright and its shares across: demand and supply as steps at the
+    limits, where the greater end of each holds; the executable volume at each limit; the best
+    limits, the auction price with its volume and surplus, and the reference.
 
     `auction` is a RecordedAuction or a table of books (tables.BOOK). The book is the one before the
     command with this number, without one the last. A RecordedAuction knows the reference; to a
@@ -75,18 +76,20 @@ def book(
     levels = found[found["limit"].notna()][::-1]
     far = _far(levels, reference)
     ends = _ends(levels, None if far else reference)
-    axes.set_xlim(*ends)
+    axes.set_ylim(*ends)
     _draw_curves(axes, found[found["limit"].isna()].iloc[0], levels, ends)
     _draw_volume(axes, levels)
     _draw_best(axes, levels, name)
     label = "" if reference is None else f"reference {name(reference)}"
     if reference is not None and not far:
         _draw_reference(axes, reference, label)
-    _label(axes, found, levels, name, unit)
-    begin = finish(axes, rows=1 if far else 0)
+    is_now = command is None and not isinstance(auction, pandas.DataFrame)
+    _label(axes, _head(found, is_now), levels, name, unit)
+    begin = finish(axes, rows=1 if far == ABOVE else 0)
     if far:
         _draw_far(axes, far, label, begin)
-    mark_ticks(axes, _wanted(levels), name)
+    mark_ticks(axes, ends, _wanted(levels), name)
+    mark_shares(axes)
     return axes
 
 
@@ -101,16 +104,16 @@ def _books_of(
 
 
 def _far(levels: pandas.DataFrame, reference: int | None) -> str:
-    """The side of the picture, `left` or `right`, beyond which a reference lies too far to be drawn
-    in its place; nothing where it doesn't.
+    """The side of the picture, BELOW or ABOVE, beyond which a reference lies too far to be drawn in
+    its place; nothing where it doesn't.
     """
     if reference is None or not len(levels):
         return ""
     low, high = (int(tick) for tick in numbers(levels["limit"])[[0, -1]])
     reach = max(REACH, high - low)
     if reference < low - reach:
-        return "left"
-    return "right" if reference > high + reach else ""
+        return BELOW
+    return ABOVE if reference > high + reach else ""
 
 
 def _ends(levels: pandas.DataFrame, reference: int | None) -> tuple[float, float]:
@@ -129,10 +132,10 @@ def _draw_volume(axes: Axes, levels: pandas.DataFrame) -> None:
         return
     ticks = numbers(levels["limit"])
     if len(levels) <= MOST_BARS:
-        low, high = axes.get_xlim()
+        low, high = axes.get_ylim()
         gap = min((ticks[1:] - ticks[:-1]).tolist(), default=1)
-        width = 0.6 * gap / (high - low) * points(axes)[0]
-        axes.vlines(
+        width = 0.6 * gap / (high - low) * points(axes)[1]
+        axes.hlines(
             ticks,
             0,
             numbers(levels["volume"]),
@@ -147,6 +150,7 @@ def _draw_volume(axes: Axes, levels: pandas.DataFrame) -> None:
     patch = StepPatch(
         between,
         ticks,
+        orientation="horizontal",
         fill=True,
         facecolor=PALE[VOLUME],
         edgecolor="none",
@@ -173,6 +177,7 @@ def _draw_curves(
         patch = StepPatch(
             shares,
             [low, *ticks, high],
+            orientation="horizontal",
             baseline=None,
             fill=False,
             edgecolor=color,
@@ -183,7 +188,7 @@ def _draw_curves(
             zorder=2.5,
         )
         axes.add_artist(patch)
-    axes.set_ylim(0, 1.06 * max(*demand, *supply, 1))
+    axes.set_xlim(0, 1.06 * max(*demand, *supply, 1))
 
 
 def _draw_best(axes: Axes, levels: pandas.DataFrame, named: Namer) -> None:
@@ -193,8 +198,8 @@ def _draw_best(axes: Axes, levels: pandas.DataFrame, named: Namer) -> None:
     best = levels[levels["best"] == 1]
     if len(best):
         axes.plot(
-            numbers(best["limit"]),
             numbers(best["volume"]),
+            numbers(best["limit"]),
             linestyle="",
             marker="D",
             markersize=11 if len(best) <= MOST_MARKED else 4,
@@ -206,36 +211,36 @@ def _draw_best(axes: Axes, levels: pandas.DataFrame, named: Namer) -> None:
     for _, price in levels[levels["rule"] != ""].iterrows():
         tick, volume, surplus = (int(price[name]) for name in ("limit", "volume", "surplus"))
         if surplus:
-            axes.vlines(
+            axes.hlines(
                 tick, volume, volume + surplus, color=PRICE, linewidth=3, label="surplus", zorder=3
             )
         label = f"price {named(tick)}"
         axes.plot(
-            [tick], [volume], linestyle="", marker="o", markersize=5, color=PRICE, label=label,
+            [volume], [tick], linestyle="", marker="o", markersize=5, color=PRICE, label=label,
             zorder=5,
         )  # fmt: skip
 
 
 def _draw_reference(axes: Axes, reference: int, label: str) -> None:
-    """A line at the reference, as high as the picture."""
-    top = axes.get_ylim()[1]
-    axes.vlines(reference, 0, top, color=REFERENCE, linestyle=":", label=label, zorder=1.5)
+    """A line at the reference, as wide as the picture."""
+    right = axes.get_xlim()[1]
+    axes.hlines(reference, 0, right, color=REFERENCE, linestyle=":", label=label, zorder=1.5)
 
 
 def _draw_far(axes: Axes, side: str, text: str, begin: float) -> None:
-    """An arrow at the edge, to a reference that lies beyond it."""
-    edge, aside = (0.0, 0.06) if side == "left" else (1.0, 0.94)
+    """An arrow at the edge, to a reference that lies beyond it; `begin` is that of the legend."""
     _, height = points(axes)
-    place = begin - 8 / height
+    edge, inwards = (0.0, 12) if side == BELOW else (begin, -12)
     axes.annotate(
         text,
-        (edge, place),
-        (aside, place),
+        (0.97, edge),
+        (0.95, edge + inwards / height),
         xycoords="axes fraction",
         color=REFERENCE,
         fontsize="small",
-        ha=side,
+        ha="right",
         va="center",
+        bbox={"facecolor": "white", "edgecolor": "none", "pad": 1.0},
         arrowprops={"arrowstyle": "->", "color": REFERENCE},
     )
 
@@ -247,16 +252,17 @@ def _wanted(levels: pandas.DataFrame) -> list[int]:
     return [*map(int, price), *map(int, best[[0, -1]] if len(best) > 2 else best)]
 
 
-def _label(
-    axes: Axes, found: pandas.DataFrame, levels: pandas.DataFrame, named: Namer, unit: str
-) -> None:
-    """What the picture shows, and in which units."""
+def _head(found: pandas.DataFrame, is_now: bool) -> str:
+    """Which book this is."""
     command, auction = found["command"].iloc[0], found["auction"].iloc[0]
-    words = _words_of_price(levels, named)
-    axes.set_title(f"{auction}, before command {command}\n{words}", loc="left")
-    axes.set_xlabel(f"limit ({unit})")
-    axes.set_ylabel("quantity (shares)")
-    whole_steps(axes.yaxis, thousands)
+    return str(auction) if is_now else f"{auction}, before command {command}"
+
+
+def _label(axes: Axes, head: str, levels: pandas.DataFrame, named: Namer, unit: str) -> None:
+    """What the picture shows, and in which units."""
+    axes.set_title(f"{head}\n{_words_of_price(levels, named)}", loc="left")
+    axes.set_ylabel(f"limit ({unit})")
+    axes.set_xlabel("quantity (shares)")
     axes.spines[["top", "right"]].set_visible(False)
 
 

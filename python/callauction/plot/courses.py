@@ -1,14 +1,17 @@
 """The picture of a day's course: see indicative."""
-from typing import Protocol
+from typing import Any, Protocol
 
+import numpy
 import pandas
 from matplotlib.axes import Axes
+from matplotlib.collections import PolyCollection
 
 from callauction.course import INTERRUPTED, Course, course_of
 from callauction.plot.parts import (
     DEMAND,
     DIGIT,
     MOST_DRAWN,
+    PALE,
     PRICE,
     REFERENCE,
     VOLUME,
@@ -59,11 +62,12 @@ def indicative(
     axes, volume_axes = _panels(ax if ax is not None else new_axes())
     shown = course.indicative
     has_price = bool(shown["price"].notna().any() or course.uncrosses["price"].notna().any())
+    end = end_of(shown)
     if has_price:
-        _draw_shown(axes, volume_axes, shown)
+        _draw_shown(axes, volume_axes, shown, end)
     _draw_priced(axes, course.uncrosses)
     _label(axes, volume_axes, unit, name)
-    _set_ends(axes, volume_axes, len(shown), has_price)
+    _set_ends(axes, volume_axes, end, has_price)
     _draw_words(axes, volume_axes, course.uncrosses, name)
     return axes, volume_axes
 
@@ -90,22 +94,53 @@ def _panels(axes: Axes) -> tuple[Axes, Axes]:
     return axes, figure.add_axes([box.x0, box.y0, box.width, low], sharex=axes)
 
 
-def _draw_shown(axes: Axes, volume_axes: Axes, shown: pandas.DataFrame) -> None:
-    """The indicative price and volume."""
-    calls = shown["command"].to_numpy()
-    prices = shown["price"].astype("float64").to_numpy()
+def end_of(shown: pandas.DataFrame) -> float:
+    """Where the picture of a course ends: as far behind its last call that what is shown after this
+    call is seen.
+    """
+    last = int(shown["command"].max()) if len(shown) else 1
+    return 1 + 1.02 * last
+
+
+def _draw_shown(axes: Axes, volume_axes: Axes, shown: pandas.DataFrame, end: float) -> None:
+    """The indicative price and volume; those after the last call hold up to the end. Where there is
+    no price the picture is grey.
+    """
+    calls = [*shown["command"], end]
+    held = [*range(len(shown)), len(shown) - 1]
+    prices = shown["price"].astype("float64").to_numpy()[held]
+    _draw_without(axes, [0, *calls], numpy.array([True, *shown["price"].isna()]))
     mark = "." if len(shown) <= MOST_MARKED else ""
     if shown["price"].notna().any():
-        axes.step(calls, prices, where="post", color=DEMAND, marker=mark, label="indicative price")
+        axes.step(
+            calls, prices, where="post", color=DEMAND, marker=mark, markevery=slice(len(shown)),
+            label="indicative price",
+        )  # fmt: skip
     volume_axes.fill_between(
         calls,
-        shown["volume"].astype("float64").fillna(0).to_numpy(),
+        shown["volume"].astype("float64").fillna(0).to_numpy()[held],
         step="post",
         color=VOLUME,
         linewidth=0,
         rasterized=len(shown) > MOST_DRAWN,
         label="indicative volume",
     )
+
+
+def _draw_without(axes: Axes, calls: list[float], is_without: Any) -> None:
+    """The calls without a price, as spans: whether each one is, up to the next call."""
+    changes = numpy.flatnonzero(numpy.diff([False, *is_without, False]))
+    spans = [(calls[first], calls[last]) for first, last in zip(changes[::2], changes[1::2])]
+    areas = PolyCollection(
+        [[(left, 0), (right, 0), (right, 1), (left, 1)] for left, right in spans],
+        transform=axes.get_xaxis_transform(),
+        facecolor=PALE[REFERENCE],
+        edgecolor=REFERENCE,
+        linewidth=0.3,
+        label="no price",
+        zorder=0,
+    )
+    axes.add_collection(areas, autolim=False)
 
 
 def _draw_priced(axes: Axes, uncrosses: pandas.DataFrame) -> None:
@@ -143,9 +178,9 @@ def _label(axes: Axes, volume_axes: Axes, unit: str, named: Namer) -> None:
         each.spines[["top", "right"]].set_visible(False)
 
 
-def _set_ends(axes: Axes, volume_axes: Axes, calls: int, has_price: bool) -> None:
+def _set_ends(axes: Axes, volume_axes: Axes, end: float, has_price: bool) -> None:
     """The ends of the panels: all calls, volumes from 0, no axis where there is no price."""
-    axes.set_xlim(0, max(calls, 1) * 1.02 + 0.5)
+    axes.set_xlim(0, end)
     volume_axes.set_ylim(bottom=0)
     low, high = axes.get_ylim()
     if high - low < 2:

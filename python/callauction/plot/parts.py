@@ -12,7 +12,7 @@ from callauction.prices import Grid, tick_size_of
 
 DEMAND, SUPPLY, VOLUME, PRICE, REFERENCE = "#0069a6", "#b34700", "#00735a", "#000000", "#5c5c5c"
 """Colours that people with any eyes can distinguish, each of a contrast of 4.5 or more to white."""
-PALE = {DEMAND: "#bcdcf0", SUPPLY: "#f6d3bd", VOLUME: "#a8d9c9"}
+PALE = {DEMAND: "#bcdcf0", SUPPLY: "#f6d3bd", VOLUME: "#a8d9c9", REFERENCE: "#eeeeee"}
 """Their pale kin, for areas behind lines."""
 SIZE = (6.0, 4.4)
 """The inches of a new figure."""
@@ -28,9 +28,9 @@ Namer = Callable[[int], str]
 """What gives a tick its name."""
 
 
-def new_axes() -> Axes:
-    """The axes of a new figure, of SIZE inches."""
-    _, axes = pyplot.subplots(figsize=SIZE, layout="constrained")
+def new_axes(size: tuple[float, float] = SIZE) -> Axes:
+    """The axes of a new figure of this width and height, in inches."""
+    _, axes = pyplot.subplots(figsize=size, layout="constrained")
     return axes
 
 
@@ -151,22 +151,37 @@ def whole_steps(axis: Any, named: Namer, steps: int = 6) -> None:
     axis.set_major_formatter(FuncFormatter(lambda number, _: named(round(number))))
 
 
-def mark_ticks(axes: Axes, wanted: Sequence[int], named: Namer) -> None:
-    """Labels the axis of limits: at each wanted tick for whose label there is room, the first ones
-    first, and at others between them.
+def mark_ticks(
+    axes: Axes, ends: tuple[float, float], wanted: Sequence[int], named: Namer
+) -> None:
+    """Labels the axis of limits, which is upright, between these ends: at each wanted tick for
+    whose label there is room, the first ones first, and at others between them.
     """
-    low, high = axes.get_xlim()
-    width, _ = points(axes)
-    size = axes.xaxis.get_ticklabels()[0].get_fontsize() if axes.xaxis.get_ticklabels() else 10.0
-    longest = max(len(named(int(tick))) for tick in (low + 1, high))
-    room = (longest * DIGIT * size + 6) / width * (high - low)
+    low, high = ends
+    bottom, top = axes.get_ylim()
+    _, height = points(axes)
+    room = 1.45 * _label_size(axes.yaxis) / height * (top - bottom)
     steps = max(1, min(8, int((high - low) / room / 1.5)))
     others = MaxNLocator(nbins=steps, integer=True).tick_values(low, high)
     kept: list[int] = []
     for tick in [*wanted, *(int(other) for other in others if other == int(other))]:
         if max(low, 1) <= tick <= high and all(abs(tick - other) >= room for other in kept):
             kept.append(tick)
-    axes.set_xticks(sorted(kept), [named(tick) for tick in sorted(kept)])
+    axes.set_yticks(sorted(kept), [named(tick) for tick in sorted(kept)])
+
+
+def mark_shares(axes: Axes) -> None:
+    """Labels the axis of shares, which lies across, at whole numbers for which there is room."""
+    _, most = axes.get_xlim()
+    width, _ = points(axes)
+    longest = (len(thousands(round(most))) + 1) * DIGIT * _label_size(axes.xaxis)
+    whole_steps(axes.xaxis, thousands, max(1, min(6, int(width / longest))))
+
+
+def _label_size(axis: Any) -> float:
+    """The size of an axis's labels, in points."""
+    labels = axis.get_ticklabels()
+    return float(labels[0].get_fontsize()) if labels else 10.0
 
 
 def contrast(color: str) -> float:

@@ -1,22 +1,30 @@
 """The command line of a venue: `python3 -m callauction.venue`; --help has the rest."""
 import argparse
 import asyncio
+import os
 import pathlib
 import sys
 
 from callauction import finder
+from callauction.fix.build import MISSING
 from callauction.statuses import BAD_DAY, BAD_FILE, DONE, FAILED, UNLAWFUL
-from callauction.venue.config import ConfigError, Day
+from callauction.venue import notices, owned
+from callauction.venue.checking import checked
+from callauction.venue.config import Day
+from callauction.venue.fields import ConfigError
 from callauction.venue.log import LogError, LogInUse
+from callauction.venue.owned import OwnerError
 from callauction.venue.process import ProcessError
 from callauction.venue.recovery import RecoveryError
-from callauction.venue.serving import Address, AddressError, serve
+from callauction.venue.serving import Address, AddressError, Front, serve
+from callauction.venue.tokens import TokenError
 from callauction.venue.venue import Venue
 
 FOLDER = "class.venue"
-EPILOG = """statuses: 0 ended by SIGINT or SIGTERM; 1 a bad day file, or a log or a journal with a
-fault; 2 wrong words, an address that can't be listened on, or a folder or journal in use; 3 no
-program, or a read or a write failed; 4 a journal with an unlawful reply"""
+EPILOG = """statuses: 0 ended by SIGINT or SIGTERM; 1 a bad day file, or a log, a token or a journal
+with a fault; 2 wrong words, an address that can't be listened on, a folder or journal in use, or
+one that other users own or may write; 3 no program, a read or a write failed, or something didn't
+end in time; 4 a journal with an unlawful reply"""
 
 
 def arguments() -> argparse.ArgumentParser:
@@ -34,12 +42,32 @@ def arguments() -> argparse.ArgumentParser:
         help=f"where its journals are, with which it goes on (DAY.venue, or {FOLDER})",
     )
     parser.add_argument("--listen", default="127.0.0.1", metavar="HOST", help="(127.0.0.1)")
-    parser.add_argument("--port", type=int, default=8080, metavar="N", help="(8080; 0: any)")
+    parser.add_argument("--port", type=port, default=8080, metavar="N", help="(8080; 0: any)")
     parser.add_argument(
         "--name", action="append", default=[], metavar="HOST", help="what members call this machine"
     )
     parser.add_argument("--tls-cert", metavar="FILE", help="the certificate, PEM")
     parser.add_argument("--tls-key", metavar="FILE", help="its key, PEM")
+    parser.add_argument(
+        "--check",
+        action="store_true",
+        help="say what is wrong with the day, the folder and the certificate, and start nothing",
+    )
+    parser.add_argument(
+        "--metrics",
+        type=place,
+        metavar="HOST:PORT",
+        help="serve /healthz and /metrics there, to everybody who reaches it",
+    )
+    parser.add_argument(
+        "--hide-tokens", action="store_true", help="don't print them: files of the folder have them"
+    )
+    parser.add_argument(
+        "--log",
+        choices=notices.LEVELS,
+        default="text",
+        help="what is said on standard error: of faults alone, or of all, as JSON (text)",
+    )
     parser.add_argument(
         "--insecure",
         action="store_true",
@@ -49,34 +77,88 @@ def arguments() -> argparse.ArgumentParser:
     return parser
 
 
+def port(text: str) -> int:
+    """The number of a port. Raises ValueError: the system would take its last 16 bits."""
+    if not 0 <= int(text) < 1 << 16:
+        raise ValueError(text)
+    return int(text)
+
+
+def place(text: str) -> tuple[str, int]:
+    """A host and a port. Raises ValueError."""
+    host, _, number = text.rpartition(":")
+    if not host:
+        raise ValueError(text)
+    return host.strip("[]"), port(number)
+
+
 def folder_of(asked: argparse.Namespace) -> pathlib.Path:
-    """The folder of the venue, which is made where it isn't there. Raises OSError."""
+    """The folder of the venue."""
     default = asked.day.with_suffix(".venue") if asked.day else pathlib.Path(FOLDER)
     found: pathlib.Path = asked.folder or default
-    found.mkdir(mode=0o700, exist_ok=True)
     return found
 
 
-async def run(asked: argparse.Namespace, address: Address, program: str) -> None:
-    """Opens the venue and serves it. Raises what Venue and serve raise."""
+def run(asked: argparse.Namespace, address: Address, program: str) -> None:
+    """Opens the venue and serves it, or checks it. Raises what Venue and serve raise."""
     day = Day.read(asked.day) if asked.day else Day()
-    await serve(Venue(day, folder_of(asked), program), program, address)
+    folder = folder_of(asked)
+    if day.fix is not None:
+        address.check_front(day.fix.host)
+        check_fix()
+    if asked.check:
+        print("\n".join(checked(day, folder, address, program)))
+        return
+    owned.make_folder(folder)
+
+    async def opened() -> None:
+        venue = Venue(day, folder, program)
+        await serve(venue, program, address, fronts_of(venue, program))
+
+    asyncio.run(opened())
+
+
+def fronts_of(venue: Venue, program: str) -> list[Front]:
+    """The venue's other fronts. Raises AddressError where a module is missing."""
+    if venue.day.fix is None:
+        return []
+    check_fix()
+    from callauction.fix import front
+
+    return [front.Front(venue, venue.day.fix, program)]
+
+
+def check_fix() -> None:
+    """Raises AddressError, which says what is to be done, where there is no module of QuickFIX."""
+    try:
+        from callauction.fix import _quickfix  # noqa: F401
+    except ImportError:
+        raise AddressError(MISSING) from None
 
 
 def main() -> int:
     """Runs a venue until it is ended; answers the status."""
     asked = arguments().parse_args()
+    os.umask(owned.OF_OTHERS)
+    notices.set_up(asked.log)
     address = Address(
-        asked.listen, asked.port, asked.tls_cert, asked.tls_key, asked.insecure, tuple(asked.name)
+        asked.listen,
+        asked.port,
+        asked.tls_cert,
+        asked.tls_key,
+        asked.insecure,
+        tuple(asked.name),
+        asked.metrics,
+        asked.hide_tokens,
     )
     try:
         address.check()
         program = finder.program()
-        asyncio.run(run(asked, address, program))
+        run(asked, address, program)
         return DONE
-    except (AddressError, LogInUse) as fault:
+    except (AddressError, LogInUse, OwnerError) as fault:
         text, status = str(fault), BAD_DAY
-    except (ConfigError, LogError, RecoveryError) as fault:
+    except (ConfigError, LogError, RecoveryError, TokenError) as fault:
         text, status = str(fault), BAD_FILE
     except ProcessError as fault:
         text = fault.text or f"the program ended with status {fault.status}"

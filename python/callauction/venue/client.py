@@ -166,8 +166,8 @@ class AsyncClient:
     # ---- looks and events
 
     async def look(self, what: str, instrument: str | None = None, first: int = 1) -> Json:
-        """What is seen now: `state`, `orders`, `fills`, or `trades` from number `first` on. Raises
-        VenueError and aiohttp.ClientError.
+        """What is seen now: `state`, `orders`, `fills`, `ladder` where the book is open, or up to
+        500 `trades` from number `first` on. Raises VenueError and aiohttp.ClientError.
         """
         named = {} if instrument is None else {"instrument": instrument}
         words = named | {"first": str(first)}
@@ -319,7 +319,9 @@ class Client:
         return self._wait(self._client.delete(order, instrument=instrument))
 
     def look(self, what: str, instrument: str | None = None, first: int = 1) -> Json:
-        """What is seen now: `state`, `orders`, `fills`, or `trades` from number `first` on."""
+        """What is seen now: `state`, `orders`, `fills`, `ladder` where the book is open, or up to
+        500 `trades` from number `first` on.
+        """
         return self._wait(self._client.look(what, instrument, first))
 
     def events(self) -> Iterator[Json]:

@@ -11,16 +11,22 @@ from typing import Any, Self
 
 from callauction.limits import MOST_MEMBERS
 from callauction.prices import BadCellError, Grid, decimal_of, tick_size_of
+from callauction.venue import owned
+from callauction.venue.bounds import Bounds, bounds_of
+from callauction.venue.fields import TITLE, ConfigError, Fields
+from callauction.venue.fix_terms import Terms, terms_of
+from callauction.venue.gains import Uncovered
+from callauction.venue.handing import HandError
+from callauction.venue.names import folded, is_role, is_seen
+from callauction.venue.treatments import MOST_SECONDS, Limits, Read, Treatment, treatment_of
 
 MOST_QUANTITY = 1_000_000_000
-MOST_SECONDS = 86_400
+MOST_TRADERS = MOST_MEMBERS - 1
+"""The members who may trade an instrument."""
 INSTRUMENT_NAME = re.compile(r"[A-Za-z0-9][A-Za-z0-9_-]{0,23}")
-MEMBER_NAME = re.compile(r"[^\x00-\x1f\x7f<>]{1,24}")
 LANGUAGES = ("en", "de")
-
-
-class ConfigError(ValueError):
-    """The file of a day is a bad one: the text names the place and what is wrong there."""
+MOST_BYTES = 1 << 20
+"""The bytes that the file of a day, or one that it names, may have."""
 
 
 @dataclasses.dataclass(frozen=True)
@@ -38,10 +44,61 @@ class Instrument:
     open: int = 4096
     calls: int = 65_536
     most_quantity: int = MOST_QUANTITY
+    uncovered_bought: int = 0
+    uncovered_sold: int | None = None
+
+    @property
+    def uncovered(self) -> Uncovered:
+        """What shares come to that no value covers: those that are sold the highest price, where
+        nothing else is said.
+        """
+        sold = self.high if self.uncovered_sold is None else self.uncovered_sold
+        return Uncovered(self.uncovered_bought, sold)
 
     def price(self, tick: int) -> str:
         """A tick as a decimal price."""
         return format(self.grid.price(tick), "f")
+
+    def value_tick(self, price: str) -> int:
+        """The tick of a value. Raises HandError where none may be this price."""
+        try:
+            found = self.grid.tick(decimal_of(price))
+        except BadCellError as fault:
+            raise HandError(f"the price {price} {fault}") from None
+        if not self.uncovered.covers(found):
+            least, most = self.uncovered.bought, self.uncovered.sold
+            raise HandError(f"a value is from {self.price(least)} to {self.price(most)}")
+        return found
+
+    def in_round(self, treatment: Treatment) -> "Instrument":
+        """This instrument in a round, which may have another first reference price. Raises
+        HandError where that can't be.
+        """
+        if not treatment.reference:
+            return self
+        try:
+            tick = self.grid.tick(decimal_of(treatment.reference))
+        except BadCellError as fault:
+            raise HandError(f"the reference {treatment.reference} {fault}") from None
+        if not self.low <= tick <= self.high:
+            least, most = self.price(self.low), self.price(self.high)
+            raise HandError(f"a reference is from {least} to {most}")
+        return dataclasses.replace(self, reference=tick)
+
+    def limits(self, treatment: Treatment) -> Limits:
+        """What is refused in a round."""
+        money = int(Decimal(treatment.money or "0") / self.grid.tick_size)
+        return Limits(
+            treatment.is_covered,
+            treatment.has_own_trades,
+            treatment.shares,
+            money if treatment.money else None,
+        )
+
+    def check(self, treatment: Treatment) -> None:
+        """Raises HandError where a round can't be one of this instrument."""
+        self.in_round(treatment)
+        treatment.rule.check(self.value_tick)
 
     def words(self) -> list[str]:
         """The program's options for this day."""
@@ -67,7 +124,8 @@ class Plan:
 @dataclasses.dataclass(frozen=True)
 class Members:
     """Who may be a member: by the code of the day where `is_open`, and these names by a code of
-    their own; how many at most, and how fast they may speak: messages a second, and at once.
+    their own; how many at most, and how fast they may speak: messages a second, and at once. Where
+    there are more than `group`, they are in groups with boards of their own; see Day.group.
     """
 
     is_open: bool = True
@@ -76,12 +134,25 @@ class Members:
     most: int = 200
     rate: float = 20.0
     burst: int = 40
+    group: int | None = None
+
+
+@dataclasses.dataclass(frozen=True)
+class Payoff:
+    """What members are paid: `base`, and `rate` for each unit of what they gained, at least
+    nothing; in this currency, empty for the instruments' own.
+    """
+
+    base: Decimal = Decimal(0)
+    rate: Decimal = Decimal(1)
+    currency: str = ""
 
 
 @dataclasses.dataclass(frozen=True)
 class Day:
     """All that a venue is opened with. Where `is_synced` nothing is answered before it is on the
-    disk; `reserve` is how many commands of each instrument are kept for the operator.
+    disk; `reserve` is how many commands of each instrument are kept for the operator. Where there
+    are more rounds than `rounds`, the last of them comes again.
     """
 
     title: str = "Call auction"
@@ -91,118 +162,97 @@ class Day:
     plan: Plan = Plan()
     members: Members = Members()
     instruments: tuple[Instrument, ...] = (Instrument(),)
+    payoff: Payoff = Payoff()
+    rounds: tuple[Treatment, ...] = (Treatment(),)
+    bounds: Bounds = Bounds()
+    fix: Terms | None = None
+
+    @property
+    def group(self) -> int:
+        """How many members a group has at most: where nothing else is said, as many as may trade
+        an instrument, and where there are several instruments any number of them.
+        """
+        if self.members.group is not None:
+            return self.members.group
+        return MOST_TRADERS if len(self.instruments) == 1 else self.members.most
+
+    @property
+    def paid_in(self) -> str:
+        """The currency in which members are paid."""
+        return self.payoff.currency or self.instruments[0].currency
+
+    def treatment(self, number: int) -> Treatment:
+        """The round of this number, from 1."""
+        return self.rounds[min(number, len(self.rounds)) - 1]
+
+    def check(self, treatment: Treatment) -> None:
+        """Raises HandError where a round can't be one of this day."""
+        for instrument in self.instruments:
+            instrument.check(treatment)
 
     @classmethod
     def read(cls, path: pathlib.Path) -> Self:
         """The day of a file. Raises ConfigError, and OSError where it can't be read."""
         try:
-            found = tomllib.loads(path.read_text(encoding="utf-8"))
-        except (UnicodeDecodeError, tomllib.TOMLDecodeError) as fault:
+            found = tomllib.loads(owned.whole(path, MOST_BYTES).decode("utf-8-sig"))
+        except UnicodeDecodeError:
+            raise ConfigError(f"{path}: isn't UTF-8") from None
+        except ValueError as fault:  # of TOML, or of a number that is too long
             raise ConfigError(f"{path}: {fault}") from None
+        except RecursionError:
+            raise ConfigError(f"{path}: has too many lists within lists") from None
         try:
-            return cls.of(found)
+            return cls.of(found, path.parent)
         except ConfigError as fault:
             raise ConfigError(f"{path}: {fault}") from None
 
     @classmethod
-    def of(cls, table: dict[str, Any]) -> Self:
-        """The day of a table, as TOML has it. Raises ConfigError."""
+    def of(cls, table: dict[str, Any], folder: pathlib.Path = pathlib.Path()) -> Self:
+        """The day of a table, as TOML has it, beside the files that it names. Raises ConfigError.
+        """
         fields = Fields("", table)
         default = cls()
-        rows = fields.tables("instrument")
+        rows, rounds = fields.tables("instrument"), fields.tables("round")
         found = cls(
-            title=fields.text("title", default.title),
+            title=fields.text("title", default.title, TITLE),
             language=fields.choice("language", LANGUAGES, default.language),
             is_synced=fields.flag("sync", default.is_synced),
             reserve=fields.whole("reserve", default.reserve, 1, 1000),
             plan=plan_of(Fields("phases", fields.table("phases"))),
             members=members_of(Fields("members", fields.table("members"))),
             instruments=tuple(map(instrument_of, rows)) or default.instruments,
+            payoff=payoff_of(Fields("payoff", fields.table("payoff"))),
+            rounds=rounds_of(rounds, folder) or default.rounds,
+            bounds=bounds_of(Fields("limits", fields.table("limits"))),
+            fix=fix_of(fields),
         )
         fields.ended()
+        check_members(found)
+        for number, treatment in enumerate(found.rounds, 1):
+            try:
+                found.check(treatment)
+            except HandError as fault:
+                raise ConfigError(f"round {number}: {fault}") from None
         names = [it.name for it in found.instruments]
         if len(set(names)) < len(names):
             raise ConfigError("two instruments have the same name")
         return found
 
 
-class Fields:
-    """The keys of a table that weren't taken yet."""
+def fix_of(fields: Fields) -> Terms | None:
+    """The FIX front, None where the day has none. Raises ConfigError."""
+    return terms_of(fields.table("fix")) if "fix" in fields.left else None
 
-    def __init__(self, where: str, table: dict[str, Any]) -> None:
-        self.where = where + ": " if where else ""
-        self.left = dict(table)
 
-    def fault(self, name: str, why: str) -> ConfigError:
-        """What is wrong with this key."""
-        return ConfigError(f"{self.where}{name} {why}")
-
-    def text(self, name: str, default: str, pattern: re.Pattern[str] = MEMBER_NAME) -> str:
-        """A text of one line. Raises ConfigError."""
-        found = self.left.pop(name, default)
-        if not isinstance(found, str) or (found != default and not pattern.fullmatch(found)):
-            raise self.fault(name, f"{found!r} isn't a text that may be here")
-        return found
-
-    def choice(self, name: str, choices: tuple[str, ...], default: str) -> str:
-        """One of some words. Raises ConfigError."""
-        found = self.left.pop(name, default)
-        if found not in choices:
-            raise self.fault(name, f"{found!r} is none of {', '.join(choices)}")
-        return str(found)
-
-    def flag(self, name: str, default: bool) -> bool:
-        """true or false. Raises ConfigError."""
-        found = self.left.pop(name, default)
-        if not isinstance(found, bool):
-            raise self.fault(name, f"{found!r} is neither true nor false")
-        return found
-
-    def whole(self, name: str, default: int, least: int, most: int) -> int:
-        """A whole number. Raises ConfigError."""
-        found = self.left.pop(name, default)
-        if isinstance(found, bool) or not isinstance(found, int) or not least <= found <= most:
-            raise self.fault(name, f"{found!r} is no whole number from {least} to {most}")
-        return found
-
-    def decimal(self, name: str) -> Decimal | None:
-        """A decimal number, None where it isn't there. Raises ConfigError."""
-        if name not in self.left:
-            return None
-        found = self.left.pop(name)
-        try:
-            return decimal_of(found)
-        except BadCellError as fault:
-            raise self.fault(name, f"{found!r} {fault}") from None
-
-    def names(self, name: str) -> tuple[str, ...]:
-        """Names of members, each once. Raises ConfigError."""
-        found = self.left.pop(name, [])
-        if not isinstance(found, list) or len(set(map(str, found))) < len(found):
-            raise self.fault(name, "isn't a list in which each name is once")
-        for each in found:
-            if not isinstance(each, str) or not MEMBER_NAME.fullmatch(each):
-                raise self.fault(name, f"{each!r} is no name of 1 to 24 characters")
-        return tuple(found)
-
-    def table(self, name: str) -> dict[str, Any]:
-        """A table, empty where it isn't there. Raises ConfigError."""
-        found = self.left.pop(name, {})
-        if not isinstance(found, dict):
-            raise self.fault(name, f"is no table: [{name}]")
-        return found
-
-    def tables(self, name: str) -> list[dict[str, Any]]:
-        """Tables of one name. Raises ConfigError."""
-        found = self.left.pop(name, [])
-        if not isinstance(found, list) or not all(isinstance(each, dict) for each in found):
-            raise self.fault(name, f"is no list of tables: [[{name}]]")
-        return found
-
-    def ended(self) -> None:
-        """Raises ConfigError where a key is left that nothing asked for."""
-        for name in self.left:
-            raise self.fault(name, "is nothing that may be here")
+def check_members(day: Day) -> None:
+    """Raises ConfigError where nobody can be a member of a day, or not all members by FIX."""
+    if not day.members.is_open and not day.members.names and day.fix is None:
+        raise Fields("members", {}).fault("open", "is false, and there are no names")
+    sessions = Fields("fix", {})
+    names = {*day.members.names, *(day.fix.sessions.values() if day.fix else ())}
+    check_names(sessions, tuple(names))
+    if len(names) > day.members.most:
+        raise sessions.fault("sessions", f"has more members than {day.members.most}")
 
 
 def plan_of(fields: Fields) -> Plan:
@@ -229,15 +279,24 @@ def members_of(fields: Fields) -> Members:
         most=fields.whole("most", default.most, 1, 10_000),
         rate=default.rate if rate is None else float(rate),
         burst=fields.whole("burst", default.burst, 1, 100_000),
+        group=fields.whole_or_none("group", 2, MOST_TRADERS),
     )
     fields.ended()
     if found.rate <= 0:
         raise fields.fault("rate", "isn't above 0")
+    check_names(fields, found.names)
     if len(found.names) > found.most:
         raise fields.fault("names", f"has more than {found.most} names")
-    if not found.is_open and not found.names:
-        raise fields.fault("open", "is false, and there are no names")
     return found
+
+
+def check_names(fields: Fields, names: tuple[str, ...]) -> None:
+    """Raises ConfigError where a name can't be read, or is taken for another one or for a role."""
+    for name in names:
+        if not is_seen(name) or is_role(name):
+            raise fields.fault("names", f"{name!r} can't be read, or is a role's name")
+    if len({folded(name) for name in names}) < len(names):
+        raise fields.fault("names", "has two that look alike")
 
 
 def instrument_of(table: dict[str, Any]) -> Instrument:
@@ -253,7 +312,7 @@ def instrument_of(table: dict[str, Any]) -> Instrument:
         raise fields.fault("tick_size", str(fault)) from None
     found = Instrument(
         name=name,
-        title=fields.text("title", default.title),
+        title=fields.text("title", default.title, TITLE),
         grid=grid,
         currency=fields.text("currency", default.currency),
         low=tick_of(fields, grid, "low", default.low),
@@ -263,8 +322,14 @@ def instrument_of(table: dict[str, Any]) -> Instrument:
         open=fields.whole("open", default.open, 1, 65_536),
         calls=fields.whole("calls", default.calls, 1, 1_048_576),
         most_quantity=fields.whole("most_quantity", MOST_QUANTITY, 1, MOST_QUANTITY),
+        uncovered_bought=tick_of(fields, grid, "uncovered_bought", 0),
+        uncovered_sold=tick_of(fields, grid, "uncovered_sold", -1),
     )
     fields.ended()
+    if found.uncovered_sold == -1:
+        found = dataclasses.replace(found, uncovered_sold=None)
+    if found.uncovered.bought > found.uncovered.sold:
+        raise fields.fault("uncovered_sold", "is below uncovered_bought")
     if not 1 <= found.low <= found.reference <= found.high:
         raise fields.fault("low, reference, high", "have to rise from the tick size on")
     return found if found.range != -1 else dataclasses.replace(found, range=None)
@@ -281,3 +346,40 @@ def tick_of(fields: Fields, grid: Grid, name: str, default: int) -> int:
         return grid.tick(found)
     except BadCellError as fault:
         raise fields.fault(name, f"{found} {fault}") from None
+
+
+def payoff_of(fields: Fields) -> Payoff:
+    """What members are paid. Raises ConfigError."""
+    default = Payoff()
+    base, rate = fields.decimal("base"), fields.decimal("rate")
+    found = Payoff(
+        base=default.base if base is None else base,
+        rate=default.rate if rate is None else rate,
+        currency=fields.text("currency", default.currency),
+    )
+    fields.ended()
+    if found.base < 0 or found.rate < 0:
+        raise fields.fault("base, rate", "aren't below 0")
+    return found
+
+
+def rounds_of(tables: list[dict[str, Any]], folder: pathlib.Path) -> tuple[Treatment, ...]:
+    """The rounds, whose lists of values are files of this folder. Raises ConfigError."""
+    return tuple(
+        treatment_of(Fields(f"round {number}", table), reader(folder))
+        for number, table in enumerate(tables, 1)
+    )
+
+
+def reader(folder: pathlib.Path) -> Read:
+    """What reads files of this folder."""
+
+    def read(name: str) -> str:
+        try:
+            return owned.whole(folder / name, MOST_BYTES).decode("utf-8")
+        except OSError as fault:
+            raise ConfigError(f"{name}: {fault.strerror}") from None
+        except UnicodeDecodeError:
+            raise ConfigError(f"{name}: isn't UTF-8") from None
+
+    return read

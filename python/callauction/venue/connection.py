@@ -7,11 +7,13 @@ import contextlib
 import json
 from typing import Any
 
-from aiohttp import WSCloseCode, WSMsgType, web
+from aiohttp import WSCloseCode, WSMessage, WSMsgType, web
 
 from callauction.venue import messages, shown
+from callauction.venue.gates import Gate, Gates
 from callauction.venue.members import Member
 from callauction.venue.messages import MessageError
+from callauction.venue.rates import Bucket
 from callauction.venue.recovery import Entry
 from callauction.venue.venue import Venue
 
@@ -21,6 +23,20 @@ HELLO_SECONDS = 10.0
 TOO_FAST_SECONDS = 0.1
 """How long a connection isn't read after a message that came too fast."""
 HEARTBEAT = 20.0
+LEAVE_SECONDS = 5.0
+"""How long a connection that is to end may take to it."""
+PING_RATE, PING_BURST = 4.0, 8
+"""Signs of life that a connection may ask for: how many a second, and how many at once."""
+MESSAGE_RATE, MESSAGE_BURST = 20.0, 40
+"""Messages of a connection that is no member's, a second and at once."""
+
+
+def read(text: str) -> tuple[dict[str, Any], MessageError | None]:
+    """A message, or nothing and what is wrong with it."""
+    try:
+        return messages.read(text), None
+    except MessageError as fault:
+        return {}, fault
 
 
 def packed(message: shown.Json) -> str:
@@ -49,8 +65,8 @@ def answer_of(number: int, entry: Entry, is_again: bool) -> shown.Json:
 class Connection:
     """A connection, from its hello on: `role`, `member` and `topics` are what Venue asks for."""
 
-    def __init__(self, venue: Venue, socket: web.WebSocketResponse) -> None:
-        self._venue, self._socket = venue, socket
+    def __init__(self, venue: Venue, socket: web.WebSocketResponse, gate: Gate) -> None:
+        self._venue, self._socket, self._gate = venue, socket, gate
         self.role = ""
         self.member: Member | None = None
         self.topics: frozenset[str] = frozenset()
@@ -59,6 +75,8 @@ class Connection:
         self._wakes = asyncio.Event()
         self._room = asyncio.Semaphore(MOST_UNANSWERED)
         self._code: str | None = None
+        self._pings = Bucket(PING_RATE, PING_BURST)
+        self._bucket = Bucket(MESSAGE_RATE, MESSAGE_BURST)
 
     # ---- what it is sent
 
@@ -73,9 +91,16 @@ class Connection:
         self._wakes.set()
 
     def leave(self, code: str) -> None:
-        """Ends the connection, for one of the ERRORS of messages."""
-        self._code = code
-        self._wakes.set()
+        """Ends the connection soon, for one of the ERRORS of messages; nothing more is taken."""
+        if self._code is None:
+            self._code = code
+            self._wakes.set()
+            asyncio.get_running_loop().call_later(LEAVE_SECONDS, self._gate.close)
+
+    @property
+    def is_leaving(self) -> bool:
+        """Whether it is to end."""
+        return self._code is not None
 
     async def _write(self) -> None:
         """Sends the waiting messages, as fast as they are taken."""
@@ -97,23 +122,43 @@ class Connection:
         """Takes what it says until it ends."""
         if not await self._hello():
             return
+        self._gate.known()
         self._venue.enter(self)
-        writer = asyncio.create_task(self._write())
+        both = {asyncio.create_task(self._write()), asyncio.create_task(self._read())}
         try:
             self._venue.greet(self)
-            async for message in self._socket:
-                if message.type is not WSMsgType.TEXT:
-                    break
-                await self._room.acquire()
-                if not self._take(message.data):
-                    await asyncio.sleep(TOO_FAST_SECONDS)
+            await asyncio.wait(both, return_when=asyncio.FIRST_COMPLETED)
         finally:
             self._venue.watchers.pop(self, None)
             self._venue.show_members()
-            if self._code is None:
-                writer.cancel()
-            with contextlib.suppress(asyncio.CancelledError, ConnectionError):
-                await writer
+            if self._code is not None:
+                await asyncio.wait(both, timeout=LEAVE_SECONDS)
+            for task in both:
+                task.cancel()
+            ended = await asyncio.gather(*both, return_exceptions=True)
+        for fault in ended:
+            if isinstance(fault, Exception) and not isinstance(fault, ConnectionError):
+                raise fault
+
+    async def _read(self) -> None:
+        """Takes its messages, until it ends or is to end."""
+        async for message in self._socket:
+            with self._gate.taking():
+                if self._code is not None or not await self._heard(message):
+                    return
+
+    async def _heard(self, message: WSMessage) -> bool:
+        """Takes a message or a sign of life: whether it goes on."""
+        is_sign = message.type in (WSMsgType.PING, WSMsgType.PONG)
+        if is_sign and not self._pings.takes():
+            await asyncio.sleep(TOO_FAST_SECONDS)
+        elif message.type is WSMsgType.PING:
+            await self._socket.pong(message.data)
+        elif message.type is WSMsgType.TEXT:
+            await self._room.acquire()
+            if not self._take(message.data):
+                await asyncio.sleep(TOO_FAST_SECONDS)
+        return is_sign or message.type is WSMsgType.TEXT
 
     async def _hello(self) -> bool:
         """Takes the first message: whether it says who this is."""
@@ -127,31 +172,48 @@ class Connection:
             hello = messages.read(message.data)
             self.topics = messages.topics_of(hello)
             self.role, self.member = self._venue.role_of(messages.text_of(hello, "token"))
+            if self.member is not None and not self.member.hellos.takes():
+                raise MessageError("too_fast")
         except MessageError as fault:
             await self._socket.send_str(packed(error_of(fault, None)))
             await self._socket.close(code=WSCloseCode.POLICY_VIOLATION, message=fault.code.encode())
             return False
-        await self._socket.send_str(packed(welcome_of(self._venue, self.role, self.member)))
+        if self.member is not None:
+            self._bucket = self.member.bucket
+        await self._socket.send_str(packed(self._venue.welcome_of(self)))
         return True
 
     def _take(self, text: str) -> bool:
         """Takes a message, for whose answer there is room: whether it didn't come too fast."""
         number = None
         try:
-            given = messages.read(text)
+            given, fault = read(text)
             if isinstance(found := given.get("number"), int):
                 number = found
+            if given.get("type") == "ping":
+                return self._pinged(given)
+            if not self._bucket.takes():
+                raise MessageError("too_fast")
+            if fault is not None:
+                raise fault
             if self.member is None or given["type"] not in messages.ORDER_FIELDS:
                 raise MessageError("not_allowed")
-            if not self.member.bucket.takes():
-                raise MessageError("too_fast")
-            terms = self._venue.instrument_of(given.get("instrument")).terms
+            terms = self._venue.instrument_of(given.get("instrument"), self.member).terms
             order = messages.order_of(terms, given)
             answer, is_again = self._venue.submit(self.member, order)
         except MessageError as fault:
             self.answer(error_of(fault, number))
             return fault.code != "too_fast"
         answer.add_done_callback(lambda it: self._answered(order.number, it, is_again))
+        return True
+
+    def _pinged(self, message: shown.Json) -> bool:
+        """Answers a sign of life. Raises MessageError."""
+        if message.keys() != {"type"}:
+            raise MessageError("bad_message", "a ping has no more than its type")
+        if not self._pings.takes():
+            raise MessageError("too_fast")
+        self.answer({"type": "pong"})
         return True
 
     def _answered(self, number: int, answer: "asyncio.Future[Entry]", is_again: bool) -> None:
@@ -165,24 +227,16 @@ class Connection:
             self.answer(answer_of(number, answer.result(), is_again))
 
 
-def welcome_of(venue: Venue, role: str, member: Member | None) -> shown.Json:
-    """What is answered to a hello: who this is, and the greatest number of its messages so far."""
-    return {
-        "type": "welcome",
-        "role": role,
-        "name": member.name if member else "",
-        "last": member.last if member else 0,
-        "title": venue.day.title,
-        "instruments": [shown.terms_of(it) for it in venue.instruments.values()],
-    }
-
-
-async def connect(request: web.Request, venue: Venue) -> web.WebSocketResponse:
+async def connect(request: web.Request, venue: Venue, gates: Gates) -> web.WebSocketResponse:
     """A connection, from its begin to its end."""
     socket = web.WebSocketResponse(
-        heartbeat=HEARTBEAT, max_msg_size=messages.MOST_BYTES, compress=False
+        heartbeat=HEARTBEAT, max_msg_size=messages.MOST_BYTES, compress=False, autoping=False
     )
-    await socket.prepare(request)
     with contextlib.suppress(ConnectionError):
-        await Connection(venue, socket).serve()
+        try:
+            await socket.prepare(request)
+        except ValueError:
+            raise web.HTTPBadRequest(text="the key of the handshake is none") from None
+        if request.transport is not None:
+            await Connection(venue, socket, gates.of(request.transport)).serve()
     return socket

@@ -1,91 +1,242 @@
-"""What the operator takes home: the journal as the program wrote it, the trades and the report that
-are made of it, and the names of the members.
+"""What the operator takes home: of a board the journal as the program wrote it and the names of its
+members; of all rounds what members traded, gained and are paid, the trades, and a report.
 """
 import asyncio
 import csv
+import dataclasses
 import io
+import json
 import pathlib
 import sys
 import tempfile
+from collections.abc import Callable, Iterator, Sequence
+from typing import Any
 
+from callauction.venue import config, results
 from callauction.venue.instrument import Instrument
+from callauction.venue.members import Members
+from callauction.venue.names import plain
+from callauction.venue.rounds import Round
+from callauction.venue.sheets import PLAIN, Row, table
 
 KINDS = {
     "journal": ("journal.csv", "text/csv"),
     "members": ("members.csv", "text/csv"),
+    "results": ("results.csv", "text/csv"),
     "trades": ("trades.csv", "text/csv"),
     "report": ("report.html", "text/html"),
 }
 """By its name, how the file of a download ends, and its type."""
+OF_BOARD = ("journal", "members")
+"""The downloads that are of one board, and not of all rounds."""
+RESULTS = (
+    *("round", "title", "practice", "instrument", "name", "robot", "side", "value", "quantity"),
+    *("bought", "paid", "sold", "received", "gain", "possible", "efficiency", "payoff"),
+)
+"""The columns of the results: a row for each member on each board of each round, and at the end one
+for each member, whose round is `all`. Money and prices are decimal numbers of the currency.
+"""
+TRADES = (
+    *("round", "instrument", "auction", "trade", "buyer", "seller", "quantity", "price", "amount"),
+)
+Titles = Callable[[str], str]
+"""What gives the name that others read of a member by its name in the log."""
 
 
 class DownloadError(Exception):
     """It can't be made; the text says why."""
 
 
-async def made(kind: str, instrument: Instrument, program: str) -> bytes:
-    """The bytes of a download. Raises DownloadError."""
+@dataclasses.dataclass(frozen=True)
+class Lesson:
+    """What a venue has of all rounds, and the program that prints its journals."""
+
+    day: config.Day
+    rounds: Sequence[Round]
+    members: Members
+    program: str
+
+    def boards(self) -> Iterator[tuple[Round, Instrument]]:
+        """Each board of each round."""
+        for round_ in self.rounds:
+            for board in round_.boards.values():
+                yield round_, board
+
+
+async def made(kind: str, lesson: Lesson, board: Instrument, language: str = PLAIN) -> bytes:
+    """The bytes of a download, in a language of sheets.LANGUAGES. Raises DownloadError."""
     if kind == "members":
-        return members_of(instrument)
+        return members_of(board, lesson.members.title_of, language)
+    if kind == "journal":
+        return journal_of(board)
+    if kind == "results":
+        return results_table(lesson, language)
+    with tempfile.TemporaryDirectory() as folder:
+        paths = {}
+        for _, each in lesson.boards():
+            paths[each.board.key] = path = pathlib.Path(folder, f"{each.board.key}.csv")
+            path.write_bytes(journal_of(each))
+        if kind == "trades":
+            return table(TRADES, await trades_of(lesson, paths), language)
+        asked = json.dumps(await asked_of(lesson, paths, language)).encode("utf-8")
+        words = [sys.executable, "-m", "callauction.venue.report"]
+        return await output(words, asked)
+
+
+def journal_of(board: Instrument) -> bytes:
+    """The whole lines of a journal. Raises DownloadError."""
     try:
-        journal = instrument.engine.journal.read_bytes()
+        journal = board.engine.journal.read_bytes()
     except OSError as fault:
         raise DownloadError(f"the journal can't be read: {fault.strerror}") from None
-    whole = journal[: journal.rfind(b"\n") + 1]
-    if kind == "journal":
-        return whole
-    with tempfile.TemporaryDirectory() as folder:
-        path = pathlib.Path(folder, f"{instrument.terms.name}.csv")
-        path.write_bytes(whole)
-        if kind == "trades":
-            words = [program, "--print", "trades"]
-            return named(await output(words, path), instrument)
-        words = [sys.executable, "-m", "callauction", "report", str(path)]
-        page = path.with_suffix(".html")
-        await output([*words, "-o", str(page)], path)
-        return page.read_bytes()
+    return journal[: journal.rfind(b"\n") + 1]
 
 
-async def output(words: list[str], path: pathlib.Path) -> bytes:
-    """What a command prints of a file. Raises DownloadError."""
-    with open(path, "rb") as given:
-        child = await asyncio.create_subprocess_exec(
-            *words,
-            stdin=given,
-            stdout=asyncio.subprocess.PIPE,
-            stderr=asyncio.subprocess.PIPE,
-        )
-    out, error = await child.communicate()
+async def output(words: list[str], given: bytes) -> bytes:
+    """What a command prints of an input. Raises DownloadError."""
+    pipe = asyncio.subprocess.PIPE
+    child = await asyncio.create_subprocess_exec(*words, stdin=pipe, stdout=pipe, stderr=pipe)
+    out, error = await child.communicate(given)
     if child.returncode != 0:
         last = error.decode("utf-8", "replace").strip().rpartition("\n")[2]
         raise DownloadError(last or f"{words[0]} ended with status {child.returncode}")
     return out
 
 
-def members_of(instrument: Instrument) -> bytes:
+# ---- tables
+
+
+def members_of(instrument: Instrument, title_of: Titles, language: str = PLAIN) -> bytes:
     """The names of the members by their numbers in the journal."""
-    text = io.StringIO()
-    rows = csv.writer(text, lineterminator="\n")
-    rows.writerow(["number", "name"])
-    rows.writerows((number, plain(name)) for name, number in instrument.numbers.items())
-    return text.getvalue().encode("utf-8")
+    numbers = instrument.numbers.items()
+    rows: list[Row] = [{"number": it, "name": plain(title_of(name))} for name, it in numbers]
+    return table(("number", "name"), rows, language)
 
 
-def named(table: bytes, instrument: Instrument) -> bytes:
-    """The program's table of trades, with the names of both members after each row."""
-    rows = list(csv.DictReader(io.StringIO(table.decode("ascii"))))
-    text = io.StringIO()
-    first = table.decode("ascii").partition("\n")[0].split(",")
-    writer = csv.DictWriter(text, [*first, "bid_name", "ask_name"], lineterminator="\n")
-    writer.writeheader()
-    for row in rows:
-        for side in ("bid", "ask"):
-            name = instrument.names.get(int(row[f"{side}_member"]), "")
-            row[f"{side}_name"] = plain(name)
-        writer.writerow(row)
-    return text.getvalue().encode("utf-8")
+def results_table(lesson: Lesson, language: str = PLAIN) -> bytes:
+    """The results as a CSV file."""
+    return table(RESULTS, results_of(lesson), language)
 
 
-def plain(name: str) -> str:
-    """A name that no spreadsheet runs."""
-    return f"'{name}" if name[:1] in ("=", "+", "-", "@", "'") else name
+def results_of(lesson: Lesson) -> Iterator[Row]:
+    """The results of all members, round by round, and then what they are paid."""
+    for round_, board in lesson.boards():
+        for member in lesson.members.everybody:
+            has_part = member.name in board.numbers or member.name in board.accounts.values
+            if has_part or (member.group == board.board.group and not member.is_removed):
+                head = {"name": plain(member.title), "robot": member.robot}
+                yield head | result_of(lesson.day, round_, board, member.name)
+    for it in results.payoffs(lesson.day, lesson.rounds, lesson.members):
+        row: Row = {"round": "all", "name": plain(it.title), "gain": it.gain, "payoff": it.paid}
+        yield row
+
+
+def result_of(day: config.Day, round_: Round, board: Instrument, member: str) -> Row:
+    """What a member came to on a board."""
+    fills = board.fills_of(member)
+    found: Row = {
+        "round": round_.number,
+        "title": plain(round_.treatment.title),
+        "practice": "yes" if round_.treatment.is_practice else "no",
+        "instrument": board.terms.name,
+    }
+    for side, shares, money in (("bid", "bought", "paid"), ("ask", "sold", "received")):
+        those = [it for it in fills if it.side == side]
+        found[shares] = sum(it.quantity for it in those)
+        found[money] = results.money_of(board, sum(it.quantity * it.tick for it in those))
+    if value := board.accounts.values.get(member):
+        price = board.terms.price(value.tick)
+        found |= {"side": value.side, "value": price, "quantity": value.quantity}
+    if board.accounts.has_values:
+        found |= gains_of(day, round_, board, member)
+    return found
+
+
+def gains_of(day: config.Day, round_: Round, board: Instrument, member: str) -> Row:
+    """What a member gained on a board, what all could, and the share of it that they did."""
+    gain = results.money_of(board, board.gain_of(member))
+    most = board.most
+    found: Row = {"gain": gain, "possible": results.money_of(board, most)}
+    if most:
+        found["efficiency"] = f"{board.gain / most:.4f}"
+    if not round_.treatment.is_practice:
+        found["payoff"] = day.payoff.rate * gain
+    return found
+
+
+async def trades_of(lesson: Lesson, paths: dict[str, pathlib.Path]) -> list[Row]:
+    """The trades of all rounds, with the names of both members, in money. Raises DownloadError."""
+    found: list[Row] = []
+    for round_, board in lesson.boards():
+        given = paths[board.board.key].read_bytes()
+        printed = await output([lesson.program, "--print", "trades"], given)
+        for row in csv.DictReader(io.StringIO(printed.decode("ascii"))):
+            quantity, tick = int(row["quantity"]), int(row["tick"])
+            names = [board.names.get(int(row[f"{it}_member"]), "") for it in ("bid", "ask")]
+            buyer, seller = (plain(lesson.members.title_of(it)) for it in names)
+            found.append(
+                {
+                    "round": round_.number,
+                    "instrument": board.terms.name,
+                    "auction": row["auction"],
+                    "trade": int(row["trade"]),
+                    "buyer": buyer,
+                    "seller": seller,
+                    "quantity": quantity,
+                    "price": board.terms.price(tick),
+                    "amount": results.money_of(board, quantity * tick),
+                }
+            )
+    return found
+
+
+# ---- the report
+
+
+async def asked_of(
+    lesson: Lesson, paths: dict[str, pathlib.Path], language: str
+) -> dict[str, Any]:
+    """What report.py makes a page of. Raises DownloadError."""
+    trades = await trades_of(lesson, paths)
+    rows = [*results_of(lesson)]
+    boards = [board_of(lesson, round_, board, language) for round_, board in lesson.boards()]
+    for it in boards:
+        it["journal"] = str(paths[it["key"]])
+    return {
+        "title": lesson.day.title,
+        "language": language or "en",
+        "currency": lesson.day.paid_in,
+        "boards": boards,
+        "results": [{key: str(value) for key, value in row.items()} for row in rows],
+        "trades": [{key: str(value) for key, value in row.items()} for row in trades],
+    }
+
+
+def board_of(
+    lesson: Lesson, round_: Round, board: Instrument, language: str
+) -> dict[str, Any]:
+    """What a report says of a board."""
+    most = board.most
+    return {
+        "key": board.board.key,
+        "title": title_of(lesson, round_, board, language),
+        "round": round_.number,
+        "instrument": board.terms.name,
+        "tick_size": format(board.terms.grid.tick_size, "f"),
+        "currency": board.terms.currency,
+        "possible": format(results.money_of(board, most), "f"),
+        "efficiency": f"{100 * board.gain // most} %" if most else None,
+    }
+
+
+def title_of(lesson: Lesson, round_: Round, board: Instrument, language: str) -> str:
+    """The heading of a board's part of a report."""
+    named, practice = ("Runde", "Übung") if language == "de" else ("Round", "practice")
+    words = [f"{named} {round_.number}"] if len(lesson.rounds) > 1 else []
+    if round_.treatment.title:
+        words.append(round_.treatment.title)
+    if len(round_.boards) > 1 or not words:
+        words.append(board.terms.name)
+    if round_.treatment.is_practice:
+        words.append(practice)
+    return " · ".join(words)

@@ -2,22 +2,30 @@
 
 Each message is on the log's disk before the program has it, and no message is answered but by an
 entry of the journal. A program that ends is started again on its journal; what it had executed is
-answered from there, and what it hadn't is sent again.
+answered from there, and what it hadn't is sent again. A journal that is older than the log, or
+another one, halts it, and so does a program that doesn't answer.
 """
 import asyncio
+import contextvars
 import dataclasses
 import pathlib
 import re
 from collections.abc import Callable, Sequence
 
+from callauction.venue import owned
+from callauction.venue.latency import Times
 from callauction.venue.log import Log, text_of
 from callauction.venue.messages import MessageError
+from callauction.venue.owned import OwnerError
 from callauction.venue.process import IN_USE, Process, ProcessError
 from callauction.venue.recovery import (
     Entry,
+    Mark,
     Message,
     RecoveryError,
+    RolledBackError,
     Run,
+    Sum,
     entries_of,
     matched,
     settled,
@@ -28,6 +36,8 @@ NO_CALLS = ("calls are reserved for the operator", "too many commands")
 MOST_ENDS = 8
 """How often the program may end without an answer in between before the engine halts."""
 PAUSE = 0.05
+MARK_SECONDS = 0.05
+"""How long after an entry the log has a mark of it, by which an older journal is known."""
 IN_USE_SECONDS = 15.0
 """How long another run of the program is waited for, such as one whose venue was killed."""
 
@@ -40,16 +50,19 @@ class Sent:
 
     message: Message
     answer: "asyncio.Future[Entry]"
+    since: float
 
 
 class Engine:
     """An engine, begun by `open`. `on_entry` is called with each message and its entry before who
-    sent it is answered, and `on_change` where it halts, or goes on.
+    sent it is answered, and `on_change` where it halts, or goes on. Until `is_open` what became of
+    the messages of earlier runs isn't known, and nothing may be submitted.
     """
 
     def __init__(self, name: str, words: Sequence[str], journal: pathlib.Path, log: Log) -> None:
         self.name, self.words, self.journal, self.log = name, [*words], journal, log
         self.halted: str | None = None
+        self.is_open = False
         self.on_entry: Callable[[Message, Entry], None] = lambda message, entry: None
         self.on_change: Callable[[], None] = lambda: None
         self._process: Process | None = None
@@ -57,36 +70,76 @@ class Engine:
         self._pending: dict[Message, Sent] = {}
         self._batch: list[Sent] = []
         self._views: set[asyncio.Future[None]] = set()
-        self._known = self._ends = self._turn = self._batch_turn = 0
+        self._sum, self.times = Sum(), Times()
+        self._ends = self._turn = self._batch_turn = 0
+        self._is_marked = True
         self._is_closed = False
         self._restart: asyncio.Task[None] | None = None
 
     # ---- begin and end
 
-    async def open(self, runs: Sequence[Run]) -> tuple[list[Entry], Settled]:
+    async def open(self, runs: Sequence[Run], mark: Mark) -> tuple[list[Entry], Settled]:
         """Starts the program: the entries of its journal, and what became of the messages of
-        earlier runs. Raises ProcessError, RecoveryError, and OSError where the journal can't be
-        read.
+        earlier runs. `mark` is the last that the log has. Raises ProcessError, RecoveryError,
+        OwnerError, and OSError where the journal can't be read; RolledBackError where nothing is to
+        be executed on this journal.
         """
-        process, count = await self._started()
-        entries = entries_of(self.journal)[:count]
+        process, entries = await self._started_on(mark)
         try:
             found = settled(runs, entries)
         except RecoveryError:
             await process.stop()
             raise
-        self._known = count
-        self._begin(process, count)
+        self._sum = Sum(entries)
+        self.is_open, self.halted = True, None
+        self._begin(process)
+        if process.has_ended:
+            self._ended(ProcessError("", -1))
         return entries, found
 
+    async def _started_on(self, mark: Mark) -> tuple[Process, list[Entry]]:
+        """A run of the program, and the entries of its journal, which are those of which the log
+        knows, before it began and after. Raises what `open` raises.
+        """
+        before = await self._known_entries(mark)
+        process, count = await self._started()
+        try:
+            entries = (await self._known_entries(mark))[:count]
+            both = min(len(before), count)  # an earlier run of the program may have gone on
+            if entries[:both] != before[:both] or len(entries) < count:
+                raise RolledBackError("the journal was changed while its program began")
+        except (RecoveryError, OwnerError, OSError):
+            await process.stop()
+            raise
+        return process, entries
+
+    async def _known_entries(self, mark: Mark) -> list[Entry]:
+        """The entries of the journal, which begin with those of the mark. Raises RolledBackError
+        where they don't, OwnerError where it is another user's, OSError.
+        """
+        if owned.check_file(self.journal):
+            entries = await asyncio.to_thread(entries_of, self.journal)
+            mark.check(entries)
+            return entries
+        if mark.entries:
+            text = f"the journal is missing, and the log knows of {mark.entries} entries"
+            raise RolledBackError(text)
+        return []
+
     async def close(self) -> None:
-        """Ends the program, which answers before what it has read."""
+        """Ends the program, which answers before what it has read, as long as it does so soon."""
         self._is_closed = True
         if self._restart is not None:
             self._restart.cancel()
             await asyncio.wait([self._restart])
         if self._started_last is not None:
             await self._started_last.stop()
+        self._mark()
+
+    @property
+    def count(self) -> int:
+        """How many entries its journal has, as far as they were answered."""
+        return self._sum.count
 
     @property
     def pid(self) -> int | None:
@@ -94,17 +147,21 @@ class Engine:
         return self._process.pid if self._process else None
 
     @property
-    def is_busy(self) -> bool:
-        """Whether a message waits for its answer."""
-        return bool(self._pending)
+    def waiting(self) -> int:
+        """How many messages wait for their answers."""
+        return len(self._pending)
 
     # ---- messages and views
 
     def submit(self, message: Message) -> "asyncio.Future[Entry]":
         """Sends a message that wasn't sent before: its entry, once it is there. The future's
-        exception is a MessageError where the program takes no more commands.
+        exception is a MessageError where the program takes no more commands. Raises MessageError
+        until it is open.
         """
-        sent = Sent(message, asyncio.get_running_loop().create_future())
+        if not self.is_open:
+            raise MessageError("halted", self.halted or "")
+        loop = asyncio.get_running_loop()
+        sent = Sent(message, loop.create_future(), loop.time())
         self._pending[message] = sent
         turn = self._turn
         self.log.append(self._line(message), lambda: self._send([sent], turn))
@@ -157,14 +214,12 @@ class Engine:
                     raise
             await asyncio.sleep(PAUSE)
 
-    def _begin(self, process: Process, count: int) -> None:
-        """Writes that a run begins after `count` entries, and what is sent to it first; then sends
-        that.
+    def _begin(self, process: Process) -> None:
+        """Writes after which entries a run begins, and what is sent to it first; then sends that.
         """
         self._turn += 1
         turn, first = self._turn, [*self._pending.values()]
-        start = text_of({"kind": "start", "instrument": self.name, "entries": count})
-        lines = [start, *(self._line(sent.message) for sent in first)]
+        lines = [self._mark_line("start"), *(self._line(sent.message) for sent in first)]
 
         def go() -> None:
             if turn == self._turn and not self._is_closed and not process.has_ended:
@@ -176,15 +231,21 @@ class Engine:
 
     def _line(self, message: Message) -> str:
         """The log's line of a message."""
-        return text_of(
-            {
-                "kind": "sent",
-                "instrument": self.name,
-                "member": message.member,
-                "number": message.number,
-                "record": message.record,
-            }
-        )
+        fields = {"member": message.member, "number": message.number, "record": message.record}
+        more = {"from": message.source, "note": dict(message.note)}
+        kept = {name: value for name, value in more.items() if value}
+        return text_of({"kind": "sent", "instrument": self.name} | fields | kept)
+
+    def _mark_line(self, kind: str) -> str:
+        """The log's line of the entries so far."""
+        mark = dataclasses.asdict(self._sum.mark)
+        return text_of({"kind": kind, "instrument": self.name} | mark)
+
+    def _mark(self) -> None:
+        """Writes a mark of the entries so far, where the log has none."""
+        if not self._is_marked:
+            self._is_marked = True
+            self.log.append(self._mark_line("mark"))
 
     def _send(self, those: Sequence[Sent], turn: int) -> None:
         """Sends what is on the log's disk, unless another run has begun since: that was given it.
@@ -212,7 +273,7 @@ class Engine:
         self._ends = 0
         if found := ENTERED.fullmatch(line):
             entry = Entry(int(found[1]), sent.message.record, found[2])
-            if entry.place == self._known + 1:
+            if entry.place == self._sum.count + 1:
                 self._settle(sent, entry)
             else:
                 self._distrust(entry)
@@ -225,15 +286,22 @@ class Engine:
 
     def _distrust(self, entry: Entry) -> None:
         """Answers nothing more of a program that has lost an entry, or made one up."""
-        self._halt(f"the program answers entry {entry.place} after entry {self._known}")
+        self.halt(f"the program answers entry {entry.place} after entry {self._sum.count}")
         self._turn += 1
         if self._process is not None:
             self._process.kill()
 
     def _settle(self, sent: Sent, entry: Entry) -> None:
         """A message has its entry."""
+        loop = asyncio.get_running_loop()
         del self._pending[sent.message]
-        self._known = entry.place
+        self._sum.add(entry)
+        self.times.add(loop.time() - sent.since)
+        if self._is_marked:
+            self._is_marked = False
+            loop.call_later(MARK_SECONDS, self._mark)
+        if not sent.message.member:
+            self._mark()  # before the lines of what follows an uncross
         self.on_entry(sent.message, entry)
         if not sent.answer.done():
             sent.answer.set_result(entry)
@@ -245,47 +313,45 @@ class Engine:
         for shown in self._views:
             if not shown.done():
                 shown.set_exception(fault)
-        if not self._is_closed and self.halted is None:
+        if self.is_open and not self._is_closed and self.halted is None:
             self._restart = asyncio.get_running_loop().create_task(self._start_again(fault))
 
     async def _start_again(self, fault: ProcessError) -> None:
         """Starts the program again after this end, or halts."""
         self._ends += 1
         if fault.is_final or self._ends > MOST_ENDS:
-            self._halt(fault.text)
+            self.halt(fault.text)
             return
         try:
-            process, count = await self._started()
-        except ProcessError as found:
-            self._halt(found.text)
+            process, entries = await self._started_on(self._sum.mark)
+        except (ProcessError, RecoveryError, OwnerError, OSError) as found:
+            self.halt(str(found))
             return
         try:
-            self._catch_up(count)
-        except (RecoveryError, OSError, ValueError) as found:
-            self._halt(str(found))
+            self._catch_up(entries)
+        except RecoveryError as found:
+            self.halt(str(found))
             await process.stop()
         else:
-            self._begin(process, count)
+            self._begin(process)
 
-    def _catch_up(self, count: int) -> None:
-        """Answers what the last run had executed and not answered. Raises RecoveryError and
-        OSError.
-        """
-        entries = entries_of(self.journal, self._known, count - self._known)
+    def _catch_up(self, entries: list[Entry]) -> None:
+        """Answers what the last run had executed and not answered. Raises RecoveryError."""
         messages = [*self._pending]
-        for message, entry in matched(messages, entries):
+        for message, entry in matched(messages, entries[self._sum.count :]):
             if entry is not None:
                 self._settle(self._pending[message], entry)
 
-    def _halt(self, text: str) -> None:
+    def halt(self, text: str) -> None:
         """Takes nothing more, until it is tried again."""
         self.halted = text or "the program doesn't run"
         self.on_change()
 
     def resume(self) -> None:
-        """Tries again after a halt."""
-        if self.halted is None:
+        """Tries again after a halt; one that isn't open yet is to be opened again."""
+        if self.halted is None or not self.is_open:
             return
         self.halted, self._ends = None, 0
-        fault = ProcessError("", -1)
-        self._restart = asyncio.get_running_loop().create_task(self._start_again(fault))
+        again = self._start_again(ProcessError("", -1))
+        nobody = contextvars.Context()  # what follows isn't asked for by who resumes
+        self._restart = asyncio.get_running_loop().create_task(again, context=nobody)

@@ -1,26 +1,31 @@
 """The venue by HTTP: the pages, joining, looks, what the operator does, downloads; and who may ask
 at all.
 """
+import asyncio
 import contextlib
 import dataclasses
-import json
+import logging
 import pathlib
 from collections.abc import Awaitable, Callable
 from typing import Any
 from urllib.parse import urlsplit
 
-from aiohttp import web
+from aiohttp import ClientPayloadError, hdrs, web
+from aiohttp.http_exceptions import HttpProcessingError
 
-from callauction.venue import downloads, messages, shown, teaching
+from callauction.venue import addresses, downloads, messages, replay, sheets, shown, teaching
 from callauction.venue.connection import connect, packed
+from callauction.venue.gates import BODY_SECONDS, Gates
 from callauction.venue.instrument import Instrument
+from callauction.venue.log import SOURCE
 from callauction.venue.members import Member
 from callauction.venue.messages import MessageError
 from callauction.venue.phases import PhaseError
-from callauction.venue.rates import Bucket
+from callauction.venue.rates import Guesses
 from callauction.venue.venue import Venue
 
 Handler = Callable[[web.Request], Awaitable[web.StreamResponse]]
+NOTICES = logging.getLogger("callauction.venue")
 HERE = pathlib.Path(__file__).resolve().parent
 TYPES = {
     ".html": "text/html",
@@ -40,6 +45,8 @@ STATUSES = {
     "name_taken": 409,
     "bad_phase": 409,
     "venue_full": 409,
+    "has_values": 409,
+    "joining_closed": 403,
 }
 HEADERS = {
     "Content-Security-Policy": "default-src 'none'; script-src 'self'; style-src 'self'; "
@@ -49,24 +56,36 @@ HEADERS = {
     "X-Content-Type-Options": "nosniff",
     "Cache-Control": "no-store",
 }
-JOIN_RATE, JOIN_BURST = 2.0, 40
-"""Wrong codes and joins of one address: how many a second, and how many at once."""
+TLS_HEADERS = {"Strict-Transport-Security": "max-age=31536000"}
+"""Where it is reached by TLS: browsers take nothing else of this name for a year."""
+SOCKET = "/api/socket"
+MOST_NAME = 40
+"""How much is written down of a name that came with a wrong code."""
 
 
 @dataclasses.dataclass
 class Doors:
-    """Who may ask: those whose address bar has one of these hosts."""
+    """Who may ask: those whose address bar has one of these hosts, or the address of this machine
+    that they have reached, whenever it came.
+    """
 
     hosts: frozenset[str]
 
     def check(self, request: web.Request) -> None:
         """Raises HTTPForbidden where a page of elsewhere asks, or under a name that isn't ours."""
         host = request.headers.get("Host", "")
-        if name_of(host) not in self.hosts:
+        if name_of(host) not in self.hosts and not is_reached_by(request, name_of(host)):
             raise web.HTTPForbidden(text="this venue doesn't go by this name")
         origin = request.headers.get("Origin")
-        if origin is not None and urlsplit(origin).netloc != host:
+        if origin is not None and place_of(origin) != host:
             raise web.HTTPForbidden(text="a page of another origin may not ask")
+
+
+def place_of(origin: str) -> str | None:
+    """The host and the port of an origin, None where it is none."""
+    with contextlib.suppress(ValueError):
+        return urlsplit(origin).netloc
+    return None
 
 
 def name_of(host: str) -> str:
@@ -76,13 +95,22 @@ def name_of(host: str) -> str:
     return ""
 
 
+def is_reached_by(request: web.Request, host: str) -> bool:
+    """Whether a host is the address of this machine at which a request has come."""
+    own = request.transport.get_extra_info("sockname") if request.transport else None
+    return own is not None and addresses.is_same(host, own[0].partition("%")[0])
+
+
 class Site:
     """The venue's pages and interfaces."""
 
-    def __init__(self, venue: Venue, program: str, hosts: frozenset[str]) -> None:
+    def __init__(
+        self, venue: Venue, program: str, hosts: frozenset[str], gates: Gates | None = None
+    ) -> None:
         self._venue, self._program, self._doors = venue, program, Doors(hosts)
         self._files = {path.name: path for path in (HERE / "pages").iterdir()}
-        self._joins: dict[str, Bucket] = {}
+        self._gates = Gates() if gates is None else gates
+        self._guesses = Guesses()
 
     def application(self) -> web.Application:
         """What aiohttp serves."""
@@ -94,23 +122,54 @@ class Site:
         found.router.add_get("/api/day", self._day)
         found.router.add_post("/api/join", self._join)
         found.router.add_get("/api/look/{what}", self._look)
-        found.router.add_get("/api/socket", self._socket)
+        found.router.add_get(SOCKET, self._socket)
         found.router.add_post("/api/operator", self._operator)
         found.router.add_get("/api/download/{kind}/{instrument}", self._download)
+        found.router.add_get("/api/replay/{instrument}", self._replay)
         return found
 
     @web.middleware
     async def _guarded(self, request: web.Request, handler: Handler) -> web.StreamResponse:
-        """Checks who asks, and makes an answer of what is wrong with a message."""
-        self._doors.check(request)
+        """Checks who asks, and makes an answer of what is wrong with a request."""
+        SOURCE.set(request.remote or "")
+        headers = HEADERS | (TLS_HEADERS if request.secure else {})
         try:
-            found = await handler(request)
+            found = await self._served(request, handler)
         except MessageError as fault:
             body = {"error": fault.code, "text": fault.text}
             found = web.json_response(body, status=STATUSES.get(fault.code, 400))
+        except web.HTTPException as fault:
+            fault.headers.update(headers)
+            raise
+        except ConnectionError:
+            found = web.Response(status=400)  # which nobody takes any more
+        except Exception:
+            NOTICES.exception("a request failed")
+            found = web.Response(status=500, text="the venue failed at this request")
         if not found.prepared:
-            found.headers.update(HEADERS)
+            found.headers.update(headers)
         return found
+
+    async def _served(self, request: web.Request, handler: Handler) -> web.StreamResponse:
+        """What answers a request once all of it has come in time. Raises MessageError and
+        HTTPException.
+        """
+        self._doors.check(request)
+        if request.path == SOCKET:
+            return await handler(request)
+        if hdrs.TRANSFER_ENCODING in request.headers:
+            if request.transport is not None:
+                self._gates.of(request.transport).end_request()
+            raise web.HTTPLengthRequired(text="a body has its length in the head")
+        try:
+            async with asyncio.timeout(BODY_SECONDS):
+                await request.read()
+        except TimeoutError:
+            raise web.HTTPRequestTimeout(text="the request takes too long") from None
+        except (ClientPayloadError, HttpProcessingError):
+            raise MessageError("bad_message", "the body isn't what its head says") from None
+        with self._gates.served(request.transport):
+            return await handler(request)
 
     # ---- pages
 
@@ -147,23 +206,33 @@ class Site:
             {
                 "title": venue.day.title,
                 "language": venue.day.language,
-                "instruments": [shown.terms_of(it) for it in venue.instruments.values()],
+                "instruments": [shown.terms_of(it) for it in venue.boards_of(None).values()],
             }
         )
 
     async def _join(self, request: web.Request) -> web.Response:
         """Makes a member."""
-        bucket = self._joins.setdefault(request.remote or "", Bucket(JOIN_RATE, JOIN_BURST))
-        if not bucket.takes():
-            raise MessageError("too_fast")
         body = await body_of(request)
         code, name = messages.text_of(body, "code"), messages.text_of(body, "name", "")
-        member, token = await self._venue.join(code, name)
-        return answered({"name": member.name, "token": token})
+        who = request.remote or "", connection_of(request)
+        if not await self._guesses.turn(*who):
+            raise MessageError("too_fast")
+        try:
+            member, token = await self._venue.join(code, name)
+        except MessageError as fault:
+            if fault.code == "bad_code":
+                self._venue.log.note(kind="wrong_code", name=name[:MOST_NAME])
+                NOTICES.info("a wrong code, from %s", request.remote)
+                if self._guesses.wrong(*who):
+                    NOTICES.warning("codes are guessed, lastly from %s", request.remote)
+            raise
+        NOTICES.info("a member joined, from %s", request.remote, extra={"member": member.name})
+        again = member.devices > 1
+        return answered({"name": member.title, "token": token, "again": again})
 
     async def _socket(self, request: web.Request) -> web.StreamResponse:
         """A connection of a member, of the operator or of the beamer."""
-        return await connect(request, self._venue)
+        return await connect(request, self._venue, self._gates)
 
     # ---- looks
 
@@ -179,7 +248,7 @@ class Site:
     async def _look(self, request: web.Request) -> web.Response:
         """What a member may see of an instrument."""
         member = self._member_of(request)
-        instrument = self._venue.instrument_of(request.query.get("instrument"))
+        instrument = self._venue.instrument_of(request.query.get("instrument"), member)
         what = request.match_info["what"]
         if what == "state":
             return answered(self._venue.state_of(instrument))
@@ -191,8 +260,14 @@ class Site:
             first = request.query.get("first", "1")
             if not first.isdecimal() or len(first) > 10:
                 raise MessageError("bad_message", "first is no number of a trade")
-            later = instrument.trades[max(0, int(first) - 1) :]
-            return answered(shown.trades_of(instrument, later, False))
+            begin = max(0, int(first) - 1)
+            page = instrument.trades[begin : begin + shown.MOST_SHOWN]
+            return answered(shown.trades_of(instrument, page))
+        if what == "ladder":
+            if not self._venue.is_open_book:
+                raise MessageError("not_allowed", "the book is closed in this round")
+            await instrument.refresh()
+            return answered(shown.ladder_of(instrument))
         raise web.HTTPNotFound
 
     # ---- the operator
@@ -212,19 +287,50 @@ class Site:
         except PhaseError as fault:
             raise MessageError("bad_phase", str(fault)) from None
 
+    def _board_of(self, request: web.Request) -> Instrument:
+        """The board that a download is asked of: of this round, or of an earlier one. Raises
+        MessageError.
+        """
+        number = request.query.get("round", str(self._venue.round.number))
+        is_number = number.isdecimal() and len(number) < 10
+        if not is_number or not 1 <= int(number) <= self._venue.round.number:
+            raise MessageError("bad_message", "there is no such round")
+        round_ = self._venue.rounds[int(number) - 1]
+        if found := round_.boards.get(request.match_info["instrument"]):
+            return found
+        raise MessageError("unknown_instrument")
+
+    async def _replay(self, request: web.Request) -> web.Response:
+        """An auction that ended, book by book, for the operator and the beamer."""
+        _, member = self._venue.role_of(token_of(request))
+        if member is not None:
+            raise MessageError("not_allowed")
+        number = request.query.get("auction")
+        if number is not None and not (number.isdecimal() and len(number) < 10):
+            raise MessageError("bad_message", "auction is no number")
+        asked = None if number is None else int(number)
+        try:
+            return answered(await replay.replay_of(self._board_of(request), self._program, asked))
+        except downloads.DownloadError as fault:
+            raise MessageError("bad_message", str(fault)) from None
+
     async def _download(self, request: web.Request) -> web.Response:
         """A file for the operator."""
         self._check_operator(request)
         kind = request.match_info["kind"]
         if kind not in downloads.KINDS:
             raise web.HTTPNotFound
-        instrument: Instrument = self._venue.instrument_of(request.match_info["instrument"])
+        board = self._board_of(request)
+        language = request.query.get("language", sheets.PLAIN)
+        if language not in sheets.LANGUAGES:
+            raise MessageError("bad_message", "language is none of en, de")
         ending, content_type = downloads.KINDS[kind]
+        lesson = self._venue.lesson(self._program)
         try:
-            body = await downloads.made(kind, instrument, self._program)
+            body = await downloads.made(kind, lesson, board, language)
         except downloads.DownloadError as fault:
             raise MessageError("bad_message", str(fault)) from None
-        name = f"{instrument.terms.name}.{ending}"
+        name = f"{board.board.key}.{ending}" if kind in downloads.OF_BOARD else ending
         headers = {"Content-Disposition": f'attachment; filename="{name}"'}
         return web.Response(
             body=body, content_type=content_type, charset="utf-8", headers=headers
@@ -234,6 +340,12 @@ class Site:
 def answered(message: shown.Json) -> web.Response:
     """An answer."""
     return web.Response(text=packed(message), content_type="application/json")
+
+
+def connection_of(request: web.Request) -> str:
+    """What names the connection of a request among all that there are."""
+    peer = request.transport.get_extra_info("peername") if request.transport else None
+    return str(peer)
 
 
 def token_of(request: web.Request) -> str:
@@ -251,7 +363,7 @@ async def body_of(request: web.Request) -> dict[str, Any]:
     if request.content_type != "application/json":
         raise MessageError("bad_message", "this isn't application/json")
     try:
-        found = json.loads(await request.text())
+        found = messages.value_of((await request.read()).decode("utf-8"))
     except (ValueError, RecursionError):
         raise MessageError("bad_message", "this is no JSON") from None
     if not isinstance(found, dict):

@@ -2,23 +2,29 @@
 showed. What it says of prices, trades and orders is the program's alone.
 """
 import asyncio
+import collections
 import contextlib
+import contextvars
 import dataclasses
 import pathlib
 import random
 import time
-from collections.abc import Callable, Iterable
+from collections.abc import Callable, Iterable, Mapping
 from typing import Any, Self
 
 from callauction.limits import MOST_MEMBERS
-from callauction.venue import config, views
-from callauction.venue.gains import Value
-from callauction.venue.log import Log
+from callauction.venue import allowance, config, views
+from callauction.venue.accounts import Accounts, Fill
+from callauction.venue.bounds import Bounds
+from callauction.venue.gains import Predicted, Value
+from callauction.venue.holdings import Book, Holding, entered
+from callauction.venue.log import SOURCE, Line, Log
 from callauction.venue.messages import MessageError, Order
 from callauction.venue.phases import Phase, PhaseError, State
 from callauction.venue.process import ProcessError
 from callauction.venue.recovery import Entry, Message
 from callauction.venue.engine import Engine
+from callauction.venue.treatments import Limits, Treatment
 
 OPERATOR = ""
 """The operator's name among members."""
@@ -31,17 +37,6 @@ TICK = 0.1
 """Seconds between two looks at the clock."""
 BUSY_SHARE = 4
 """How often the time that a look took passes before the next one."""
-
-
-@dataclasses.dataclass(frozen=True, slots=True)
-class Fill:
-    """What an order of a member had of a trade."""
-
-    trade: int
-    order: int
-    side: str
-    quantity: int
-    tick: int
 
 
 @dataclasses.dataclass(frozen=True, slots=True)
@@ -62,45 +57,98 @@ class Point:
         return cls(kept["time"], views.Indication(**{name: kept[name] for name in names}))
 
 
-@dataclasses.dataclass(frozen=True, slots=True)
-class Given:
-    """A value that a member was given, and the trades of the day until then."""
+@dataclasses.dataclass(frozen=True)
+class Board:
+    """Which board an instrument has: its market, which is its name in the day's file; its group,
+    from 1; its round, from 1.
+    """
 
-    value: Value
-    since: int
+    market: str
+    group: int = 1
+    round: int = 1
+
+    @property
+    def name(self) -> str:
+        """Its name among the boards of a round."""
+        return self.market if self.group == 1 else f"{self.market}.{self.group}"
+
+    @property
+    def key(self) -> str:
+        """Its name among all boards of the venue, by which its journal and the log's lines go."""
+        return self.name if self.round == 1 else f"{self.name}.round{self.round}"
 
 
 class Instrument:
-    """An instrument, whose numbers of members, fills and phase follow from the log and the journal.
-    `on_change` is called with the members whose orders are to be looked at again.
+    """An instrument in a round, for a group of members, whose numbers of members, fills and phase
+    follow from the log and the journal.
     """
 
     def __init__(
-        self, terms: config.Instrument, plan: config.Plan, engine: Engine, log: Log
+        self,
+        board: Board,
+        terms: config.Instrument,
+        plan: config.Plan,
+        limits: Limits,
+        engine: Engine,
+        log: Log,
     ) -> None:
-        self.terms, self.plan, self.engine, self._log = terms, plan, engine, log
-        self.state = State()
+        self.board, self.terms, self.plan, self.limits = board, terms, plan, limits
+        self.engine, self._log = engine, log
+        self.state, self.has_begun = State(), False
         self.numbers: dict[str, int] = {}
         self.names: dict[int, str] = {0: OPERATOR}
         self.owners: dict[int, int] = {}
         self.results: list[str] = []
-        self.values: dict[str, Given] = {}
+        self.accounts = Accounts(terms.uncovered)
         self.indication = views.Indication()
         self.day = views.DayView("opening", terms.reference, 0, terms.calls)
         self.levels: list[views.Level] = []
         self.trades: list[views.Trade] = []
         self.fills: dict[int, list[Fill]] = {}
         self.course: list[Point] = []
+        self.began: float | None = None
         self.orders: dict[str, list[views.OpenOrder]] = {}
+        self._book = Book()
+        self.bound = Bounds().of(terms.open, terms.calls, terms.grid.tick_size)
+        self._calls: collections.Counter[int] = collections.Counter()
+        self._is_book_known = False
+        self._entries = 0
+        self._waiting: dict[Message, str] = {}
+        self._tasks: list[asyncio.Task[None]] = []
         self.wanted: Callable[[], Iterable[str]] = lambda: ()
         self.wants_ladder: Callable[[], bool] = lambda: False
         self.on_shown: Callable[[frozenset[str], bool], None] = lambda members, traded: None
+        self.on_entry: Callable[[Message, Entry | None], None] = lambda message, entry: None
         self._stale: set[str] = set()
-        self._wakes = asyncio.Event()
+        self._wakes, self._looking = asyncio.Event(), asyncio.Lock()
         self._random = random.SystemRandom()
-        self._uncrosses = 0
-        self._is_uncrossing = False
+        self._uncrosses, self._is_uncrossing = 0, False
         engine.on_entry = self._entered
+
+    # ---- begin and end
+
+    async def begin(self) -> None:
+        """Looks at the program, and goes by the clock from now on. Raises ProcessError."""
+        self.keep_time(time.time())
+        try:
+            await self.look()
+        except ProcessError as fault:
+            if fault.is_final and not self.engine.halted:
+                raise
+            self.touch()
+        nobody = contextvars.Context()  # what follows isn't asked for by who began it
+        for work in (self.run_clock(), self.run_looks()):
+            self._tasks.append(asyncio.create_task(work, context=nobody.copy()))
+
+    async def end(self) -> None:
+        """Ends the program, which answers before what it has read."""
+        for task in self._tasks:
+            task.cancel()
+        await self.engine.close()
+
+    def _note(self, kind: str, **line: Any) -> None:
+        """Writes a line about it to the log."""
+        self._log.note(kind=kind, instrument=self.board.key, **line)
 
     # ---- members and their messages
 
@@ -113,12 +161,17 @@ class Instrument:
             if number >= MOST_MEMBERS:
                 raise MessageError("instrument_full")
             self.give_number(member, number)
-            self._log.note(kind="number", instrument=self.terms.name, member=member, number=number)
+            self._note("number", member=member, number=number)
         return self.numbers[member]
 
     def give_number(self, member: str, number: int) -> None:
         """The member has this number in the journal."""
         self.numbers[member], self.names[number] = number, member
+
+    def check_known(self) -> None:
+        """Raises MessageError while it isn't known what its journal has of earlier runs."""
+        if not self.engine.is_open:
+            raise MessageError("halted", self.engine.halted or "")
 
     def check_open(self) -> None:
         """Raises MessageError where no member's order is taken now."""
@@ -132,27 +185,73 @@ class Instrument:
     def submit(self, member: str, order: Order) -> "asyncio.Future[Entry]":
         """Sends a member's order. Raises MessageError."""
         self.check_open()
-        record = f"{self.number_of(member)},{order.record}"
-        return self.engine.submit(Message(member, order.number, record))
+        self._check_bound(member, order)
+        if not self.limits.are_none:
+            self.holding_of(member).check(self.limits, order.record)
+        return self._send(member, order)
 
-    def record_of(self, member: str, order: Order) -> str:
-        """The record that a member's order is, or would be."""
-        return f"{self.numbers.get(member, 0)},{order.record}"
+    def _check_bound(self, member: str, order: Order) -> None:
+        """Raises MessageError where a member would have more of the day than it may."""
+        number = self.numbers.get(member, -1)
+        records = [it for sent, it in self._waiting.items() if sent.member == member]
+        waiting = [entered(it.split(",")[1:]) for it in records if it.startswith("enter")]
+        own, calls = self._book.of_member(number), self._calls[number] + len(records)
+        allowance.check(self.bound, order.record, own, waiting, calls, self.terms.high)
+
+    def withdraw(self, member: str, order: Order) -> "asyncio.Future[Entry]":
+        """Sends the deletion of an order of a member who is gone, in any phase."""
+        return self._send(member, order)
+
+    def _send(self, member: str, order: Order) -> "asyncio.Future[Entry]":
+        """Sends a member's order. Raises MessageError."""
+        record = f"{self.number_of(member)},{order.record}"
+        message = Message(member, order.number, record, SOURCE.get(), order.note)
+        answer = self.engine.submit(message)
+        if not self.limits.are_none:
+            self._waiting[message] = order.record
+            answer.add_done_callback(lambda _: self._waiting.pop(message, None))
+        return answer
+
+    def holding_of(self, member: str) -> Holding:
+        """What a member has, and what it asks for."""
+        fills, since = self.fills_of(member), self.accounts.since
+        waiting = [
+            entered(record.split(",")[1:])
+            for message, record in self._waiting.items()
+            if message.member == member and record.startswith("enter")
+        ]
+        return Holding(
+            self.accounts.values.get(member),
+            fills,
+            [it for it in fills if it.trade > since],
+            self._book.of_member(self.numbers.get(member, -1)),
+            waiting,
+            self.terms.high,
+        )
+
+    def open_orders(self, member: str) -> list[int]:
+        """The open orders of a member, by the replies so far."""
+        return [*self._book.of_member(self.numbers.get(member, -1))]
 
     def _entered(self, message: Message, entry: Entry) -> None:
         """A message has its entry."""
+        self._waiting.pop(message, None)
         if message.member == OPERATOR:
             self._uncrossed(entry)
             self.keep_time(time.time())
             self.touch(self.numbers)
-            return
-        self.learn(entry)
-        self.touch([message.member])
+        else:
+            self.learn(entry)
+            self.touch([message.member])
+        self.on_entry(message, entry)
 
     def learn(self, entry: Entry) -> None:
         """Whose an order is."""
         if (order := entry.order) is not None:
             self.owners[order] = entry.member
+        self._book.take(entry.record, entry.reply)
+        self._calls[entry.member] += 1
+        self._entries += 1
 
     def replay(self, message: Message, entry: Entry) -> None:
         """A message of an earlier run, and its entry."""
@@ -161,10 +260,11 @@ class Instrument:
             self._uncrosses = max(self._uncrosses, message.number)
             self._uncrossed(entry)
 
-    def replay_phase(self, state: State) -> None:
-        """A phase of an earlier run."""
+    def replay_phase(self, state: State, began: float | None) -> None:
+        """A phase of an earlier run, whose call began then."""
+        self.began = began
         if self.state.phase is Phase.WAITING and state.phase is Phase.CALL:
-            self.course = []
+            self.course, self.has_begun = [], True
         self.state = state
 
     def replay_point(self, point: Point) -> None:
@@ -176,13 +276,48 @@ class Instrument:
         self.state = self.state.replied(entry.reply)
         if not entry.reply.startswith("refused"):
             self.results.append(entry.reply)
+            self._is_book_known = self._is_book_known and entry.reply.startswith("interrupted")
+
+    # ---- values
+
+    async def give(self, values: Mapping[str, Value], is_to_all: bool) -> None:
+        """Hands out values, after all trades so far. Raises MessageError."""
+        await self.refresh()
+        self.hand(values, is_to_all)
+
+    def hand(self, values: Mapping[str, Value], is_to_all: bool) -> None:
+        """Hands out values, after all trades that were seen."""
+        since = len(self.trades)
+        self.accounts.give(values, is_to_all, since)
+        rows = [[name, it.side, it.tick, it.quantity] for name, it in values.items()]
+        line: Line = {"since": since, "all": is_to_all, "values": rows}
+        self._note("values", **line)
+
+    def replay_values(self, line: Line) -> None:
+        """A hand-out of an earlier run."""
+        values = {name: Value(*rest) for name, *rest in line["values"]}
+        self.accounts.give(values, line["all"], line["since"])
+
+    def leave(self, member: str) -> None:
+        """A member was removed: what is left of its value no longer counts."""
+        self.accounts.leave(member)
+        self._note("left", member=member)
+
+    def come_back(self, member: str) -> None:
+        """A member that was removed is there again."""
+        self.accounts.come_back(member)
+        self._note("back", member=member)
 
     # ---- the operator
 
     def start_call(self) -> None:
         """Begins a call. Raises PhaseError."""
-        self._enter(self.state.started(time.time(), self.plan, self._random.random()))
-        self.course = []
+        if not self._is_book_known:
+            raise PhaseError("the last uncross isn't seen yet")
+        now = time.time()
+        started = self.state.started(now, self.plan, self._random.random())
+        self.began, self.course, self.has_begun = now, [], True
+        self._enter(started)
 
     def end_call(self) -> None:
         """Ends the call. Raises PhaseError."""
@@ -214,7 +349,7 @@ class Instrument:
             self._enter(self.state.ended())
         self._is_uncrossing = True
         self._uncrosses += 1
-        answer = self.engine.submit(Message(OPERATOR, self._uncrosses, UNCROSS))
+        answer = self.engine.submit(Message(OPERATOR, self._uncrosses, UNCROSS, SOURCE.get()))
         answer.add_done_callback(self._uncross_done)
         return (await asyncio.shield(answer)).reply
 
@@ -229,9 +364,10 @@ class Instrument:
             raise PhaseError("an uncross is going on")
 
     def _enter(self, state: State) -> None:
-        """Another phase, or another end of it."""
+        """Another phase, or another end of it. Raises MessageError."""
+        self.check_known()
         self.state = state
-        self._log.note(kind="phase", instrument=self.terms.name, **state.kept())
+        self._note("phase", began=self.began, **state.kept())
         self.touch()
 
     def keep_time(self, now: float) -> None:
@@ -273,8 +409,28 @@ class Instrument:
             took = time.monotonic() - begin
             await asyncio.sleep(max(LEAST_PAUSE, BUSY_SHARE * took))
 
+    async def settle(self) -> None:
+        """Waits until all that was sent is answered, and sees it. Raises MessageError."""
+        while self.engine.waiting:
+            if self.engine.halted is not None:
+                raise MessageError("halted")
+            await asyncio.sleep(TICK)
+        await self.refresh()
+
+    async def refresh(self) -> None:
+        """Sees all that the program has done. Raises MessageError where it doesn't run."""
+        try:
+            await self.look()
+        except ProcessError:
+            raise MessageError("halted", "the program doesn't answer now") from None
+
     async def look(self) -> None:
         """Looks at the program once. Raises ProcessError."""
+        async with self._looking:  # a second look would see the same trades as new
+            await self._look()
+
+    async def _look(self) -> None:
+        """Looks at the program, while nobody else does. Raises ProcessError."""
         wanted = [it for it in self.wanted() if it in self._stale]
         asked = [it for it in wanted if it in self.numbers]
         self._stale.difference_update(wanted)
@@ -282,6 +438,9 @@ class Instrument:
         records += [f"show,orders,{self.numbers[it]}" for it in asked]
         if has_ladder := self.wants_ladder():
             records.append("show,ladder")
+        if sees_book := not self._is_book_known:
+            records.append("show,orders")
+        entries = self._entries
         try:
             found = await self.engine.show(records)
         except ProcessError:
@@ -293,7 +452,10 @@ class Instrument:
         self.add_trades(trades)
         self.orders.update(zip(asked, map(views.orders_of, found[3:])))
         if has_ladder:
-            self.levels = views.levels_of(found[-1])
+            self.levels = views.levels_of(found[3 + len(asked)])
+        if sees_book and entries == self._entries:
+            self._book.seen(views.orders_of(found[-1]))
+            self._is_book_known = True
         self.on_shown(frozenset(asked), bool(trades))
 
     def _indicated(self, found: views.Indication) -> None:
@@ -302,7 +464,7 @@ class Instrument:
         if found != last and self.state.phase in (Phase.CALL, Phase.EXTENDED):
             point = Point(time.time(), found)
             self._keep_point(point)
-            self._log.note(kind="point", instrument=self.terms.name, **point.kept())
+            self._note("point", **point.kept())
         self.indication = found
 
     def _keep_point(self, point: Point) -> None:
@@ -323,17 +485,53 @@ class Instrument:
         """The fills of a member."""
         return self.fills.get(self.numbers.get(member, -1), [])
 
+    def gain_of(self, member: str) -> int:
+        """What a member has gained, in ticks times shares."""
+        return self.accounts.gain_of(member, self.fills_of(member))
+
+    @property
+    def gain(self) -> int:
+        """What all members have gained, in ticks times shares."""
+        return sum(map(self.gain_of, self.numbers))
+
+    @property
+    def most(self) -> int:
+        """The most that all members could gain together, in ticks times shares."""
+        return self.accounts.most(self.fills_of)
+
+    @property
+    def predicted(self) -> Predicted | None:
+        """What the values that members have now predict."""
+        return self.accounts.predicted(self.fills_of)
+
     def party(self, order: int) -> str:
         """The member whose order this is."""
         return self.names.get(self.owners.get(order, 0), "")
 
 
+def plan_of(plan: config.Plan, treatment: Treatment) -> config.Plan:
+    """The lengths of a round's phases."""
+    return plan if treatment.call is None else dataclasses.replace(plan, call=treatment.call)
+
+
 def opened(
-    terms: config.Instrument, day: config.Day, folder: pathlib.Path, program: str, log: Log
+    board: Board,
+    terms: config.Instrument,
+    treatment: Treatment,
+    day: config.Day,
+    folder: pathlib.Path,
+    program: str,
+    log: Log,
 ) -> Instrument:
-    """An instrument of a day whose journal is in this folder; its program isn't started yet."""
-    journal = folder / f"{terms.name}.journal.csv"
+    """An instrument of a day in a round, whose journal is in this folder; its program isn't started
+    yet.
+    """
+    terms = dataclasses.replace(terms.in_round(treatment), name=board.name)
+    plan = plan_of(day.plan, treatment)
+    journal = folder / f"{board.key}.journal.csv"
     words = [program, "--live", "--journal", str(journal), "--reserve", str(day.reserve)]
     words += [] if day.is_synced else ["--sync", "none"]
-    engine = Engine(terms.name, [*words, *terms.words()], journal, log)
-    return Instrument(terms, day.plan, engine, log)
+    engine = Engine(board.key, [*words, *terms.words()], journal, log)
+    found = Instrument(board, terms, plan, terms.limits(treatment), engine, log)
+    found.bound = day.bounds.of(terms.open, terms.calls, terms.grid.tick_size)
+    return found

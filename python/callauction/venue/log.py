@@ -1,18 +1,43 @@
 """The venue's own log, beside the journals: lines of JSON that say who is a member, which message
-was sent to which program, and what the operator did. Nothing is done before its line is on the
-disk, so a venue that was killed goes on from here and from the journals.
+was sent to which program, and what the operator did, each with its time and, where somebody asked
+for it over the network, the address. Nothing is done before its line is on the disk, so a venue
+that was killed goes on from here and from the journals.
 """
 import asyncio
 import concurrent.futures
+import contextlib
+import contextvars
 import fcntl
 import json
 import os
 import pathlib
-from collections.abc import Callable
+import time
+from collections.abc import Callable, Iterator
 from typing import Any
+
+from callauction.venue import owned
 
 Line = dict[str, Any]
 Then = Callable[[], None]
+SOURCE: contextvars.ContextVar[str] = contextvars.ContextVar("source", default="")
+"""The address of whom a request is served, empty where it is the venue itself."""
+FIELDS: dict[str, dict[str, type]] = {
+    "start": {"instrument": str, "entries": int},
+    "mark": {"instrument": str, "entries": int},
+    "sent": {"instrument": str, "member": str, "number": int, "record": str},
+    "member": {"name": str, "token": str, "robot": str},
+    "code": {"name": str, "code": str},
+    "code_of_file": {"code": str},
+    "door": {"open": bool},
+    "rename": {"name": str, "title": str},
+    "removed": {"name": str},
+    "round": {"round": int, "groups": int, "treatment": dict},
+    "group": {"round": int, "group": int},
+}
+"""What lines of some kinds have at least."""
+MOST_SHOWN = 80
+WRITE_SECONDS = 10.0
+"""How long a write of the log may take before the venue says that it waits for it."""
 
 
 class LogError(Exception):
@@ -24,35 +49,65 @@ class LogInUse(LogError):
 
 
 def text_of(line: Line) -> str:
-    """A line of the log as it is written."""
-    return json.dumps(line, separators=(",", ":"), allow_nan=False)
+    """A line of the log as it is written, with the time in seconds of the epoch."""
+    timed = {"time": round(time.time(), 3)} | line
+    return json.dumps(timed, separators=(",", ":"), allow_nan=False)
 
 
-def sync_folder(folder: pathlib.Path) -> None:
-    """Has the names of a folder's files on the disk. Raises OSError."""
-    opened = os.open(folder, os.O_RDONLY | os.O_DIRECTORY | os.O_CLOEXEC)
+def read_lines(text: bytes, name: str) -> list[Line]:
+    """The lines of a log. Raises LogError for a line that is none."""
+    found = []
+    for place, line in enumerate(text.splitlines(), 1):
+        try:
+            read = json.loads(line)
+            found.append(read | {"kind": read["kind"]})
+            is_line = all(type(read[field]) is kind for field, kind in fields_of(read))
+        except (ValueError, TypeError, KeyError, RecursionError):
+            is_line = False
+        if not is_line:
+            raise LogError(f"{name}: line {place} is no line of a log")
+    return found
+
+
+def fields_of(line: Line) -> list[tuple[str, type]]:
+    """The fields that a line has to have by its kind, and the kind of each."""
+    found: list[tuple[str, type]] = [("kind", str), *FIELDS.get(line["kind"], {}).items()]
+    return found + [("instrument", str)] * ("instrument" in line)
+
+
+@contextlib.contextmanager
+def taking(line: Line) -> Iterator[None]:
+    """Raises LogError where a line is taken that says what can't be."""
     try:
-        os.fsync(opened)
-    finally:
-        os.close(opened)
+        yield
+    except (LookupError, TypeError, ValueError, AttributeError):
+        raise LogError(f"this line of the log can't be: {text_of(line)[:MOST_SHOWN]}") from None
+
+
+class SlowWrite(OSError):
+    """A write of the log doesn't end; what waits for it goes on once it does."""
+
+    def __init__(self) -> None:
+        super().__init__(0, f"it waits for the disk for more than {WRITE_SECONDS:g} s")
 
 
 class Log:
-    """The log of a folder, which nobody else has meanwhile.
+    """The log of a folder, which nobody else has meanwhile. `on_fault` is called where it can't be
+    written, and `on_written` where a write ends that was said to be slow.
 
-    Raises LogInUse where another has it, and OSError.
+    Raises LogInUse where another has it, OwnerError where others may read or write it, and OSError.
     """
 
     def __init__(self, path: pathlib.Path, is_synced: bool = True) -> None:
         self.path, self._is_synced = path, is_synced
-        self._file = os.open(path, os.O_RDWR | os.O_CREAT | os.O_CLOEXEC | os.O_NOFOLLOW, 0o600)
+        self._file = owned.opened(path, os.O_RDWR | os.O_CREAT)
         try:
             fcntl.flock(self._file, fcntl.LOCK_EX | fcntl.LOCK_NB)
         except BlockingIOError:
             os.close(self._file)
             raise LogInUse(f"{path} is in use by another venue") from None
         if is_synced:
-            sync_folder(path.parent)
+            owned.sync_folder(path.parent)
         self._length = 0
         self._waiting: list[tuple[str, Then | None]] = []
         self._wakes = asyncio.Event()
@@ -60,6 +115,7 @@ class Log:
         self._thread = concurrent.futures.ThreadPoolExecutor(1, "log")
         self._is_closed = False
         self.on_fault: Callable[[OSError], None] = lambda fault: None
+        self.on_written: Callable[[], None] = lambda: None
 
     def lines(self) -> list[Line]:
         """All lines that were written. A last line that isn't whole is taken away: nothing followed
@@ -69,14 +125,12 @@ class Log:
         whole = text[: text.rfind(b"\n") + 1]
         os.ftruncate(self._file, len(whole))
         self._length = len(whole)
-        found = []
-        for place, line in enumerate(whole.splitlines(), 1):
-            try:
-                read = json.loads(line)
-                found.append(read | {"kind": read["kind"]})
-            except (ValueError, TypeError, KeyError):
-                raise LogError(f"{self.path}: line {place} is no line of a log") from None
-        return found
+        return read_lines(whole, str(self.path))
+
+    @property
+    def waiting(self) -> int:
+        """How many lines wait to be written."""
+        return len(self._waiting)
 
     def append(self, text: str, then: Then | None = None) -> None:
         """Writes lines, parted by line ends; what is to follow is called once they are on the disk,
@@ -86,8 +140,9 @@ class Log:
         self._wakes.set()
 
     def note(self, then: Then | None = None, **line: Any) -> None:
-        """Writes a line with these fields."""
-        self.append(text_of(line), then)
+        """Writes a line with these fields, and from where it was asked for."""
+        source = SOURCE.get()
+        self.append(text_of(line | ({"from": source} if source else {})), then)
 
     async def written(self) -> None:
         """Waits until all lines so far are on the disk."""
@@ -101,7 +156,6 @@ class Log:
 
     async def run(self) -> None:
         """Writes what comes, until it is closed; many lines at a time where many wait."""
-        loop = asyncio.get_running_loop()
         while not self._is_closed or self._waiting:
             if not self._waiting:
                 self._wakes.clear()
@@ -109,19 +163,33 @@ class Log:
                 continue
             taken, self._waiting = self._waiting, []
             data = "".join(f"{text}\n" for text, _ in taken if text).encode("utf-8")
-            while True:
-                try:
-                    await loop.run_in_executor(self._thread, self._write, data)
-                    break
-                except OSError as fault:
-                    if self._is_closed:
-                        return
-                    self._retries.clear()
-                    self.on_fault(fault)
-                    await self._retries.wait()
+            if not await self._is_written(data):
+                return
             for _, then in taken:
                 if then is not None:
                     then()
+
+    async def _is_written(self, data: bytes) -> bool:
+        """Writes bytes, again and again where that fails, until it is closed: whether they are
+        written.
+        """
+        loop = asyncio.get_running_loop()
+        while True:
+            written = loop.run_in_executor(self._thread, self._write, data)
+            try:
+                done, _ = await asyncio.wait({written}, timeout=WRITE_SECONDS)
+                if not done:
+                    self.on_fault(SlowWrite())
+                await written
+                if not done:
+                    self.on_written()
+                return True
+            except OSError as fault:
+                if self._is_closed:
+                    return False
+                self._retries.clear()
+                self.on_fault(fault)
+                await self._retries.wait()
 
     def close(self) -> None:
         """Lets `run` end once all is written."""

@@ -1,13 +1,25 @@
-"""Who the members of a venue are, by their tokens, and which of their messages were done."""
+"""Who the members of a venue are, by their tokens, and which of their messages were done.
+
+A member's `name` is the one by which it joined, which the log has; its `title` is what others read.
+"""
 import asyncio
 import dataclasses
 import unicodedata
 
-from callauction.venue import config, tokens
-from callauction.venue.log import Log
+from callauction.venue import config, fields, tokens
+from callauction.venue.log import Line, Log
 from callauction.venue.messages import MessageError
+from callauction.venue.names import folded, is_role, is_seen
 from callauction.venue.rates import Bucket
 from callauction.venue.recovery import Entry
+
+
+HELLO_RATE, HELLO_BURST = 2.0, 20
+"""How often a member may say who it is, or come again by its code, a second and at once."""
+
+
+class NameTakenError(MessageError):
+    """Somebody has this name."""
 
 
 @dataclasses.dataclass(slots=True, eq=False)
@@ -21,13 +33,22 @@ class Done:
 
 @dataclasses.dataclass(eq=False)
 class Member:
-    """A member: its name, what is kept of its token, and its messages by their numbers."""
+    """A member: its name, what is kept of its token, and its messages by their numbers; its title,
+    its group in this round, the kind of robot that it is, whether it was removed, and how many
+    tokens it had, each for another device.
+    """
 
     name: str
     token: str
     bucket: Bucket
+    title: str = ""
+    group: int = 1
+    robot: str = ""
+    is_removed: bool = False
+    devices: int = 0
     done: dict[int, Done] = dataclasses.field(default_factory=dict)
     last: int = 0
+    hellos: Bucket = dataclasses.field(default_factory=lambda: Bucket(HELLO_RATE, HELLO_BURST))
 
     def keep(self, number: int, done: Done) -> None:
         """A message with this number is sent; its number is free again where it isn't executed."""
@@ -47,27 +68,62 @@ class Members:
         self._terms, self._log = terms, log
         self._by_name: dict[str, Member] = {}
         self._by_token: dict[str, Member] = {}
+        self._former: set[str] = set()
         self.codes: dict[str, str] = {}
+        self._code_of_file = ""
+        self.is_open = True
+
+    @property
+    def everybody(self) -> list[Member]:
+        """All members, also those that were removed, in the order in which they came."""
+        return [*self._by_name.values()]
 
     @property
     def all(self) -> list[Member]:
-        """All members, in the order in which they came."""
-        return [*self._by_name.values()]
+        """All members that weren't removed, in the order in which they came."""
+        return [it for it in self.everybody if not it.is_removed]
+
+    @property
+    def code(self) -> str:
+        """The code by which members join now, empty where none does."""
+        return self.codes.get("", "") if self.is_open else ""
 
     def named(self, name: str) -> Member | None:
         """The member of this name."""
         return self._by_name.get(name)
 
+    def called(self, title: object) -> Member:
+        """The member of this title. Raises MessageError."""
+        for it in self.everybody:
+            if it.title == title:
+                return it
+        raise MessageError("bad_name", f"there is no member {title}")
+
+    def title_of(self, name: str) -> str:
+        """The title of the member of this name."""
+        found = self._by_name.get(name)
+        return found.title if found else name
+
     def of_token(self, token: str) -> Member | None:
         """The member whose token this is."""
         return self._by_token.get(tokens.digest(token))
 
+    def was_token(self, token: str) -> bool:
+        """Whether a token was a member's who has another one since."""
+        return tokens.digest(token) in self._former
+
     # ---- codes
 
     def open_codes(self) -> None:
-        """Gives a code to the day and to each name that has none."""
-        if "" not in self.codes and self._terms.is_open:
-            self.set_code("", self._terms.code or tokens.new_code())
+        """Gives a code to the day and to each name that has none; where the day's file has another
+        one than before, that.
+        """
+        code = self._terms.code
+        if self._terms.is_open and code and code != self._code_of_file:
+            self.set_code("", code)
+            self._log.note(kind="code_of_file", code=code)
+        elif self._terms.is_open and "" not in self.codes:
+            self.set_code("", tokens.new_code())
         for name in self._terms.names:
             if name not in self.codes:
                 self.set_code(name, tokens.new_code())
@@ -77,6 +133,11 @@ class Members:
         self.codes[name] = code
         self._log.note(kind="code", name=name, code=code)
         return code
+
+    def open_door(self, is_open: bool) -> None:
+        """Lets new members join, or no more."""
+        self.is_open = is_open
+        self._log.note(kind="door", open=is_open)
 
     # ---- joining
 
@@ -90,33 +151,95 @@ class Members:
                 return self._come_again(own)
         if not self._terms.is_open or not tokens.is_same(typed, self.codes.get("", "")):
             raise MessageError("bad_code")
+        if not self.is_open:
+            raise MessageError("joining_closed")
+        return self._come_again(self._new_title(name))
+
+    def join_robot(self, name: str, robot: str) -> Member:
+        """A robot of the venue itself, whose token nobody has. Raises MessageError."""
+        return self._come_again(self._new_title(name), robot)[0]
+
+    def _new_title(self, name: str) -> str:
+        """A name as others read it. Raises MessageError where it can't be one, or is taken."""
         wanted = unicodedata.normalize("NFC", " ".join(name.split()))
-        if not config.MEMBER_NAME.fullmatch(wanted) or not wanted.isprintable():
+        if not fields.MEMBER_NAME.fullmatch(wanted) or not is_seen(wanted):
             raise MessageError("bad_name")
-        if folded(wanted) in {folded(it) for it in [*self._by_name, *self._terms.names]}:
-            raise MessageError("name_taken")
-        return self._come_again(wanted)
+        if is_role(wanted):
+            raise MessageError("bad_name", "this name is a role's here")
+        titles = {it.title for it in self.everybody}
+        if folded(wanted) in {folded(it) for it in [*titles, *self._by_name, *self._terms.names]}:
+            raise NameTakenError("name_taken")
+        return wanted
 
-    def _come_again(self, name: str) -> tuple[Member, str]:
+    def _come_again(self, name: str, robot: str = "") -> tuple[Member, str]:
         """A member of this name with a new token, new where there is none. Raises MessageError."""
-        if name not in self._by_name and len(self._by_name) >= self._terms.most:
-            raise MessageError("venue_full")
+        if (found := self._by_name.get(name)) and not found.hellos.takes():
+            raise MessageError("too_fast")
         token = tokens.new_token()
-        self._log.note(kind="member", name=name, token=tokens.digest(token))
-        return self.learn(name, tokens.digest(token)), token
+        return self.admit(name, token, robot), token
 
-    def learn(self, name: str, token: str) -> Member:
+    def admit(self, name: str, token: str, robot: str = "") -> Member:
+        """The member of this name, new where there is none, whose token is this one from now on.
+        Raises MessageError.
+        """
+        if name not in self._by_name and len(self.all) >= self._terms.most:
+            raise MessageError("venue_full")
+        self._log.note(kind="member", name=name, token=tokens.digest(token), robot=robot)
+        return self.learn(name, tokens.digest(token), robot)
+
+    def learn(self, name: str, token: str, robot: str = "") -> Member:
         """The member with this name has this token from now on."""
         found = self._by_name.get(name)
         if found is None:
-            found = Member(name, token, Bucket(self._terms.rate, self._terms.burst))
+            bucket = Bucket(self._terms.rate, self._terms.burst)
+            found = Member(name, token, bucket, name, robot=robot)
             self._by_name[name] = found
-        self._by_token.pop(found.token, None)
-        found.token = token
+        if self._by_token.pop(found.token, None):
+            self._former.add(found.token)
+        found.token, found.is_removed, found.devices = token, False, found.devices + 1
         self._by_token[token] = found
         return found
 
+    # ---- what the operator does with them
 
-def folded(name: str) -> str:
-    """A name without what makes two names look alike."""
-    return unicodedata.normalize("NFKC", name).casefold()
+    def rename(self, member: Member, title: str) -> None:
+        """Gives a member another title. Raises MessageError."""
+        before, member.title = member.title, ""
+        try:
+            wanted = member.name if folded(title) == folded(member.name) else self._new_title(title)
+        except MessageError:
+            member.title = before
+            raise
+        member.title = wanted
+        self._log.note(kind="rename", name=member.name, title=wanted)
+
+    def remove(self, member: Member) -> None:
+        """Nobody is this member any more."""
+        self.forget(member.name)
+        self._log.note(kind="removed", name=member.name)
+
+    def forget(self, name: str) -> None:
+        """The member of this name is removed."""
+        member = self._by_name[name]
+        member.is_removed = True
+        self._by_token.pop(member.token, None)
+        self.codes.pop(name, None)
+
+    def replay(self, line: Line) -> bool:
+        """Takes a line of the log: whether it is one about members."""
+        kind = line["kind"]
+        if kind == "member":
+            self.learn(line["name"], line["token"], line["robot"])
+        elif kind == "code":
+            self.codes[line["name"]] = line["code"]
+        elif kind == "code_of_file":
+            self._code_of_file = line["code"]
+        elif kind == "door":
+            self.is_open = line["open"]
+        elif kind == "rename":
+            self._by_name[line["name"]].title = line["title"]
+        elif kind == "removed":
+            self.forget(line["name"])
+        else:
+            return False
+        return True

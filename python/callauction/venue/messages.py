@@ -5,6 +5,7 @@ schema.json says the same for other languages.
 import dataclasses
 import json
 import re
+from collections.abc import Mapping
 from typing import Any
 
 from callauction.limits import MOST_NUMBER
@@ -18,7 +19,7 @@ MOST_MESSAGE = (1 << 53) - 1
 SIDES = ("bid", "ask")
 RESTRICTIONS = ("", "opening", "closing")
 PRICE = re.compile(r"[0-9]{1,30}(\.[0-9]{1,30})?")
-TOPICS = ("states", "orders", "fills", "trades")
+TOPICS = ("states", "orders", "fills", "trades", "rounds", "ladder", "payoffs")
 ORDER_FIELDS = {
     "enter": {"side", "quantity", "price", "peak", "only"},
     "change": {"order", "quantity", "price"},
@@ -28,7 +29,7 @@ ERRORS = {
     "bad_message": "this is no message that may be sent",
     "bad_token": "this token is nobody's here",
     "bad_code": "this code is not the one of this venue",
-    "bad_name": "a name has 1 to 24 characters, without < and >",
+    "bad_name": "a name has 1 to 40 characters, without < and >",
     "name_taken": "somebody has this name",
     "venue_full": "there are as many members as may be",
     "unknown_instrument": "there is no instrument of this name",
@@ -44,6 +45,12 @@ ERRORS = {
     "too_slow": "this connection reads too slowly",
     "not_allowed": "this isn't yours to do",
     "bad_phase": "this can't be done in this phase",
+    "has_values": "members have values, which they would lose",
+    "joining_closed": "nobody can join any more",
+    "not_covered": "the value doesn't cover these shares",
+    "no_shares": "there are no such shares to sell",
+    "no_money": "there is no such money",
+    "own_trade": "this order could trade with an own one",
 }
 """What can be wrong with a message: nothing was executed then, and its number is still free."""
 
@@ -59,12 +66,23 @@ class MessageError(ValueError):
 @dataclasses.dataclass(frozen=True, slots=True)
 class Order:
     """A message that becomes a command: its number, its instrument, and the rest of its record
-    after the member.
+    after the member. `note` is what the log keeps beside it.
     """
 
     number: int
     instrument: str
     record: str
+    note: Mapping[str, str] = dataclasses.field(default_factory=dict, compare=False)
+
+
+def value_of(text: str) -> Any:
+    """What a text of JSON says. Raises ValueError, and RecursionError, where it is none, or a text
+    in it is none that can be written, as half a pair of UTF-16.
+    """
+    found = json.loads(text)
+    if "\\u" in text:
+        json.dumps(found, ensure_ascii=False).encode("utf-8")
+    return found
 
 
 def read(text: str) -> dict[str, Any]:
@@ -72,7 +90,7 @@ def read(text: str) -> dict[str, Any]:
     if len(text) > MOST_BYTES:
         raise MessageError("bad_message", "the message is too long")
     try:
-        found = json.loads(text)
+        found = value_of(text)
     except (ValueError, RecursionError):
         raise MessageError("bad_message", "the message is no JSON") from None
     if not isinstance(found, dict) or not isinstance(found.get("type"), str):

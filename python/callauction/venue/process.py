@@ -5,7 +5,10 @@ import contextlib
 import os
 import re
 import select
+import signal
 from collections.abc import Callable, Sequence
+
+from callauction.statuses import FAILED
 
 Answer = Callable[[list[str]], None]
 """What is called with the lines of an answer."""
@@ -14,6 +17,28 @@ OPENED = re.compile(r"journal (\d+) entries$")
 IN_USE = "journal in use"
 BLOCK = 1 << 18
 MOST_ERROR = 4096
+ANSWER_SECONDS = 10.0
+"""How long the program may say nothing while something waits for its answer."""
+START_SECONDS = 60.0
+"""How long it may take to go on with a journal."""
+STOP_SECONDS, KILL_SECONDS = 2.0, 0.5
+"""How long its end is waited for, first by itself, then by a signal."""
+
+
+_running: set[int] = set()
+"""The numbers of all processes that were started and haven't ended."""
+
+
+def kill_all() -> None:
+    """Ends all programs at once, from any thread."""
+    for pid in [*_running]:
+        kill_group(pid)
+
+
+def kill_group(pid: int) -> None:
+    """Ends a process that leads a group, and what it has started."""
+    with contextlib.suppress(ProcessLookupError, PermissionError):
+        os.killpg(pid, signal.SIGKILL)
 
 
 class ProcessError(Exception):
@@ -87,8 +112,8 @@ class Pipe:
 
 
 class Process:
-    """A run of the program, started by `start`. When it has ended, `on_end` is called with why; the
-    answers that didn't come are never called then.
+    """A run of the program, started by `start`. When it has ended, or doesn't answer in time,
+    `on_end` is called with why; the answers that didn't come are never called then.
     """
 
     def __init__(self, words: Sequence[str], on_end: Callable[[ProcessError], None]) -> None:
@@ -98,6 +123,8 @@ class Process:
         self._missing = 0
         self._rest = b""
         self._error = b""
+        self._since = 0.0
+        self._watch: asyncio.TimerHandle | None = None
         self.has_ended = False
 
     async def start(self) -> int:
@@ -113,24 +140,32 @@ class Process:
                 stdout=asyncio.subprocess.PIPE,
                 stderr=asyncio.subprocess.PIPE,
                 start_new_session=True,
+                restore_signals=False,  # a file that is too long is a failed write, and no signal
             )
         except OSError as fault:
             self._pipe.close()
             raise ProcessError(f"the program can't be run: {fault.strerror}", 3) from None
         finally:
             os.close(theirs)
+        _running.add(self._child.pid)
         try:
-            count = await self._entries()
+            count = await asyncio.wait_for(self._entries(), START_SECONDS)
+        except asyncio.TimeoutError:
+            self._pipe.close()
+            await self._left()
+            text = f"the program hasn't begun for {START_SECONDS:g} s"
+            raise ProcessError(text, FAILED) from None
         except asyncio.CancelledError:
             self._pipe.close()
-            await self._child.wait()
+            await self._left(STOP_SECONDS)
             raise
         if count is not None:
             self._error = b""
             self._task = asyncio.create_task(self._read())
             return count
         self._pipe.close()
-        raise self._fault(await self._child.wait())
+        await self._left(STOP_SECONDS)
+        raise self._fault(self._child.returncode or 0)
 
     async def _entries(self) -> int | None:
         """How many entries it says that its journal has; None where it ends before."""
@@ -148,18 +183,61 @@ class Process:
 
     def send(self, records: Sequence[str], answer: Sequence[Answer]) -> None:
         """Sends records, and gives each answer to the function of its record."""
+        loop = asyncio.get_running_loop()
+        if not self._answers:
+            self._since = loop.time()
         self._answers.extend(answer)
         self._pipe.write(records)
+        if self._watch is None:
+            self._watch = loop.call_later(ANSWER_SECONDS, self._look)
+
+    def _look(self) -> None:
+        """Gives the program up where it hasn't answered in time."""
+        loop = asyncio.get_running_loop()
+        self._watch = None
+        if self.has_ended or not self._answers:
+            return
+        left = self._since + ANSWER_SECONDS - loop.time()
+        if left > 0:
+            self._watch = loop.call_later(left, self._look)
+            return
+        self.kill()  # perhaps in vain, as where it waits for a disk
+        self._end(ProcessError(f"the program hasn't answered for {ANSWER_SECONDS:g} s", FAILED))
 
     def kill(self) -> None:
-        """Ends it at once."""
-        with contextlib.suppress(ProcessLookupError):
-            self._child.kill()
+        """Ends it at once, and what it has started."""
+        if self._child.returncode is None:
+            kill_group(self._child.pid)
+
+    async def _left(self, seconds: float = 0.0) -> None:
+        """Waits until its process has ended, and ends it after these seconds; one that no signal
+        ends is left behind.
+        """
+        ended = asyncio.ensure_future(self._waited())
+        await asyncio.wait({ended}, timeout=seconds)
+        self.kill()
+        await asyncio.wait({ended}, timeout=KILL_SECONDS)
+
+    async def _waited(self) -> int:
+        """Waits until its process has ended: the status."""
+        status = await self._child.wait()
+        _running.discard(self._child.pid)
+        return status
 
     async def stop(self) -> None:
-        """Ends its input, and waits until it has ended."""
+        """Ends its input, waits until it has ended, and ends it where that takes too long."""
         self._pipe.close()
-        await asyncio.shield(self._task)  # who no longer waits ends no reading
+        done, _ = await asyncio.wait({self._task}, timeout=STOP_SECONDS)
+        if not done:
+            self.kill()
+            await asyncio.wait({self._task}, timeout=KILL_SECONDS)
+
+    def _end(self, fault: ProcessError) -> None:
+        """It has ended, or is given up: nothing more of it is taken."""
+        if not self.has_ended:
+            self.has_ended = True
+            self._answers.clear()
+            self._on_end(fault)
 
     async def _read(self) -> None:
         """Takes the answers until the program ends."""
@@ -168,15 +246,17 @@ class Process:
         error = asyncio.create_task(errors.read(MOST_ERROR))
         while block := await output.read(BLOCK):
             *lines, self._rest = (self._rest + block).split(b"\n")
+            self._since = asyncio.get_running_loop().time()
             for line in lines:
                 self._take(line.decode("ascii", "replace"))
         self._error = await error
         self._pipe.close()
-        self.has_ended = True
-        self._on_end(self._fault(await self._child.wait()))
+        self._end(self._fault(await self._waited()))
 
     def _take(self, line: str) -> None:
         """Takes a line: an answer, or a part of one."""
+        if self.has_ended:
+            return
         if self._missing:
             self._listed.append(line)
             self._missing -= 1

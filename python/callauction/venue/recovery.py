@@ -5,14 +5,22 @@ journal each command that was executed, in the same order. So the journal's entr
 messages, in their order: a message whose record isn't the next entry was not executed. That is
 exact, as the program refuses a record without an entry only where calls are kept for the operator
 or none are left, and from then on it refuses the same record always.
+
+That a journal wasn't put back is seen by a mark in the log: how many entries it had, and their
+SHA-256. A journal with fewer entries, or with others, is another one.
 """
 import dataclasses
+import hashlib
 import pathlib
-from collections.abc import Iterable, Sequence
+from collections.abc import Iterable, Mapping, Sequence
 
 
 class RecoveryError(Exception):
     """The journal has an entry that no message asked for."""
+
+
+class RolledBackError(RecoveryError):
+    """The journal is an older or another one than that of which the log knows."""
 
 
 @dataclasses.dataclass(frozen=True, slots=True)
@@ -38,20 +46,66 @@ class Entry:
 @dataclasses.dataclass(frozen=True, slots=True)
 class Message:
     """A message of a member, by its name and its own number, and the record that it became. The
-    operator's name is empty.
+    operator's name is empty. `source` is the address from which it came, and `note` what the log
+    keeps beside it.
     """
 
     member: str
     number: int
     record: str
+    source: str = dataclasses.field(default="", compare=False)
+    note: Mapping[str, str] = dataclasses.field(default_factory=dict, compare=False)
 
 
-def entries_of(path: pathlib.Path, known: int = 0, count: int | None = None) -> list[Entry]:
-    """The whole lines of a journal after `known` entries, at most `count`. Raises OSError."""
-    with open(path, encoding="ascii") as file:
-        lines = file.read().split("\n")[1 + known : -1]
+@dataclasses.dataclass(frozen=True, slots=True)
+class Mark:
+    """How many entries a journal had, and their SHA-256; no digest where none was written down."""
+
+    entries: int = 0
+    sha256: str = ""
+
+    def check(self, entries: Sequence[Entry]) -> None:
+        """Raises RolledBackError where the entries of a journal don't begin with those."""
+        if len(entries) < self.entries:
+            raise RolledBackError(
+                f"the journal is an older one: it has {len(entries)} entries, and the log knows of "
+                f"{self.entries}"
+            )
+        if self.sha256 and Sum(entries[: self.entries]).mark != self:
+            raise RolledBackError(
+                f"the journal is another one: its first {self.entries} entries aren't those of "
+                "which the log knows"
+            )
+
+
+class Sum:
+    """A running SHA-256 of the entries of a journal."""
+
+    def __init__(self, entries: Iterable[Entry] = ()) -> None:
+        self.count, self._sum = 0, hashlib.sha256()
+        for entry in entries:
+            self.add(entry)
+
+    def add(self, entry: Entry) -> None:
+        """One entry more."""
+        self.count += 1
+        self._sum.update(f"{entry.record},{entry.reply}\n".encode("latin-1"))
+
+    @property
+    def mark(self) -> Mark:
+        """What is written down of these entries."""
+        return Mark(self.count, self._sum.hexdigest())
+
+
+def entries_of(path: pathlib.Path) -> list[Entry]:
+    """The entries of a journal, as far as their lines are whole. Raises OSError."""
+    return entries_in(path.read_text(encoding="latin-1"))
+
+
+def entries_in(text: str) -> list[Entry]:
+    """The entries of a journal's text, as far as their lines are whole, and before its room."""
     found = []
-    for place, line in enumerate(lines[:count], known + 1):
+    for place, line in enumerate(text.partition("\0")[0].split("\n")[1:-1], 1):
         record, _, reply = line.rpartition(",")
         found.append(Entry(place, record, reply))
     return found

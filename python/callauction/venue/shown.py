@@ -1,14 +1,21 @@
 """What is shown of an instrument, as JSON: prices as decimal texts, quantities in shares."""
-from collections.abc import Iterable
+import re
+from collections.abc import Callable, Iterable
 from typing import Any
 
-from callauction.venue.gains import gain_of, most_gain
-from callauction.venue.instrument import Fill, Given, Instrument
+from callauction.venue.accounts import Fill
+from callauction.venue.instrument import Instrument
+from callauction.venue.results import Payoff
+from callauction.venue.rounds import Round
+from callauction.venue.treatments import Treatment
 from callauction.venue.views import Indication, Trade
 
 Json = dict[str, Any]
+TRADES = re.compile(r" trades (\d+)$")
+MOST_GAINS = 10
+"""How many members are shown who gained most."""
 MOST_SHOWN = 500
-"""The last trades that are shown unasked; a look has all."""
+"""The last trades that are shown unasked, and the trades of one look."""
 
 
 def price_of(instrument: Instrument, tick: int | None) -> str | None:
@@ -23,10 +30,14 @@ def indication_of(instrument: Instrument, found: Indication) -> Json:
 
 
 def results_of(instrument: Instrument) -> list[Json]:
-    """What the uncrosses of the day came to: the auction, whether it was interrupted, the price."""
+    """What the uncrosses of the day came to: the auction, whether it was interrupted, the price,
+    how many trades.
+    """
     found = []
     for text in instrument.results:
         shown = indication_of(instrument, Indication.of(text))
+        trades = TRADES.search(text)
+        shown["trades"] = int(trades[1]) if trades else 0
         found.append({"auction": text.partition(" ")[0]} | shown)
     return found
 
@@ -49,16 +60,18 @@ def state_of(instrument: Instrument, now: float) -> Json:
         "results": results_of(instrument),
         "trades": len(instrument.trades),
         "left": instrument.day.left,
+        "round": instrument.board.round,
     }
 
 
-def terms_of(instrument: Instrument) -> Json:
-    """What an instrument is."""
-    terms = instrument.terms
+def terms_of(instrument: Instrument, has_groups: bool = False) -> Json:
+    """What an instrument is; its title has the number of its group where there are more."""
+    terms, board = instrument.terms, instrument.board
     limits = {name: terms.price(getattr(terms, name)) for name in ("low", "high")}
+    title = terms.title or board.market
     return limits | {
         "name": terms.name,
-        "title": terms.title or terms.name,
+        "title": f"{title} · {board.group}" if has_groups else title,
         "currency": terms.currency,
         "tick_size": format(terms.grid.tick_size, "f"),
         "range": price_of(instrument, terms.range),
@@ -99,38 +112,46 @@ def money_of(instrument: Instrument, ticks: int) -> str:
     return format(ticks * instrument.terms.grid.tick_size, "f")
 
 
-def gained(given: Given, fills: Iterable[Fill]) -> int:
-    """What fills gain after the time at which a value was given, in ticks times shares."""
-    later = (it for it in fills if it.trade > given.since)
-    return gain_of(given.value, ((it.side, it.quantity, it.tick) for it in later))
+def value_of(instrument: Instrument, member: str) -> Json | None:
+    """What a member was handed out, None where it has no value."""
+    value = instrument.accounts.values.get(member)
+    if value is None:
+        return None
+    price = price_of(instrument, value.tick)
+    return {"side": value.side, "price": price, "quantity": value.quantity}
+
+
+def gain_of(instrument: Instrument, member: str) -> str | None:
+    """What a member has gained, None where nobody was handed out a value."""
+    if not instrument.accounts.has_values:
+        return None
+    return money_of(instrument, instrument.gain_of(member))
 
 
 def fills_of(instrument: Instrument, member: str) -> Json:
-    """A member's fills, its value, and its gain."""
+    """A member's fills, its value and how many shares more that covers, and its gain."""
     fills = instrument.fills_of(member)
-    found: Json = {
+    return {
         "type": "fills",
         "instrument": instrument.terms.name,
         "fills": [fill_of(instrument, it) for it in fills[-MOST_SHOWN:]],
-        "value": None,
-        "gain": None,
+        "value": value_of(instrument, member),
+        "left": instrument.accounts.left_of(member, fills),
+        "gain": gain_of(instrument, member),
     }
-    if given := instrument.values.get(member):
-        value = given.value
-        price = price_of(instrument, value.tick)
-        found["value"] = {"side": value.side, "price": price, "quantity": value.quantity}
-        found["gain"] = money_of(instrument, gained(given, fills))
-    return found
 
 
-def trades_of(instrument: Instrument, trades: Iterable[Trade], has_parties: bool) -> Json:
-    """Trades, with who traded with whom where that is to be seen."""
+def trades_of(
+    instrument: Instrument, trades: Iterable[Trade], title_of: Callable[[str], str] | None = None
+) -> Json:
+    """Trades, with who traded with whom where that is to be seen, by the titles of the members."""
     found = []
     for it in trades:
         price = price_of(instrument, it.tick)
         row: Json = {"trade": it.number, "quantity": it.quantity, "price": price}
-        if has_parties:
-            row |= {"buyer": instrument.party(it.bid), "seller": instrument.party(it.ask)}
+        if title_of is not None:
+            buyer, seller = (title_of(instrument.party(order)) for order in (it.bid, it.ask))
+            row |= {"buyer": buyer, "seller": seller}
         found.append(row)
     return {"type": "trades", "instrument": instrument.terms.name, "trades": found}
 
@@ -145,7 +166,7 @@ def ladder_of(instrument: Instrument) -> Json:
 
 
 def course_of(instrument: Instrument) -> Json:
-    """The indicative price since the call began, with its times."""
+    """The indicative price since the call began, with the times of the epoch."""
     points = [
         {
             "time": round(it.time, 2),
@@ -154,19 +175,118 @@ def course_of(instrument: Instrument) -> Json:
         }
         for it in instrument.course
     ]
-    return {"type": "course", "instrument": instrument.terms.name, "points": points}
+    return {
+        "type": "course",
+        "instrument": instrument.terms.name,
+        "began": instrument.began,
+        "points": points,
+    }
 
 
-def efficiency_of(instrument: Instrument) -> Json:
-    """The gain of all members and the most that was possible, where values were given."""
-    gain = sum(
-        gained(given, instrument.fills_of(member)) for member, given in instrument.values.items()
-    )
-    most = most_gain([given.value for given in instrument.values.values()])
+def efficiency_of(instrument: Instrument, title_of: Callable[[str], str]) -> Json:
+    """The gain of all members, the most that was possible where values were given, the whole
+    percent of it that was gained; the prices and the volume that the values predict; who gained
+    most.
+    """
+    gain, most = instrument.gain, instrument.most
     return {
         "type": "efficiency",
         "instrument": instrument.terms.name,
         "gain": money_of(instrument, gain),
         "most": money_of(instrument, most),
-        "percent": round(100 * gain / most) if most > 0 else None,
+        "percent": 100 * gain // most if most > 0 else None,
+        "predicted": predicted_of(instrument),
+        "gains": gains_of(instrument, title_of),
     }
+
+
+def gains_of(instrument: Instrument, title_of: Callable[[str], str]) -> list[Json]:
+    """Who gained most, by the titles of the members, where values were given."""
+    if not instrument.accounts.has_values:
+        return []
+    found = [(instrument.gain_of(it), title_of(it)) for it in instrument.numbers]
+    found.sort(key=lambda it: -it[0])
+    return [
+        {"name": title, "gain": money_of(instrument, gain)}
+        for gain, title in found[:MOST_GAINS]
+        if gain > 0
+    ]
+
+
+def predicted_of(instrument: Instrument) -> Json | None:
+    """The prices and the volume that the values predict, None where they predict no trade."""
+    found = instrument.predicted
+    if found is None:
+        return None
+    low, high = (price_of(instrument, it) for it in (found.low, found.high))
+    return {"low": low, "high": high, "volume": found.volume}
+
+
+def treatment_of(treatment: Treatment) -> Json:
+    """What a round is."""
+    rule = treatment.rule
+    return {
+        "title": treatment.title,
+        "practice": treatment.is_practice,
+        "book": treatment.book,
+        "values": rule.how,
+        "low": rule.low,
+        "high": rule.high,
+        "quantity": rule.quantity,
+        "demand": [*rule.demand],
+        "supply": [*rule.supply],
+        "reference": treatment.reference,
+        "message": treatment.message,
+        "call": treatment.call,
+        "covered": treatment.is_covered,
+        "own_trades": treatment.has_own_trades,
+        "shares": treatment.shares,
+        "money": treatment.money,
+    }
+
+
+def round_of(round_: Round) -> Json:
+    """Which round it is, what it is, and what is said to all now. Members don't see the schedules
+    of a round.
+    """
+    found = treatment_of(round_.treatment)
+    for name in ("low", "high", "quantity", "demand", "supply"):
+        del found[name]
+    numbers = {"round": round_.number, "groups": round_.groups, "begun": round_.has_begun}
+    return {"type": "round"} | found | numbers | {"message": round_.message}
+
+
+def payoff_of(payoff: Payoff, count: int, has_rank: bool) -> Json:
+    """What a member is paid, and its place among all where it may see that."""
+    return {
+        "type": "payoff",
+        "rounds": [
+            {
+                "round": it.round,
+                "title": it.title,
+                "practice": it.is_practice,
+                "gain": None if it.gain is None else format(it.gain, "f"),
+            }
+            for it in payoff.gains
+        ],
+        "gain": format(payoff.gain, "f"),
+        "paid": format(payoff.paid, "f"),
+        "currency": payoff.currency,
+        "rank": payoff.rank if has_rank else None,
+        "of": count if has_rank else None,
+    }
+
+
+def ranking_of(payoffs: Iterable[Payoff]) -> Json:
+    """What all are paid, who has most first."""
+    rows = [
+        {
+            "rank": it.rank,
+            "name": it.title,
+            "gain": format(it.gain, "f"),
+            "paid": format(it.paid, "f"),
+            "currency": it.currency,
+        }
+        for it in payoffs
+    ]
+    return {"type": "ranking", "rows": rows}

@@ -1,106 +1,335 @@
-"""What the operator asks for, by words."""
-import random
+"""What the operator asks for, by words: POST /api/operator with {"do": WORD, ...}.
+
+- start, end, uncross, freeze, thaw, extend (seconds): the auction of all groups of `instrument`;
+  `phase` is the one that was seen, and nothing is done in another.
+- next (round, the number of the next one; perhaps treatment, with the keys of [[round]] in
+  day.toml, `file` being the text of the list): the next round. treat (treatment): this round,
+  before its first call; its reference stays, and its values where it has handed them out.
+- give (to: all, new, or named with members; how: chance with low, high, quantity; schedule with
+  demand, supply, quantity; shuffle; list with values or file; replace): values; answers how many
+  were given, and the names of a list that are absent: their values wait until they join.
+- message (text): said to all. show (shows): what the screen shows. payoffs (shows: none, own,
+  ranking): what members see of them.
+- code (member, or none for the day's), door (open), remove (member or members), readmit (member),
+  rename (member, name).
+- robots (count, kind: zero, truthful or shading): that many more; all are removed where count is 0.
+- resume: tries again what had halted.
+"""
+import dataclasses
+from collections.abc import Awaitable, Callable, Container
 from typing import Any
 
 from callauction.venue import shown, views
-from callauction.venue.config import MOST_SECONDS, Instrument as Terms
-from callauction.venue.gains import Value
+from callauction.venue.config import MOST_QUANTITY
+from callauction.venue.fields import SENTENCE, ConfigError, Fields
+from callauction.venue.handing import HOWS, SIDES, HandError, Row, Rule, named, rows_of
 from callauction.venue.instrument import Instrument
-from callauction.venue.messages import MessageError, number_of, text_of, tick_of
+from callauction.venue.members import Member
+from callauction.venue.messages import MessageError, number_of, text_of
 from callauction.venue.phases import PhaseError
 from callauction.venue.process import ProcessError
+from callauction.venue.robots import KINDS, MOST_ROBOTS
 from callauction.venue.tokens import new_code
+from callauction.venue.treatments import MOST_SECONDS, Treatment, treatment_of
 from callauction.venue.venue import Venue
 
+MOST_ROUNDS = 10_000
 STEPS = {
     "start": Instrument.start_call,
     "end": Instrument.end_call,
     "freeze": Instrument.freeze,
     "thaw": Instrument.thaw,
 }
+MOST_TEXT = 240
+Words = dict[str, Callable[[Venue, dict[str, Any]], Awaitable[shown.Json]]]
 
 
 async def done(venue: Venue, message: dict[str, Any]) -> shown.Json:
     """Does what is asked for. Raises MessageError and PhaseError."""
     word = text_of(message, "do")
-    if word == "resume":
-        venue.resume()
-        return {"done": word}
-    if word == "show":
-        venue.show_on_beamer(text_of(message, "shows"))
-        return {"done": word}
-    if word == "code":
-        return {"done": word, "code": new_code_of(venue, text_of(message, "member"))}
-    instrument = venue.instrument_of(message.get("instrument"))
-    if word == "give":
-        give(venue, instrument, message)
-        return {"done": word}
-    venue.check_running()
-    if (seen := message.get("phase")) is not None and seen != str(instrument.state.phase):
-        raise PhaseError(f"the phase is {instrument.state.phase} and no longer {seen}")
-    if word == "uncross":
-        return {"done": word, "reply": await instrument.uncross()}
-    if word == "extend":
-        instrument.extend(number_of(message, "seconds", 1, MOST_SECONDS))
-    elif word in STEPS:
-        STEPS[word](instrument)
+    if (act := WORDS.get(word)) is not None:
+        found = await act(venue, message)
     else:
-        raise MessageError("bad_message", f"the operator can't {word}")
+        found = await step(venue, word, message)
     await venue.log.written()
-    return {"done": word}
+    return {"done": word} | found
 
 
-def new_code_of(venue: Venue, name: str) -> str:
-    """A code by which this member can come again, from another telephone. Raises MessageError."""
-    if venue.members.named(name) is None and name not in venue.members.codes:
-        raise MessageError("bad_name", "there is no member of this name")
+# ---- the auctions
+
+
+async def step(venue: Venue, word: str, message: dict[str, Any]) -> shown.Json:
+    """Goes on with the auction of all groups of a market in which that can be done. Raises
+    MessageError and PhaseError.
+    """
+    if word not in (*STEPS, "uncross", "extend"):
+        raise MessageError("bad_message", f"the operator can't {word}")
+    boards = venue.market_of(message.get("instrument"))
+    venue.check_running()
+    seconds = number_of(message, "seconds", 1, MOST_SECONDS) if word == "extend" else 0
+    seen = message.get("phase")
+    if word == "start":
+        await venue.begin_call(boards)
+    faults: list[PhaseError] = []
+    replies: dict[str, str] = {}
+    for board in boards:
+        try:
+            check_seen(board, seen)
+            if word == "uncross":
+                replies[board.terms.name] = await board.uncross()
+            elif word == "extend":
+                board.extend(seconds)
+            else:
+                STEPS[word](board)
+        except PhaseError as fault:
+            faults.append(fault)
+    if len(faults) == len(boards):
+        raise faults[0]
+    venue.show_round()
+    if not replies:
+        return {}
+    return {"reply": next(iter(replies.values())), "replies": replies}
+
+
+def check_seen(board: Instrument, seen: object) -> None:
+    """Raises PhaseError where the phase isn't the one that the operator has seen."""
+    if seen is not None and seen != str(board.state.phase):
+        raise PhaseError(f"the phase is {board.state.phase} and no longer {seen}")
+
+
+# ---- the rounds
+
+
+async def begin_round(venue: Venue, message: dict[str, Any]) -> shown.Json:
+    """Begins the next round: that of the day, or one that the message says. Raises MessageError and
+    PhaseError.
+    """
+    venue.check_running()
+    number = number_of(message, "round", 2, MOST_ROUNDS)
+    treatment = venue.day.treatment(number)
+    if "treatment" in message:
+        treatment = treatment_of_message(message["treatment"])
+    try:
+        venue.day.check(treatment)
+        await venue.next_round(number, treatment)
+    except HandError as fault:
+        raise MessageError("bad_message", str(fault)) from None
+    return {"round": number}
+
+
+async def treat(venue: Venue, message: dict[str, Any]) -> shown.Json:
+    """Makes this round another one, before its first call; its reference stays, and its values
+    where the round has handed them out. Raises MessageError and PhaseError.
+    """
+    now = venue.round.treatment
+    treatment = treatment_of_message(message.get("treatment"))
+    treatment = dataclasses.replace(treatment, reference=now.reference)
+    if venue.round.has_dealt:
+        treatment = dataclasses.replace(treatment, rule=now.rule)
+    try:
+        venue.day.check(treatment)
+    except HandError as fault:
+        raise MessageError("bad_message", str(fault)) from None
+    venue.treat(treatment)
+    return {}
+
+
+def treatment_of_message(table: object) -> Treatment:
+    """The round of a message, whose file is its text. Raises MessageError."""
+    if not isinstance(table, dict):
+        raise MessageError("bad_message", "treatment is no object")
+    try:
+        return treatment_of(Fields("round", table), None)
+    except ConfigError as fault:
+        raise MessageError("bad_message", str(fault)) from None
+
+
+async def announce(venue: Venue, message: dict[str, Any]) -> shown.Json:
+    """Says something to all. Raises MessageError."""
+    text = text_of(message, "text")
+    if not SENTENCE.fullmatch(text):
+        raise MessageError("bad_message", f"text has more than {MOST_TEXT} letters, or < or >")
+    venue.announce(text)
+    return {}
+
+
+# ---- what is shown
+
+
+async def show(venue: Venue, message: dict[str, Any]) -> shown.Json:
+    """Chooses what the screen shows. Raises MessageError."""
+    venue.show_on_beamer(text_of(message, "shows"))
+    return {}
+
+
+async def show_payoffs(venue: Venue, message: dict[str, Any]) -> shown.Json:
+    """Chooses what members see of payoffs. Raises MessageError."""
+    venue.show_paid(text_of(message, "shows"))
+    return {}
+
+
+async def resume(venue: Venue, message: dict[str, Any]) -> shown.Json:
+    """Tries again what had halted."""
+    venue.resume()
+    return {}
+
+
+# ---- members
+
+
+async def new_code_of(venue: Venue, message: dict[str, Any]) -> shown.Json:
+    """A code by which a member can come again, from another telephone; or another code of the day,
+    where the message names no member. Raises MessageError.
+    """
+    title = text_of(message, "member", "")
+    name = title
+    if title and title not in venue.members.codes:
+        name = venue.members.called(title).name
     code = venue.members.set_code(name, new_code())
     venue.show_members()
-    return code
+    return {"code": code}
 
 
-def give(venue: Venue, instrument: Instrument, message: dict[str, Any]) -> None:
-    """Gives each member the value that is named, or one by chance: half of them buy, half sell, at
-    prices of a range. Raises MessageError.
+async def open_door(venue: Venue, message: dict[str, Any]) -> shown.Json:
+    """Lets new members join, or no more. Raises MessageError."""
+    is_open = message.get("open")
+    if not isinstance(is_open, bool):
+        raise MessageError("bad_message", "open is neither true nor false")
+    venue.members.open_door(is_open)
+    venue.show_members()
+    return {}
+
+
+async def remove(venue: Venue, message: dict[str, Any]) -> shown.Json:
+    """Removes a member, or some, with their open orders. Raises MessageError."""
+    venue.check_running()
+    titles = texts_of(message, "members") if "members" in message else [message.get("member")]
+    members = [venue.members.called(it) for it in titles]
+    for member in members:
+        if member.is_removed:
+            raise MessageError("bad_name", f"{member.title} is removed already")
+    venue.remove(members)
+    return {"removed": len(members)}
+
+
+async def readmit(venue: Venue, message: dict[str, Any]) -> shown.Json:
+    """Lets a member that was removed come again by a new code: the code. Raises MessageError."""
+    member = venue.members.called(message.get("member"))
+    if not member.is_removed:
+        raise MessageError("bad_name", f"{member.title} isn't removed")
+    return {"code": await venue.readmit(member)}
+
+
+async def rename(venue: Venue, message: dict[str, Any]) -> shown.Json:
+    """Gives a member another name. Raises MessageError."""
+    member = venue.members.called(message.get("member"))
+    venue.members.rename(member, text_of(message, "name"))
+    venue.give_listed([member])
+    venue.show_all()
+    return {"name": member.title}
+
+
+async def change_robots(venue: Venue, message: dict[str, Any]) -> shown.Json:
+    """Adds robots, or removes all of them where their count is 0. Raises MessageError."""
+    count = number_of(message, "count", 0, MOST_ROBOTS)
+    if count == 0:
+        robots = [it for it in venue.members.all if it.robot]
+        venue.remove(robots)
+        return {"removed": len(robots)}
+    kind = text_of(message, "kind")
+    if kind not in KINDS:
+        raise MessageError("bad_message", f"kind is one of {', '.join(KINDS)}")
+    return {"names": await venue.add_robots(kind, count)}
+
+
+# ---- values
+
+
+async def give(venue: Venue, message: dict[str, Any]) -> shown.Json:
+    """Hands out values: to all (`to` is "all"), to those who have none ("new"), or to those that a
+    list or `members` names ("named"); answers which names of a list nobody has, whose values are
+    kept until somebody has them. Who would lose a value needs `replace`. Raises MessageError.
     """
-    terms = instrument.terms
+    rule = rule_of(message)
+    market = venue.market_of(message.get("instrument"))[0].board.market
+    rows, absent = named(rule.rows, {it.title: it.name for it in venue.members.all})
+    rule = dataclasses.replace(rule, rows=rows)
+    held = venue.round.values(market)
+    whom = text_of(message, "to", "named" if rule.how == "list" else "all")
+    members = receivers(venue, rule, message, whom, held)
+    losing = held if whom == "all" else {it.name for it in members} & held.keys()
+    if losing and message.get("replace") is not True:
+        raise MessageError("has_values", f"{len(losing)} members would lose a value")
+    try:
+        venue.check_listed(market, absent)
+        given = 0
+        if rows or not absent:
+            given = await venue.give_values(market, rule, members, held, whom == "all")
+    except HandError as fault:
+        raise MessageError("bad_message", str(fault)) from None
+    if rule.how == "list" or whom == "all":
+        venue.keep_listed(market, absent, whom == "all")
+        venue.give_listed(venue.members.all)  # who joined meanwhile
+    return {"given": given, "absent": [it.member for it in absent]}
+
+
+def receivers(
+    venue: Venue, rule: Rule, message: dict[str, Any], whom: str, held: Container[str]
+) -> list[Member]:
+    """Who is handed out a value. Raises MessageError."""
+    if whom == "named" and rule.how == "list":
+        names = {row.member for row in rule.rows}
+        return [it for it in venue.members.all if it.name in names]
+    if whom == "named":
+        return [venue.members.called(it) for it in texts_of(message, "members")]
+    if whom not in ("all", "new"):
+        raise MessageError("bad_message", "to is all, new or named")
+    return [it for it in venue.members.all if whom == "all" or it.name not in held]
+
+
+def rule_of(message: dict[str, Any]) -> Rule:
+    """How a message wants values to be handed out. Raises MessageError."""
+    default = "list" if {"values", "file"} & {*message} else "chance"
+    how = text_of(message, "how", default)
+    if how not in HOWS[2:]:
+        raise MessageError("bad_message", f"how is one of {', '.join(HOWS[2:])}")
+    if how == "shuffle":
+        return Rule(how)
+    if how == "list":
+        return Rule(how, rows=rows_of_message(message))
+    quantity = number_of(message, "quantity", 1, MOST_QUANTITY)
+    if how == "chance":
+        return Rule(how, text_of(message, "low"), text_of(message, "high"), quantity)
+    demand, supply = (texts_of(message, name) for name in ("demand", "supply"))
+    return Rule(how, quantity=quantity, demand=demand, supply=supply)
+
+
+def texts_of(message: dict[str, Any], name: str) -> tuple[str, ...]:
+    """A list of texts of a message. Raises MessageError."""
+    found = message.get(name)
+    if not isinstance(found, list) or not all(isinstance(it, str) for it in found):
+        raise MessageError("bad_message", f"{name} is no list of texts")
+    return tuple(found)
+
+
+def rows_of_message(message: dict[str, Any]) -> tuple[Row, ...]:
+    """The rows of a message's file, or of its list of values. Raises MessageError."""
+    if "file" in message:
+        try:
+            return rows_of(text_of(message, "file"))
+        except HandError as fault:
+            raise MessageError("bad_message", str(fault)) from None
     values = message.get("values")
-    if values is None:
-        low, high = (value_tick(terms, message, name) for name in ("low", "high"))
-        if low > high:
-            raise MessageError("bad_message", "low is above high")
-        quantity = number_of(message, "quantity", 1, terms.most_quantity)
-        names = [member.name for member in venue.members.all]
-        venue.give_values(instrument, by_chance(names, low, high, quantity))
-        return
     if not isinstance(values, list) or not all(isinstance(it, dict) for it in values):
         raise MessageError("bad_message", "values is no list of objects")
-    given = {}
+    found = []
     for it in values:
-        name, side = text_of(it, "member"), text_of(it, "side")
-        if venue.members.named(name) is None or side not in ("bid", "ask"):
+        side = text_of(it, "side")
+        if side not in SIDES:
             raise MessageError("bad_message", "a value has a member, and a side of bid or ask")
-        quantity = number_of(it, "quantity", 1, terms.most_quantity)
-        given[name] = Value(side, value_tick(terms, it, "price"), quantity)
-    venue.give_values(instrument, given)
-
-
-def value_tick(terms: Terms, message: dict[str, Any], name: str) -> int:
-    """The tick of a price of a message. Raises MessageError."""
-    found = tick_of(terms, text_of(message, name))
-    if not found.isdecimal():
-        raise MessageError("bad_price")
-    return int(found)
-
-
-def by_chance(names: list[str], low: int, high: int, quantity: int) -> dict[str, Value]:
-    """A value for each name."""
-    chance = random.SystemRandom()
-    order = chance.sample(names, len(names))
-    sides = {name: ("bid", "ask")[place % 2] for place, name in enumerate(order)}
-    return {
-        name: Value(side, chance.randint(low, high), quantity) for name, side in sides.items()
-    }
+        quantity = number_of(it, "quantity", 1, MOST_QUANTITY)
+        found.append(Row(None, text_of(it, "member"), side, text_of(it, "price"), quantity))
+    return tuple(found)
 
 
 async def orders_of(instrument: Instrument, member: str) -> shown.Json:
@@ -112,3 +341,21 @@ async def orders_of(instrument: Instrument, member: str) -> shown.Json:
             raise MessageError("halted", "the program doesn't answer now") from None
         instrument.orders[member] = views.orders_of(lines)
     return shown.orders_of(instrument, member)
+
+
+WORDS: Words = {
+    "next": begin_round,
+    "treat": treat,
+    "message": announce,
+    "show": show,
+    "payoffs": show_payoffs,
+    "resume": resume,
+    "code": new_code_of,
+    "door": open_door,
+    "remove": remove,
+    "readmit": readmit,
+    "rename": rename,
+    "robots": change_robots,
+    "give": give,
+}
+"""What the operator may ask for beside the steps of an auction."""

@@ -1,64 +1,107 @@
-"""A venue: its instruments, its members, and who is connected. It knows who may speak and who sees
-what; prices, trades and replies are those of the programs.
+"""A venue: its rounds, its instruments, its members. It knows who may speak and who sees what;
+prices, trades and replies are those of the programs.
 """
 import asyncio
 import contextlib
+import dataclasses
 import functools
+import logging
 import pathlib
-import secrets
-import time
-from collections.abc import Iterable
-from typing import Any, Protocol
+from collections.abc import Callable, Iterable, Mapping
 
-from callauction.venue import config, downloads, shown, tokens
-from callauction.venue.gains import Value
-from callauction.venue.instrument import Given, Instrument, Point, opened
-from callauction.venue.log import Line, Log, LogError
-from callauction.venue.members import Done, Member, Members
-from callauction.venue.messages import MessageError, Order
-from callauction.venue.phases import State
-from callauction.venue.process import ProcessError
-from callauction.venue.recovery import Entry, Message, Run
+from callauction.venue import audience, config, downloads, owned, tokens
+from callauction.venue.audience import PAYOFFS, SHOWN, Audience
 from callauction.venue.engine import Settled
+from callauction.venue.gains import Value
+from callauction.venue.handing import Row, Rule, named
+from callauction.venue.instrument import Board, Instrument, Point, opened, plan_of
+from callauction.venue.log import Line, Log, LogError, taking
+from callauction.venue.members import Done, Member, Members, NameTakenError
+from callauction.venue.messages import MessageError, Order
+from callauction.venue.names import folded
+from callauction.venue.owned import OwnerError
+from callauction.venue.phases import PhaseError, State
+from callauction.venue.process import STOP_SECONDS, ProcessError
+from callauction.venue.recovery import Entry, Mark, Message, RecoveryError, RolledBackError, Run
+from callauction.venue.robots import Robots
+from callauction.venue.rounds import Round, by_side, dealt
+from callauction.venue.treatments import Treatment
 
-VERSION = 1
-MOST_CONNECTIONS = 8
-"""Connections of one member."""
+VERSION = 2
+NOTICES = logging.getLogger("callauction.venue")
+CLOSE_SECONDS = 0.5
+"""How long the end of the venue waits for the log's last lines."""
+FAULTS = (ProcessError, RecoveryError, OwnerError, OSError)
+"""Why a board can't be opened."""
+MOST_CONNECTIONS = audience.MOST_CONNECTIONS
 LOG = "venue.log"
-SHOWN = ("indication", "all")
-"""What the beamer shows of a call: the indication alone, or also the book."""
+Heard = Callable[[Instrument, Message, Entry | None], None]
+"""What is called with each message of a board once it has its entry; also with those of earlier
+runs, as the venue opens, and then with None for one that was never executed.
+"""
+OTHER_DEVICE = "this member goes on at another device"
+"""What a device is told whose member came again by a new code."""
 
 
-class Watcher(Protocol):
-    """Somebody who is connected: `role` is member, operator or beamer."""
-
-    role: str
-    member: Member | None
-    topics: frozenset[str]
-
-    def offer(self, key: str, message: shown.Json) -> None:
-        """Shows a message, unless a later one with its key comes before it is sent."""
-
-    def leave(self, code: str) -> None:
-        """Ends the connection, for one of the ERRORS of messages."""
-
-
-class Venue:
+class Venue(Audience):
     """A venue in a folder, which has its log, its tokens and its journals."""
 
     def __init__(self, day: config.Day, folder: pathlib.Path, program: str) -> None:
-        self.day, self.folder = day, folder
+        super().__init__()
+        self.day, self.folder, self._program = day, folder, program
         self.log = Log(folder / LOG, day.is_synced)
-        self.log.on_fault = self._log_failed
+        self.log.on_fault, self.log.on_written = self._log_failed, self._log_goes_on
         self.members = Members(day.members, self.log)
-        self.instruments = {
-            terms.name: opened(terms, day, folder, program, self.log) for terms in day.instruments
-        }
-        self.watchers: dict[Watcher, None] = {}
+        self.rounds = [self._round(1, day.treatment(1))]
         self.halted: str | None = None
-        self.beamer_shows = SHOWN[0]
-        self.secrets = {role: secret_of(folder, role) for role in ("operator", "beamer")}
-        self._tasks: list[asyncio.Task[None]] = []
+        self.on_entry: Heard = lambda board, message, entry: None
+        self.secrets = {role: tokens.secret_of(folder, role) for role in ("operator", "beamer")}
+        self._waiting: dict[str, list[Line]] = {}
+        self._noticed: dict[str, str | None] = {}
+        self._tasks: set[asyncio.Task[None]] = set()
+        self._changing, self._reopening = asyncio.Lock(), asyncio.Lock()
+        self._robots = Robots(self)
+        self._log_task: asyncio.Task[None] | None = None
+        self._robots_task: asyncio.Task[None] | None = None
+
+    # ---- rounds and boards
+
+    def _round(self, number: int, treatment: Treatment, groups: int = 1) -> Round:
+        """A round, whose programs aren't started yet."""
+        found = Round(number, treatment, {}, treatment.message)
+        for group in range(1, groups + 1):
+            self._add_group(found, group)
+        return found
+
+    def _add_group(self, round_: Round, group: int) -> list[Instrument]:
+        """The boards of one group more."""
+        added = []
+        for terms in self.day.instruments:
+            board = Board(terms.name, group, round_.number)
+            instrument = opened(
+                board, terms, round_.treatment, self.day, self.folder, self._program, self.log
+            )
+            instrument.engine.on_change = functools.partial(self._changed, instrument)
+            instrument.wanted, instrument.wants_ladder = self.wanted, self.has_viewers
+            instrument.on_shown = functools.partial(self.show_news, instrument)
+            instrument.on_entry = functools.partial(self._heard, instrument)
+            round_.boards[board.name] = instrument
+            added.append(instrument)
+        return added
+
+    def _heard(self, board: Instrument, message: Message, entry: Entry | None) -> None:
+        """A message of a board has its entry, or never had one."""
+        self.on_entry(board, message, entry)
+
+    @property
+    def is_known(self) -> bool:
+        """Whether it is known what all journals have of earlier runs."""
+        return not self._waiting
+
+    @property
+    def _boards(self) -> dict[str, Instrument]:
+        """The boards of all rounds, by their keys."""
+        return {it.board.key: it for round_ in self.rounds for it in round_.boards.values()}
 
     # ---- begin and end
 
@@ -67,84 +110,187 @@ class Venue:
         ProcessError, RecoveryError, OSError.
         """
         lines = self.log.lines()
-        self._tasks.append(asyncio.create_task(self.log.run()))
+        self._log_task = asyncio.create_task(self.log.run())
         if not lines:
             self.log.note(kind="venue", version=VERSION)
         elif lines[0].get("version") != VERSION:
             raise LogError(f"{self.log.path} is the log of another version")
-        runs = runs_of(lines)
+        if not any(line["kind"] == "round" for line in lines):
+            self._note_round(self.round)
+        self._learn_rounds(lines)
         settled: dict[str, Settled] = {}
-        total = 0
-        for name, instrument in self.instruments.items():
-            entries, settled[name] = await instrument.engine.open(runs.get(name, []))
-            total += len(entries)
-            instrument.engine.on_change = functools.partial(self._changed, instrument)
+        for key, board in self._boards.items():
+            found = await self._opened(board, lines)
+            if found is not None:
+                settled[key] = found
         self._replay(lines, settled)
         self.members.open_codes()
         await self.log.written()
-        for instrument in self.instruments.values():
-            instrument.wanted = self._wanted
-            instrument.wants_ladder = self._has_viewers
-            instrument.on_shown = functools.partial(self._shown, instrument)
-            instrument.keep_time(time.time())
+        for key in settled:
+            await self._begin(self._boards[key])
+        self._begin_round()
+        self._robots_task = asyncio.create_task(self._robots.run())
+        return sum(board.engine.count for board in self._boards.values())
+
+    async def _opened(self, board: Instrument, lines: list[Line]) -> Settled | None:
+        """What became of a board's messages; None where its journal isn't the one of which the log
+        knows: it halts then, until that is put back. Raises what Engine.open raises.
+        """
+        key = board.board.key
+        own = [line for line in lines if line.get("instrument") == key]
+        try:
+            _, found = await board.engine.open(runs_of(own).get(key, []), mark_of(own))
+        except RolledBackError as fault:
+            self._waiting[key] = own
+            board.engine.halt(str(fault))
+            return None
+        self._waiting.pop(key, None)
+        return found
+
+    async def _open_again(self, board: Instrument) -> None:
+        """Opens a board whose journal was put back, or whose program may begin now, or halts again.
+        """
+        key = board.board.key
+        async with self._reopening:
+            if (lines := self._waiting.get(key)) is None:
+                return
             try:
-                await instrument.look()
-            except ProcessError as fault:
-                if fault.is_final:
-                    raise
-                instrument.touch()
-            self._tasks.append(asyncio.create_task(instrument.run_clock()))
-            self._tasks.append(asyncio.create_task(instrument.run_looks()))
-        return total
+                found = await self._opened(board, lines)
+                if found is not None:
+                    self._replay(lines, {key: found})
+                    await self._begin(board)
+                    self._begin_round()
+                    self._changed(board)
+            except FAULTS as fault:
+                board.engine.halt(str(fault))
+
+    async def _begin(self, board: Instrument) -> None:
+        """Begins to look at a board; one of an earlier round is looked at once. Raises
+        ProcessError.
+        """
+        if board in self.instruments.values():
+            await board.begin()
+            return
+        await board.look()
+        await board.end()
+
+    def _begin_round(self) -> None:
+        """Deals the members of the round, once all of it is known."""
+        for member in self.members.everybody:
+            self._withdraw(member)  # what was left where the venue was killed as it did so
+        if not self._waiting:
+            self._deal_round()
+            self._spread()
 
     async def close(self) -> None:
-        """Ends all programs and the log; beside each journal it leaves the names of its members."""
-        for task in self._tasks[1:]:
-            task.cancel()
-        for instrument in self.instruments.values():
-            await instrument.engine.close()
-            with contextlib.suppress(OSError):
-                path = self.folder / f"{instrument.terms.name}.members.csv"
-                path.write_bytes(downloads.members_of(instrument))
+        """Ends all programs and the log, and leaves tables of names and results."""
+        for task in (self._robots_task, *self._tasks):
+            if task is not None:
+                task.cancel()
+        if self._tasks:
+            await asyncio.wait(self._tasks, timeout=STOP_SECONDS / 2)
+        await asyncio.gather(*(board.end() for board in self._boards.values()))
+        self._leave_tables()
         self.log.close()
-        if self._tasks and self.halted is None:
-            await self._tasks[0]
+        if self._log_task is not None:
+            await asyncio.wait([self._log_task], timeout=CLOSE_SECONDS)
+
+    def _leave_tables(self) -> None:
+        """Writes the names of each board's members beside its journal, and the results of all
+        rounds that were seen.
+        """
+        boards = self._boards.items()
+        with contextlib.suppress(OSError):
+            for key, board in boards:
+                if board.engine.is_open:
+                    names = downloads.members_of(board, self.members.title_of)
+                    owned.write(self.folder / f"{key}.members.csv", names)
+            if all(board.engine.is_open for _, board in boards) and self.lesson("").rounds:
+                owned.write(self.folder / "results.csv", downloads.results_table(self.lesson("")))
 
     def dismiss(self) -> None:
         """Ends all connections."""
         for watcher in [*self.watchers]:
             watcher.leave("halted")
 
+    # ---- what the log says
+
+    def _note_round(self, round_: Round) -> None:
+        """Writes a round to the log."""
+        kept = round_.treatment.kept()
+        self.log.note(kind="round", round=round_.number, groups=round_.groups, treatment=kept)
+
+    def _learn_rounds(self, lines: Iterable[Line]) -> None:
+        """Makes the rounds and the groups that the log has."""
+        rounds = []
+        for line in lines:
+            with taking(line):
+                if line["kind"] == "round":
+                    if line["groups"] > self.day.members.most:
+                        raise ValueError
+                    treatment = Treatment.of(line["treatment"])
+                    rounds.append(self._round(line["round"], treatment, line["groups"]))
+                elif line["kind"] == "group":
+                    self._add_group(rounds[line["round"] - 1], line["group"])
+        self.rounds = rounds or self.rounds
+
     def _replay(self, lines: Iterable[Line], settled: dict[str, Settled]) -> None:
         """Takes what the log's lines say, in their order."""
-        became = {name: iter(those) for name, those in settled.items()}
+        became = {key: iter(those) for key, those in settled.items()}
+        boards = self._boards
         for line in lines:
-            kind = line["kind"]
-            instrument = self.instruments.get(line.get("instrument", ""))
-            if kind == "member":
-                self.members.learn(line["name"], line["token"])
-            elif kind == "code":
-                self.members.codes[line["name"]] = line["code"]
-            elif kind == "beamer":
-                self.beamer_shows = line["shows"]
-            elif kind == "sent" and instrument is not None:
-                self._replay_message(instrument, *next(became[line["instrument"]]))
-            elif instrument is not None:
-                replay_instrument(instrument, line)
+            board = boards.get(line.get("instrument", ""))
+            with taking(line):
+                if self.members.replay(line):
+                    continue
+                if board is None:
+                    self._replay_venue(line)
+                elif board.board.key not in settled:
+                    continue
+                elif line["kind"] == "sent":
+                    self._replay_message(board, *next(became[board.board.key]))
+                else:
+                    replay_instrument(board, line)
+
+    def _replay_venue(self, line: Line) -> None:
+        """Takes a line of the log about the venue."""
+        kind = line["kind"]
+        if kind == "round" and line["groups"] == 1:
+            for member in self.members.everybody:
+                member.group = 1
+        elif kind == "beamer":
+            self.beamer_shows = line["shows"]
+        elif kind == "payoffs":
+            self.payoffs_shown = line["shows"]
+        elif kind == "treat":
+            self._treat(self.rounds[line["round"] - 1], Treatment.of(line["treatment"]))
+        elif kind == "message":
+            self.rounds[line["round"] - 1].message = line["text"]
+        elif kind == "dealt":
+            self.rounds[line["round"] - 1].has_dealt = True
+        elif kind == "listed":
+            rows = tuple(Row(**row) for row in line["rows"])
+            self.rounds[line["round"] - 1].listed[line["market"]] = rows
+        elif kind == "deal":
+            self._move(self.rounds[line["round"] - 1], line["groups"])
 
     def _replay_message(
         self, instrument: Instrument, message: Message, entry: Entry | None
     ) -> None:
         """Takes a message of an earlier run; one that wasn't executed never was."""
-        if entry is None:
-            return
+        if entry is not None:
+            self._replay_entry(instrument, message, entry)
+        instrument.on_entry(message, entry)
+
+    def _replay_entry(self, instrument: Instrument, message: Message, entry: Entry) -> None:
+        """Takes an entry of an earlier run."""
         instrument.replay(message, entry)
         member = self.members.named(message.member)
         if member is not None:
             answer = asyncio.get_running_loop().create_future()
             answer.set_result(entry)
             rest = message.record.partition(",")[2]
-            member.keep(message.number, Done(instrument.terms.name, rest, answer))
+            member.keep(message.number, Done(instrument.board.market, rest, answer))
 
     # ---- who speaks
 
@@ -155,40 +301,133 @@ class Venue:
                 return role, None
         member = self.members.of_token(token)
         if member is None:
-            raise MessageError("bad_token")
+            raise MessageError("bad_token", OTHER_DEVICE * self.members.was_token(token))
         return "member", member
 
-    def instrument_of(self, name: object) -> Instrument:
-        """The instrument of this name, or the only one. Raises MessageError."""
-        if name is None and len(self.instruments) == 1:
-            return next(iter(self.instruments.values()))
-        found = self.instruments.get(name) if isinstance(name, str) else None
-        if found is None:
-            raise MessageError("unknown_instrument")
-        return found
+    def instrument_of(self, name: object, member: Member | None = None) -> Instrument:
+        """The board of this name, or the only one; for a member, that of its own group. Raises
+        MessageError.
+        """
+        boards = self.instruments
+        found = boards.get(name) if isinstance(name, str) else None
+        if found is not None and (member is None or found.board.group == member.group):
+            return found
+        own = [it for it in boards.values() if member is None or it.board.group == member.group]
+        if name is None and len(own) == 1:
+            return own[0]
+        for it in own:
+            if member and name == it.board.market:
+                return it
+        raise MessageError("unknown_instrument")
+
+    def market_of(self, name: object) -> list[Instrument]:
+        """The boards of all groups in the market of this name, or in the only one. Raises
+        MessageError.
+        """
+        markets = {it.board.market: it for it in self.instruments.values()}
+        if name is None and len(markets) == 1:
+            return self.round.of_market(next(iter(markets)))
+        return self.round.of_market(self.instrument_of(name).board.market)
 
     async def join(self, code: str, name: str) -> tuple[Member, str]:
         """A member and its token. Raises MessageError."""
         self.check_running()
+        before = {it.name: it.is_removed for it in self.members.everybody}
         member, token = self.members.join(code, name)
+        if member.name not in before:
+            await self.place([member])
+        elif before[member.name]:
+            for board in self.boards_of(member).values():
+                board.come_back(member.name)
+                self.show_gains(board)
         await self.log.written()
+        self.send_away(member)
+        self.show_members()
+        return member, token
+
+    async def admit(self, name: str, token: str) -> Member:
+        """The member of this name; where there is none, a new one with this token. Raises
+        MessageError.
+        """
+        if found := self.members.named(name):
+            return found
+        member = self.members.admit(name, token)
+        await self.place([member])
+        await self.log.written()
+        self.show_members()
+        return member
+
+    def remove(self, members: list[Member]) -> None:
+        """Removes members, whose open orders are deleted, also those that aren't answered yet."""
+        for member in members:
+            self.members.remove(member)
+            self.send_away(member)
+            self._take_out(member)
+            for board in self.boards_of(member).values():
+                board.leave(member.name)
+        for board in self.instruments.values():
+            self.show_gains(board)
+        self.show_members()
+
+    def _take_out(self, member: Member) -> None:
+        """Deletes the open orders of a member who was removed, now and as what waits is answered.
+        """
+        for done in [*member.done.values()]:
+            if not done.answer.done():
+                done.answer.add_done_callback(lambda _: self._withdraw(member))
+        self._withdraw(member)
+
+    def _withdraw(self, member: Member) -> None:
+        """Deletes the open orders of a member who was removed, each once, where that can be."""
+        waiting = [it for it in member.done.values() if not it.answer.done()]
+        asked = {(it.instrument, it.record) for it in waiting}
+        for board in self.boards_of(member).values() if member.is_removed else ():
+            for order in board.open_orders(member.name) if board.engine.is_open else ():
+                sent = Order(member.last + 1, board.terms.name, f"delete,{order}")
+                if (board.board.market, sent.record) not in asked:
+                    answer = board.withdraw(member.name, sent)
+                    member.keep(sent.number, Done(board.board.market, sent.record, answer))
+
+    async def add_robots(self, kind: str, count: int) -> list[str]:
+        """More robots of a kind: their names. Raises MessageError."""
+        self.check_running()
+        found: list[Member] = []
+        number = 0
+        while len(found) < count:
+            number += 1
+            with contextlib.suppress(NameTakenError):
+                found.append(self.members.join_robot(f"Robot {number}", kind))
+        await self.place(found)
+        self.show_members()
+        return [it.title for it in found]
+
+    async def readmit(self, member: Member) -> str:
+        """Lets a member that was removed come again: its code."""
+        code = self.members.set_code(member.name, tokens.new_code())
+        self.show_members()
+        return code
+
+    def send_away(self, member: Member) -> None:
+        """Ends the connections of a member whose token is another now, or none."""
         for watcher in [*self.watchers]:
             if watcher.member is member:
                 watcher.leave("bad_token")
-        self.show_members()
-        return member, token
 
     def submit(self, member: Member, order: Order) -> "tuple[asyncio.Future[Entry], bool]":
         """Sends a member's message, or finds that it was sent: its entry, once it is there, and
         whether it was. Raises MessageError.
         """
+        if member.is_removed:
+            raise MessageError("bad_token")
+        instrument = self.instrument_of(order.instrument, member)
+        market = instrument.board.market
         if done := member.done.get(order.number):
-            if (done.instrument, done.record) != (order.instrument, order.record):
+            if (done.instrument, done.record) != (market, order.record):
                 raise MessageError("number_used")
             return done.answer, True
         self.check_running()
-        answer = self.instruments[order.instrument].submit(member.name, order)
-        member.keep(order.number, Done(order.instrument, order.record, answer))
+        answer = instrument.submit(member.name, order)
+        member.keep(order.number, Done(market, order.record, answer))
         return answer, False
 
     def check_running(self) -> None:
@@ -196,21 +435,222 @@ class Venue:
         if self.halted is not None:
             raise MessageError("halted")
 
+    # ---- groups
+
+    async def place(self, newcomers: list[Member]) -> None:
+        """Puts new members into the smallest groups that have room; opens one more where none has,
+        and before the first call of a round deals all members again then.
+        """
+        async with self._changing:
+            before = self.round.groups
+            for member in newcomers:
+                sizes = self._sizes(member)
+                smallest = min(sizes, key=lambda it: sizes[it])
+                if sizes[smallest] < self.day.group:
+                    self._deal({member.name: smallest})
+                    continue
+                await self._open_group()
+                if self.round.has_begun:
+                    self._deal({member.name: self.round.groups})
+                else:
+                    self._deal_all()
+            if self.round.groups > before:
+                self.show_all()
+        self.give_listed(newcomers)
+
+    def _spread(self) -> None:
+        """Puts members whose group has no room into others, as where the venue was killed while it
+        opened one.
+        """
+        for member in self.members.all:
+            sizes = self._sizes(member)
+            smallest = min(sizes, key=lambda it: sizes[it])
+            if sizes[member.group] >= self.day.group and not self._has_number(member):
+                self._deal({member.name: smallest})
+
+    def _sizes(self, newcomer: Member) -> dict[int, int]:
+        """How many members each group has, without this one."""
+        sizes = dict.fromkeys(range(1, self.round.groups + 1), 0)
+        for it in self.members.everybody:
+            if it is not newcomer and (not it.is_removed or self._has_number(it)):
+                sizes[it.group] += 1
+        return sizes
+
+    def _has_number(self, member: Member) -> bool:
+        """Whether a member has a number in a journal of this round."""
+        return any(member.name in it.numbers for it in self.instruments.values())
+
+    async def _open_group(self) -> None:
+        """Opens the boards of one group more."""
+        group = self.round.groups + 1
+        self.log.note(kind="group", round=self.round.number, group=group)
+        for board in self._add_group(self.round, group):
+            await self._open_board(board)
+
+    async def _open_board(self, board: Instrument) -> None:
+        """Starts the program of a new board, which halts where that fails."""
+        try:
+            await board.engine.open([], Mark())
+            await self.log.written()  # the program runs from then on
+            await board.begin()
+        except FAULTS as fault:
+            if not board.engine.is_open:
+                self._waiting[board.board.key] = []
+            board.engine.halt(str(fault))
+
+    def _deal_all(self) -> None:
+        """Deals all members to the groups, with as many buyers in each."""
+        values = self.round.values(self.day.instruments[0].name)
+        names = by_side((it.name for it in self.members.all), values)
+        self._deal(dealt(names, self.round.groups))
+
+    def _deal(self, groups: dict[str, int]) -> None:
+        """Puts members into groups."""
+        before = {it: it.member.group for it in self.watchers if it.member}
+        if groups and self.round.groups > 1:
+            self.log.note(kind="deal", round=self.round.number, groups=groups)
+        self._move(self.round, groups)
+        for watcher, group in before.items():
+            if watcher.member and watcher.member.group != group:
+                watcher.offer("welcome", self.welcome_of(watcher))
+                self.greet(watcher)
+
+    def _move(self, round_: Round, groups: dict[str, int]) -> None:
+        """Members are in these groups of a round from now on."""
+        for name, group in groups.items():
+            if member := self.members.named(name):
+                member.group = group
+        round_.move(groups)
+
+    # ---- the next round
+
+    async def next_round(self, number: int, treatment: Treatment) -> None:
+        """Ends this round and begins the one of this number, for the same members. Raises
+        PhaseError and MessageError.
+        """
+        async with self._changing:
+            if number != self.round.number + 1:
+                raise PhaseError(f"the round is {self.round.number}")
+            before = [*self.instruments.values()]
+            for board in before:
+                if board.engine.halted is None:
+                    await board.settle()
+            if not self.round.is_between:
+                raise PhaseError("an auction is going on: end its call, and uncross")
+            for board in before:
+                await board.end()
+            count = -(-len(self.members.all) // self.day.group)
+            found = self._round(number, treatment, max(1, count))
+            self._note_round(found)
+            for board in found.boards.values():
+                await self._open_board(board)
+            self.rounds.append(found)
+            self._deal_round()
+        await self.log.written()
+        self.show_all()
+
+    def _deal_round(self) -> None:
+        """Deals the members to the groups of a new round where those of the last one don't do, and
+        hands out its values. It is done again where the venue was killed meanwhile.
+        """
+        if self.round.number == 1 or self.round.has_dealt or self.round.has_begun:
+            return
+        before = self.rounds[-2]
+        values = {it.name: before.values(it.name) for it in self.day.instruments}
+        if self.round.groups == 1:
+            self._move(self.round, {it.name: 1 for it in self.members.everybody})
+        elif self.round.groups != before.groups:
+            first = values[self.day.instruments[0].name]
+            names = by_side((it.name for it in self.members.all), first)
+            self._deal(dealt(names, self.round.groups))
+        self._give_round(values)
+
+    def _give_round(self, before: Mapping[str, dict[str, Value]]) -> None:
+        """Hands out the values of a round before its first call, once."""
+        rule = self.round.treatment.rule
+        for board in self.instruments.values():
+            held = before.get(board.board.market, {})
+            board.hand(self._dealt(board, rule, self.members.all, held), True)
+        self.round.has_dealt = True
+        self.log.note(kind="dealt", round=self.round.number)
+
+    def treat(self, treatment: Treatment) -> None:
+        """Makes this round another one, with the same reference. Raises PhaseError once a call was
+        started.
+        """
+        if self.round.has_begun:
+            raise PhaseError("the round has begun")
+        self._treat(self.round, treatment)
+        self.log.note(kind="treat", round=self.round.number, treatment=treatment.kept())
+        self.show_all()
+
+    def _treat(self, round_: Round, treatment: Treatment) -> None:
+        """A round is this one."""
+        round_.treatment, round_.message = treatment, treatment.message
+        for board in round_.boards.values():
+            board.limits = board.terms.limits(treatment)
+            board.plan = plan_of(self.day.plan, treatment)
+
+    async def begin_call(self, boards: list[Instrument]) -> None:
+        """Hands out the values of the first round before its first call, and sees all that was
+        done. Raises MessageError.
+        """
+        if not self.round.has_dealt and not self.round.has_begun:
+            has_values = any(it.accounts.has_values for it in self.instruments.values())
+            has_values = has_values or any(self.round.listed.values())
+            if self.round.treatment.rule.how in ("chance", "schedule", "list") and not has_values:
+                for board in self.instruments.values():
+                    board.check_known()
+                self._give_round({})
+                self.show_all()
+        for board in boards:
+            await board.refresh()
+
     # ---- faults
 
     def _log_failed(self, fault: OSError) -> None:
         """The log can't be written: nothing is taken until it can."""
         self.halted = f"the venue's log can't be written: {fault.strerror}"
+        self._notice("the venue", self.halted)
         for instrument in self.instruments.values():
             self._changed(instrument)
+
+    def _log_goes_on(self) -> None:
+        """The log waited for its disk, and no longer does."""
+        self.halted = None
+        self._notice("the venue", None)
+        for instrument in self.instruments.values():
+            self._changed(instrument)
+
+    def _notice(self, what: str, halted: str | None) -> None:
+        """Says on standard error what has halted, or goes on again."""
+        if self._noticed.get(what) != halted:
+            self._noticed[what] = halted
+            if halted is None:
+                NOTICES.warning("%s goes on", what)
+            else:
+                NOTICES.error("%s halted: %s", what, halted)
 
     def resume(self) -> None:
         """Tries again what had halted."""
         self.halted = None
+        self._notice("the venue", None)
         self.log.retry()
-        for instrument in self.instruments.values():
-            instrument.engine.resume()
-            self._changed(instrument)
+        for key, board in self._boards.items():
+            if key in self._waiting:
+                task = asyncio.create_task(self._open_again(board))
+                self._tasks.add(task)
+                task.add_done_callback(self._tasks.discard)
+        for board in self.instruments.values():
+            board.engine.resume()
+            self._changed(board)
+
+    def _changed(self, instrument: Instrument) -> None:
+        """A program halted or runs again, or the venue."""
+        self._notice(instrument.board.key, instrument.engine.halted)
+        if instrument in self.instruments.values():
+            self.show_state(instrument)
+            instrument.touch()
 
     # ---- what the operator gives
 
@@ -224,157 +664,101 @@ class Venue:
             if watcher.member is None:
                 self.greet(watcher)
 
-    def give_values(self, instrument: Instrument, values: dict[str, Value]) -> None:
-        """Gives members values, from now on."""
-        since = len(instrument.trades)
-        for name, value in values.items():
-            instrument.values[name] = Given(value, since)
-            self.log.note(
-                kind="value",
-                instrument=instrument.terms.name,
-                member=name,
-                side=value.side,
-                tick=value.tick,
-                quantity=value.quantity,
-                since=since,
-            )
-        self._show_fills(instrument)
+    def show_paid(self, what: str) -> None:
+        """What members see of payoffs. Raises MessageError."""
+        if what not in PAYOFFS:
+            raise MessageError("bad_message", f"shows is one of {', '.join(PAYOFFS)}")
+        self.payoffs_shown = what
+        self.log.note(kind="payoffs", shows=what)
+        self.show_payoffs()
         self.show_members()
+
+    def announce(self, text: str) -> None:
+        """Says something to all."""
+        self.round.message = text
+        self.log.note(kind="message", round=self.round.number, text=text)
+        self.show_round()
+
+    async def give_values(
+        self,
+        market: str,
+        rule: Rule,
+        members: list[Member],
+        before: dict[str, Value],
+        is_to_all: bool,
+    ) -> int:
+        """Hands out values to members, who had others before: to how many. Raises MessageError, and
+        HandError where the rule can't be followed.
+        """
+        given = 0
+        for board in self.round.of_market(market):
+            values = self._dealt(board, rule, members, before)
+            if values or is_to_all:
+                await board.give(values, is_to_all)
+                self.show_gains(board)
+            given += len(values)
+        return given
+
+    def _dealt(
+        self, board: Instrument, rule: Rule, members: list[Member], before: dict[str, Value]
+    ) -> dict[str, Value]:
+        """The values by a rule of those members who are on a board. Raises HandError."""
+        names = [it.name for it in members if it.group == board.board.group]
+        return rule.dealt(names, before, board.terms.value_tick, self.round.number)
+
+    def check_listed(self, market: str, rows: tuple[Row, ...]) -> None:
+        """Raises HandError where the rows of a list can't be given in a market."""
+        if rows:
+            Rule("list", rows=rows).check(self.round.of_market(market)[0].terms.value_tick)
+
+    def keep_listed(self, market: str, rows: tuple[Row, ...], is_to_all: bool) -> None:
+        """Keeps the rows of a list for those who haven't joined yet, in place of all that are kept
+        where it is to all, else of those for the same names.
+        """
+        names = {folded(it.member) for it in rows}
+        before = () if is_to_all else self._listed(self.round, market)
+        kept = (*(it for it in before if folded(it.member) not in names), *rows)
+        if kept == self._listed(self.round, market):
+            return
+        self.round.listed[market] = kept
+        lines = [dataclasses.asdict(it) for it in kept]
+        self.log.note(kind="listed", round=self.round.number, market=market, rows=lines)
+
+    def _listed(self, round_: Round, market: str) -> tuple[Row, ...]:
+        """The rows that wait in a round: also those of the last one where values are kept, and
+        those of the round's own list once it is handed out.
+        """
+        if market in round_.listed:
+            return round_.listed[market]
+        rule = round_.treatment.rule
+        if rule.how == "list" and round_.has_dealt:
+            return rule.rows
+        if rule.how == "keep" and round_.number > 1:
+            return self._listed(self.rounds[round_.number - 2], market)
+        return ()
+
+    def give_listed(self, newcomers: list[Member]) -> None:
+        """Hands out to members who have no value the one that waits for them in a list."""
+        titles = {it.title: it.name for it in newcomers}
+        for board in self.instruments.values():
+            rows, _ = named(self._listed(self.round, board.board.market), titles)
+            members = [it for it in newcomers if it.name not in board.accounts.values]
+            if rows and (values := self._dealt(board, Rule("list", rows=rows), members, {})):
+                board.hand(values, False)
+                self.show_gains(board)
 
     # ---- who sees what
 
-    def _wanted(self) -> set[str]:
-        """The members who look at their orders."""
-        return {it.member.name for it in self.watchers if it.member and "orders" in it.topics}
+    def lesson(self, program: str) -> downloads.Lesson:
+        """What the operator may take home."""
+        rounds = [it for it in self.rounds if it.has_begun]
+        return downloads.Lesson(self.day, rounds, self.members, program)
 
-    def _has_viewers(self) -> bool:
-        """Whether somebody may see the book."""
-        roles = {it.role for it in self.watchers}
-        return "operator" in roles or ("beamer" in roles and self.beamer_shows == "all")
-
-    def _changed(self, instrument: Instrument) -> None:
-        """A program halted or runs again, or the venue."""
-        self._show_state(instrument)
-        instrument.touch()
-
-    def state_of(self, instrument: Instrument) -> shown.Json:
-        """What everybody may see of an instrument."""
-        state = shown.state_of(instrument, time.time())
-        return state | ({"halted": self.halted} if self.halted else {})
-
-    def _show_state(self, instrument: Instrument) -> None:
-        """Shows all what everybody may see."""
-        state = self.state_of(instrument)
-        for watcher in self.watchers:
-            if "states" in watcher.topics:
-                watcher.offer(f"state {instrument.terms.name}", state)
-
-    def _shown(self, instrument: Instrument, members: frozenset[str], traded: bool) -> None:
-        """The program has shown something new."""
-        self._show_state(instrument)
-        name = instrument.terms.name
-        for watcher in self.watchers:
-            if watcher.member is None:
-                self._show_book(instrument, watcher, traded)
-            elif watcher.member.name in members:
-                orders = shown.orders_of(instrument, watcher.member.name)
-                watcher.offer(f"orders {name}", orders)
-        if traded:
-            self._show_fills(instrument)
-            self._show_trades(instrument)
-
-    def _show_fills(self, instrument: Instrument) -> None:
-        """Shows each member its fills."""
-        for watcher in self.watchers:
-            if watcher.member is not None and "fills" in watcher.topics:
-                fills = shown.fills_of(instrument, watcher.member.name)
-                watcher.offer(f"fills {instrument.terms.name}", fills)
-
-    def _show_trades(self, instrument: Instrument) -> None:
-        """Shows members the trades, without who made them."""
-        trades = shown.trades_of(instrument, instrument.trades[-shown.MOST_SHOWN :], False)
-        for watcher in self.watchers:
-            if watcher.member is not None and "trades" in watcher.topics:
-                watcher.offer(f"trades {instrument.terms.name}", trades)
-
-    def _show_book(self, instrument: Instrument, watcher: Watcher, is_all: bool) -> None:
-        """Shows the operator, or the beamer as far as the operator lets it, the course and the
-        book; and where there is more of it, who traded with whom.
-        """
-        name = instrument.terms.name
-        watcher.offer(f"course {name}", shown.course_of(instrument))
-        if watcher.role == "operator" or self.beamer_shows == "all":
-            watcher.offer(f"ladder {name}", shown.ladder_of(instrument))
-        if is_all:
-            last = instrument.trades[-shown.MOST_SHOWN :]
-            watcher.offer(f"trades {name}", shown.trades_of(instrument, last, True))
-            watcher.offer(f"efficiency {name}", shown.efficiency_of(instrument))
-
-    def enter(self, watcher: Watcher) -> None:
-        """Somebody has connected, who may do so a few times at once."""
-        own = [it for it in self.watchers if it.member and it.member is watcher.member]
-        if len(own) >= MOST_CONNECTIONS:
-            own[0].leave("too_fast")
-        self.watchers[watcher] = None
-
-    def show_members(self) -> None:
-        """Shows the operator who is there."""
-        found = self.members_shown()
-        for watcher in self.watchers:
-            if watcher.role == "operator":
-                watcher.offer("members", found)
-
-    def members_shown(self) -> shown.Json:
-        """Who is a member, and who is connected."""
-        there = {it.member for it in self.watchers}
-        rows = []
-        for member in self.members.all:
-            values = {
-                name: shown.fills_of(it, member.name) for name, it in self.instruments.items()
-            }
-            of_member: dict[str, Any] = {
-                name: {key: it[key] for key in ("value", "gain")} for name, it in values.items()
-            }
-            rows.append({"name": member.name, "is_here": member in there, "values": of_member})
-        return {"type": "members", "members": rows, "codes": self.members.codes}
-
-    def greet(self, watcher: Watcher) -> None:
-        """Shows somebody who has come what it may see."""
-        for name, instrument in self.instruments.items():
-            if "states" in watcher.topics:
-                watcher.offer(f"state {name}", self.state_of(instrument))
-            if watcher.member is None:
-                self._show_book(instrument, watcher, True)
-                instrument.touch()
-                continue
-            if "orders" in watcher.topics:
-                watcher.offer(f"orders {name}", shown.orders_of(instrument, watcher.member.name))
-                instrument.touch([watcher.member.name])
-            if "fills" in watcher.topics:
-                watcher.offer(f"fills {name}", shown.fills_of(instrument, watcher.member.name))
-            if "trades" in watcher.topics:
-                trades = instrument.trades[-shown.MOST_SHOWN :]
-                watcher.offer(f"trades {name}", shown.trades_of(instrument, trades, False))
-        if watcher.member is None:
-            code = self.members.codes.get("", "")
-            watcher.offer("beamer", {"type": "beamer", "shows": self.beamer_shows, "code": code})
-        self.show_members()
-
-
-def secret_of(folder: pathlib.Path, role: str) -> str:
-    """The token of a role, which a file of the folder keeps, readable by its owner alone. Raises
-    OSError.
-    """
-    path = folder / f"{role}.token"
-    with contextlib.suppress(FileNotFoundError):
-        return path.read_text(encoding="ascii").strip()
-    found = secrets.token_urlsafe(24)
-    temporary = folder / f"{role}.token.new"
-    temporary.unlink(missing_ok=True)
-    temporary.touch(mode=0o600, exist_ok=False)
-    temporary.write_text(f"{found}\n", encoding="ascii")
-    temporary.rename(path)
-    return found
+    def show_all(self) -> None:
+        """Shows everybody everything."""
+        for watcher in [*self.watchers]:
+            watcher.offer("welcome", self.welcome_of(watcher))
+            self.greet(watcher)
 
 
 def runs_of(lines: Iterable[Line]) -> dict[str, list[Run]]:
@@ -384,8 +768,19 @@ def runs_of(lines: Iterable[Line]) -> dict[str, list[Run]]:
         if line["kind"] == "start":
             found.setdefault(line["instrument"], []).append(Run(line["entries"]))
         elif line["kind"] == "sent":
-            message = Message(line["member"], line["number"], line["record"])
-            found[line["instrument"]][-1].messages.append(message)
+            with taking(line):
+                note = dict(line.get("note", {}))
+                message = Message(line["member"], line["number"], line["record"], note=note)
+                found[line["instrument"]][-1].messages.append(message)
+    return found
+
+
+def mark_of(lines: Iterable[Line]) -> Mark:
+    """The last mark of a journal that its lines of the log have."""
+    found = Mark()
+    for line in lines:
+        if line["kind"] in ("start", "mark"):
+            found = Mark(line["entries"], line.get("sha256", ""))
     return found
 
 
@@ -394,9 +789,12 @@ def replay_instrument(instrument: Instrument, line: Line) -> None:
     if line["kind"] == "number":
         instrument.give_number(line["member"], line["number"])
     elif line["kind"] == "phase":
-        instrument.replay_phase(State.of(line))
+        instrument.replay_phase(State.of(line), line.get("began"))
     elif line["kind"] == "point":
         instrument.replay_point(Point.of(line))
-    elif line["kind"] == "value":
-        value = Value(line["side"], line["tick"], line["quantity"])
-        instrument.values[line["member"]] = Given(value, line["since"])
+    elif line["kind"] == "values":
+        instrument.replay_values(line)
+    elif line["kind"] == "left":
+        instrument.accounts.leave(line["member"])
+    elif line["kind"] == "back":
+        instrument.accounts.come_back(line["member"])

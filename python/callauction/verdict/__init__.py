@@ -7,16 +7,17 @@
     for finding in verdict.findings:
         print(verdict.explain(finding), verdict.queue(finding), sep="\\n")
 
-Lawful values are the proved program's; they are compared with the recorded ones by a join of two
-tables. No library for C is needed. docs/AUDIT.md has what is judged and what lawful means.
+Lawful values are those of the proved library, or of the proved program where the library isn't
+there. docs/AUDIT.md has what is judged, what lawful means, and what leaves a finding in doubt.
 """
-from callauction.verdict.audits import audit_auction, audit_events
+from callauction.verdict.audits import audit_events
 from callauction.verdict.columns import ColumnError, refuse_unknown
 from callauction.verdict.coverage import Coverage
-from callauction.verdict.events import BadRow
 from callauction.verdict.findings import Finding, Verdict
 from callauction.verdict.instruments import audit_instruments
+from callauction.verdict.one_auction import audit_auction
 from callauction.verdict.reading import ExtractError, Reading, Table, read_table
+from callauction.verdict.rows import BadRow
 
 __all__ = [
     "BadRow",

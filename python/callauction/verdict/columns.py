@@ -3,8 +3,10 @@ import difflib
 import re
 from collections.abc import Collection, Iterable, Mapping
 
+EVENTS = ("new", "replace", "cancel", "uncross", "trade", "fill", "bust")
+"""The kinds of rows; `bust` takes out a trade that has its orders and its shares."""
 EVENT_COLUMNS = {
-    "event": "new, replace, cancel, uncross, trade or fill",
+    "event": f"{', '.join(EVENTS[:-1])} or {EVENTS[-1]}",
     "order": "the order's id",
     "member": "who sent it",
     "side": "bid or buy, ask or sell; in a row uncross the side of the surplus",
@@ -16,7 +18,7 @@ EVENT_COLUMNS = {
     "sequence": "the order of rows that have one time",
     "new_order": "the id that the order has after a replace",
     "kept": "true or false: whether a replace kept the place in time",
-    "auction": "opening, intraday, closing or interrupted",
+    "auction": "opening, intraday, closing or interrupted; of trades continuous too",
     "volume": "in a row uncross: what was executed, as quantity",
     "surplus": "in a row uncross: shares that were left at the price",
     "trades": "in a row uncross: how many trades were made",
@@ -124,20 +126,41 @@ def refuse_unknown(
         )
 
 
-def renamed(found: Iterable[object], columns: Mapping[str, str]) -> dict[object, str]:
-    """By each column that a mapping of our names to theirs names, our name. Raises ColumnError for
-    a name of ours that isn't one, or one of theirs that the table hasn't, or two of ours for one.
+def kinds_of(columns: Mapping[str, str]) -> dict[str, dict[str, str]]:
+    """By our name of a column that has others for some kinds of rows these by their kinds, as
+    `trade.price=LastPx` says.
     """
-    names = [*found]
-    for ours, theirs in columns.items():
-        if ours not in EVENT_COLUMNS:
+    found: dict[str, dict[str, str]] = {}
+    for name, theirs in columns.items():
+        kind, sign, ours = name.partition(".")
+        if sign and kind in EVENTS and ours != "event":
+            found.setdefault(ours, {})[kind] = theirs
+    return found
+
+
+def _refuse_unmapped(names: Collection[object], columns: Mapping[str, str]) -> None:
+    """Raises ColumnError for a name of ours that isn't one, or one of theirs that isn't there."""
+    kinds = kinds_of(columns)
+    for name, theirs in columns.items():
+        kind, _, ours = name.rpartition(".")
+        if ours not in EVENT_COLUMNS or kind and kind not in kinds.get(ours, {}):
             guess = likely(ours, EVENT_COLUMNS)
             hint = f" (is it {guess}?)" if guess else ""
-            raise ColumnError(f"columns: there is no column {ours!r}{hint} to map {theirs!r} to")
-        if theirs not in names:
+            raise ColumnError(f"columns: there is no column {name!r}{hint} to map {theirs!r} to")
+        if theirs not in names and not (kind and not theirs):
             guess = likely(theirs, [str(name) for name in names])
             hint = f" (is it {guess!r}?)" if guess else ""
             raise ColumnError(f"columns: the table has no column {theirs!r}{hint}")
+
+
+def renamed(found: Iterable[object], columns: Mapping[str, str]) -> dict[object, str]:
+    """By each column that a mapping of our names to theirs names, our name, but for those of a
+    kind. Raises ColumnError for a name of ours that isn't one, or one of theirs that the table
+    hasn't, or two of ours for one.
+    """
+    names = [*found]
+    _refuse_unmapped(names, columns)
+    columns = {ours: theirs for ours, theirs in columns.items() if "." not in ours}
     made: dict[object, str] = {theirs: ours for ours, theirs in columns.items()}
     if len(made) < len(columns):
         raise ColumnError("columns: two columns are mapped to one of the table")

@@ -1,319 +1,397 @@
-"""What was published of an auction beside what the rules give: item by item, and a join of the
-recorded trades with the lawful ones.
+"""What was published of an auction beside what the rules give: its items, each order's shares, and,
+apart from these, who traded with whom.
 """
 import dataclasses
-from collections.abc import Callable, Iterable
-from decimal import Decimal
-from typing import Any
+from collections.abc import Iterable
 
-import pandas
+import numpy
 
-from callauction.verdict.events import INTERRUPTED, Filled, NoPrice, Published, Traded
-from callauction.verdict.replay import Result
+from callauction.verdict.cells import Codes, Ints, Mask
+from callauction.verdict.phases import Result, Sums, sums
+from callauction.verdict.rows import MISSING, NO_PRICE, SIDES, STATES, STOPPED, Rows
 
-Stamp = str | int | None
-ITEMS = ("price", "volume", "surplus", "side", "auction", "count", "trade")
-"""What is judged of an auction, in the order in which the coverage has it."""
 FILL = "fill"
-"""The item beside these of an extract with fills by order."""
+"""The item of an order's shares."""
 PRIORITY = "priority"
-"""The item beside these of an extract that says whether a replace kept its place."""
-
-
-@dataclasses.dataclass(frozen=True, slots=True)
-class Difference:
-    """A recorded value of an item that isn't the lawful one; `rows` are the rows that record it,
-    `orders` the keys of the orders that it is of. `recorded` and `lawful` are None where there is
-    no such trade or fill.
-    """
-
-    item: str
-    recorded: "Value"
-    lawful: "Value"
-    rows: tuple[object, ...] = ()
-    orders: tuple[str, ...] = ()
-    stamp: Stamp = None
-    """What the row of a trade itself says of its auction: the auction's name, the number of the
-    uncross that is nearest in time, or nothing.
-    """
+"""The item of an extract that says whether a replace kept its place."""
+NAMED = 100
+"""The stamp of a trade that names its auction is this and the auction's number; else it is the
+number of the uncross nearest in time, or MISSING.
+"""
 
 
 @dataclasses.dataclass(frozen=True, slots=True)
 class Trade:
-    """A trade as it is compared: the keys of both orders, shares, its price and the members, which
-    are None and empty where they weren't recorded.
-    """
+    """Shares of a bid and an ask, by their keys, and the number of their price."""
 
-    bid: str
-    ask: str
+    bid: int
+    ask: int
     quantity: int
-    price: Decimal | None = None
-    bid_member: str = ""
-    ask_member: str = ""
+    price: int = MISSING
 
 
 @dataclasses.dataclass(frozen=True, slots=True)
 class Fill:
-    """The shares of an order that were executed in an auction, and the price of them."""
+    """The shares of an order, by its key, and the number of their price."""
 
-    order: str
+    order: int
     quantity: int
-    price: Decimal | None = None
+    price: int = MISSING
 
 
-Value = Trade | Fill | Decimal | NoPrice | int | str | None
-"""A recorded or a lawful value of an item."""
+Value = Trade | Fill | int | str | None
+
+
+@dataclasses.dataclass(frozen=True)
+class Difference:
+    """A recorded value of an item that isn't the lawful one: None where there is no such trade or
+    fill. `places` are the rows that record it, `keys` the orders that it is of. `doubt` says why it
+    isn't certain, empty where it is; `rule` the rule, where that isn't the item's own.
+    """
+
+    item: str
+    recorded: Value
+    lawful: Value
+    places: tuple[int, ...] = ()
+    keys: tuple[int, ...] = ()
+    stamp: int | None = None
+    doubt: str = ""
+    rule: str = ""
+
+
+def doubted(differences: Iterable[Difference], why: str) -> tuple[Difference, ...]:
+    """These differences, in doubt for this reason where they have none."""
+    return tuple(dataclasses.replace(each, doubt=each.doubt or why) for each in differences)
+
+
+@dataclasses.dataclass(frozen=True)
+class Compared:
+    """The trades of an auction compared: what differs, and how many lawful pairs were recorded as
+    they are.
+    """
+
+    differences: list[Difference]
+    pairs: int
 
 
 # ---- items
 
 
-def compared_items(published: Published, result: Result) -> dict[str, Difference | None]:
-    """The items that were published, each with how it differs from the lawful one. One fault is one
-    difference: what follows from a price where there is none, or from none where there is one, is
-    not listed again.
+def compared_items(
+    rows: Rows, place: int, result: Result, word: int
+) -> dict[str, Difference | None]:
+    """The items that were published at a row, each with how it differs from the lawful one; `word`
+    is the lawful one of `auction`. One fault is one difference: what follows from a price where
+    there is none, or from none where there is one, isn't listed again. Without a lawful price the
+    rules give no surplus and no side.
     """
     found: dict[str, Difference | None] = {}
-    row = (published.row.label,)
-    has_price = result.price is not None
-    is_whole = (published.price is None) or (isinstance(published.price, NoPrice) != has_price)
-    if published.auction is not None:
-        is_good = published.auction == result.word
-        found["auction"] = (
-            None if is_good else Difference("auction", published.auction, result.word, row)
-        )
-    if published.price is not None:
-        recorded = None if isinstance(published.price, NoPrice) else published.price
-        is_good = recorded == result.price
-        found["price"] = (
-            None if is_good else Difference("price", published.price, result.price, row)
-        )
-    lawful = {"volume": result.volume, "surplus": result.surplus, "count": len(result.trades)}
-    recorded_numbers = {
-        "volume": published.volume,
-        "surplus": published.surplus,
-        "count": published.trades,
-    }
-    if published.auction == INTERRUPTED or result.is_interrupted:
-        del recorded_numbers["count"]
-    for item, number in recorded_numbers.items():
-        if number is not None:
-            is_good = number == lawful[item] or not (is_whole or number)
-            is_good |= not has_price and not is_whole
-            found[item] = None if is_good else Difference(item, number, lawful[item], row)
-    found |= _side(published, result, found.get("surplus"), is_whole)
-    return found
+    price, state = int(rows.price[place]), int(rows.state[place])
+    is_priced = result.price is not None
+    is_same_kind = price == MISSING or (price == NO_PRICE) != is_priced
+    if state > 0:
+        found["auction"] = _item("auction", STATES[state], STATES[word], place)
+    if price != MISSING:
+        due = NO_PRICE if result.price is None else result.price
+        found["price"] = _item("price", price, due, place)
+    lawful = {"volume": result.volume, "surplus": result.surplus, "count": len(result.quantity)}
+    arrays = {"volume": rows.quantity, "surplus": rows.surplus, "count": rows.count}
+    for item, array in arrays.items():
+        number = int(array[place])
+        if item == "count" and STOPPED in (state, word):
+            if state == word and number > 0:
+                found[item] = Difference(item, number, 0, (place,))
+            continue
+        if number < 0:
+            continue
+        follows = not is_same_kind and (not number or not is_priced)
+        follows |= item == "surplus" and not is_priced
+        found[item] = None if follows else _item(item, number, lawful[item], place)
+    return found | _side(rows, place, result, is_same_kind, found.get("surplus"))
+
+
+def _item(item: str, recorded: Value, lawful: Value, place: int) -> Difference | None:
+    return None if recorded == lawful else Difference(item, recorded, lawful, (place,))
 
 
 def _side(
-    published: Published, result: Result, surplus: Difference | None, is_whole: bool
+    rows: Rows, place: int, result: Result, is_same_kind: bool, surplus: Difference | None
 ) -> dict[str, Difference | None]:
     """The side of the surplus, where it was published; without a surplus it is `none`."""
-    recorded = published.side
-    if result.price is None or not is_whole:
-        return {} if recorded is None and published.surplus != 0 else {"side": None}
-    if recorded is None:
-        return {"side": None} if published.surplus == 0 else {}
-    follows = surplus is not None and "none" in (recorded, result.side)
-    if recorded == result.side or follows:
-        return {"side": None}
-    return {"side": Difference("side", recorded, result.side, (published.row.label,))}
+    side, is_zero = int(rows.side[place]), rows.surplus[place] == 0
+    if side < 0 or result.price is None or not is_same_kind:
+        return {"side": None} if side >= 0 or is_zero else {}
+    follows = surplus is not None and 0 in (side, result.side)
+    return {"side": None if follows else _item("side", SIDES[side], SIDES[result.side], place)}
 
 
-# ---- trades and fills
+# ---- trades
 
 
 def compared_trades(
-    traded: Iterable[Traded],
-    lawful: Iterable[Trade],
-    key_of: Callable[[str], str],
-    stamp_of: Callable[[Traded], Stamp],
-    allowed: Decimal | None,
-) -> list[Difference]:
-    """How the recorded trades of an auction differ from the lawful ones, as sets: each that is
-    missing, extra or different, once. Records of one pair of orders count together. `allowed` is a
-    price that is passed over beside the lawful one, since it was found to be wrong before.
+    rows: Rows, these: Ints, result: Result, owners: Ints, allowed: int, stamps: Ints
+) -> Compared:
+    """How these rows of trades differ from the lawful ones. `owners` has each order's member;
+    `allowed` is a price that is passed over, since it was found to be wrong before.
     """
-    there = _recorded_trades(traded, key_of, stamp_of)
-    here = pandas.DataFrame(
-        [(it.bid, it.ask, it) for it in lawful], columns=["bid", "ask", "lawful"]
-    )
-    joined = here.merge(there, "outer", ["bid", "ask"], indicator="where")
-    both = [
-        row
-        for row in joined[joined["where"] == "both"].itertuples()
-        if _is_other(row.recorded, row.lawful, row.prices, allowed)
-    ]
-    pairs = [(row.lawful, row.recorded) for row in both]
-    whole = _all_at_one_price(pairs, [label for row in both for label in row.rows], len(here))
-    found = [_trade_difference(row.lawful, row.recorded, row.rows, row.stamp) for row in both]
-    found = found if whole is None else [whole]
-    for row in joined[joined["where"] != "both"].itertuples():
-        is_missing = row.where == "left_only"
-        found.append(
-            _trade_difference(row.lawful, None, (), None)
-            if is_missing
-            else _trade_difference(None, row.recorded, row.rows, row.stamp)
-        )
+    many = int(max(rows.bid[these].max(initial=0), rows.ask[these].max(initial=0), len(owners))) + 1
+    pair = rows.bid[these].astype("i8") * many + rows.ask[these]
+    recorded = sums(pair, rows.quantity[these])
+    lawful = sums(result.bid.astype("i8") * many + result.ask, result.quantity)
+    odd = _at_other_prices(rows, these, result, allowed) | _of_others(rows, these, owners)
+    if recorded.agrees(lawful) and not odd.any():
+        return Compared([], len(lawful.keys))
+    has_others = bool(_of_others(rows, these, owners).any())
+    return _Trades(
+        rows, these, result, many, recorded.by_key(), lawful.by_key(), {*pair[odd].tolist()}, pair,
+        stamps, has_others,
+    ).compared()  # fmt: skip
+
+
+def _at_other_prices(rows: Rows, these: Ints, result: Result, allowed: int) -> Mask:
+    """Which of these rows have another price than the lawful one."""
+    price = MISSING if result.price is None else result.price
+    found: Mask = ~numpy.isin(rows.price[these], [price, allowed, MISSING])
     return found
 
 
-def _recorded_trades(
-    traded: Iterable[Traded], key_of: Callable[[str], str], stamp_of: Callable[[Traded], Stamp]
-) -> pandas.DataFrame:
-    """The recorded trades by the pair of orders, the shares of one pair added."""
-    columns = ["bid", "ask", "recorded", "rows", "prices", "stamp"]
-    pairs: dict[tuple[str, str], list[Traded]] = {}
-    for each in traded:
-        pairs.setdefault((key_of(each.bid), key_of(each.ask)), []).append(each)
-    rows = []
-    for (bid, ask), those in pairs.items():
-        prices = {each.price for each in those} - {None}
-        members = [
-            next((name for each in those if (name := getattr(each, column))), "")
-            for column in ("bid_member", "ask_member")
-        ]
-        quantity = sum(each.quantity for each in those)
-        trade = Trade(bid, ask, quantity, those[0].price, *members)
-        labels = tuple(each.row.label for each in those)
-        rows.append((bid, ask, trade, labels, prices, stamp_of(those[0])))
-    return pandas.DataFrame(rows, columns=columns, dtype="object")
+def _of_others(rows: Rows, these: Ints, owners: Ints) -> Mask:
+    """Which of these trades have another member than the order's."""
+    found = numpy.zeros(len(these), bool)
+    for keys, members in ((rows.bid, rows.bid_member), (rows.ask, rows.ask_member)):
+        owner, member = owners[keys[these]], members[these]
+        found |= (member != MISSING) & (owner >= 0) & (member != owner)
+    return found
 
 
-def _is_other(
-    recorded: Trade, lawful: Trade, prices: set[Decimal], allowed: Decimal | None
-) -> bool:
-    """Whether a recorded trade of a lawful pair is another than the lawful one."""
-    members = ((recorded.bid_member, lawful.bid_member), (recorded.ask_member, lawful.ask_member))
-    return (
-        recorded.quantity != lawful.quantity
-        or bool(prices - {lawful.price, allowed})
-        or any(name and name != owner for name, owner in members)
-    )
-
-
-def _trade_difference(
-    lawful: Trade | None, recorded: Trade | None, rows: tuple[object, ...], stamp: Stamp
-) -> Difference:
-    trades = [trade for trade in (recorded, lawful) if trade is not None]
-    orders = dict.fromkeys(order for trade in trades for order in (trade.bid, trade.ask))
-    return Difference("trade", recorded, lawful, rows, tuple(orders), stamp)
-
-
-def _all_at_one_price(
-    different: list[tuple[Trade, Trade]], rows: list[object], count: int
-) -> Difference | None:
-    """One difference for all of an auction's trades, where they were recorded at one other price
-    and are lawful else. `count` is how many the auction has.
+@dataclasses.dataclass(frozen=True)
+class _Trades:
+    """Trades by the pair of their orders: the recorded shares and the lawful ones, and the pairs
+    with another price or member.
     """
-    prices = {recorded.price for _, recorded in different}
-    is_price = all(
-        not _is_other(recorded, lawful, set(), None) and recorded.price != lawful.price
-        for lawful, recorded in different
-    )
-    if len(different) < 2 or len(different) < count or len(prices) > 1 or not is_price:
-        return None
-    orders = dict.fromkeys(key for it, _ in different for key in (it.bid, it.ask))
-    first, other = different[0]
-    recorded = f"{len(different)} trades at {other.price}"
-    return Difference("trade", recorded, f"at {first.price}", tuple(rows), tuple(orders))
+
+    rows: Rows
+    these: Ints
+    result: Result
+    many: int
+    recorded: dict[int, int]
+    lawful: dict[int, int]
+    odd: set[int]
+    pair: Ints
+    stamps: Ints
+    has_others: bool
+
+    def compared(self) -> Compared:
+        """What differs: each pair of orders once, or each order, whichever are fewer; where each
+        order's shares are right, the prices and the members alone.
+        """
+        rows, these, result = self.rows, self.these, self.result
+        filled = self._shares(rows.bid[these], rows.ask[these], rows.quantity[these])
+        due = self._shares(result.bid, result.ask, result.quantity)
+        is_right = filled.agrees(due)
+        same = sum(self.recorded.get(it) == shares for it, shares in self.lawful.items())
+        places = self._places()
+        if is_right:
+            both = [it for it in self.recorded if it in self.odd]
+            return Compared(self._both(both, places), same)
+        both = [
+            it for it, shares in self.lawful.items()
+            if it in self.recorded and (self.recorded[it] != shares or it in self.odd)
+        ]  # fmt: skip
+        found = paired([*self._both(both, places), *self._alone(places)])
+        shares = filled.by_key(), due.by_key()
+        places_of = self._places_by_order(*shares)
+        by_order = paired(compared_shares(rows, *shares, self._price, places_of, self.many))
+        return Compared(by_order if len(by_order) < len(found) else found, same)
+
+    def _shares(self, bid: Codes, ask: Codes, quantity: Ints) -> Sums:
+        """The shares of each order, by its key, to which `many` is added on the side of asks."""
+        keys = numpy.concatenate([bid, ask.astype("i8") + self.many])
+        return sums(keys, numpy.tile(quantity, 2))
+
+    def _places(self) -> dict[int, list[int]]:
+        """The rows of each pair that differs."""
+        found: dict[int, list[int]] = {}
+        for pair, place in zip(self.pair.tolist(), self.these.tolist()):
+            if pair in self.odd or self.recorded[pair] != self.lawful.get(pair):
+                found.setdefault(pair, []).append(place)
+        return found
+
+    def _both(self, pairs: list[int], places: dict[int, list[int]]) -> list[Difference]:
+        """The differences of pairs that are recorded and, but for the pairing, lawful; one for all
+        of an auction's trades where they were recorded at one other price and are lawful else.
+        """
+        prices, lawful = self.rows.prices, self._price
+        at = {int(self.rows.price[place]) for pair in pairs for place in places[pair]}
+        is_price = all(self.recorded[it] == self.lawful.get(it) for it in pairs)
+        if len(pairs) > 1 and len(pairs) == len(self.lawful) and len(at) == 1 and is_price:
+            if not self.has_others and lawful >= 0:
+                spots = tuple(place for it in pairs for place in places[it])
+                keys = dict.fromkeys(key for it in pairs for key in divmod(it, self.many))
+                text = f"{len(pairs)} trades at {prices[at.pop()]}"
+                whole = Difference("trade", text, f"at {prices[lawful]}", spots, (*keys,))
+                return [whole]
+        found = []
+        for it in pairs:
+            spots = tuple(places[it])
+            other = _recorded_price(self.rows, spots, lawful)
+            one, due = self.recorded[it], self.lawful.get(it, self.recorded[it])
+            found.append(self._difference(it, spots, (one, other), (due, lawful)))
+        return found
+
+    def _alone(self, places: dict[int, list[int]]) -> list[Difference]:
+        """The differences of pairs that are missing, and of those that are extra."""
+        missing = [
+            self._difference(it, (), None, (shares, self._price))
+            for it, shares in self.lawful.items()
+            if it not in self.recorded
+        ]
+        extra = [
+            self._difference(it, tuple(places[it]), (shares, int(self.rows.price[places[it][0]])))
+            for it, shares in self.recorded.items()
+            if it not in self.lawful
+        ]
+        return [*missing, *extra]
+
+    def _difference(
+        self, pair: int, places: tuple[int, ...], recorded: tuple[int, int] | None,
+        lawful: tuple[int, int] | None = None,
+    ) -> Difference:  # fmt: skip
+        bid, ask = divmod(pair, self.many)
+        one, due = (None if it is None else Trade(bid, ask, *it) for it in (recorded, lawful))
+        stamp = int(self.stamps[places[0]]) if places else None
+        return Difference("trade", one, due, places, (bid, ask), stamp)
+
+    @property
+    def _price(self) -> int:
+        return MISSING if self.result.price is None else self.result.price
+
+    def _places_by_order(self, done: dict[int, int], due: dict[int, int]) -> dict[int, list[int]]:
+        """The rows of each order whose shares aren't the lawful ones."""
+        wrong = [key for key, shares in done.items() if due.get(key) != shares]
+        found: dict[int, list[int]] = {}
+        for keys, more in ((self.rows.bid, 0), (self.rows.ask, self.many)):
+            own = keys[self.these] + more
+            at = numpy.isin(own, wrong)
+            for key, place in zip(own[at].tolist(), self.these[at].tolist()):
+                found.setdefault(key, []).append(place)
+        return found
+
+
+# ---- fills
+
+
+def compared_fills(
+    rows: Rows, these: Ints, result: Result, allowed: int, stamps: Ints
+) -> list[Difference]:
+    """How these rows with an order's shares differ from the lawful fills."""
+    filled = sums(rows.key[these], rows.quantity[these])
+    odd = these[_at_other_prices(rows, these, result, allowed)]
+    if filled.agrees(result.fills) and not len(odd):
+        return []
+    places: dict[int, list[int]] = {}
+    for key, place in zip(rows.key[these].tolist(), these.tolist()):
+        places.setdefault(key, []).append(place)
+    price = MISSING if result.price is None else result.price
+    found = compared_shares(rows, filled.by_key(), result.fills.by_key(), price, places)
+    named = {each.keys[0] for each in found}
+    at = {int(rows.key[place]): place for place in odd[::-1].tolist()}
+    for key, place in at.items():
+        if key not in named:
+            shares = int(rows.quantity[place])
+            one, due = Fill(key, shares, int(rows.price[place])), Fill(key, shares, price)
+            found.append(Difference(FILL, one, due, (place,), (key,)))
+    found = [
+        dataclasses.replace(it, stamp=int(stamps[it.places[0]])) if it.places else it
+        for it in found
+    ]
+    return paired(found)
+
+
+def compared_shares(
+    rows: Rows, done: dict[int, int], due: dict[int, int], price: int,
+    places: dict[int, list[int]], many: int = 2**62,
+) -> list[Difference]:  # fmt: skip
+    """Where the shares of an order aren't the lawful ones; an order's key is the rest by `many`."""
+    found = []
+    for each in dict.fromkeys([*due, *done]):
+        if due.get(each) != done.get(each):
+            key, spots = each % many, tuple(places.get(each, ()))
+            at = _recorded_price(rows, spots, price)
+            one = Fill(key, done[each], at) if each in done else None
+            other = Fill(key, due[each], price) if each in due else None
+            found.append(Difference(FILL, one, other, spots, (key,)))
+    return found
+
+
+def _recorded_price(rows: Rows, places: tuple[int, ...], lawful: int) -> int:
+    """The price of these rows, of several one that isn't lawful; MISSING for none."""
+    priced = {int(rows.price[place]) for place in places} - {MISSING}
+    return min(priced - {lawful}, default=lawful if priced else MISSING)
+
+
+# ---- differences that are one
 
 
 def paired(differences: Iterable[Difference]) -> list[Difference]:
     """The same differences, a missing and an extra trade of as many shares that share an order, or
     a missing and an extra fill of as many shares, being one that is different.
     """
-    found: dict[int, Difference] = dict(enumerate(differences))
-    missing: dict[Mark, list[int]] = {}
-    for place, each in found.items():
+    found = dict(enumerate(differences))
+    missing: dict[object, list[int]] = {}
+    for number, each in found.items():
         for mark in _marks(each.lawful) if each.recorded is None else ():
-            missing.setdefault(mark, []).append(place)
-    extra = [place for place, each in found.items() if each.lawful is None]
-    for place in extra:
-        each = found[place]
+            missing.setdefault(mark, []).append(number)
+    for number in [number for number, each in found.items() if each.lawful is None]:
+        each = found[number]
         near = (it for mark in _marks(each.recorded) for it in missing.get(mark, ()) if it in found)
         other = next(near, None)
         if other is not None:
             gap = found.pop(other)
-            orders = tuple(dict.fromkeys([*each.orders, *gap.orders]))
-            found[place] = dataclasses.replace(each, lawful=gap.lawful, orders=orders)
+            keys = tuple(dict.fromkeys([*each.keys, *gap.keys]))
+            found[number] = dataclasses.replace(each, lawful=gap.lawful, keys=keys)
     return [*found.values()]
 
 
-Mark = tuple[str, str, int]
-"""What two trades or fills have in common that are one with another order."""
-
-
-def _marks(value: "Value") -> tuple[Mark, ...]:
-    """The marks of a trade or a fill; none of another value."""
+def _marks(value: Value) -> tuple[object, ...]:
+    """By what a missing trade or fill is found to be the other of an extra one."""
     if isinstance(value, Fill):
-        return (("fill", "", value.quantity),)
+        return ((FILL, value.quantity),)
     if isinstance(value, Trade):
         return (("bid", value.bid, value.quantity), ("ask", value.ask, value.quantity))
     return ()
 
 
-def compared_fills(
-    filled: Iterable[Filled],
-    lawful: dict[str, int],
-    key_of: Callable[[str], str],
-    stamp_of: Callable[[Filled], Stamp],
-    prices: tuple[Decimal | None, Decimal | None],
-) -> list[Difference]:
-    """How the recorded fills of an auction differ from the lawful ones, by order. `prices` are the
-    lawful one and one that is passed over, since it was found to be wrong before.
+def reconciled(
+    uncrosses: list[tuple[Difference, ...]], auctions: list[int]
+) -> list[list[Difference]]:
+    """The differences of each uncross, a trade that is missing in one auction and extra in another
+    being one where its row says the auction, and none where only its place among the rows does.
     """
-    price = prices[0]
-    there = _recorded_fills(filled, key_of, stamp_of, {None, *prices})
-    here = pandas.DataFrame([*lawful.items()], columns=["order", "lawful"])
-    joined = here.merge(there, "outer", "order", indicator="where")
-    both = joined[joined["where"] == "both"]
-    found = [
-        _fill_difference(row, next(iter(row.prices), price), price)
-        for row in both.itertuples()
-        if row.recorded != row.lawful or row.prices
-    ]
-    for row in joined[joined["where"] == "left_only"].itertuples():
-        fill = Fill(row.order, int(row.lawful), price)
-        found.append(Difference(FILL, None, fill, (), (row.order,)))
-    for row in joined[joined["where"] == "right_only"].itertuples():
-        fill = Fill(row.order, int(row.recorded), next(iter(row.prices), price))
-        found.append(Difference(FILL, fill, None, row.rows, (row.order,), row.stamp))
-    return found
+    missing = {
+        _pair(each.lawful): (number, each)
+        for number, those in enumerate(uncrosses)
+        for each in those
+        if each.recorded is None
+    }
+    found = [list(those) for those in uncrosses]
+    for number, those in enumerate(uncrosses):
+        for each in those:
+            if not isinstance(each.recorded, Trade | Fill) or each.lawful is not None:
+                continue
+            other, gap = missing.pop(_pair(each.recorded), (number, None))
+            if gap is None:
+                continue
+            found[other].remove(gap)
+            found[number].remove(each)
+            if each.stamp not in (None, MISSING, other, NAMED + auctions[other]):
+                lawful = STATES[1 + auctions[other]]
+                found[number].append(dataclasses.replace(each, lawful=lawful))
+    return [paired(those) for those in found]
 
 
-def _recorded_fills(
-    filled: Iterable[Filled],
-    key_of: Callable[[str], str],
-    stamp_of: Callable[[Filled], Stamp],
-    allowed: set[Decimal | None],
-) -> pandas.DataFrame:
-    """The recorded fills by order, the shares of one order added, with the prices that aren't
-    allowed.
-    """
-    orders: dict[str, list[Filled]] = {}
-    for each in filled:
-        orders.setdefault(key_of(each.order), []).append(each)
-    rows = [
-        (
-            order,
-            sum(each.quantity for each in those),
-            {each.price for each in those} - allowed,
-            tuple(each.row.label for each in those),
-            stamp_of(those[0]),
-        )
-        for order, those in orders.items()
-    ]
-    columns = ["order", "recorded", "prices", "rows", "stamp"]
-    return pandas.DataFrame(rows, columns=columns, dtype="object")
-
-
-def _fill_difference(row: Any, recorded: Decimal | None, lawful: Decimal | None) -> Difference:
-    return Difference(
-        FILL,
-        Fill(row.order, int(row.recorded), recorded),
-        Fill(row.order, int(row.lawful), lawful),
-        row.rows,
-        (row.order,),
-        row.stamp,
-    )
+def _pair(value: Value) -> object:
+    """What a trade or a fill is, but for its price."""
+    if isinstance(value, Trade):
+        return value.bid, value.ask, value.quantity
+    return (value.order, value.quantity) if isinstance(value, Fill) else None

@@ -1,9 +1,9 @@
 """How much of what the rules give was published and compared."""
 import dataclasses
 
-from callauction.verdict.comparing import FILL, ITEMS
-from callauction.verdict.events import INTERRUPTED
+from callauction.verdict.comparing import FILL, Fill, Trade
 from callauction.verdict.judging import Judged, Judgement
+from callauction.verdict.rows import STOPPED, Rows
 
 PLURALS = {
     "price": "prices",
@@ -16,8 +16,13 @@ PLURALS = {
     FILL: "fills",
 }
 """The names of items in a coverage."""
+ITEMS = ("price", "volume", "surplus", "side", "auction", "count")
 OF_PRICES = ("volume", "surplus", "side")
 """Items that the rules give where there is a price."""
+PAIRINGS = "pairings"
+"""The name of how many trades pair the orders that ours do, where some don't and each order has its
+lawful shares: who trades with whom is chosen, and no law.
+"""
 
 
 @dataclasses.dataclass(frozen=True)
@@ -43,47 +48,49 @@ class Coverage:
         return self.counts[name]
 
 
-def coverage_of(judgement: Judgement) -> Coverage:
+def coverage_of(judgement: Judgement, rows: Rows) -> Coverage:
     """The coverage of a judgement. An auction that is due and in no row gives one of each item but
     trades.
     """
-    judged = [each for each in judgement.uncrosses if each.replayed is not None]
+    judged = [each for each in judgement.uncrosses if each.result is not None]
     missing = judgement.due - len(judged)
     counts = {}
-    for item in ITEMS[:-1]:
+    for item in ITEMS:
         due = [each for each in judged if _is_due(item, each)]
         compared = sum(item in each.items for each in due)
         counts[PLURALS[item]] = compared, len(due) + missing
-    executed = [each for each in judged if _is_executed(each)]
-    recorded = [each for each in executed if each.published.auction != INTERRUPTED]
-    trades = sum(_trades(each) for each in recorded) if judgement.has_trades else 0
-    counts[PLURALS["trade"]] = trades, sum(_trades(each) for each in executed)
+    executed = [each for each in judged if not each.is_interrupted]
+    recorded = [each for each in executed if rows.state[each.place] != STOPPED]
+    trades = sum(map(_trades, recorded)) if judgement.has_trades else 0
+    counts[PLURALS["trade"]] = trades, sum(map(_trades, executed))
     if judgement.has_fills:
-        fills = sum(_fills(each) for each in recorded)
-        counts[PLURALS[FILL]] = fills, sum(_fills(each) for each in executed)
+        counts[PLURALS[FILL]] = sum(map(_fills, recorded)), sum(map(_fills, executed))
+    if judgement.has_trades and any(_is_paired_otherwise(each) for each in recorded):
+        counts[PAIRINGS] = sum(each.pairs for each in recorded), trades
     return Coverage(counts)
 
 
 def _is_due(item: str, judged: Judged) -> bool:
     """Whether the rules give an item at an uncross."""
-    assert judged.replayed is not None
-    has_price = judged.replayed.result.price is not None
+    assert judged.result is not None
+    has_price = judged.result.price is not None
     if item in OF_PRICES:
         return has_price
-    return item != "count" or (has_price and _is_executed(judged))
+    return item != "count" or (has_price and not judged.is_interrupted)
 
 
-def _is_executed(judged: Judged) -> bool:
-    assert judged.replayed is not None
-    return not judged.replayed.result.is_interrupted
+def _is_paired_otherwise(judged: Judged) -> bool:
+    """Whether an auction's trades pair orders otherwise, each with its lawful shares."""
+    differs = any(isinstance(it, Trade | Fill) for each in judged.differences
+                  for it in (each.recorded, each.lawful))  # fmt: skip
+    return not differs and len(judged.traded) > 0 and judged.pairs < _trades(judged)
 
 
 def _trades(judged: Judged) -> int:
-    assert judged.replayed is not None
-    return len(judged.replayed.result.trades)
+    assert judged.result is not None
+    return len(judged.result.bid)
 
 
 def _fills(judged: Judged) -> int:
-    assert judged.replayed is not None
-    trades = judged.replayed.result.trades
-    return int(trades["bid"].nunique() + trades["ask"].nunique())
+    assert judged.result is not None
+    return len(judged.result.fills.keys)

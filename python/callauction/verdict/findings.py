@@ -1,22 +1,27 @@
 """The verdict on what was published: its findings, and how much was compared."""
 import collections
 import dataclasses
-from collections.abc import Iterator
-from decimal import Decimal
+from collections.abc import Iterable, Iterator, Sequence
 
 import pandas
 
 from callauction import statuses
 from callauction.reasons import Explanation
+from callauction.verdict import jumps
 from callauction.verdict.comparing import Difference, Fill, Trade, Value
+from callauction.verdict.context import Context
 from callauction.verdict.coverage import Coverage, coverage_of
-from callauction.verdict.events import BadRow, NoPrice
-from callauction.verdict.explain import Context, book_sentences, rule_of, sentences_of
-from callauction.verdict.judging import Judged, Judgement
-from callauction.verdict.names import Names
+from callauction.verdict.explain import (
+    book_sentences,
+    effect_of,
+    recorded_member,
+    rule_of,
+    sentences_of,
+)
+from callauction.verdict.judging import Judged, Judgement, Rules
 from callauction.verdict.orders import orders_of
 from callauction.verdict.queue import AROUND, queue_of
-from callauction.verdict.replay import Rules
+from callauction.verdict.rows import NO_PRICE, BadRow, Rows
 
 LAWFUL, UNLAWFUL, INCOMPLETE = "lawful", "unlawful", "incomplete"
 STATUSES = {
@@ -36,7 +41,10 @@ NOTHING = {"trade": "no such trade", "fill": "no such fill", "price": "no price"
 class Finding:
     """A published item that isn't the lawful one: the row that has it and its time (those of the
     uncross where a trade is missing), the auction, what was recorded and what is lawful, and the
-    rule in a sentence. All is in the extract's ids, members, times and prices.
+    rule in a sentence. All is in the extract's ids, members, times and prices. `doubt` is why it
+    isn't certain, empty where it is; `effect` what a recorded price would have executed beside the
+    lawful one; `moved` has the other trades or fills that one jumped priority moved, most harm
+    first.
     """
 
     number: int
@@ -49,37 +57,48 @@ class Finding:
     rule: str
     rows: tuple[object, ...] = dataclasses.field(repr=False)
     _of: tuple[Context, Difference] = dataclasses.field(repr=False, compare=False)
+    doubt: str = ""
+    effect: str = ""
+    moved: tuple[str, ...] = ()
 
     def __str__(self) -> str:
         where = ", ".join(filter(None, [f"row {self.row}", self.time, self.auction]))
-        return (
-            f"{where}: {self.item}: recorded {self.recorded}, lawful {self.lawful}: {self.rule}"
-        )
+        found = f"{where}: {self.item}: recorded {self.recorded}, lawful {self.lawful}"
+        if self.doubt:
+            return f"doubtful: {found}: {self.doubt}"
+        return " ".join(filter(None, [f"{found}: {self.rule}", self.effect]))
+
+    def lines(self) -> list[str]:
+        """The line of the finding, and one for each other trade that it moved."""
+        return [str(self), *(f"    {each}" for each in self.moved)]
 
 
 @dataclasses.dataclass(frozen=True)
 class Verdict:
-    """Whether what was published is lawful: `findings` are the items that aren't, `coverage` says
-    how many were compared, `bad_rows` are rows that couldn't be read or that the rules refuse, and
+    """Whether what was published is lawful: `findings` are the items that aren't for certain,
+    `doubtful` those that aren't unless what their reason says is otherwise, `coverage` says how
+    many were compared, `bad_rows` are rows that couldn't be read or that the rules refuse, and
     `notes` counts what else was met.
     """
 
     findings: tuple[Finding, ...]
+    doubtful: tuple[Finding, ...]
     coverage: Coverage
     bad_rows: tuple[BadRow, ...]
     notes: collections.Counter[str]
     judgement: Judgement = dataclasses.field(repr=False)
-    names: Names = dataclasses.field(repr=False)
+    rows: Rows = dataclasses.field(repr=False)
     rules: Rules = dataclasses.field(repr=False)
 
     @property
     def word(self) -> str:
         """`lawful` where all that the rules give was published and compared, and nothing differs;
-        `unlawful` where something does; else `incomplete`.
+        `unlawful` where something does for certain; else `incomplete`.
         """
         if self.findings:
             return UNLAWFUL
-        return LAWFUL if self.coverage.is_complete and not self.bad_rows else INCOMPLETE
+        is_open = self.doubtful or self.bad_rows or self.judgement.doubt
+        return LAWFUL if self.coverage.is_complete and not is_open else INCOMPLETE
 
     @property
     def status(self) -> int:
@@ -95,6 +114,9 @@ class Verdict:
         """Why a finding is one, in sentences with the numbers of its book. Raises ProgramError."""
         context, difference = finding._of
         found = sentences_of(context, difference)
+        found += [finding.effect] * bool(finding.effect)
+        if finding.doubt:
+            found.append(f"In doubt: {finding.doubt}.")
         unread = sum(row.is_order for row in self.bad_rows)
         if unread:
             found.append(
@@ -109,30 +131,45 @@ class Verdict:
         `around` is how many orders are shown before and after.
         """
         context, difference = finding._of
-        return queue_of(context.judged, self.names.keys, difference.orders, around)
+        return queue_of(context, difference.keys, around)
 
     def orders(self) -> pandas.DataFrame:
         """The orders that the rules accept, with what became of each: the columns are
         orders.ORDERS.
         """
-        return orders_of(self.judgement, self.names, self.rules)
+        return orders_of(self.judgement, self.rows, self.rules)
 
     def why(self, judged: Judged) -> Explanation:
         """Why an auction has its lawful price, or none. Raises ProgramError."""
-        return Explanation(book_sentences(Context(judged, self.names, self.rules, False)))
+        return Explanation(book_sentences(Context(judged, self.rows, self.rules)))
 
     def frame(self) -> pandas.DataFrame:
         """The findings as a frame (COLUMNS), under their numbers from 1."""
-        rows = [[getattr(finding, name) for name in COLUMNS] for finding in self.findings]
-        index = pandas.RangeIndex(1, len(rows) + 1, name="finding")
-        return pandas.DataFrame(rows, index, [*COLUMNS])
+        return frame_of(self.findings)
 
     def lines(self) -> list[str]:
         """What the command line prints: a line a finding, how many these are, the coverage, and
         the verdict.
         """
-        found = [str(finding) for finding in self.findings]
-        return [*found, f"findings {len(found)}", *self.coverage.lines(), self.word]
+        found = [line for it in (*self.findings, *self.doubtful) for line in it.lines()]
+        counts = counts_of(len(self.bad_rows), len(self.findings), len(self.doubtful))
+        return [*found, *self.ranges(), *counts, *self.coverage.lines(), self.word]
+
+    def ranges(self) -> list[str]:
+        """From which price to which each uncross isn't interrupted, where a range is a percentage
+        or there are two; in ticks where their size is known.
+        """
+        found, size = list[str](), self.rules.tick_size
+        if self.rules.second is None and (not self.rules.range or not self.rules.range.whole):
+            return found
+        for judged in self.judgement.uncrosses:
+            if judged.result is not None and not judged.is_extended:
+                context = Context(judged, self.rows, self.rules)
+                for span, at in context.ranges:
+                    low, high = (context.price(it) for it in span.bounds(at, size))
+                    of = f"{span} of {context.price(at)}" if span.whole else context.price(at)
+                    found.append(f"range {context.auction}: {low} to {high}, around {of}")
+        return found
 
     def remarks(self) -> list[str]:
         """What the command line prints on standard error: the first bad rows, how many there are,
@@ -150,78 +187,97 @@ class Verdict:
         return f"<Verdict {self.word}: findings {len(self.findings)}, {self.coverage}>"
 
 
-def verdict_of(judgement: Judgement, names: Names, rules: Rules) -> Verdict:
+def counts_of(bad_rows: int, findings: int, doubtful: int) -> list[str]:
+    """How many rows weren't read, where any is, how many findings there are, and how many doubtful
+    ones, where there are any.
+    """
+    unread = [f"rows not read {bad_rows}"] * bool(bad_rows)
+    return [*unread, f"findings {findings}", *[f"doubtful {doubtful}"] * bool(doubtful)]
+
+
+def frame_of(findings: Iterable[Finding]) -> pandas.DataFrame:
+    """Findings as a frame (COLUMNS), under their numbers from 1; a doubtful one has its reason in
+    place of a rule.
+    """
+    rows = [[getattr(finding, name) for name in COLUMNS] for finding in findings]
+    index = pandas.RangeIndex(1, len(rows) + 1, name="finding")
+    return pandas.DataFrame(rows, index, [*COLUMNS])
+
+
+def verdict_of(judgement: Judgement, rows: Rows, rules: Rules) -> Verdict:
     """The verdict of a judgement. Raises ProgramError."""
-    findings = tuple(_findings(judgement, names, rules))
-    coverage = coverage_of(judgement)
-    rows, notes = judgement.bad_rows, judgement.notes
-    return Verdict(findings, coverage, rows, notes, judgement, names, rules)
+    findings = [*_findings(judgement, rows, rules)]
+    certain = tuple(it for it in findings if not it.doubt)
+    doubtful = tuple(it for it in findings if it.doubt)
+    coverage = coverage_of(judgement, rows)
+    bad, notes = judgement.bad_rows, judgement.notes
+    return Verdict(certain, doubtful, coverage, bad, notes, judgement, rows, rules)
 
 
-def _findings(judgement: Judgement, names: Names, rules: Rules) -> Iterator[Finding]:
-    """The findings in the order of their uncrosses."""
-    number, is_extended = 0, False
+def _findings(judgement: Judgement, rows: Rows, rules: Rules) -> Iterator[Finding]:
+    """The findings in the order of their uncrosses, numbered among those of their kind."""
+    numbers: collections.Counter[bool] = collections.Counter()
     for judged in judgement.uncrosses:
-        context = Context(judged, names, rules, is_extended)
-        for difference in judged.differences:
-            number += 1
-            yield _finding(number, context, difference)
-        replayed = judged.replayed
-        is_extended = replayed is not None and replayed.result.is_interrupted
+        context = Context(judged, rows, rules)
+        for those in jumps.grouped(context, judged.differences):
+            is_certain = not those[0].doubt
+            numbers[is_certain] += 1
+            yield _finding(numbers[is_certain], context, those)
 
 
-def _finding(number: int, context: Context, difference: Difference) -> Finding:
-    """A difference as a finding."""
-    row = context.judged.published.row
-    rows = difference.rows or (row.label,)
-    recorded = _shown(context, difference, difference.recorded)
-    lawful = difference.lawful
-    if isinstance(lawful, str) and isinstance(difference.recorded, Trade | Fill):
-        recorded = f"{recorded} in the {context.judged.auction}"
-        lawful = f"in the {lawful}"
+def _finding(number: int, context: Context, those: Sequence[Difference]) -> Finding:
+    """Differences that are one finding, most harm first; a doubtful one has its reason in place of
+    a rule.
+    """
+    first, *others = those
+    whole = jumps.joined(those)
+    recorded, lawful = _both(context, first)
+    labels = [context.rows.labels[place] for place in whole.places] or [context.label]
+    moved = (f"{each.item}: recorded {one}, lawful {other}"
+             for each in others for one, other in [_both(context, each)])  # fmt: skip
     return Finding(
-        number,
-        rows[0],
-        row.time,
-        context.judged.auction,
-        difference.item,
-        recorded,
-        _shown(context, difference, lawful),
-        rule_of(context, difference),
-        rows,
-        (context, difference),
-    )
+        number, labels[0], context.time, context.auction, first.item, recorded, lawful,
+        first.doubt or rule_of(context, whole), (*labels,), (context, whole), first.doubt,
+        effect_of(context, first), (*moved,),
+    )  # fmt: skip
+
+
+def _both(context: Context, difference: Difference) -> tuple[str, str]:
+    """The recorded and the lawful value of a difference."""
+    recorded = _shown(context, difference, difference.recorded)
+    lawful = _shown(context, difference, difference.lawful)
+    if isinstance(difference.lawful, str) and isinstance(difference.recorded, Trade | Fill):
+        return f"{recorded} in the {context.auction}", f"in the {lawful}"
+    return recorded, lawful
 
 
 def _shown(context: Context, difference: Difference, value: Value) -> str:
     """A recorded or a lawful value of an item."""
-    match value:
-        case None:
-            return NOTHING.get(difference.item, "none")
-        case Decimal():
-            return context.price(value)
-        case Trade():
-            return _trade(context, value, difference)
-        case Fill():
-            at = "" if value.price is None else f" at {context.price(value.price)}"
-            return f"{context.order(value.order)} {value.quantity:,}{at}"
-        case int():
-            return f"{value:,}"
-        case NoPrice():
-            return "no price"
-    return str(value)
+    if value is None:
+        return NOTHING.get(difference.item, "none")
+    if isinstance(value, Trade):
+        return _trade(context, value, difference)
+    if isinstance(value, Fill):
+        return f"{context.order(value.order)} {value.quantity:,}{_at(context, value.price)}"
+    if isinstance(value, str):
+        return value
+    if difference.item == "price":
+        return "no price" if value == NO_PRICE else context.price(context.rows.prices[value])
+    return f"{value:,}"
+
+
+def _at(context: Context, price: int) -> str:
+    return f" at {context.price(context.rows.prices[price])}" if price >= 0 else ""
 
 
 def _trade(context: Context, trade: Trade, difference: Difference) -> str:
     """A trade in the extract's names, with its members where these were recorded."""
-    recorded = difference.recorded
-    has_members = isinstance(recorded, Trade) and (recorded.bid_member or recorded.ask_member)
+    recorded = [recorded_member(context, difference, side) for side in ("bid", "ask")]
+    members = recorded
+    if trade is difference.lawful and any(recorded):
+        members = [context.member(trade.bid), context.member(trade.ask)]
     names = [
-        f"{side} {context.order(key)}" + (f" ({member})" if has_members and member else "")
-        for side, key, member in (
-            ("bid", trade.bid, trade.bid_member),
-            ("ask", trade.ask, trade.ask_member),
-        )
+        f"{side} {context.order(key)}" + (f" ({member})" if member else "")
+        for side, key, member in zip(("bid", "ask"), (trade.bid, trade.ask), members)
     ]
-    at = "" if trade.price is None else f" at {context.price(trade.price)}"
-    return f"{' '.join(names)}: {trade.quantity:,}{at}"
+    return f"{' '.join(names)}: {trade.quantity:,}{_at(context, trade.price)}"

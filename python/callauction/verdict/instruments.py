@@ -1,21 +1,31 @@
 """An extract of many instruments: each is judged by itself, on what its own day was opened with."""
-import concurrent.futures
 import dataclasses
+import functools
+import multiprocessing
 import os
-from collections.abc import Iterable, Mapping, Sequence
-from typing import BinaryIO, TypedDict, cast
+from collections.abc import Iterable, Iterator, Mapping, Sequence
+from typing import BinaryIO, NamedTuple, TypedDict, cast
 
+import numpy
 import pandas
 
+from callauction.course import Watch
 from callauction.program import ProgramError
-from callauction.verdict.audits import audit_events
-from callauction.verdict.columns import ColumnError, refuse_unknown
-from callauction.verdict.coverage import PLURALS
-from callauction.verdict.findings import STATUSES, Verdict
-from callauction.verdict.reading import ExtractError, Reading, Table, read_table
+from callauction.verdict.audits import before, judge_rows, rules_of, short_rows
+from callauction.verdict.cells import Codes, Ints, Source
+from callauction.verdict.columns import EVENTS, ColumnError, refuse_unknown
+from callauction.verdict.coverage import PLURALS, Coverage
+from callauction.verdict.events import Columns, rows_of
+from callauction.verdict.findings import INCOMPLETE, STATUSES, Finding, Verdict
+from callauction.verdict.judging import Rules
+from callauction.verdict.reading import ExtractError, Reading, Table, columns_of, read_table
+from callauction.verdict.rows import TRADE, BadRow, Doubt, Rows
 from callauction.words import AUCTIONS
 
-TERMS = ("reference", "tick_size", "range", "low", "high", "auctions")
+TERMS = (
+    "reference", "tick_size", "range", "low", "high", "auctions", "second_reference",
+    "second_range",
+)  # fmt: skip
 """What a day is opened with: the columns of a table of days beside that of the instruments."""
 NO_TICK_SIZE = "none"
 """The tick size of an instrument for which it depends on the price."""
@@ -29,11 +39,34 @@ COLUMNS = (
     "bad_rows",
     "first_finding",
     "fault",
+    "doubtful",
 )
 """The columns of the rows: of each item how many were compared and how many the rules give; the
-line of the first finding, in the extract's ids, times and prices; and why an instrument can't be
-judged.
+line of the first finding, in the extract's ids, times and prices; why an instrument can't be
+judged; and how many findings are doubtful.
 """
+RECORD = (
+    "instrument", "kind", "rows", "time", "auction", "item", "recorded", "lawful", "why", "effect",
+    "moved",
+)  # fmt: skip
+"""The columns of findings: `kind` is `certain` or `doubtful`, `rows` are parted by blanks, `why` is
+the rule, or why a finding is doubtful, `effect` and `moved` (parted by semicolons) are a Finding's.
+"""
+PARTS = 4
+"""How many parts of the instruments each worker is given, one after the other."""
+FEW = 20_000
+"""Rows that aren't worth another process."""
+
+
+Name = tuple[str, ...]
+"""The texts of an instrument's columns."""
+
+
+class Days(NamedTuple):
+    """What the days of instruments were opened with, by the texts of these columns."""
+
+    columns: Name
+    terms: Mapping[Name, Mapping[str, object]]
 
 
 class Terms(TypedDict):
@@ -45,6 +78,8 @@ class Terms(TypedDict):
     low: object
     high: object
     auctions: Sequence[str]
+    second_reference: object
+    second_range: object
 
 
 class TermsError(ValueError):
@@ -52,57 +87,259 @@ class TermsError(ValueError):
 
 
 @dataclasses.dataclass(frozen=True)
-class Instrument:
-    """An instrument of an extract: its name (empty where the extract is of one), its rows, and what
-    its day was opened with.
+class Audited:
+    """The verdict on an instrument (its name is empty where the extract is of one): its word, how
+    many findings are certain and doubtful, the lines of all, the remarks, the coverage, and how
+    many rows are bad. `fault` is why there is no verdict, empty where there is one.
     """
 
     name: str
-    table: Table
-    terms: Mapping[str, object]
+    word: str
+    findings: int = 0
+    doubtful: int = 0
+    lines: tuple[str, ...] = ()
+    remarks: tuple[str, ...] = ()
+    coverage: Coverage = Coverage({})
+    bad_rows: int = 0
+    first: str | None = None
+    fault: str = ""
+    records: tuple[Mapping[str, object], ...] = ()
+    """The findings (RECORD)."""
+    ranges: tuple[str, ...] = ()
 
-    def verdict(self, reading: Reading) -> Verdict:
-        """The verdict on it. Raises TermsError, ValueError and ProgramError."""
-        return audit_events(self.table, reading=reading, **terms_of(self.terms, self.name))
+    def plain(self) -> dict[str, object]:
+        """What a machine reads of it."""
+        counts = {name: [*count] for name, count in self.coverage.counts.items()}
+        return {
+            "instrument": self.name, "verdict": self.word, "findings": self.findings,
+            "doubtful": self.doubtful, "coverage": counts, "bad_rows": self.bad_rows,
+            "remarks": [*self.remarks], "ranges": [*self.ranges], "fault": self.fault,
+        }  # fmt: skip
+
+    def row(self) -> dict[str, object]:
+        """Its row (COLUMNS)."""
+        row: dict[str, object] = {"instrument": self.name, "verdict": self.word}
+        if self.fault:
+            return {**row, "fault": self.fault}
+        for item, (compared, due) in self.coverage.counts.items():
+            row[item], row[f"{item}_due"] = compared, due
+        counts = {"findings": self.findings, "doubtful": self.doubtful, "bad_rows": self.bad_rows}
+        return {**row, **counts, "first_finding": self.first}
 
 
-def instruments_of(
-    table: Table, by: str, days: Mapping[str, Mapping[str, object]], terms: Mapping[str, object]
-) -> list[Instrument]:
-    """The instruments of a table, in the order of their names; `terms` is what a day was opened
-    with where the days have nothing else.
+def audited(name: str, verdict: Verdict, is_explained: bool = False) -> Audited:
+    """The verdict on an instrument in lines. Raises ProgramError."""
+    found = (*verdict.findings, *verdict.doubtful)
+    lines = [line for it in found for line in _lines(verdict, it, is_explained)]
+    first = str(verdict.findings[0]) if verdict.findings else None
+    return Audited(
+        name, verdict.word, len(verdict.findings), len(verdict.doubtful), (*lines,),
+        (*verdict.remarks(),), verdict.coverage, len(verdict.bad_rows), first,
+        records=tuple(_record(name, it) for it in found), ranges=(*verdict.ranges(),),
+    )  # fmt: skip
+
+
+def _record(name: str, finding: Finding) -> Mapping[str, object]:
+    """A finding as a row of a table (RECORD)."""
+    rows = " ".join(map(str, finding.rows))
+    values = (
+        name, "doubtful" if finding.doubt else "certain", rows, finding.time, finding.auction,
+        finding.item, finding.recorded, finding.lawful, finding.rule, finding.effect,
+        "; ".join(finding.moved),
+    )  # fmt: skip
+    return dict(zip(RECORD, values))
+
+
+def _lines(verdict: Verdict, finding: Finding, is_explained: bool) -> Iterator[str]:
+    """The line of a finding, and those of its sentences where these are asked for."""
+    yield from finding.lines()
+    if is_explained:
+        yield from (f"    {sentence}" for sentence in verdict.explain(finding))
+
+
+@dataclasses.dataclass(frozen=True)
+class Market:
+    """The instruments of a table: the number of each row's instrument, below 0 where it has none,
+    their names, and what the day of each was opened with (None where that isn't known, and why).
     """
-    return [
-        Instrument(
-            str(name),
-            dataclasses.replace(table, frame=rows.drop(columns=by)),
-            {**terms, **days.get(str(name), {})},
-        )
-        for name, rows in table.frame.groupby(by, sort=True)
-    ]
+
+    table: Table
+    reading: Reading
+    by: str
+    codes: Codes
+    names: tuple[str, ...]
+    rules: Mapping[str, Rules | str]
+    is_explained: bool = False
+
+    @functools.cached_property
+    def _lost(self) -> Ints:
+        """The rows that have no instrument."""
+        return numpy.flatnonzero(self.codes < 0)
+
+    def one_by_one(self, workers: int | None, watch: Watch = iter) -> Iterator[Audited]:
+        """The verdicts in the order of the names; first what belongs to no instrument."""
+        if len(self._lost):
+            yield Audited("", FAULT, fault=f"{len(self._lost):,} rows have no {self.by}")
+        for name in sorted({*self.rules} - {*self.names}):
+            yield Audited(name, FAULT, fault="it is among the days, and no row is of it")
+        order = sorted(range(len(self.names)), key=self.names.__getitem__)
+        count = workers or os.cpu_count() or 1
+        if count == 1 or len(order) < 2 or len(self.table.source) < FEW:
+            for number in watch(order):
+                yield from self.part([number])
+            return
+        size = -(-len(order) // (PARTS * count))
+        parts = [order[begin : begin + size] for begin in range(0, len(order), size)]
+        _MARKETS.append(self)
+        try:
+            with multiprocessing.get_context("fork").Pool(count) as pool:
+                found = pool.imap(_part, parts)
+                for _ in watch(parts):
+                    yield from next(found)
+        finally:
+            _MARKETS.pop()
+
+    def part(self, numbers: list[int]) -> list[Audited]:
+        """The verdicts on some instruments, whose rows are read at once, or each by itself where
+        they can't be.
+        """
+        try:
+            return [*map(self._audited, numbers, self._rows_of(numbers))]
+        except ExtractError as fault:
+            if len(numbers) == 1:
+                return [Audited(self.names[numbers[0]], FAULT, fault=str(fault))]
+            return [each for number in numbers for each in self.part([number])]
+
+    def _rows_of(self, numbers: list[int]) -> list[Rows]:
+        """The rows of each of some instruments. Raises ExtractError."""
+        wanted = numpy.full(len(self.names) + 1, -1, "i4")
+        wanted[numbers] = numpy.arange(len(numbers))
+        mine = wanted[self.codes]
+        these = numpy.flatnonzero(mine >= 0)
+        given = {
+            price
+            for number in numbers
+            if isinstance(rules := self._rules(number), Rules)
+            for price in rules.prices
+        }
+        rows = rows_of(self.table.take(these), self.reading, given, mine[these])
+        ends = numpy.searchsorted(numpy.sort(mine[these]), numpy.arange(len(numbers) + 1))
+        return [rows.take(int(begin), int(end)) for begin, end in zip(ends, ends[1:])]
+
+    def verdict(self, name: str) -> Verdict:
+        """The verdict on an instrument that can be judged."""
+        rules = self.rules[name]
+        assert isinstance(rules, Rules)
+        return self._judged(self._rows_of([self.names.index(name)])[0], rules)
+
+    def _judged(self, rows: Rows, rules: Rules) -> Verdict:
+        rows.bad += short_rows(self.table, rows, self.reading)
+        rows.bad += self._lost_rows(rows)
+        return judge_rows(rows, rules)
+
+    def _rules(self, number: int) -> Rules | str:
+        return self.rules.get(self.names[number], "it isn't among the days")
+
+    def _audited(self, number: int, rows: Rows) -> Audited:
+        """The verdict on the rows of an instrument."""
+        name, rules = self.names[number], self._rules(number)
+        if isinstance(rules, str):
+            return Audited(name, FAULT, fault=rules)
+        try:
+            return audited(name, self._judged(rows, rules), self.is_explained)
+        except (ValueError, ProgramError) as fault:
+            return Audited(name, FAULT, fault=str(fault))
+
+    def _lost_rows(self, rows: Rows) -> list[BadRow]:
+        """The rows without an instrument, which may be of this one: the first of orders and the
+        first of trades.
+        """
+        lost = self._lost
+        if not len(lost):
+            return []
+        columns = Columns(self.table.source.take(lost), self.table.names, self.reading)
+        kinds = columns.words("event", {word: place for place, word in enumerate(EVENTS)})
+        found = []
+        is_trade, is_known = kinds >= TRADE, kinds >= 0
+        parts = {Doubt.ANY: ~is_known, Doubt.TRADES: is_trade, Doubt.BOOKS: is_known & ~is_trade}
+        for doubt, which in parts.items():
+            those = lost[which]
+            if len(those):
+                label = self.table.source.labels[those[0]]
+                more = f", as {len(those) - 1:,} others have none" if len(those) > 1 else ""
+                at = int(label) if isinstance(label, numpy.integer) else label
+                since = before(at, rows, self.reading)
+                found.append(BadRow(-1, label, f"it has no {self.by}{more}", doubt, since))
+        return found
 
 
-def days_of(
-    source: pandas.DataFrame | str | os.PathLike[str] | None, by: str
-) -> dict[str, dict[str, object]]:
-    """What the day of each instrument was opened with, of a frame or a CSV file. Raises ColumnError
-    and OSError.
+_MARKETS: list[Market] = []
+"""What the processes that are forked work on: its cells are in memory that all share."""
+
+
+def _part(numbers: list[int]) -> list[Audited]:
+    return _MARKETS[-1].part(numbers)
+
+
+def _named(source: Source, columns: Sequence[str]) -> tuple[Codes, list[Name]]:
+    """The number of each row's instrument, below 0 where a column has none, and their names."""
+    codes, texts = source.cells(columns[0]).texts()
+    names: list[Name] = [(text,) for text in texts]
+    for column in columns[1:]:
+        more, texts = source.cells(column).texts()
+        both = codes.astype("i8") * (len(texts) + 1) + more
+        both[(codes < 0) | (more < 0)] = -1
+        known, places = numpy.unique(both, return_inverse=True)
+        known, places = known[known >= 0], places - int((known < 0).sum())
+        pairs = (divmod(int(it), len(texts) + 1) for it in known)
+        codes, names = places.astype("i4"), [(*names[one], texts[two]) for one, two in pairs]
+    return codes, names
+
+
+def market_of(
+    table: Table, reading: Reading, by: str, days: Days, terms: Mapping[str, object]
+) -> Market:
+    """The instruments of a table; `terms` is what a day was opened with where the days have nothing
+    else.
+    """
+    columns = columns_of(by, table.source.names)
+    codes, names = _named(table.source, columns)
+    of_days = [place for place, column in enumerate(columns) if column in days.columns]
+    keys = {name: tuple(name[place] for place in of_days) for name in names}
+    given = {name: days.terms.get(key, {}) for name, key in keys.items()}
+    given |= {key: days.terms[key] for key in days.terms if key not in keys.values()}
+    has_totals = reading.quantity == "total"
+    rules: dict[str, Rules | str] = {}
+    for name, own in given.items():
+        text = ",".join(name)
+        try:
+            rules[text] = rules_of(**terms_of({**terms, **own}, text), has_totals=has_totals)
+        except ValueError as fault:
+            rules[text] = str(fault)
+    return Market(table, reading, by, codes, tuple(map(",".join, names)), rules)
+
+
+def days_of(source: pandas.DataFrame | str | os.PathLike[str] | None, by: str) -> Days:
+    """What the day of each instrument was opened with, of a frame or a CSV file, which may have
+    some of several columns alone. Raises ColumnError and OSError.
     """
     if source is None:
-        return {}
+        return Days((), {})
     is_frame = isinstance(source, pandas.DataFrame)
     frame: pandas.DataFrame = source
     if not is_frame:
         frame = pandas.read_csv(source, dtype="str", keep_default_na=False)
-    if by not in frame:
+    columns = tuple(name for name in dict.fromkeys([by, *by.split(",")]) if name in frame)
+    if not columns:
         raise ColumnError(f"the days have no column {by!r}")
-    refuse_unknown(frame.columns, (by, *TERMS))
-    return {
-        str(row[by]): {
-            name: it for name, it in row.items() if name != by and it != "" and it == it
+    refuse_unknown(frame.columns, (*columns, *TERMS))
+    terms = {
+        tuple(str(row[name]) for name in columns): {
+            name: it for name, it in row.items() if name in TERMS and it != "" and it == it
         }
         for row in frame.to_dict("records")
     }
+    return Days(columns, terms)
 
 
 def terms_of(given: Mapping[str, object], name: str) -> Terms:
@@ -122,6 +359,8 @@ def terms_of(given: Mapping[str, object], name: str) -> Terms:
         "low": given.get("low"),
         "high": given.get("high"),
         "auctions": names,
+        "second_reference": given.get("second_reference"),
+        "second_range": given.get("second_range"),
     }
 
 
@@ -135,40 +374,18 @@ def audit_instruments(
     **terms: object,
 ) -> pandas.DataFrame:
     """The verdicts on an extract of many instruments: a row for each (COLUMNS), in the order of
-    their names. `by` is the column of the instruments, `days` a table with a row for each, of that
-    column and those of TERMS; `terms` are those of all that the days don't have. An instrument that
-    can't be judged is a row with its fault. `workers` is how many are judged at a time, as many as
-    there are processors where it is None.
-
+    their names. `by` is the column of the instruments, or several that are parted by commas,
+    `days` a table with a row for each, of that column and those of TERMS; `terms` are those of
+    all that the days don't have. An instrument that can't be judged is a row with its fault.
+    `workers` is how many are judged at a time, as many as there are processors where it is None.
     Raises ColumnError and ExtractError for a table of another form, and OSError.
     """
     strange = [name for name in terms if name not in TERMS]
     if strange:
         raise TypeError(f"there is no argument {strange[0]}; there are {', '.join(TERMS)}")
     table = read_table(source, reading, by)
-    found = instruments_of(table, by, days_of(days, by), terms)
-    with concurrent.futures.ThreadPoolExecutor(workers or os.cpu_count()) as pool:
-        rows = [*pool.map(lambda each: row_of(each, reading), found)]
-    return frame_of(rows)
-
-
-def row_of(instrument: Instrument, reading: Reading) -> dict[str, object]:
-    """The row of an instrument."""
-    try:
-        return verdict_row(instrument.name, instrument.verdict(reading))
-    except (ValueError, ProgramError) as fault:
-        return {"instrument": instrument.name, "verdict": FAULT, "fault": str(fault)}
-
-
-def verdict_row(name: str, verdict: Verdict) -> dict[str, object]:
-    """The row of a verdict."""
-    row: dict[str, object] = {"instrument": name, "verdict": verdict.word}
-    row["findings"] = len(verdict.findings)
-    for item, (compared, due) in verdict.coverage.counts.items():
-        row[item], row[f"{item}_due"] = compared, due
-    row["bad_rows"] = len(verdict.bad_rows)
-    row["first_finding"] = str(verdict.findings[0]) if verdict.findings else None
-    return row
+    market = market_of(table, reading, by, days_of(days, by), terms)
+    return frame_of(each.row() for each in market.one_by_one(workers))
 
 
 def frame_of(rows: Iterable[dict[str, object]]) -> pandas.DataFrame:
@@ -179,10 +396,10 @@ def frame_of(rows: Iterable[dict[str, object]]) -> pandas.DataFrame:
 
 
 def worst_of(words: Iterable[str]) -> str:
-    """The verdict on all of some: unlawful before incomplete before lawful. Raises ExtractError
-    where there is none.
+    """The verdict on all of some: unlawful before incomplete, which a fault is too, before lawful.
+    Raises ExtractError where there is none.
     """
-    found = {*words}
+    found = {INCOMPLETE if word == FAULT else word for word in words}
     for word in sorted(STATUSES, key=("unlawful", "incomplete", "lawful").index):
         if word in found:
             return word

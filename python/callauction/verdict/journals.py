@@ -10,26 +10,31 @@ from callauction.verdict.findings import INCOMPLETE, LAWFUL, STATUSES, UNLAWFUL
 from callauction.words import AUCTIONS
 
 _COUNT = re.compile(r"(entries|compared|unlawful) (\d+)")
+_CUT = f"{INCOMPLETE}: "
 _PLACES = [f"in {auction}" for auction in AUCTIONS] + ["day over"]
 """Where a day is, by how many of its auctions ended."""
 
 
 @dataclasses.dataclass(frozen=True)
 class Results:
-    """What the program prints of a journal: the lines of the audit, those of the uncrosses, and how
-    many auctions ended.
+    """What the program prints of a journal: the lines of the audit, those of the uncrosses, how
+    many auctions ended, and where it was cut within a line what is left of that.
     """
 
     audit: tuple[str, ...]
     uncrosses: tuple[str, ...]
     ended: int
+    cut: str = ""
 
 
 def results_of(day: Day) -> Results:
     """The results of a journal. Raises ProgramError, with program.NO_JOURNAL for an order file."""
     *lines, place = day.results().splitlines()
+    cut = ""
+    if place.startswith(_CUT):
+        cut, place = place.removeprefix(_CUT), lines.pop()
     count = next(n for n, line in enumerate(lines, 1) if line.startswith("audit "))
-    return Results(tuple(lines[:count]), tuple(lines[count:]), _PLACES.index(place))
+    return Results(tuple(lines[:count]), tuple(lines[count:]), _PLACES.index(place), cut)
 
 
 @dataclasses.dataclass(frozen=True)
@@ -40,13 +45,15 @@ class JournalVerdict:
 
     findings: tuple[str, ...]
     coverage: Coverage
+    cut: str = ""
+    """What follows the whole lines of a copy that was cut within a line; empty for none."""
 
     @property
     def word(self) -> str:
         """`lawful` where all replies were recorded to the day's end, and none differs."""
         if self.findings:
             return UNLAWFUL
-        return LAWFUL if self.coverage.is_complete else INCOMPLETE
+        return LAWFUL if self.coverage.is_complete and not self.cut else INCOMPLETE
 
     @property
     def status(self) -> int:
@@ -54,8 +61,10 @@ class JournalVerdict:
         return STATUSES[self.word]
 
     def lines(self) -> list[str]:
-        """A line a finding, how many these are, the coverage, and the verdict."""
-        found = [*self.findings, f"findings {len(self.findings)}"]
+        """A line a finding, what was cut, how many findings there are, the coverage, and the
+        verdict.
+        """
+        found = [*self.findings, *filter(None, [self.cut]), f"findings {len(self.findings)}"]
         return [*found, *self.coverage.lines(), self.word]
 
     def __str__(self) -> str:
@@ -72,4 +81,4 @@ def audit_journal(day: Day) -> JournalVerdict:
             "auctions": (results.ended, len(AUCTIONS)),
         }
     )
-    return JournalVerdict(results.audit[: counts["unlawful"]], coverage)
+    return JournalVerdict(results.audit[: counts["unlawful"]], coverage, results.cut)

@@ -1,602 +1,788 @@
-"""The audit of an extract: each auction by itself, on the book that the one before it left.
+"""The judgement of a day: each auction by itself, on the book that the one before it left.
 
 Where a recorded result isn't the lawful one, what comes next may follow the one or the other: an
 engine goes on from what it did, a fault of the record alone changes nothing. Both are tried, and
 the day with the fewest differences is taken, so one fault is one finding.
 """
-import collections
 import dataclasses
-from collections.abc import Iterable, Iterator
+from collections import Counter
+from collections.abc import Iterable, Iterator, Sequence
 from decimal import Decimal
-from typing import TypeVar
 
+import numpy
+
+from callauction.course import Watch
+from callauction.verdict import clocks, comparing
+from callauction.verdict.cells import Ints
+from callauction.verdict.certain import Certain, with_certain
 from callauction.verdict.comparing import (
-    FILL,
+    NAMED,
     PRIORITY,
     Difference,
-    Trade,
     compared_fills,
     compared_items,
     compared_trades,
-    paired,
+    doubted,
 )
-from callauction.verdict.events import (
-    INTERRUPTED,
-    BadRow,
-    Cancel,
-    Extract,
-    Filled,
-    New,
-    NoPrice,
-    Published,
-    Replace,
-    Traded,
-)
-from callauction.verdict.names import Names, Owner
-from callauction.verdict.replay import (
-    Indicated,
-    OpenOrder,
-    OrderEvent,
-    Phase,
-    Replay,
-    Rules,
+from callauction.verdict.doubts import OUTSIDE, Doubts, Reason
+from callauction.verdict.events import FALLING
+from callauction.verdict.phases import (
+    NOTHING,
+    BeyondError,
+    Book,
+    Result,
+    Sums,
+    Taken,
+    advance,
+    empty,
     indicated,
-    replay,
+    sums,
+    uncross,
 )
+from callauction.verdict.ranges import Range
+from callauction.verdict.rows import (
+    CANCEL,
+    FILL,
+    MISSING,
+    NEW,
+    NO_PRICE,
+    OWN,
+    STATES,
+    STOPPED,
+    TRADE,
+    UNCROSS,
+    BadRow,
+    Rows,
+)
+from callauction.words import AUCTIONS
 
 CLOSED_CANCELS = "cancels of orders that were executed or cancelled before"
 LATE_CANCELS = "cancels after the last auction"
 NO_UNCROSS = "trades and fills without any row uncross, which aren't compared"
 LATE_ORDERS = "orders and replaces after the last auction"
+BEYOND = "auctions beyond what this program holds"
+NO_STOPS = "no row can say that an uncross was interrupted before, as it may have been"
+NO_SEARCH = "uncrosses whose other moments are too many orders to try"
 MOST_MOMENTS = 25
 """How many moments are tried for an uncross that seems to be at a wrong one."""
 MOST_PATHS = 12
 """How many courses of a day are followed at a time."""
+SUMS = ("price", "volume", "surplus", "side")
+"""The items that fix the sums of both sides at the price."""
+NONE = numpy.zeros(0, "i8")
+
+
+@dataclasses.dataclass(frozen=True)
+class Rules:
+    """What a day was opened with: the first reference, how far a price may lie from the reference
+    (None for any distance), the step between two prices where it is known, the bounds of prices,
+    and its auctions; and a second reference with its range, where there is one.
+    """
+
+    reference: Decimal
+    tick_size: Decimal | None = None
+    range: Range | None = None
+    low: Decimal | None = None
+    high: Decimal | None = None
+    auctions: tuple[str, ...] = AUCTIONS
+    has_totals: bool = False
+    """Whether replaces say the total of an order, and not what is open."""
+    second: Range | None = None
+    second_reference: Decimal | None = None
+
+    @property
+    def prices(self) -> list[Decimal]:
+        """The prices that are said."""
+        said = (self.reference, self.low, self.high, self.second_reference)
+        return [it for it in said if it is not None]
+
+    @property
+    def due(self) -> list[int]:
+        """The numbers of its auctions."""
+        return [AUCTIONS.index(name) for name in self.auctions]
+
+    def ranges(self, reference: Decimal, second: Decimal | None) -> list[tuple[Range, Decimal]]:
+        """The ranges around the present references, each with its own."""
+        both = ((self.range, reference), (self.second, second))
+        return [(span, at) for span, at in both if span is not None and at is not None]
 
 
 @dataclasses.dataclass(frozen=True)
 class State:
-    """What is open before a call phase in the order of time, the reference, the shares of each
-    order that were executed, whether the auction was interrupted before, and the number of the
-    current auction among those of the day.
+    """What is open before a call phase, the number of the reference, the shares of each order that
+    were executed where replaces say totals, whether the auction was interrupted before, and the
+    number of the current auction among those of the day.
     """
 
-    orders: tuple[OpenOrder, ...]
-    reference: Decimal
-    executed: dict[str, int]
+    book: Book
+    reference: int
+    executed: Ints | None
     is_extended: bool = False
     ended: int = 0
+    second: int = MISSING
+    """The number of the second reference; after an auction with a price it is that price."""
 
 
 @dataclasses.dataclass(frozen=True)
 class Judged:
-    """An uncross with what was published of it, and how that differs from what the rules give.
-
-    `replayed` is None for an uncross after the day's end. `items` has the items that were
-    published.
+    """An uncross: its row, its auction, the book, what the rules give, and how what was published
+    differs. `result` is None after the day's end, or where the program can't hold the book.
     """
 
-    published: Published
-    auction: str
-    replayed: Replay | None
-    items: frozenset[str]
+    place: int
+    auction: int
     differences: tuple[Difference, ...]
-    traded: tuple[Traded, ...] = ()
-    filled: tuple[Filled, ...] = ()
+    result: Result | None = None
+    book: Book = dataclasses.field(default_factory=empty)
+    reference: int = MISSING
+    is_extended: bool = False
+    """Whether the auction was interrupted before."""
+    is_interrupted: bool = False
+    items: frozenset[str] = frozenset()
+    traded: Ints = dataclasses.field(default_factory=lambda: NONE)
+    filled: Ints = dataclasses.field(default_factory=lambda: NONE)
+    pairs: int = 0
+    """How many lawful pairs of orders were recorded as they are."""
     is_ended: bool = False
     """Whether the auction is over after the uncross."""
-    next_state: State | None = None
-    """What the next call phase begins with."""
+    fills: Sums = Sums(NONE, NONE)
+    """The shares by which the day goes on."""
+    taken: int = 0
+    """How many rows of orders are before it."""
+    beyond: str = ""
+    second: int = MISSING
+    """The number of the second reference."""
+
+    @property
+    def certain(self) -> list[Difference]:
+        """The differences that are certain."""
+        return [each for each in self.differences if not each.doubt]
 
 
 @dataclasses.dataclass(frozen=True)
 class Judgement:
     """All uncrosses of a day in their order, how many were due, the rows that couldn't be read or
     that the rules refuse, and what is worth to know. `has_trades` and `has_fills` say what the
-    extract has of any auction; `owners` has whose each order is, by its key.
+    extract has of any auction; `doubt` why what is lawful may be none.
     """
 
     uncrosses: tuple[Judged, ...]
     due: int
     bad_rows: tuple[BadRow, ...]
-    notes: collections.Counter[str]
+    notes: Counter[str]
     has_trades: bool
     has_fills: bool
-    owners: dict[str, Owner]
-    total_quantity: bool = False
-    """Whether replaces say the total of an order, and not what is open."""
+    doubt: str = ""
+
+    @property
+    def unlawful(self) -> set[int]:
+        """The places of the uncrosses with certain differences."""
+        return {each.place for each in self.uncrosses if each.certain}
 
 
 @dataclasses.dataclass(frozen=True)
 class Path:
-    """A course of the day up to an uncross: what was judged, the state, how many events of orders
-    are before it, the trades and fills that wait for the end of an interrupted auction.
+    """A course of the day up to an uncross; `taken` counts the rows of orders before it, `waiting`
+    has the trades and fills that wait for the end of an interrupted auction, and `doubt` says why
+    the books are in doubt from here on.
     """
 
     judged: tuple[Judged, ...]
     state: State
     taken: int = 0
-    traded: tuple[Traded, ...] = ()
-    filled: tuple[Filled, ...] = ()
-    bad_rows: tuple[BadRow, ...] = ()
+    waiting: tuple[Ints, Ints] = (NONE, NONE)
+    refused: tuple[BadRow, ...] = ()
     closed: int = 0
-    """How many cancels were of orders that weren't open any more."""
+    doubt: str = ""
 
-
-Executed = TypeVar("Executed", Traded, Filled)
+    def with_last(self, **changes: object) -> "Path":
+        """The path with another last uncross."""
+        last = dataclasses.replace(self.judged[-1], **changes)
+        return dataclasses.replace(self, judged=(*self.judged[:-1], last))
 
 
 @dataclasses.dataclass(frozen=True)
 class Moment:
-    """An uncross on a path at its moment: the events of its call phase and its number."""
+    """An uncross on a path at its moment: its number, its row, its auction, and the rows of its
+    call phase and of its trades and fills.
+    """
 
     number: int
-    published: Published
+    place: int
     path: Path
-    auction: str
-    events: tuple[OrderEvent, ...]
-    traded: tuple[Traded, ...]
-    filled: tuple[Filled, ...]
+    auction: int
+    these: Ints
+    traded: Ints
+    filled: Ints
 
 
 class Judge:
     """Judges the uncrosses of a day one after the other. Its bookkeeping is that of open orders:
-    each price, fill and refusal is the program's.
+    each price, fill and refusal is the program's. Raises ExtractError as Doubts.
     """
 
-    def __init__(self, extract: Extract, reference: Decimal, rules: Rules) -> None:
-        self.extract, self.rules = extract, rules
-        self.names = Names(extract.events)
-        events = self.names.events
-        self.uncrosses = [event for event in events if isinstance(event, Published)]
-        self.orders = [event for event in events if isinstance(event, New | Replace | Cancel)]
-        traded = [event for event in events if isinstance(event, Traded)]
-        filled = [event for event in events if isinstance(event, Filled)]
+    def __init__(self, rows: Rows, rules: Rules) -> None:
+        self.rows, self.rules, self.due = rows, rules, rules.due
+        kind = rows.kind
+        self.uncrosses = numpy.flatnonzero(kind == UNCROSS)
+        self.orders = numpy.flatnonzero((kind >= NEW) & (kind <= CANCEL))
+        keys = (array.max(initial=-1) for array in (rows.key, rows.bid, rows.ask))
+        self.room = numpy.zeros(int(max(keys)) + 2, "i8")
+        self.entered, self.owners = (numpy.full(len(self.room), MISSING, "i8") for _ in range(2))
+        news = numpy.flatnonzero(kind == NEW)
+        self.entered[rows.key[news]], self.owners[rows.key[news]] = news, rows.member[news]
+        traded, filled = numpy.flatnonzero(kind == TRADE), numpy.flatnonzero(kind == FILL)
+        self.has_trades, self.has_fills = len(traded) > 0, len(filled) > 0
+        self.stamps = numpy.full(len(kind), MISSING, "i8")
         self.traded, self.filled = self._by_uncross(traded), self._by_uncross(filled)
-        self.has_trades, self.has_fills = bool(traded), bool(filled)
-        self.start = Path((), State((), reference, {}))
+        self.doubts = Doubts(rows, self.uncrosses, self.orders, self.due, self.entered)
+        self.contradictions = Certain(rows, self.doubts, len(self.due), self.entered)
+        self.left_out: set[int] = set()
+        """The places of uncrosses for which no other moment could be tried."""
 
-    def judge(self, orders: tuple[OpenOrder, ...] = ()) -> Judgement:
-        """All uncrosses, from these open orders on. Raises ProgramError, and ValueError where
-        prices are too far apart.
+    def judge(self, watch: Watch = iter) -> Judgement:
+        """All uncrosses of the day, which `watch` is given. Raises ProgramError."""
+        found = self.judged_within(None, watch)
+        assert found is not None
+        return found
+
+    def judged_within(self, places: set[int] | None, watch: Watch = iter) -> Judgement | None:
+        """All uncrosses of the day; with places no other moments are tried, and None is the answer
+        where an uncross at another place is unlawful.
         """
-        state = dataclasses.replace(self.start.state, orders=orders)
-        paths = [dataclasses.replace(self.start, state=state)]
-        for number, published in enumerate(self.uncrosses):
-            found = [each for path in paths for each in self._behind(number, published, path)]
+        executed = numpy.zeros(len(self.room), "i8") if self.rules.has_totals else None
+        reference = self.rows.prices.index(self.rules.reference)
+        first = State(empty(), reference, executed)
+        if self.rules.second_reference is not None:
+            second = self.rows.prices.index(self.rules.second_reference)
+            first = dataclasses.replace(first, second=second)
+        paths = [Path((), first)]
+        for number, place in enumerate(watch(self.uncrosses.tolist())):
+            found = [each for path in paths for each in self._behind(number, place, path)]
+            if min(found, key=self._count).judged[-1].certain:
+                searched = [self._behind(number, place, path, places is None) for path in paths]
+                found = [each for those in searched for each in those]
             paths = sorted(found, key=self._count)[:MOST_PATHS]
+            if places is not None and place not in places and paths[0].judged[-1].certain:
+                return None
         best = min((self._with_left_over(path) for path in paths), key=self._count)
-        notes = collections.Counter(self.extract.notes)
-        notes[CLOSED_CANCELS] += best.closed
-        if best.state.ended >= len(self.rules.auctions):
-            for event in self.orders[best.taken :]:
-                notes[LATE_CANCELS if isinstance(event, Cancel) else LATE_ORDERS] += 1
-        if not self.uncrosses and (self.has_trades or self.has_fills):
-            notes[NO_UNCROSS] += len(self.names.events) - len(self.orders)
-        uncrosses = self._reconciled(best.judged)
-        behind_the_end = sum(each.replayed is None for each in uncrosses)
-        interruptions = len(uncrosses) - behind_the_end - best.state.ended
-        return Judgement(
-            tuple(uncrosses),
-            len(self.rules.auctions) + max(0, interruptions),
-            (*self.extract.bad_rows, *self.names.bad_rows, *best.bad_rows),
-            +notes,
-            self.has_trades,
-            self.has_fills,
-            self.names.owners,
-            self.extract.total_quantity,
-        )
+        return self._judgement(best)
 
-    def _count(self, path: Path) -> int:
-        """How many differences a course has."""
-        return sum(len(judged.differences) for judged in self._reconciled(path.judged))
+    def _count(self, path: Path) -> tuple[int, int]:
+        """How many differences a course has, and how many certain ones."""
+        found = [each for those in self._reconciled(path.judged) for each in those]
+        return len(found), sum(not each.doubt for each in found)
+
+    def _reconciled(self, judged: Sequence[Judged]) -> list[list[Difference]]:
+        """The differences of each uncross, a trade that was looked for at another one being one."""
+        those = [each.differences for each in judged]
+        if not any(each.recorded is None for it in those for each in it):
+            return [list(each) for each in those]
+        return comparing.reconciled(those, [each.auction for each in judged])
 
     # ---- which trades are of which uncross
 
-    def _by_uncross(self, events: Iterable[Executed]) -> dict[int | str, list[Executed]]:
-        """Trades or fills by the auction that they name, or else by the number of the uncross that
-        they are recorded of.
-        """
-        found: dict[int | str, list[Executed]] = collections.defaultdict(list)
-        for event in events:
-            is_named = self.rules.auctions.count(event.auction or "") == 1
-            found[event.auction or "" if is_named else self._uncross_of(event)].append(event)
-        return found
-
-    def _uncross_of(self, event: Traded | Filled) -> int:
-        """Which uncross a trade or a fill is recorded of: by the nearest time, or else by its place
-        among the rows; -1 where there is none. Uncrosses that are recorded as interrupted have
+    def _by_uncross(self, these: Ints) -> dict[int, Ints]:
+        """Rows of trades or fills by the auction that they name, or by the number of the uncross
+        nearest in time, or else of the one above. Uncrosses that are recorded as interrupted have
         none.
         """
-        done = [number for number, it in enumerate(self.uncrosses) if it.auction != INTERRUPTED]
-        if not done:
-            return -1
-        nearest = self._nearest(event, done)
-        if nearest is not None:
-            return nearest
-        above = [each for each in done if self.uncrosses[each].row.place < event.row.place]
-        return above[-1] if above else done[0]
+        rows = self.rows
+        done = numpy.flatnonzero(rows.state[self.uncrosses] != STOPPED)
+        named = rows.state[these].astype("i8") - 1
+        by = numpy.full(len(these), MISSING, "i8")
+        at = rows.time[self.uncrosses]
+        if len(done):
+            by = done[numpy.maximum(numpy.searchsorted(self.uncrosses[done], these) - 1, 0)]
+        if len(done) and len(these) and (at != clocks.NONE).all():
+            timed = rows.time[these] != clocks.NONE
+            own = numpy.where(timed, rows.time[these], 0)[:, None]
+            by = numpy.where(timed, done[numpy.abs(own - at[done]).argmin(1)], by)
+            self.stamps[these] = numpy.where(timed, numpy.abs(own - at).argmin(1), MISSING)
+        is_named = named >= 0
+        self.stamps[these[is_named]] = NAMED + named[is_named]
+        is_once = numpy.isin(named, [it for it in self.due if self.due.count(it) == 1])
+        by = numpy.where(is_once, NAMED + named, by)
+        return {int(it): these[by == it] for it in numpy.unique(by)}
 
-    def _nearest(self, event: Traded | Filled, among: Iterable[int]) -> int | None:
-        """Which of these uncrosses is nearest in time, where all have one."""
-        gaps = []
-        for number in among:
-            seconds = self.uncrosses[number].row.seconds
-            if seconds is None or event.row.seconds is None:
-                return None
-            gaps.append((abs(seconds - event.row.seconds), number))
-        return min(gaps)[1]
-
-    def _stamp(self, event: Traded | Filled) -> str | int | None:
-        """What its own row says of a trade's auction: its name, or the nearest uncross."""
-        return event.auction or self._nearest(event, range(len(self.uncrosses)))
+    def _of(self, number: int) -> tuple[Ints, Ints]:
+        """The trades and the fills of an uncross, or of a named auction."""
+        return self.traded.get(number, NONE), self.filled.get(number, NONE)
 
     # ---- an uncross on a path
 
-    def _behind(self, number: int, published: Published, path: Path) -> Iterator[Path]:
-        """The courses after an uncross."""
-        traded = (*path.traded, *self.traded.get(number, ()))
-        filled = (*path.filled, *self.filled.get(number, ()))
-        path = dataclasses.replace(path, traded=(), filled=())
-        ended, due = path.state.ended, self.rules.auctions
-        if ended >= len(due):
-            row = (published.row.label,)
-            late = Difference("auction", published.auction or "uncross", "day over", row)
-            judged = Judged(published, "", None, frozenset(), (late,), traded, filled)
-            yield dataclasses.replace(path, judged=(*path.judged, judged))
+    def _behind(
+        self, number: int, place: int, path: Path, is_moved: bool | None = None
+    ) -> Iterator[Path]:
+        """The courses after an uncross; where it differs, in other orders of rows of one time too,
+        and at other moments with `is_moved`, unless that is None.
+        """
+        own = self._of(number)
+        traded, filled = (numpy.concatenate(each) for each in zip(path.waiting, own))
+        path = dataclasses.replace(path, waiting=Path.waiting)
+        ended = path.state.ended
+        if path.judged and path.judged[-1].beyond:
+            yield self._beyond(path, place, traded, filled, path.judged[-1].beyond)
             return
-        place = published.row.place
-        events = tuple(each for each in self.orders[path.taken :] if each.row.place < place)
-        moment = Moment(number, published, path, due[ended], events, traded, filled)
-        yield from self._courses(moment)
-        if published.auction in due[ended + 1 :]:
-            yield from self._skipping(moment, due.index(published.auction, ended + 1))
+        if ended >= len(self.due):
+            word = STATES[max(0, self.rows.state[place])] or "uncross"
+            late = Difference("auction", word, "day over", (place,))
+            found = doubted([late], self._of_name(path.judged, place, self._why(path, place)))
+            yield _longer(path, Judged(place, MISSING, found, traded=traded, filled=filled))
+            return
+        these = self.orders[path.taken : int(numpy.searchsorted(self.orders, place))]
+        moment = Moment(number, place, path, self.due[ended], these, traded, filled)
+        try:
+            yield from self._courses(moment, is_moved)
+            named = self.rows.state[place] - 1
+            if named in self.due[ended + 1 :]:
+                yield from self._skipping(moment, self.due.index(named, ended + 1))
+        except BeyondError as fault:
+            yield self._beyond(path, place, traded, filled, str(fault))
 
-    def _courses(self, moment: Moment) -> list[Path]:
-        """The courses after an uncross at its moment, or at the one at which all that was
-        published of it is lawful.
+    def _beyond(
+        self, path: Path, place: int, traded: Ints, filled: Ints, why: str
+    ) -> Path:
+        """The course after an uncross of a book that the program can't hold."""
+        auction = self.due[min(path.state.ended + self._beyonds(path), len(self.due) - 1)]
+        named = self._of(NAMED + auction)
+        traded, filled = (numpy.concatenate(it) for it in zip((traded, filled), named))
+        found = tuple(self.contradictions.of(place, auction, traded, filled))
+        judged = Judged(place, auction, found, traded=traded, filled=filled, beyond=why)
+        return _longer(path, judged)
+
+    def _beyonds(self, path: Path) -> int:
+        return sum(bool(each.beyond) for each in path.judged)
+
+    def _courses(self, moment: Moment, is_moved: bool | None) -> list[Path]:
+        """The courses after an uncross at its row; where that differs, at another row of its time,
+        or at the moment at which all that was published of it is lawful.
         """
         found = [*self._variants(moment)]
-        later = self._later_orders(moment)
         first = found[0].judged[-1]
-        if first.differences and (later or _may_be_moved(first)):
-            return self._at_another_moment(moment, later) or found
-        return found
+        if not first.certain or is_moved is None:
+            return found
+        try:
+            others = self._of_ties(moment, found)
+            return others or (self._moved(moment, first) if is_moved else []) or found
+        except BeyondError:
+            self.left_out.add(moment.place)
+            return found
+
+    def _of_ties(self, moment: Moment, found: list[Path]) -> list[Path]:
+        """The courses in which rows of one time came in another order, where what was published
+        may be lawful by that; none where it can't be.
+        """
+        last, these = found[0].judged[-1], moment.these
+        if self.contradictions.of(last.place, last.auction, last.traded, last.filled):
+            return []
+        differences = last.differences
+        for before in self.doubts.cuts(moment.place, these):
+            other = [*self._variants(dataclasses.replace(moment, these=before))]
+            if self.clears(other[0].judged[-1], differences):
+                why = self.doubts.of_cut(moment.place, these, before)
+                return [self._in_doubt(each, differences, why) for each in other]
+        why, others = self.doubts.orders_of_ties(these)
+        for before in others or ():
+            other = [*self._variants(dataclasses.replace(moment, these=before))]
+            if self.clears(other[0].judged[-1], differences):
+                return [self._in_doubt(each, differences, why) for each in other]
+        if others is not None:
+            above = self.orders[: moment.path.taken]
+            why = self.doubts.carried(moment.path.state.book, above)
+        return [self._in_doubt(each, differences, why) for each in found] if why else []
+
+    def clears(self, other: Judged, differences: Iterable[Difference]) -> bool:
+        """Whether a judgement has no certain difference, nor one of these certain ones in doubt for
+        an order alone that no row enters, which no reading enters.
+        """
+        unknown = self.doubts.unknown
+        left = {_mark(it) for it in other.differences if unknown and it.doubt == unknown.text}
+        return not other.certain and not any(
+            _mark(it) in left for it in differences if not it.doubt
+        )
+
+    def _in_doubt(self, path: Path, differences: tuple[Difference, ...], why: str) -> Path:
+        """The path with these differences of its last uncross, in doubt but for those that no book
+        could give.
+        """
+        last = path.judged[-1]
+        certain = self.contradictions.of(last.place, last.auction, last.traded, last.filled)
+        found = self._doubted(differences, why, last.place, path.judged[:-1])
+        found = with_certain(found, certain)
+        return dataclasses.replace(path.with_last(differences=found), doubt=path.doubt or why)
+
+    def _moved(self, moment: Moment, first: Judged) -> list[Path]:
+        """The courses in which an uncross that seems to be at a wrong moment is at another one."""
+        later = self._later(moment)
+        is_moved = len(first.differences) > 1 or any(
+            each.item == "price" and each.lawful == NO_PRICE for each in first.differences
+        )
+        return self._at_another_moment(moment, later) if later or is_moved else []
 
     def _skipping(self, moment: Moment, ended: int) -> Iterator[Path]:
         """The courses in which the auctions before the recorded one weren't held."""
-        row = (moment.published.row.label,)
-        skip = Difference("auction", moment.published.auction, moment.auction, row)
-        path = moment.path
-        state = dataclasses.replace(path.state, ended=ended, is_extended=False)
-        moved = dataclasses.replace(
-            moment,
-            path=dataclasses.replace(path, state=state),
-            auction=self.rules.auctions[ended],
-        )
+        state = moment.path.state
+        row = (moment.place,)
+        skip = Difference("auction", AUCTIONS[self.due[ended]], AUCTIONS[moment.auction], row)
+        over = [OWN[it] for it in self.due[state.ended : ended]]
+        book = state.book.take(~numpy.isin(state.book.only, [it for it in over if it > 0]))
+        state = dataclasses.replace(state, book=book, ended=ended, is_extended=False)
+        path = dataclasses.replace(moment.path, state=state)
+        why = self._why(moment.path, moment.place)
+        skipped = doubted([skip], self._of_name(moment.path.judged, moment.place, why))
+        moved = dataclasses.replace(moment, path=path, auction=self.due[ended])
         for course in self._variants(moved):
-            judged = course.judged[-1]
-            both = dataclasses.replace(judged, differences=(skip, *judged.differences))
-            yield dataclasses.replace(course, judged=(*course.judged[:-1], both))
+            yield course.with_last(differences=(*skipped, *course.judged[-1].differences))
 
     def _variants(self, moment: Moment) -> Iterator[Path]:
-        """The courses after an uncross: first as it is recorded, where it is recorded whether it
-        was interrupted and that isn't lawful; then as is lawful.
+        """The courses after an uncross: first as is recorded, where it is recorded whether it was
+        interrupted and that isn't lawful; then as is lawful. Raises BeyondError.
         """
-        state = moment.path.state
-        lawful = self._replay(moment, None if state.is_extended else self.rules.range)
-        recorded = _recorded_interruption(moment)
-        is_interrupted = lawful.result.is_interrupted
-        if recorded is False and is_interrupted:
-            executed = self._replay(moment, None)
-            row = (moment.published.row.label,)
-            wrong = Difference("auction", moment.published.auction or "executed", INTERRUPTED, row)
-            yield from self._executed(moment, executed, wrong)
-        if recorded is True and not is_interrupted:
-            yield self._interrupted(moment, lawful)
-        if is_interrupted:
-            yield self._interrupted(moment, lawful)
-        else:
-            yield from self._executed(moment, lawful, None)
-
-    def _replay(self, moment: Moment, span: Decimal | None) -> Replay:
-        state = moment.path.state
-        phase = Phase(
-            moment.auction, state.orders, moment.events, state.reference, self.rules, span
+        state, rows = moment.path.state, self.rows
+        taken = advance(
+            state.book, rows, moment.these, moment.auction, state.executed, self.room
         )
-        return replay(phase, self.extract.total_quantity, state.executed)
+        result = uncross(taken.book, moment.auction, state.reference)
+        is_out = not state.is_extended and self._is_out(result, state)
+        recorded = self._says_interrupted(moment)
+        if recorded is False and is_out:
+            word = STATES[max(0, rows.state[moment.place])] or "executed"
+            why = NO_STOPS if rows.makes_results else ""
+            wrong = Difference("auction", word, STATES[STOPPED], (moment.place,), doubt=why)
+            yield from self._executed(moment, taken, result, wrong)
+        if recorded and not is_out:
+            yield self._interrupted(moment, taken, result, False)
+        if is_out:
+            yield self._interrupted(moment, taken, result, True)
+        else:
+            yield from self._executed(moment, taken, result, None)
 
-    def _interrupted(self, moment: Moment, replayed: Replay) -> Path:
-        """The course after an uncross that was interrupted; its trades come at the next one."""
-        items = compared_items(moment.published, replayed.result)
-        state = moment.path.state
-        following = State(replayed.book, state.reference, state.executed, True, state.ended)
-        judged = self._judged(moment, replayed, items, [])
-        waiting = dataclasses.replace(judged, traded=(), filled=())
-        path = self._path(moment, waiting, replayed, following)
-        return dataclasses.replace(path, traded=moment.traded, filled=moment.filled)
+    def _is_out(self, result: Result, state: State) -> bool:
+        """Whether a lawful price is beyond a range."""
+        prices = self.rows.prices
+        second = None if state.second < 0 else prices[state.second]
+        ranges = self.rules.ranges(prices[state.reference], second)
+        price = None if result.price is None else prices[result.price]
+        return price is not None and any(span.is_out(price, at) for span, at in ranges)
+
+    def _says_interrupted(self, moment: Moment) -> bool | None:
+        """Whether an uncross is recorded as interrupted; None where nothing says it."""
+        state = self.rows.state[moment.place]
+        if state > 0:
+            return bool(state == STOPPED)
+        has_any = len(moment.traded) or len(moment.filled) or self.rows.count[moment.place] > 0
+        return False if has_any else None
+
+    def _interrupted(
+        self, moment: Moment, taken: Taken, result: Result, is_lawful: bool
+    ) -> Path:
+        """The course after an interruption; its trades come at the next uncross."""
+        word = STOPPED if is_lawful else 1 + moment.auction
+        items = compared_items(self.rows, moment.place, result, word)
+        wrong = items.get("auction")
+        why = NO_STOPS if self.rows.makes_results else ""
+        if self.rules.range is self.rules.second is None:
+            why = "--range isn't said, so it isn't known what interrupts an uncross"
+        if wrong is not None:
+            items["auction"] = dataclasses.replace(wrong, doubt=why)
+        state = dataclasses.replace(moment.path.state, book=taken.book, is_extended=True)
+        judged = self._judged(moment, taken, result, items, [])
+        judged = dataclasses.replace(judged, is_interrupted=is_lawful, traded=NONE, filled=NONE)
+        path = self._path(moment, judged, taken, state)
+        return dataclasses.replace(path, waiting=(moment.traded, moment.filled))
 
     def _executed(
-        self, moment: Moment, replayed: Replay, wrong: Difference | None
+        self, moment: Moment, taken: Taken, result: Result, wrong: Difference | None
     ) -> Iterator[Path]:
         """The courses after an uncross that ended its auction; `wrong` is what is different of it
         as such.
         """
-        moment, published = self._with_named(moment), moment.published
-        if wrong is not None:
-            published = dataclasses.replace(published, auction=None)
-        items = compared_items(published, replayed.result)
+        rows, place = self.rows, moment.place
+        own = self._of(NAMED + moment.auction)
+        both = zip((moment.traded, moment.filled), own)
+        traded, filled = (numpy.concatenate(each) for each in both)
+        moment = dataclasses.replace(moment, traded=traded, filled=filled)
+        items = compared_items(rows, place, result, 1 + moment.auction)
         if wrong is not None:
             items["auction"] = wrong
         is_wrong = items.get("price") is not None
-        trades = [*self._of_trades(moment, replayed, is_wrong)]
-        judged = self._judged(moment, replayed, items, trades)
-        judged = dataclasses.replace(judged, is_ended=True)
-        for state in self._next_states(moment, replayed):
-            yield self._path(moment, judged, replayed, state)
+        says_none = is_wrong and rows.price[place] == NO_PRICE
+        allowed = int(rows.price[place]) if is_wrong and not says_none else MISSING
+        found, pairs = list[Difference](), 0
+        if self.has_trades and (len(traded) or not says_none):
+            made = compared_trades(rows, traded, result, self.owners, allowed, self.stamps)
+            found, pairs = made.differences, made.pairs
+            if rows.count[place] == len(traded):  # a wrong one follows from the trades
+                items["count"] = None
+        if self.has_fills and (len(filled) or not says_none):
+            found = [*found, *compared_fills(rows, filled, result, allowed, self.stamps)]
+        if found:
+            found = self.doubts.of_trades(
+                found, taken.book, moment.auction, result, traded, filled, place
+            )
+            found = self._without_outside(found, moment, result, allowed)
+        self._doubt_count(moment, items, found, result)
+        judged = self._judged(moment, taken, result, items, found)
+        judged = dataclasses.replace(judged, is_ended=True, pairs=pairs)
+        for state, fills in self._next_states(moment, taken, result):
+            yield self._path(moment, dataclasses.replace(judged, fills=fills), taken, state)
 
-    def _with_named(self, moment: Moment) -> Moment:
-        """The moment with the trades and the fills that name its auction."""
-        return dataclasses.replace(
-            moment,
-            traded=(*moment.traded, *self.traded.get(moment.auction, ())),
-            filled=(*moment.filled, *self.filled.get(moment.auction, ())),
-        )
-
-    def _with_left_over(self, path: Path) -> Path:
-        """The path with the trades and the fills that name an auction that didn't end, as extra
-        ones of the last uncross.
+    def _without_outside(
+        self, found: list[Difference], moment: Moment, result: Result, allowed: int
+    ) -> list[Difference]:
+        """The differences of trades, or those without the ones that may be of no auction, which are
+        in doubt then, whichever are certain less often.
         """
-        ended = {each.auction for each in path.judged if each.is_ended}
-        key, found = self.names.key, list[Difference]()
-        for auction in set(self.rules.auctions) - ended:
-            traded, filled = self.traded.get(auction, ()), self.filled.get(auction, ())
-            found += compared_trades(traded, (), key, self._stamp, None)
-            found += compared_fills(filled, {}, key, self._stamp, (None, None))
-        if not path.judged or not found:
-            return path
-        return _with_differences(path, (*path.judged[-1].differences, *found))
+        rows, traded, stamps = self.rows, moment.traded, self.stamps
+        outside = self.doubts.outside(traded, moment.place)
+        if not len(outside) or len(moment.filled):
+            return found
+        own = traded[~numpy.isin(traded, outside)]
+        inner = compared_trades(rows, own, result, self.owners, allowed, stamps).differences
+        outer = compared_trades(rows, outside, NOTHING, self.owners, MISSING, stamps).differences
+        fewer = len(inner) < sum(not each.doubt for each in found)
+        return [*inner, *doubted(outer, OUTSIDE)] if fewer else found
+
+    def _doubt_count(
+        self, moment: Moment, items: dict[str, Difference | None], found: list[Difference],
+        result: Result,
+    ) -> None:  # fmt: skip
+        """A count of trades follows from the pairing, which isn't law."""
+        count, recorded = items.get("count"), int(self.rows.count[moment.place])
+        if count is None:
+            return
+        bids, asks = len(numpy.unique(result.bid)), len(numpy.unique(result.ask))
+        if not self.has_trades and max(bids, asks) <= recorded <= bids * asks:
+            why = "another pairing has another count"
+            items["count"] = dataclasses.replace(count, doubt=why)
+        elif found and found[0].doubt and recorded >= len(moment.traded):
+            items["count"] = dataclasses.replace(count, doubt=found[0].doubt)
 
     def _judged(
-        self,
-        moment: Moment,
-        replayed: Replay,
-        items: dict[str, Difference | None],
-        trades: list[Difference],
-    ) -> Judged:
-        differences = [each for each in items.values() if each is not None]
-        differences += [*trades, *self._priorities(moment.events, replayed)]
+        self, moment: Moment, taken: Taken, result: Result,
+        items: dict[str, Difference | None], found: list[Difference],
+    ) -> Judged:  # fmt: skip
+        """The uncross with its differences and their doubts."""
+        of_items = [each for each in items.values() if each is not None]
+        of_items = self.doubts.of_items(of_items, result, self.rules.tick_size)
+        differences = (*of_items, *found, *self._priorities(taken))
+        if differences:
+            refused = (*moment.path.refused, *taken.refused)
+            reason = self._reason(moment, refused)
+            differences = self._with_reason(differences, items, reason, moment)
+        if any(each.doubt for each in differences):
+            certain = self.contradictions.of(
+                moment.place, moment.auction, moment.traded, moment.filled
+            )
+            differences = with_certain(differences, certain)
+        state = moment.path.state
         return Judged(
-            moment.published,
-            moment.auction,
-            replayed,
-            frozenset(items),
-            tuple(differences),
-            moment.traded,
-            moment.filled,
+            moment.place, moment.auction, differences, result, taken.book, state.reference,
+            state.is_extended, False, frozenset(items), moment.traded, moment.filled,
+            taken=moment.path.taken + len(moment.these), second=state.second,
+        )  # fmt: skip
+
+    def _reason(self, moment: Moment, refused: tuple[BadRow, ...]) -> Reason | None:
+        """Why the book of an uncross is in doubt, if it is."""
+        if moment.path.doubt:
+            return Reason(moment.path.doubt)
+        return self.doubts.above(moment.place, refused)
+
+    def _with_reason(
+        self, differences: tuple[Difference, ...], items: dict[str, Difference | None],
+        reason: Reason | None, moment: Moment,
+    ) -> tuple[Difference, ...]:  # fmt: skip
+        """The differences in doubt for a reason, but for those that a missing order can't change:
+        whether a replace kept its place, and all where the sums at the price are those of the book.
+        """
+        is_fixed = all(item in items and items[item] is None for item in SUMS)
+        if reason is None or reason.lacks_orders and is_fixed:
+            return differences
+        found = self._doubted(differences, reason.text, moment.place, moment.path.judged)
+        if not reason.lacks_orders:
+            return found
+        return tuple(
+            one if one.item == PRIORITY else other for one, other in zip(differences, found)
         )
 
-    def _path(self, moment: Moment, judged: Judged, replayed: Replay, state: State) -> Path:
+    def _of_name(self, above: tuple[Judged, ...], place: int, why: str) -> str:
+        """Why the name of an auction is in doubt, of which books decide nothing where all above it
+        have theirs: else one above may be interrupted by a book.
+        """
+        names = (it for each in above for it in each.differences if it.item == "auction")
+        return self.doubts.of_name(place) or (why if any(names) else "")
+
+    def _doubted(
+        self, differences: tuple[Difference, ...], why: str, place: int, above: tuple[Judged, ...]
+    ) -> tuple[Difference, ...]:
+        """These differences in doubt; the name of an auction for a reason of its own alone."""
+        of_name = self._of_name(above, place, why)
+        both = ((it, {it.recorded, it.lawful} <= {*AUCTIONS}) for it in differences)
+        return tuple(doubted([it], of_name if is_name else why)[0] for it, is_name in both)
+
+    def _why(self, path: Path, place: int) -> str:
+        """Why what is recorded at a place is in doubt, whatever its sums are."""
+        reason = self.doubts.above(place, path.refused)
+        return path.doubt or ("" if reason is None or reason.lacks_orders else reason.text)
+
+    def _priorities(self, taken: Taken) -> Iterator[Difference]:
+        """Where it was recorded otherwise whether a replace kept its place in time."""
+        rows, words = self.rows, ("place lost", "place kept")
+        said = rows.kept[taken.replaces]
+        for place in taken.replaces[(said >= 0) & (said != taken.kept)].tolist():
+            recorded, key = int(rows.kept[place]), int(rows.key[place])
+            yield Difference(PRIORITY, words[recorded], words[1 - recorded], (place,), (key,))
+
+    def _path(self, moment: Moment, judged: Judged, taken: Taken, state: State) -> Path:
         """The path of a moment, longer by its uncross."""
         path = moment.path
-        refused = [
-            BadRow(each.event.row.label, f"the rules say {each.reply}", True)
-            for each in replayed.refused
-        ]
-        closed = [each for each in replayed.closed if isinstance(each, Replace)]
-        refused += [
-            BadRow(each.row.label, f"order {each.order!r} isn't open any more", True)
-            for each in closed
-        ]
-        return dataclasses.replace(
-            path,
-            judged=(*path.judged, dataclasses.replace(judged, next_state=state)),
-            state=state,
-            taken=path.taken + len(moment.events),
-            bad_rows=(*path.bad_rows, *refused),
-            closed=path.closed + len(replayed.closed) - len(closed),
-        )
-
-    def _of_trades(
-        self, moment: Moment, replayed: Replay, is_wrong: bool
-    ) -> Iterator[Difference]:
-        """How trades and fills differ, where the extract has any of any auction. Where it is
-        recorded that there was no price, and that is wrong, no trade is missing beside it.
-        """
-        published, result = moment.published, replayed.result
-        members = {order.key: order.member for order in replayed.book}
-        allowed = published.price if is_wrong and isinstance(published.price, Decimal) else None
-        is_none = is_wrong and isinstance(published.price, NoPrice)
-        key = self.names.key
-        lawful = [
-            Trade(it.bid, it.ask, it.quantity, result.price, members[it.bid], members[it.ask])
-            for it in result.trades.itertuples()
-        ]
-        if self.has_trades and (moment.traded or not is_none):
-            yield from compared_trades(moment.traded, lawful, key, self._stamp, allowed)
-        if self.has_fills and (moment.filled or not is_none):
-            prices = (result.price, allowed)
-            fills = replayed.fills
-            yield from compared_fills(moment.filled, fills, key, self._stamp, prices)
-
-    def _priorities(
-        self, events: Iterable[OrderEvent], replayed: Replay
-    ) -> Iterator[Difference]:
-        """Where it was recorded otherwise whether a replace kept its place in time."""
-        words = {True: "place kept", False: "place lost"}
-        for event in events:
-            if isinstance(event, Replace) and event.kept is not None:
-                lawful = replayed.kept.get(event.row.place, event.kept)
-                if lawful != event.kept:
-                    row = (event.row.label,)
-                    yield Difference(
-                        PRIORITY, words[event.kept], words[lawful], row, (event.order,)
-                    )
+        longer = dataclasses.replace(
+            path, state=state, taken=path.taken + len(moment.these),
+            refused=(*path.refused, *taken.refused), closed=path.closed + taken.closed,
+        )  # fmt: skip
+        return _longer(longer, judged)
 
     # ---- what is open next
 
-    def _next_states(self, moment: Moment, replayed: Replay) -> Iterator[State]:
+    def _next_states(
+        self, moment: Moment, taken: Taken, result: Result
+    ) -> Iterator[tuple[State, Sums]]:
         """The states after an uncross, the recorded one first: by the recorded fills and the
-        recorded price where there are any, and by the lawful ones.
+        recorded price where there are any, and by the lawful ones; each with these fills.
         """
-        published, state = moment.published, moment.path.state
-        lawful, recorded = replayed.fills, self._recorded_fills(moment)
-        now = state.reference
-        prices = [now if replayed.result.price is None else replayed.result.price]
-        if published.price is not None:
-            is_none = isinstance(published.price, NoPrice)
-            prices.insert(0, now if is_none else published.price)  # type: ignore[arg-type]
-        for fills in [recorded, lawful] if recorded and recorded != lawful else [lawful]:
-            for reference in dict.fromkeys(prices):
-                yield self._state(moment, replayed, reference, fills)
+        now, published = moment.path.state.reference, int(self.rows.price[moment.place])
+        references = [now if result.price is None else result.price]
+        if published != MISSING:
+            references.insert(0, now if published == NO_PRICE else published)
+        recorded = self._recorded(moment)
+        several = [result.fills]
+        if len(recorded.keys) and not recorded.agrees(result.fills):
+            several.insert(0, recorded)
+        for fills in several:
+            for reference in dict.fromkeys(references):
+                is_priced = published >= 0 or result.price is not None
+                yield self._state(moment, taken, reference, fills, is_priced), fills
 
-    def _recorded_fills(self, moment: Moment) -> dict[str, int]:
+    def _recorded(self, moment: Moment) -> Sums:
         """The shares of each order that were recorded as executed."""
-        found: collections.Counter[str] = collections.Counter()
-        for trade in moment.traded:
-            found[self.names.key(trade.bid)] += trade.quantity
-            found[self.names.key(trade.ask)] += trade.quantity
-        for fill in () if moment.traded else moment.filled:
-            found[self.names.key(fill.order)] += fill.quantity
-        return dict(found)
+        rows, traded = self.rows, moment.traded
+        if len(traded):
+            keys = numpy.concatenate([rows.bid[traded], rows.ask[traded]])
+            return sums(keys, numpy.tile(rows.quantity[traded], 2))
+        return sums(rows.key[moment.filled], rows.quantity[moment.filled])
 
     def _state(
-        self, moment: Moment, replayed: Replay, reference: Decimal, fills: dict[str, int]
+        self, moment: Moment, taken: Taken, reference: int, fills: Sums, is_priced: bool
     ) -> State:
         """The state after an uncross with these fills: what isn't executed stays, but for orders
         of the ended auction alone.
         """
-        left = [
-            dataclasses.replace(order, quantity=order.quantity - fills.get(order.key, 0))
-            for order in replayed.book
-            if order.restriction != moment.auction
-        ]
-        state = moment.path.state
-        executed = collections.Counter(state.executed)
-        executed.update(fills)
-        orders = tuple(order for order in left if order.quantity > 0)
-        return State(orders, reference, dict(executed), False, state.ended + 1)
+        self.room[:] = 0
+        self.room[fills.keys] = fills.shares
+        book, state = taken.book, moment.path.state
+        rest = book.quantity - self.room[book.key]
+        left = dataclasses.replace(book, quantity=rest)
+        is_left = (rest > 0) & ((book.only <= 0) | (book.only != OWN[moment.auction]))
+        executed = None if state.executed is None else state.executed + self.room
+        second = reference if state.second >= 0 and is_priced else state.second
+        return State(left.take(is_left), reference, executed, False, state.ended + 1, second)
 
     # ---- an uncross at a wrong moment
 
-    def _later_orders(self, moment: Moment) -> list[int]:
+    def _later(self, moment: Moment) -> list[int]:
         """The places of rows after the uncross that entered orders of its recorded trades."""
-        moment = self._with_named(moment)
-        named = {self.names.key(order) for it in moment.traded for order in (it.bid, it.ask)}
-        named |= {self.names.key(fill.order) for fill in moment.filled}
-        owners = (self.names.owners.get(key) for key in named)
-        place = moment.published.row.place
-        return [it.place for it in owners if it is not None and it.place > place]
+        rows, own = self.rows, self._of(NAMED + moment.auction)
+        both = zip((moment.traded, moment.filled), own)
+        traded, filled = (numpy.concatenate(each) for each in both)
+        keys = numpy.concatenate([rows.bid[traded], rows.ask[traded], rows.key[filled]])
+        places = self.entered[keys]
+        found: list[int] = places[places > moment.place].tolist()
+        return found
 
     def _at_another_moment(self, moment: Moment, later: list[int]) -> list[Path]:
         """The courses after the uncross at the moment, between those beside it, at which all that
         was published of it is lawful; none where there is no such moment.
         """
-        events = self._until_next(moment)
-        state = moment.path.state
-        span = None if state.is_extended else self.rules.range
-        whole = dataclasses.replace(moment, events=events)
-        replayed = self._replay(whole, span)
-        total = self.extract.total_quantity
-        shown = indicated(replayed, state.executed, total)
-        first = max(later, default=-1)
-        moments = [
-            event
-            for event, result in shown
-            if event.row.place >= first and _agrees(moment.published, result)
-        ]
-        for event in moments[:MOST_MOMENTS]:
-            before = events[: events.index(event) + 1]
-            courses = [*self._variants(dataclasses.replace(moment, events=before))]
+        for place, before in self._other_moments(moment, later):
+            courses = [*self._variants(dataclasses.replace(moment, these=before))]
             if not courses[0].judged[-1].differences:
-                wrong = _wrong_moment(moment, event)
-                return [_with_differences(course, (wrong,)) for course in courses]
+                labels, above = self.rows.labels, "before all orders"
+                if len(moment.these):
+                    above = f"behind row {labels[moment.these[-1]]}"
+                row = (moment.place,)
+                wrong = Difference("auction", above, f"behind row {labels[place]}", row)
+                found = doubted([wrong], self._why(moment.path, moment.place))
+                return [course.with_last(differences=found) for course in courses]
         return []
 
-    def _until_next(self, moment: Moment) -> tuple[OrderEvent, ...]:
-        """The events of orders after the last uncross and before the next one."""
-        rest = self.orders[moment.path.taken :]
-        later = self.uncrosses[moment.number + 1 : moment.number + 2]
-        if later:
-            rest = [event for event in rest if event.row.place < later[0].row.place]
-        return tuple(rest)
-
-    # ---- trades that were looked for at another uncross
-
-    def _reconciled(self, uncrosses: tuple[Judged, ...]) -> list[Judged]:
-        """The same uncrosses, a trade that is missing in one and extra in another being one
-        difference where its row says the auction, and none where only its place among the rows
-        does.
+    def _other_moments(self, moment: Moment, later: list[int]) -> Iterator[tuple[int, Ints]]:
+        """The rows behind which the published price, volume and surplus are lawful, each with the
+        rows of the call phase before it.
         """
-        missing = {
-            (each.item, _pair(each.lawful)): (number, each)
-            for number, judged in enumerate(uncrosses)
-            for each in judged.differences
-            if each.recorded is None
-        }
-        found = [list(judged.differences) for judged in uncrosses]
-        extra = [
-            (number, each)
-            for number, judged in enumerate(uncrosses)
-            for each in judged.differences
-            if each.item in ("trade", FILL) and each.lawful is None
-        ]
-        for number, each in extra:
-            other, gap = missing.pop((each.item, _pair(each.recorded)), (number, None))
-            if gap is not None:
-                found[other].remove(gap)
-                found[number].remove(each)
-                if each.stamp not in (None, other, uncrosses[other].auction):
-                    found[number].append(dataclasses.replace(each, lawful=uncrosses[other].auction))
-        return [
-            dataclasses.replace(judged, differences=tuple(paired(those)))
-            for judged, those in zip(uncrosses, found)
-        ]
+        rows, state = self.rows, moment.path.state
+        price, volume = rows.price[moment.place], rows.quantity[moment.place]
+        if price < 0 or volume < 0 or state.executed is not None:
+            return
+        end = len(self.orders)
+        if moment.number + 1 < len(self.uncrosses):
+            end = int(numpy.searchsorted(self.orders, self.uncrosses[moment.number + 1]))
+        whole = self.orders[moment.path.taken : end]
+        sent, *shown = indicated(
+            state.book, rows, whole, moment.auction, state.reference, self.room
+        )
+        good = (shown[0] == price) & (shown[1] == volume) & (sent >= max(later, default=-1))
+        if rows.surplus[moment.place] >= 0:
+            good &= shown[2] == rows.surplus[moment.place]
+        for place in sent[good][:MOST_MOMENTS].tolist():
+            yield place, whole[whole <= place]
+
+    # ---- the end
+
+    def _with_left_over(self, path: Path) -> Path:
+        """The path with the trades and the fills that name an auction without a row uncross, as
+        extra ones of the last uncross, in doubt.
+        """
+        ended = {each.auction for each in path.judged if each.is_ended or each.beyond}
+        rows, stamps, found = self.rows, self.stamps, list[Difference]()
+        for auction in sorted({*self.due} - ended):
+            traded, filled = self._of(NAMED + auction)
+            made = compared_trades(rows, traded, NOTHING, self.owners, MISSING, stamps)
+            fills = compared_fills(rows, filled, NOTHING, MISSING, stamps)
+            why = f"the {AUCTIONS[auction]} has no row uncross"
+            found += doubted([*made.differences, *fills], why)
+        if not path.judged or not found:
+            return path
+        return path.with_last(differences=(*path.judged[-1].differences, *found))
+
+    def _judgement(self, path: Path) -> Judgement:
+        """The judgement of the best path."""
+        pairs = zip(path.judged, self._reconciled(path.judged))
+        judged = tuple(dataclasses.replace(it, differences=tuple(those)) for it, those in pairs)
+        notes = Counter(self.rows.notes)
+        notes[FALLING] += self.doubts.falls
+        notes[CLOSED_CANCELS] += path.closed
+        if path.state.ended >= len(self.due):
+            late = self.rows.kind[self.orders[path.taken :]] == CANCEL
+            notes[LATE_CANCELS] += int(late.sum())
+            notes[LATE_ORDERS] += int((~late).sum())
+        if not judged:
+            results = (self.rows.kind == TRADE) | (self.rows.kind == FILL)
+            notes[NO_UNCROSS] += int(results.sum())
+        for each in judged:
+            notes[f"{BEYOND} ({each.beyond})"] += bool(each.beyond)
+        notes[NO_SEARCH] += len(self.left_out)
+        bad = sorted([*self.rows.bad, *path.refused], key=lambda row: row.place)
+        over = sum(each.result is None for each in judged)
+        stops = len(judged) - over - path.state.ended
+        due = len(self.due) + max(0, stops)
+        return Judgement(judged, due, tuple(bad), +notes, self.has_trades, self.has_fills)
 
 
-def _recorded_interruption(moment: Moment) -> bool | None:
-    """Whether an uncross is recorded as interrupted; None where nothing says it."""
-    published = moment.published
-    if published.auction is not None:
-        return published.auction == INTERRUPTED
-    return False if moment.traded or moment.filled or published.trades else None
+def _mark(each: Difference) -> tuple[object, ...]:
+    """What is recorded in a difference, or else lawful."""
+    return each.item, each.places, each.recorded or each.lawful
 
 
-def _may_be_moved(judged: Judged) -> bool:
-    """Whether the differences are those of another moment: more than one, or a price where there
-    is none.
-    """
-    found = judged.differences
-    return len(found) > 1 or any(each.item == "price" and each.lawful is None for each in found)
-
-
-def _agrees(published: Published, shown: Indicated) -> bool:
-    """Whether a result is the published one, of which at least price and volume are known."""
-    if not isinstance(published.price, Decimal) or published.volume is None:
-        return False
-    surplus = shown.surplus if published.surplus is None else published.surplus
-    return (published.price, published.volume, surplus) == (
-        shown.price,
-        shown.volume,
-        shown.surplus,
-    )
-
-
-def _wrong_moment(moment: Moment, event: OrderEvent) -> Difference:
-    """The difference of an uncross that is lawful after an event and is recorded elsewhere."""
-    before = [each for each in moment.events]
-    recorded = f"behind row {before[-1].row.label}" if before else "before all orders"
-    row = (moment.published.row.label,)
-    return Difference("auction", recorded, f"behind row {event.row.label}", row)
-
-
-def _with_differences(path: Path, differences: tuple[Difference, ...]) -> Path:
-    """A path with these differences of its last uncross."""
-    last = dataclasses.replace(path.judged[-1], differences=differences)
-    return dataclasses.replace(path, judged=(*path.judged[:-1], last))
-
-
-def _pair(trade: object) -> object:
-    """What a trade or a fill is, but for its price and members."""
-    names = ("bid", "ask", "order", "quantity")
-    return tuple(getattr(trade, name, None) for name in names)
+def _longer(path: Path, judged: Judged) -> Path:
+    return dataclasses.replace(path, judged=(*path.judged, judged))

@@ -1,72 +1,124 @@
-"""The orders of an extract by one key each, whatever ids they had, and whose they are."""
+"""Ids become keys: of each order one, whatever ids it had. Rows of orders that no row enters, or
+that are another's, are bad ones.
+"""
 import dataclasses
-from collections.abc import Iterable
 
-from callauction.verdict.events import BadRow, Cancel, Event, New, Replace
+import numpy
+import pandas
 
+from callauction.verdict.cells import Codes, Ints
+from callauction.verdict.rows import CANCEL, MISSING, NEW, REPLACE, SIDES, Doubt, Rows
 
-@dataclasses.dataclass(frozen=True, slots=True)
-class Owner:
-    """Whose an order is, the row and the time of its entry, and the place of that row."""
-
-    member: str
-    row: object
-    time: str
-    place: int
+QUOTES = "ids of a bid and an ask, read as two orders"
+FOREIGN = "cancels by others than the order's member"
 
 
-class Names:
-    """The keys of orders: of each order the first id that it had, by all of its ids. Rows that
-    enter an id again, or are of another member's order, are bad ones.
+def make_keys(rows: Rows, unread: Codes) -> None:
+    """Puts keys in place of the ids of rows, and refuses the rows without a good one; `unread` are
+    the ids that rows have which weren't read.
     """
+    count = len(rows.names.ids)
+    entered = _entered(rows, count)
+    count, entered = _without_second(rows, count, entered)
+    root = _roots(rows, entered, count)
+    for name in ("key", "bid", "ask"):
+        array = getattr(rows, name)
+        setattr(rows, name, numpy.where(array >= 0, root[array], MISSING).astype("i4"))
+    _refuse_other_ids(rows, root)
+    _refuse_unknown(rows, entered, {*unread.tolist()})
+    _refuse_foreign(rows, entered)
 
-    def __init__(self, events: Iterable[Event]) -> None:
-        self.keys: dict[str, str] = {}
-        self.owners: dict[str, Owner] = {}
-        self.bad_rows: list[BadRow] = []
-        self.events: list[Event] = []
-        """The good events, with the keys in place of ids where they are of an order."""
-        for event in events:
-            self._add(event)
 
-    def _add(self, event: Event) -> None:
-        match event:
-            case New():
-                why = self._enter(event)
-            case Replace() | Cancel():
-                event = dataclasses.replace(event, order=self.key(event.order))
-                why = self._fault(event)
-            case _:
-                why = ""
-        if why:
-            self.bad_rows.append(BadRow(event.row.label, why, True))
-            return
-        if isinstance(event, Replace) and event.new_order:
-            self.keys.setdefault(event.new_order, event.order)
-        self.events.append(event)
+def _entered(rows: Rows, count: int) -> Ints:
+    """By its id the row that enters it first, MISSING where none does."""
+    found = numpy.full(count + 1, MISSING, "i8")
+    news = numpy.flatnonzero(rows.kind == NEW)
+    found[rows.key[news][::-1]] = news[::-1]
+    return found
 
-    def _enter(self, event: New) -> str:
-        """Notes an order; what is wrong with its id, if something is."""
-        if event.order in self.keys:
-            first = self.owners[self.keys[event.order]].row
-            return f"order {event.order!r} was entered before, in row {first}"
-        row = event.row
-        self.keys[event.order] = event.order
-        self.owners[event.order] = Owner(event.member, row.label, row.time, row.place)
-        return ""
 
-    def _fault(self, event: Replace | Cancel) -> str:
-        """What is wrong with an event of an order, if something is."""
-        owner = self.owners.get(event.order)
-        if owner is None:
-            return f"order {event.order!r} is entered in no row above"
-        if event.member and owner.member and event.member != owner.member:
-            return f"member {event.member!r} isn't {owner.member!r}, whose order it is"
-        if isinstance(event, Replace) and self.key(event.new_order) != event.order:
-            if event.new_order in self.keys:
-                return f"new_order {event.new_order!r} is another order's id"
-        return ""
+def _without_second(rows: Rows, count: int, entered: Ints) -> tuple[int, Ints]:
+    """Refuses rows that enter an id again; one that is entered on both sides is two orders."""
+    news = numpy.flatnonzero(rows.kind == NEW)
+    second = news[entered[rows.key[news]] != news]
+    quotes = second[rows.side[second] != rows.side[entered[rows.key[second]]]]
+    if len(quotes):
+        count = _part_quotes(rows, numpy.unique(rows.key[quotes]), count)
+        entered = _entered(rows, count)
+        news = numpy.flatnonzero(rows.kind == NEW)
+        second = news[entered[rows.key[news]] != news]
+    for place in second:
+        first = entered[rows.key[place]]
+        order = rows.names.order(rows.key[place])
+        why = f"order {order!r} was entered before, in row {rows.labels[first]}"
+        if rows.member[first] != rows.member[place]:
+            why += ", by another member (are ids a member's own? join both)"
+        rows.refuse(place, why, Doubt.BOOKS)
+    return count, entered
 
-    def key(self, order: str) -> str:
-        """The key of an order; an unknown id is its own."""
-        return self.keys.get(order, order)
+
+def _part_quotes(rows: Rows, ids: Ints, count: int) -> int:
+    """Gives the asks of these ids, which are entered on both sides, ids of their own: how many ids
+    there are then.
+    """
+    other = numpy.arange(count + 1)
+    other[ids] = count + numpy.arange(len(ids))
+    are = numpy.isin(rows.key, ids)
+    changes = (rows.kind == REPLACE) | (rows.kind == CANCEL)
+    why = "the id is a bid's and an ask's: the row needs a side"
+    for place in numpy.flatnonzero(are & (rows.side <= 0) & changes):
+        rows.refuse(place, why, Doubt.BOOKS)
+    is_ask = are & (rows.side == SIDES.index("ask"))
+    rows.key = numpy.where(is_ask, other[rows.key], rows.key).astype("i4")
+    rows.ask = numpy.where(rows.ask >= 0, other[rows.ask], MISSING).astype("i4")
+    places = numpy.concatenate([rows.names.ids, rows.names.ids[ids]])
+    rows.names = dataclasses.replace(rows.names, ids=places)
+    rows.notes[QUOTES] += len(ids)
+    return count + len(ids)
+
+
+def _roots(rows: Rows, entered: Ints, count: int) -> Ints:
+    """By its number the first id of each id's order."""
+    root = numpy.arange(count + 1)
+    named = numpy.flatnonzero((rows.kind == REPLACE) & (rows.new_id >= 0))
+    new_id = rows.new_id[named]
+    fresh = (entered[new_id] < 0) & ~pandas.Series(new_id).duplicated().to_numpy()
+    root[new_id[fresh]] = rows.key[named[fresh]]
+    for _ in range(len(root).bit_length()):  # ids that replace one another in a ring have no root
+        root = root[root]
+    return root
+
+
+def _refuse_other_ids(rows: Rows, root: Ints) -> None:
+    """Refuses replaces whose new id is another order's."""
+    named = numpy.flatnonzero((rows.kind == REPLACE) & (rows.new_id >= 0))
+    for place in named[root[rows.new_id[named]] != rows.key[named]]:
+        name = rows.names.order(rows.new_id[place])
+        rows.refuse(place, f"new_order {name!r} is another order's id", Doubt.BOOKS)
+
+
+def _refuse_unknown(rows: Rows, entered: Ints, unread: set[int]) -> None:
+    """Refuses rows of orders that no row above enters."""
+    events = numpy.flatnonzero((rows.kind == REPLACE) | (rows.kind == CANCEL))
+    owner = entered[rows.key[events]]
+    for place in events[(owner < 0) | (owner > events)]:
+        is_unread = int(rows.key[place]) in unread
+        where = "in a row that isn't read" if is_unread else "in no row above"
+        order = rows.names.order(rows.key[place])
+        since = int(place) if is_unread else -1
+        rows.refuse(place, f"order {order!r} is entered {where}", Doubt.ORDER, since)
+
+
+def _refuse_foreign(rows: Rows, entered: Ints) -> None:
+    """Refuses replaces by others than the order's member, and counts such cancels."""
+    events = numpy.flatnonzero((rows.kind == REPLACE) | (rows.kind == CANCEL))
+    owner = entered[rows.key[events]]
+    one, other = rows.member[events], rows.member[owner]
+    foreign = events[(one >= 0) & (other >= 0) & (one != other)]
+    rows.notes[FOREIGN] += int((rows.kind[foreign] == CANCEL).sum())
+    for place in foreign[rows.kind[foreign] == REPLACE]:
+        names = rows.names.member(rows.member[place]), rows.names.member(
+            rows.member[entered[rows.key[place]]]
+        )
+        why = f"member {names[0]!r} isn't {names[1]!r}, whose order it is"
+        rows.refuse(place, why, Doubt.BOOKS)

@@ -1,4 +1,4 @@
-"""What became of the orders of an extract, and what each member traded: by the rules, on the books
+"""What became of each order of an extract, and what each member traded: by the rules, on the books
 on which its auctions were judged. Where the day went on from recorded trades that aren't lawful, so
 do the orders.
 """
@@ -7,13 +7,12 @@ import dataclasses
 from collections.abc import Iterable
 from decimal import Decimal
 
+import numpy
 import pandas
 
-from callauction.verdict.events import Cancel, New, Replace
-from callauction.verdict.judging import Judged, Judgement
-from callauction.verdict.names import Names
-from callauction.verdict.queue import recorded_fills
-from callauction.verdict.replay import GONE, OpenOrder, OrderEvent, Replay, Rules, order_after
+from callauction.verdict.context import recorded_fills
+from callauction.verdict.judging import Judged, Judgement, Rules
+from callauction.verdict.rows import CANCEL, MARKET, NEW, OWN, SIDES, Rows
 
 ORDERS = {
     "order": "object",
@@ -41,114 +40,128 @@ MEMBERS = ("member", "orders", "entered", "bought", "sold", "better")
 class _Order:
     """An order as it is, or was last, and what became of it up to now."""
 
-    at: OpenOrder
-    quantity: int
+    key: int
+    place: int
+    entered: int
+    open: int
+    price: int
+    name: int
     traded: int = 0
     better: Decimal = Decimal(0)
     became: str = "open"
-
-    def execute(self, shares: int, limit: Decimal | None, price: Decimal) -> None:
-        """Its shares in an auction, before which it had this limit."""
-        self.traded += shares
-        if limit is not None:
-            gap = limit - price if self.at.side == "bid" else price - limit
-            self.better += gap * shares
-
-    def row(self, recorded: int | None) -> tuple[object, ...]:
-        """Its row, with the shares that are recorded of it."""
-        at = self.at
-        recorded_shares = pandas.NA if recorded is None else recorded
-        better = None if at.price is None else self.better
-        return (
-            at.order, at.member, at.side, self.quantity, at.price, self.traded, recorded_shares,
-            better, at.quantity, self.became,
-        )  # fmt: skip
 
 
 class _Course:
     """The orders of a day, phase by phase."""
 
-    def __init__(self, total_quantity: bool) -> None:
-        self.total_quantity = total_quantity
-        self.orders: dict[str, _Order] = {}
-        self.open: dict[str, OpenOrder] = {}
-        self.executed: dict[str, int] = {}
-        self.ended = self.taken = 0
+    def __init__(self, judgement: Judgement, rows: Rows, rules: Rules) -> None:
+        self.rows, self.rules = rows, rules
+        self.bad = {row.place for row in judgement.bad_rows}
+        self.orders: dict[int, _Order] = {}
+        self.open: dict[int, _Order] = {}
+        self.executed: collections.Counter[int] = collections.Counter()
+        self.places = numpy.flatnonzero((rows.kind >= NEW) & (rows.kind <= CANCEL)).tolist()
+        self.taken = self.ended = 0
 
-    def uncross(self, judged: Judged, replayed: Replay, is_last: bool) -> None:
+    def uncross(self, judged: Judged, is_last: bool) -> None:
         """A call phase and its uncross."""
-        for order in replayed.phase.orders:
-            self.orders.setdefault(order.key, _Order(order, order.quantity))
-            self.open[order.key] = order
-        refused = {id(each.event) for each in replayed.refused}
-        self.take(each for each in replayed.phase.events if id(each) not in refused)
-        self.taken += len(replayed.phase.events)
-        price = replayed.result.price
-        if judged.is_ended and price is not None:
-            for key, shares in replayed.fills.items():
-                self.orders[key].execute(shares, replayed.orders[key].price, price)
-        if judged.is_ended and judged.next_state is not None:
-            done = judged.next_state.executed
-            fills = {key: shares - self.executed.get(key, 0) for key, shares in done.items()}
-            self._end(judged.auction, replayed.fills if is_last else fills)
-            self.executed, self.ended = done, judged.next_state.ended
+        self.take(self.places[self.taken : judged.taken])
+        self.taken = judged.taken
+        result = judged.result
+        if not judged.is_ended or result is None:
+            return
+        lawful = result.fills.by_key()
+        for key, shares in lawful.items():
+            order = self.orders[key]
+            order.traded += shares
+            if order.price != MARKET and result.price is not None:
+                gap = self.rows.prices[order.price] - self.rows.prices[result.price]
+                order.better += gap * shares * (1 if self._side(order) == "bid" else -1)
+        self._end(judged.auction, lawful if is_last else judged.fills.by_key())
 
-    def take(self, events: Iterable[OrderEvent]) -> None:
-        """The events of a call phase that aren't refused."""
-        done = self.executed if self.total_quantity else {}
-        for event in events:
-            following = order_after(event, self.open, done)
-            if following is None:
+    def take(self, places: Iterable[int]) -> None:
+        """The rows of a call phase that aren't refused."""
+        rows = self.rows
+        for place in places:
+            key, quantity = int(rows.key[place]), int(rows.quantity[place])
+            if place in self.bad:
                 continue
-            key = following.key
-            if isinstance(event, New):
-                self.orders[key] = _Order(following, following.quantity)
-            if following.quantity == GONE:
-                self._close(key, "deleted", self.open[key].quantity)
-            else:
-                self.open[key] = self.orders[key].at = following
+            if rows.kind[place] == NEW:
+                order = _Order(key, place, quantity, quantity, int(rows.price[place]), key)
+                self.orders[key] = self.open[key] = order
+            elif key in self.open and rows.kind[place] == CANCEL:
+                self._cancel(self.open[key], quantity)
+            elif key in self.open:
+                self._replace(self.open[key], place, quantity)
 
-    def _end(self, auction: str, fills: dict[str, int]) -> None:
+    def _cancel(self, order: _Order, quantity: int) -> None:
+        if 0 < quantity < order.open:
+            order.open -= quantity
+        else:
+            self._close(order, "deleted")
+
+    def _replace(self, order: _Order, place: int, quantity: int) -> None:
+        done = self.executed[order.key] if self.rules.has_totals else 0
+        if 0 < done >= quantity:
+            self._close(order, "deleted")
+            return
+        order.open, order.price = quantity - done, int(self.rows.price[place])
+        if self.rows.new_id[place] >= 0:
+            order.name = int(self.rows.new_id[place])
+
+    def _end(self, auction: int, fills: dict[int, int]) -> None:
         """The end of an auction with these fills, and of the orders that end with it."""
+        self.executed.update(fills)
+        self.ended += 1
         for key, order in [*self.open.items()]:
-            rest = max(0, order.quantity - fills.get(key, 0))
-            if rest and order.restriction != auction:
-                self.open[key] = dataclasses.replace(order, quantity=rest)
-                self.orders[key].at = self.open[key]
-            else:
-                self._close(key, "lapsed" if rest else "executed", rest)
+            order.open = max(0, order.open - fills.get(key, 0))
+            only = int(self.rows.only[order.place])
+            if not order.open or (only > 0 and only == OWN[auction]):
+                self._close(order, "lapsed" if order.open else "executed")
 
-    def _close(self, key: str, became: str, rest: int) -> None:
-        """An order isn't open any more, with `rest` shares left of it."""
-        order = self.orders[key]
-        order.at, order.became = dataclasses.replace(self.open[key], quantity=rest), became
-        del self.open[key]
+    def _close(self, order: _Order, became: str) -> None:
+        """An order isn't open any more."""
+        order.became = became
+        del self.open[order.key]
 
     def over(self) -> None:
         """The end of the day."""
-        for key, order in [*self.open.items()]:
-            self._close(key, "left", order.quantity)
+        for order in [*self.open.values()]:
+            self._close(order, "left")
+
+    def _side(self, order: _Order) -> str:
+        return SIDES[self.rows.side[order.place]]
+
+    def row(self, order: _Order, recorded: int | None) -> tuple[object, ...]:
+        """The row of an order, with the shares that are recorded of it."""
+        rows, is_market = self.rows, order.price == MARKET
+        return (
+            rows.names.order(order.name), rows.names.member(rows.member[order.place]),
+            self._side(order), order.entered, None if is_market else rows.prices[order.price],
+            order.traded, pandas.NA if recorded is None else recorded,
+            None if is_market else order.better, order.open, order.became,
+        )  # fmt: skip
 
 
-def orders_of(judgement: Judgement, names: Names, rules: Rules) -> pandas.DataFrame:
+def orders_of(judgement: Judgement, rows: Rows, rules: Rules) -> pandas.DataFrame:
     """The orders of an extract that the rules accept, with what became of each (ORDERS)."""
-    course = _Course(judgement.total_quantity)
-    recorded: collections.Counter[str] = collections.Counter()
+    course = _Course(judgement, rows, rules)
+    recorded: collections.Counter[int] = collections.Counter()
     for judged in judgement.uncrosses:
-        recorded.update(recorded_fills(judged, names.keys))
-    those = [(it, it.replayed) for it in judgement.uncrosses if it.replayed is not None]
-    for place, (judged, replayed) in enumerate(those, 1):
-        course.uncross(judged, replayed, place == len(those))
+        recorded.update(recorded_fills(judged, rows))
+    those = [judged for judged in judgement.uncrosses if judged.result is not None]
+    for place, judged in enumerate(those, 1):
+        course.uncross(judged, place == len(those))
     if course.ended == len(rules.auctions):
         course.over()
     else:
-        events = [each for each in names.events if isinstance(each, New | Replace | Cancel)]
-        course.take(events[course.taken :])
+        course.take(course.places[course.taken :])
     has_records = judgement.has_trades or judgement.has_fills
-    rows = [
-        order.row(recorded[key] if has_records else None) for key, order in course.orders.items()
+    found = [
+        course.row(order, recorded[key] if has_records else None)
+        for key, order in course.orders.items()
     ]
-    return pandas.DataFrame(rows, columns=[*ORDERS], dtype="object").astype(ORDERS)
+    return pandas.DataFrame(found, columns=[*ORDERS], dtype="object").astype(ORDERS)
 
 
 def members_of(orders: pandas.DataFrame) -> pandas.DataFrame:

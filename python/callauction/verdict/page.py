@@ -3,7 +3,8 @@ with its rule and its queue, then the auctions, the members and the orders. See 
 """
 import fractions
 import html
-from collections.abc import Callable, Iterator
+import textwrap
+from collections.abc import Callable, Iterator, Mapping
 from decimal import Decimal
 
 import pandas
@@ -15,43 +16,54 @@ from callauction.pages import (
     BOOKED,
     caption_of,
     counted,
+    evidence_parts,
     html_image,
     html_page,
     html_table,
     near_price,
     new_figure,
 )
-from callauction.verdict.events import INTERRUPTED
-from callauction.verdict.findings import LAWFUL, MOST_BAD_ROWS, Verdict
-from callauction.verdict.judging import Judged
-from callauction.verdict.explain import Context, price_text
+from callauction.verdict import stamps
+from callauction.verdict.context import Context, price_text
+from callauction.verdict.findings import (
+    LAWFUL,
+    MOST_BAD_ROWS,
+    Finding,
+    Verdict,
+    frame_of,
+)
+from callauction.verdict.judging import Judged, Rules
 from callauction.verdict.orders import members_of
-from callauction.verdict.replay import Rules
+from callauction.verdict.rows import INTERRUPTED
 
 MOST_FIRST = 12
 """How many findings the first page shows; the others follow below."""
 MOST_EXPLAINED = 50
 """How many findings are shown with their rule and queue."""
 UNIT = "limits as prices, quantities in shares"
+TITLE = 38
+"""How many letters a line of a picture's title has at most."""
 QUEUED = ("open", "recorded", "lawful")
 """The columns of a queue that count shares."""
 Part = tuple[str, str]
 """A section: its heading and its HTML."""
 
 
-def html_of(verdict: Verdict, title: str, watch: Watch = iter) -> str:
-    """The report of a verdict. `watch` is given the auctions, such as tqdm.tqdm. Raises
-    ProgramError.
+def html_of(
+    verdict: Verdict, title: str, watch: Watch = iter, facts: Mapping[str, str] = {}
+) -> str:
+    """The report of a verdict; `facts` says what it is of and by. `watch` is given the auctions,
+    such as tqdm.tqdm. Raises ProgramError.
     """
     parts = [_first(verdict), *_explained(verdict)]
-    parts += [_auction(verdict, judged) for judged in watch(_replayed(verdict))]
+    parts += [_auction(verdict, judged) for judged in watch(_judged(verdict))]
     orders = verdict.orders()
-    parts += [_members(orders), _orders(orders, verdict.rules)]
-    return html_page(title, [*parts, *_bad_rows(verdict)])
+    parts += [_members(orders), _orders(orders, verdict.rules), *_bad_rows(verdict)]
+    return html_page(title, [*stamps.shortened(parts), *evidence_parts(facts)], "desk")
 
 
-def _replayed(verdict: Verdict) -> list[Judged]:
-    return [judged for judged in verdict.judgement.uncrosses if judged.replayed is not None]
+def _judged(verdict: Verdict) -> list[Judged]:
+    return [judged for judged in verdict.judgement.uncrosses if judged.result is not None]
 
 
 def _first(verdict: Verdict) -> Part:
@@ -65,107 +77,127 @@ def _first(verdict: Verdict) -> Part:
     if verdict.bad_rows:
         text += f" Rows that couldn't be read or were refused: {len(verdict.bad_rows):,}."
     text += "</p>"
-    frame = verdict.frame()
-    if count:
-        more = f", of which {MOST_FIRST} are here" if count > MOST_FIRST else ""
-        text += html_table(frame[:MOST_FIRST], counted(count, "finding") + more, "findings")
-    return "Verdict", text
+    text += _listed(verdict.findings, "finding", "findings")
+    text += _listed(verdict.doubtful, "doubtful finding", "doubtful")
+    return "Verdict", text + "".join(f"<p>{html.escape(it)}</p>" for it in verdict.ranges())
+
+
+def _listed(findings: tuple[Finding, ...], word: str, name: str) -> str:
+    """The table of the first findings, each with its rule or its doubt; empty for none."""
+    if not findings:
+        return ""
+    more = f", of which {MOST_FIRST} are here" if len(findings) > MOST_FIRST else ""
+    shown = findings[:MOST_FIRST]
+    frame = frame_of(shown).astype({"row": "str"})
+    links = {str(it.row): f"#{mark_of(it)}" for it in shown[::-1]}
+    return html_table(frame, counted(len(findings), word) + more, name, (), links)
+
+
+def mark_of(finding: Finding) -> str:
+    """By what a finding is linked to in its page."""
+    return f"{'doubt' if finding.doubt else 'finding'}-{finding.number}"
 
 
 def _explained(verdict: Verdict) -> Iterator[Part]:
-    """Each finding with its rule and its queue."""
-    for finding in verdict.findings[:MOST_EXPLAINED]:
-        sentences = "".join(f"<li>{html.escape(it)}</li>" for it in verdict.explain(finding))
-        head = (
-            f"<p>Recorded: {html.escape(finding.recorded)}. Lawful: "
-            f"{html.escape(finding.lawful)}.</p><ol>{sentences}</ol>"
-        )
-        queue = _words(verdict.queue(finding))
-        name = f"queue-{finding.number}"
-        caption = "The queue: open before the uncross, recorded and lawful shares"
-        table = html_table(queue, caption, name, QUEUED) if len(queue) else ""
-        where = ", ".join(filter(None, [f"row {finding.row}", finding.time, finding.auction]))
-        yield f"Finding {finding.number}: {finding.item}, {where}", head + table
+    """The findings, each with its rule and its queue."""
+    found = (*verdict.findings, *verdict.doubtful)
+    if not found:
+        return
+    more = f"The first {MOST_EXPLAINED} of {len(found):,} are here, --findings has all."
+    text = f"<p>{more}</p>" if len(found) > MOST_EXPLAINED else ""
+    yield "Findings", text + "".join(_finding(verdict, it) for it in found[:MOST_EXPLAINED])
 
 
-def _words(frame: pandas.DataFrame) -> pandas.DataFrame:
+def _finding(verdict: Verdict, finding: Finding) -> str:
+    """A finding with its rule, what it moved and its queue."""
+    sentences = "".join(f"<li>{html.escape(it)}</li>" for it in verdict.explain(finding))
+    moved = "".join(f"<li>{html.escape(it)}</li>" for it in finding.moved)
+    text = (
+        f"<p>Recorded: {html.escape(finding.recorded)}. Lawful: {html.escape(finding.lawful)}.</p>"
+        f"<ol>{sentences}</ol>"
+    )
+    text += f"<p>It also moved:</p><ul>{moved}</ul>" if moved else ""
+    queue = _words(verdict.queue(finding), verdict.rules)
+    caption = "The queue: open before the uncross, recorded and lawful shares"
+    name = mark_of(finding).replace("finding", "queue")
+    table = html_table(queue, caption, f"{name}-table", QUEUED) if len(queue) else ""
+    where = ", ".join(filter(None, [f"row {finding.row}", finding.time, finding.auction]))
+    word = "Doubtful" if finding.doubt else "Finding"
+    head = html.escape(f"{word} {finding.number}: {finding.item}, {where}")
+    return f'<h3 id="{mark_of(finding)}">{head}</h3>{text}{table}'
+
+
+def _words(frame: pandas.DataFrame, rules: Rules) -> pandas.DataFrame:
     """A queue with words for what is missing."""
     shown = frame.astype("object")
-    shown["price"] = ["market" if it is None else f"{it:f}" for it in frame["price"]]
+    shown["price"] = _limits(frame["price"], rules)
     return shown
+
+
+def _limits(prices: "pandas.Series", rules: Rules) -> list[str]:
+    """Limits in words, with the decimals of the tick size."""
+    return ["market" if it is None else price_text(it, rules.tick_size) for it in prices]
 
 
 def _auction(verdict: Verdict, judged: Judged) -> Part:
     """A book: why it has its price, its picture, its table, and the lawful trades."""
-    replayed = judged.replayed
-    assert replayed is not None
-    context = Context(judged, verdict.names, verdict.rules, False)
+    context = Context(judged, verdict.rows, verdict.rules)
     sentences = verdict.why(judged)
     steps = "".join(f"<li>{html.escape(sentence)}</li>" for sentence in sentences)
-    name = f"{judged.auction}-{judged.published.row.label}"
+    name = f"{context.auction}-{context.label}"
     figure = new_figure()
     _draw(context, figure.subplots())
     text = f"Demand and supply before the uncross. {' '.join(sentences[-2:])}"
-    book = near_price(replayed.books)
-    named = replayed.ticks.price
+    book = near_price(context.books)
     book["limit"] = [
-        it if it == "market" else context.price(named(int(it))) for it in book["limit"]
+        it if it == "market" else context.price(context.named(it)) for it in book["limit"]
     ]
     parts = [
         f"<h3>Why this price</h3><ol>{steps}</ol>",
         html_image(figure, text, f"book {name}"),
-        html_table(book, caption_of(replayed.books, "Book", UNIT), f"book-{name}", BOOKED),
+        html_table(book, caption_of(context.books, "Book", UNIT), f"book-{name}", BOOKED),
     ]
     trades = lawful_trades(context)
-    if len(trades) and not replayed.result.is_interrupted:
+    if len(trades) and not judged.is_interrupted:
         caption = counted(len(trades), "lawful trade")
         parts.append(html_table(trades, caption, f"trades-{name}", ("quantity",)))
-    row = judged.published.row
-    word = INTERRUPTED if replayed.result.is_interrupted else "uncrossed"
-    where = ", ".join(filter(None, [f"row {row.label}", row.time]))
-    return f"{judged.auction.title()}, {word}, {where}", "".join(parts)
+    word = INTERRUPTED if judged.is_interrupted else "uncrossed"
+    where = ", ".join(filter(None, [f"row {context.label}", context.time]))
+    return f"{context.auction.title()}, {word}, {where}", "".join(parts)
 
 
 def lawful_trades(context: Context) -> pandas.DataFrame:
     """The lawful trades of an auction in the extract's ids, members and prices."""
-    result, owners = context.result, context.names.owners
+    result, price = context.result, context.lawful_price
+    pairs = zip(result.bid.tolist(), result.ask.tolist(), result.quantity.tolist())
     rows = [
-        (
-            context.order(trade.bid),
-            owners[trade.bid].member,
-            context.order(trade.ask),
-            owners[trade.ask].member,
-            trade.quantity,
-            context.price(result.price),
-        )
-        for trade in result.trades.itertuples()
-        if result.price is not None
-    ]
+        (context.order(bid), context.member(bid), context.order(ask), context.member(ask), shares,
+         context.price(price))
+        for bid, ask, shares in pairs
+        if price is not None
+    ]  # fmt: skip
     columns = ["bid", "bid_member", "ask", "ask_member", "quantity", "price"]
     return pandas.DataFrame(rows, columns=columns)
 
 
 def _draw(context: Context, axes: Axes) -> None:
     """The picture of a book, whose ticks are steps between its prices."""
-    replayed = context.judged.replayed
-    assert replayed is not None
-    prices = replayed.ticks.prices
+    prices = [context.rows.prices[it] for it in context.uncross.named if it >= 0]
     step = _step(context.rules.tick_size, prices)
     named = _namer(context, prices[0], step)
 
     def at(price: Decimal) -> int:
         return int(fractions.Fraction(price - prices[0]) / step)
 
-    book = replayed.books.copy()
-    ticks = replayed.ticks
-    limits = [None if it is pandas.NA else at(ticks.price(int(it))) for it in book["limit"]]
+    book = context.books.copy()
+    limits = [None if it is pandas.NA else at(context.named(it)) for it in book["limit"]]
     book["limit"] = pandas.Series(limits, book.index, dtype="Int64")
-    reference = at(replayed.phase.reference)
-    plot.book(book, reference=reference, named=named, ax=axes)
-    axes.set_title(axes.get_title("left").partition("\n")[2], loc="left")
+    plot.book(book, reference=at(context.reference), named=named, ax=axes)
+    title = textwrap.wrap(axes.get_title("left").partition("\n")[2], TITLE)
+    axes.set_title("\n".join(title), loc="left")
 
 
-def _step(tick_size: Decimal | None, prices: tuple[Decimal, ...]) -> fractions.Fraction:
+def _step(tick_size: Decimal | None, prices: list[Decimal]) -> fractions.Fraction:
     """The step of a picture: the tick size, else the last digit of the prices."""
     if tick_size is not None:
         return fractions.Fraction(tick_size)
@@ -202,9 +234,7 @@ def _orders(orders: pandas.DataFrame, rules: Rules) -> Part:
     if not len(orders):
         return "Orders", "<p>No order was entered.</p>"
     listed = orders.drop(columns="better")
-    listed["limit"] = [
-        "market" if it is None else price_text(it, rules.tick_size) for it in orders["limit"]
-    ]
+    listed["limit"] = _limits(orders["limit"], rules)
     caption = f"{counted(len(orders), 'order')}: {UNIT}; traded: lawful shares"
     counts = ("quantity", "traded", "recorded", "open")
     return "Orders", html_table(listed, caption, "orders", counts)

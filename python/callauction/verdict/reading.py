@@ -2,23 +2,50 @@
 import csv
 import dataclasses
 import gzip
-import io
 import os
 import pathlib
 import re
 import zlib
-from collections.abc import Callable, Collection, Iterator, Mapping
-from decimal import Decimal, InvalidOperation
-from typing import BinaryIO, Literal
+from collections.abc import Callable, Collection, Mapping
+from decimal import Decimal
+from typing import BinaryIO, Literal, NamedTuple
 
+import numpy
 import pandas
 
-from callauction.verdict.columns import EVENT_COLUMNS, NEEDED, ColumnError, refuse_unknown, renamed
+from callauction.prices import BadCellError, decimal_of
+from callauction.verdict import fix, times
+from callauction.verdict.cells import (
+    Ints,
+    MadeSource,
+    Mask,
+    Short,
+    Source,
+    by_kind,
+    frame_source,
+    text_source,
+)
+from callauction.verdict.columns import (
+    EVENT_COLUMNS,
+    EVENTS,
+    NEEDED,
+    ColumnError,
+    kinds_of,
+    plain,
+    refuse_unknown,
+    renamed,
+)
 
 GZIP = b"\x1f\x8b"
 ROW = "row"
 """The name of the index: a row of a file is named by its line, one of a frame by its label."""
+_ARCHIVE = b"PK\3\4"
 _CONDITION = re.compile(r"\s*(?P<name>.+?)\s*(?P<sign>==|!=|<=|>=|<|>)\s*(?P<value>.*?)\s*")
+_INSTRUMENT = re.compile(
+    r"(?:financial)?(?:isin|instrument|security|symbol|wkn|wertpapier|ticker|sedol|cusip|ric)+"
+    r"(?:id|code|name|identifier|identificationcode)?"
+)
+"""The names of columns that say which instrument a row is of, in small letters without signs."""
 _COMPARED: dict[str, Callable[[Decimal, Decimal], bool]] = {
     "<": lambda left, right: left < right,
     "<=": lambda left, right: left <= right,
@@ -31,6 +58,10 @@ class ExtractError(ValueError):
     """An extract can't be read as it is asked for; one line that says what to do."""
 
 
+class ConditionError(ValueError):
+    """The words of a condition are wrong; one line."""
+
+
 @dataclasses.dataclass(frozen=True)
 class Reading:
     """How an extract is read. Nothing of it is needed for one in the columns and words of
@@ -38,7 +69,9 @@ class Reading:
     """
 
     columns: Mapping[str, str] = dataclasses.field(default_factory=dict)
-    """By our name of a column the table's, such as `{"order": "OrderID"}`."""
+    """By our name of a column the table's, such as `{"order": "OrderID"}`; for rows of one kind as
+    `{"trade.price": "LastPx"}`, where an empty name is no column.
+    """
     values: Mapping[str, Mapping[str, str]] = dataclasses.field(default_factory=dict)
     """By our name of a column what its words mean, such as `{"side": {"B": "bid", "S": "ask"}}`."""
     separator: str = ","
@@ -59,20 +92,63 @@ class Reading:
     """Whether rows are sorted by time, then by sequence, then as they come."""
     ignore: Collection[str] = ()
     """Columns that are passed over; `*` is each unknown one."""
+    pair: str = ""
+    """The column that has one text in both rows of a trade, where each is of an order and its side.
+    """
+    results: Literal["rows", "trades"] = "rows"
+    """Whether auctions without a row `uncross`, which trades name, have their trades' price."""
+    format: Literal["csv", "fix"] = "csv"
+    """What a file is: CSV, or a log of FIX messages (verdict.fix)."""
+
+    def plain(self, text: str) -> str:
+        """A number's text with the signs of this reading made plain."""
+        text = text.replace(self.thousands, "") if self.thousands else text
+        return text if self.decimal == "." else text.replace(".", "?").replace(self.decimal, ".")
+
+
+class End(NamedTuple):
+    """The end of a file: the name of its last row, its time as it is there, and whether the row may
+    be cut, as the line has no end.
+    """
+
+    label: object
+    time: str
+    is_cut: bool
 
 
 @dataclasses.dataclass(frozen=True)
 class Table:
-    """What was read: `frame` has our columns (and those of no meaning here that were asked for)
-    under an index of row names; `short` has the lines of a file that have another number of fields
-    than its header, and says so; `left_out` is how many rows didn't meet all conditions.
+    """What was read: the rows that meet all conditions, and those that don't; `short` has the lines
+    of a file that have another number of fields than its header, and says so.
     """
 
-    frame: pandas.DataFrame
-    short: tuple[tuple[int, str], ...] = ()
-    left_out: int = 0
+    source: Source
+    short: Short = ()
+    dropped: Source | None = None
     names: Mapping[str, str] = dataclasses.field(default_factory=dict)
     """By our name of a column the table's own."""
+    notes: Mapping[str, int] = dataclasses.field(default_factory=dict)
+    """What else was met in a file, and how often."""
+    end: "End | None" = None
+
+    @property
+    def left_out(self) -> int:
+        """How many rows don't meet all conditions."""
+        return 0 if self.dropped is None else len(self.dropped)
+
+    @property
+    def frame(self) -> pandas.DataFrame:
+        """The texts of our columns under an index of row names, empty where there is none."""
+        columns = {ours: self.source.cells(theirs).texts() for ours, theirs in self.names.items()}
+        texts = {
+            name: numpy.array([*found, ""], "object")[codes]
+            for name, (codes, found) in columns.items()
+        }
+        return pandas.DataFrame(texts, pandas.Index(self.source.labels, name=ROW))
+
+    def take(self, rows: Ints) -> "Table":
+        """Some of the rows that meet all conditions."""
+        return dataclasses.replace(self, source=self.source.take(rows))
 
 
 def read_table(
@@ -81,87 +157,169 @@ def read_table(
     by: str | None = None,
 ) -> Table:
     """The table of a frame or of a CSV file, which may be compressed by gzip; `by` is a column of
-    theirs that stays. Raises ColumnError for an unknown, a double or a missing column, ExtractError
-    for a file that is none of this form, and OSError.
+    theirs that stays, or several, parted by commas. Raises ColumnError for an unknown, a double or
+    a missing column, ConditionError for a condition that is none, ExtractError for a file that is
+    none of this form, and OSError.
     """
-    frame, short = (source, ()) if isinstance(source, pandas.DataFrame) else _file(source, reading)
-    if not frame.columns.is_unique:
-        twice = frame.columns[frame.columns.duplicated()][0]
+    if isinstance(source, pandas.DataFrame):
+        table, columns = Table(frame_source(source)), [*map(str, source.columns)]
+    else:
+        table = file_of(source, reading)
+        columns = [*table.source.names]
+    found = table.source
+    twice = next((name for name in columns if name and columns.count(name) > 1), None)
+    if twice is not None:
         raise ColumnError(f"the table has the column {twice!r} twice")
-    if by is not None and by not in frame:
-        raise ColumnError(f"the table has no column {by!r}")
-    conditions = [_condition(text, frame) for text in reading.where]
-    names = renamed(frame.columns, reading.columns)
-    used = {condition.name for condition in conditions} | ({by} if by else set())
-    passed = [name for name in frame if name not in names and name not in EVENT_COLUMNS]
-    refuse_unknown((name for name in passed if name not in used), (*EVENT_COLUMNS,), reading.ignore)
-    kept = frame[_meeting(frame, conditions)]
-    dropped = [name for name in passed if name != by]
-    made = kept.drop(columns=dropped).rename(columns=names)
-    if not made.columns.is_unique:
-        twice = made.columns[made.columns.duplicated()][0]
-        raise ColumnError(f"two columns of the table are {twice}: map one, or ignore the other")
-    missing = [name for name in NEEDED if name not in made]
+    keys = columns_of(by, columns)
+    conditions = [_condition(text, columns) for text in reading.where]
+    used = {condition.name for condition in conditions} | {*keys, *filter(None, [reading.pair])}
+    names = _names(found, reading, used)
+    met = _meeting(found, conditions, reading)
+    found, names = _with_kinds(found, names, reading)
+    end = table.end
+    if end is not None and "time" in names and len(found):
+        end = end._replace(time=found.cells(names["time"]).text(len(found) - 1))
+    dropped = None if met.all() else found.take(numpy.flatnonzero(~met))
+    kept = found if dropped is None else found.take(numpy.flatnonzero(met))
+    if by is None:
+        _refuse_several(kept, columns, reading.format == "fix")
+    return dataclasses.replace(table, source=kept, dropped=dropped, names=names, end=end)
+
+
+def _refuse_several(source: Source, columns: Collection[str], has_tags: bool) -> None:
+    """Raises ExtractError where a column has the names of several instruments, and none says that
+    all rows are of one.
+    """
+    several = ""
+    for name in filter(lambda it: _INSTRUMENT.fullmatch(plain(it)), columns):
+        codes, texts = source.cells(name).texts()
+        count = len({text.casefold() for text in texts})
+        if count == 1 and (codes >= 0).all():
+            return
+        if count > 1 and not several:
+            tag = f" ({fix.TAGS[name]})" if has_tags and name in fix.TAGS else ""
+            several = (
+                f"{name}{tag} has {count:,} values, such as {texts[0]} and {texts[1]}: say "
+                f"--by {name}, or keep one by --where '{name} == {texts[0]}'"
+            )
+    if several:
+        raise ExtractError(several)
+
+
+def columns_of(by: str | None, columns: Collection[str]) -> tuple[str, ...]:
+    """The columns that `by` names. Raises ColumnError where one isn't there."""
+    names = (by,) if by is None or by in columns else by.split(",")
+    found = tuple(name for name in names if name is not None)
+    missing = [name for name in found if name not in columns]
+    if missing:
+        raise ColumnError(f"the table has no column {missing[0]!r}")
+    return found
+
+
+def _names(source: Source, reading: Reading, used: set[str]) -> dict[str, str]:
+    """By our name of each column that is read the table's own. Raises ColumnError."""
+    mapped, kinds = renamed(source.names, reading.columns), kinds_of(reading.columns)
+    used = used | {name for those in kinds.values() for name in those.values()}
+    if reading.pair and reading.pair not in source.names:
+        raise ColumnError(f"pair: the table has no column {reading.pair!r}")
+    passed = [name for name in source.names if name not in mapped and name not in EVENT_COLUMNS]
+    strange = (name for name in passed if name not in used and not _is_blank(source, name))
+    refuse_unknown(strange, (*EVENT_COLUMNS,), reading.ignore)
+    found: dict[str, str] = {}
+    for theirs in source.names:
+        ours = mapped.get(theirs, theirs)
+        if ours in found:
+            raise ColumnError(
+                f"two columns of the table are {ours}: map one, or ignore the other"
+            )
+        if ours in EVENT_COLUMNS:
+            found[ours] = theirs
+    missing = [name for name in NEEDED if name not in found and name not in kinds]
     if missing:
         raise ColumnError(
             f"the table has no column {', '.join(missing)}: say which it is, such as "
             f"columns {missing[0]}=THEIRS"
         )
-    theirs = {ours: str(name) for name, ours in names.items()}
-    known = {name: theirs.get(name, name) for name in made if name in EVENT_COLUMNS}
-    return Table(made, short, len(frame) - len(kept), known)
+    return found
+
+
+def _with_kinds(
+    source: Source, names: dict[str, str], reading: Reading
+) -> tuple[Source, dict[str, str]]:
+    """The rows with a column for each of ours that is another one for some kinds of rows."""
+    of_kinds = kinds_of(reading.columns)
+    if not of_kinds:
+        return source, names
+    codes, texts = source.cells(names["event"]).texts()
+    words = reading.values.get("event", {})
+    kinds = {word: place for place, word in enumerate(EVENTS)}
+    found = [kinds.get(words.get(text, text).casefold(), len(EVENTS)) for text in texts]
+    kind = numpy.array([*found, len(EVENTS)], "i4")[codes]
+    made, all_names = {}, dict(names)
+    for ours, theirs in of_kinds.items():
+        other = names.get(ours, "")
+        name = "; ".join(filter(None, [other, *(f"{it} {theirs[it] or 'none'}" for it in theirs)]))
+        made[name] = by_kind(source, kind, {kinds[it]: theirs[it] for it in theirs}, other)
+        all_names[ours] = name
+    columns = (*source.names, *made)
+    return MadeSource(columns, source.labels, base=source, made=made), all_names
+
+
+def _is_blank(source: Source, name: str) -> bool:
+    """Whether a column has neither a name nor a cell, as behind a separator at the end of lines."""
+    return not name and not source.cells(name).length.any()
 
 
 # ---- files
 
 
-def _file(
-    source: str | os.PathLike[str] | BinaryIO, reading: Reading
-) -> tuple[pandas.DataFrame, tuple[tuple[int, str], ...]]:
-    """The texts of a file by their lines, and its lines of another length."""
+def file_of(source: str | os.PathLike[str] | BinaryIO, reading: Reading) -> Table:
+    """The rows of a file by their lines, its lines of another length, and what else was met."""
     if isinstance(source, str | os.PathLike):
         content = pathlib.Path(source).read_bytes()
     else:
         content = source.read()
-    text = _text(content, reading.encoding)
-    if len(reading.separator) != 1:
+    content = _plain(content, reading.encoding)
+    if len(reading.separator.encode()) != 1:
         raise ExtractError(f"separator {reading.separator!r} is no single character")
+    if not content.strip():
+        raise ExtractError("the file is empty: it needs a header with the names of its columns")
+    if reading.format == "fix":
+        try:
+            log = fix.table_of(content.decode(), reading.separator)
+        except fix.LogError as fault:
+            raise ExtractError(str(fault)) from None
+        end = None if log.is_ended else _end(log.source, False)
+        return Table(log.source, log.short, notes=log.notes, end=end)
     if reading.decimal == reading.separator:
-        _say_quotes(text, reading)
-    records = _records(text, reading.separator)
-    header = next(records, (0, [""][:0]))[1]
-    _look_at_header(header, reading.separator)
-    rows, lines, short = [], [], []
-    for line, fields in records:
-        if len(fields) == len(header):
-            rows.append(fields)
-            lines.append(line)
-        else:
-            short.append((line, f"has {len(fields)} fields, the header {len(header)}"))
-    index = pandas.Index(lines, name=ROW, dtype="int64")
-    return pandas.DataFrame(rows, index, header, dtype="object"), tuple(short)
+        _say_quotes(content, reading.separator)
+    try:
+        found, short = text_source(content, reading.separator)
+    except csv.Error as fault:
+        raise ExtractError(f"the file is no CSV file: {fault}") from None
+    _look_at_header(found.names, reading.separator)
+    return Table(found, short, end=_end(found, not content.endswith((b"\n", b"\r"))))
 
 
-def _say_quotes(text: str, reading: Reading) -> None:
-    """Raises ExtractError where the sign of decimals parts fields: no field is quoted, and a line
-    has more of them than the header.
-    """
-    counts = [line.count(reading.separator) for line in text.splitlines()]
-    if '"' not in text and max(counts, default=0) > next(iter(counts), 0):
-        raise ExtractError(
-            f"separator and decimal are both {reading.separator!r}, and no field is quoted"
-        )
+def _end(source: Source, is_cut: bool) -> End | None:
+    """The end of a file's rows, where there are any."""
+    return End(source.labels[-1], "", is_cut) if len(source) else None
 
 
-def _text(content: bytes, encoding: str) -> str:
-    """The text of a file's bytes."""
+def _plain(content: bytes, encoding: str) -> bytes:
+    """The bytes of a file's text as UTF-8, without a byte order mark."""
     try:
         plain = gzip.decompress(content) if content.startswith(GZIP) else content
     except (EOFError, gzip.BadGzipFile, zlib.error):
         raise ExtractError("the file is cut or no gzip file: fetch it again") from None
+    if plain.startswith(_ARCHIVE):
+        raise ExtractError("this is a workbook or an archive, and no text: save the sheet as CSV")
     try:
-        is_utf8 = encoding.casefold().replace("_", "-") in ("utf-8", "utf8")
-        return plain.decode("utf-8-sig" if is_utf8 else encoding)
+        if encoding.casefold().replace("_", "-") not in ("utf-8", "utf8"):
+            return plain.decode(encoding).encode()
+        if not plain.isascii():
+            plain.decode()
+        return plain.removeprefix(b"\xef\xbb\xbf")
     except LookupError:
         raise ExtractError(f"there is no encoding {encoding!r}") from None
     except UnicodeDecodeError as fault:
@@ -170,29 +328,25 @@ def _text(content: bytes, encoding: str) -> str:
         raise ExtractError(f"line {line} is no {encoding}: say encoding {hint}") from None
 
 
-def _records(text: str, separator: str) -> Iterator[tuple[int, list[str]]]:
-    """The records of a CSV text, each with its first line; empty lines are passed over."""
-    reader = csv.reader(io.StringIO(text, newline=""), delimiter=separator)
-    line = 1
-    try:
-        for fields in reader:
-            if fields:
-                yield line, fields
-            line = reader.line_num + 1
-    except csv.Error as fault:
-        raise ExtractError(f"line {line}: {fault}") from None
+def _say_quotes(content: bytes, separator: str) -> None:
+    """Raises ExtractError where the sign of decimals parts fields: no field is quoted, and a line
+    has more of them than the header.
+    """
+    counts = [line.count(separator.encode()) for line in content.splitlines()]
+    if b'"' not in content and max(counts, default=0) > next(iter(counts), 0):
+        raise ExtractError(f"separator and decimal are both {separator!r}, and no field is quoted")
 
 
-def _look_at_header(header: list[str], separator: str) -> None:
+def _look_at_header(header: tuple[str, ...], separator: str) -> None:
     """Raises ExtractError for a header of one column that another separator parts."""
-    if not header:
-        raise ExtractError("the file is empty: it needs a header with the names of its columns")
-    if len(header) > 1:
-        return
     signs = {";": "semicolons", "\t": "tabs", "|": "bars", ",": "commas"}
     for sign, name in signs.items():
-        if sign in header[0] and sign != separator:
+        if len(header) == 1 and sign in header[0] and sign != separator:
             raise ExtractError(f"the fields are parted by {name}: say separator {sign!r}")
+    if len(header) == 1 and header[0] not in EVENT_COLUMNS:
+        raise ExtractError(
+            f"line 1, {header[0][:40]!r}, has no names of columns: take out what is above these"
+        )
 
 
 # ---- conditions
@@ -206,30 +360,45 @@ class _Condition:
     sign: str
     value: str
 
-    def is_met(self, cell: object) -> bool:
-        """Whether a cell meets it: by text for == and !=, by number for the others."""
-        text = "" if cell is None or cell is pandas.NA or cell != cell else str(cell)
+    def met(self, texts: list[str], reading: Reading) -> list[bool]:
+        """Which of these texts meet it: by text for == and !=, as numbers or as times for the
+        others. Raises ExtractError for a text that is neither, ConditionError for a value.
+        """
         if self.sign in ("==", "!="):
-            return (text == self.value) == (self.sign == "==")
-        try:
-            return _COMPARED[self.sign](Decimal(text), Decimal(self.value))
-        except InvalidOperation:
-            return False
+            return [(text == self.value) == (self.sign == "==") for text in texts]
+        wanted = _comparable(self.value, reading)
+        if wanted is None:
+            raise ConditionError(f"where: {self.value!r} is neither a number nor a time")
+        found = {text: _comparable(text, reading) for text in texts}
+        odd = next((text for text, value in found.items() if value is None), None)
+        if odd is not None:
+            raise ExtractError(f"where: {self.name} has {odd!r}, neither a number nor a time")
+        return [it is not None and _COMPARED[self.sign](it, wanted) for it in found.values()]
 
 
-def _condition(text: str, frame: pandas.DataFrame) -> _Condition:
-    """The condition that a text says. Raises ExtractError."""
+def _comparable(text: str, reading: Reading) -> Decimal | None:
+    """The number or the time that a text is, None where it is neither."""
+    try:
+        return decimal_of(reading.plain(text))
+    except BadCellError:
+        return times.seconds(text)
+
+
+def _condition(text: str, columns: Collection[str]) -> _Condition:
+    """The condition that a text says. Raises ConditionError, and ColumnError."""
     found = _CONDITION.fullmatch(text)
-    if not found:
-        raise ExtractError(f"where {text!r} is no condition such as 'status != REJECTED'")
-    if found["name"] not in frame:
+    if not found or "==" in found["value"] or "!=" in found["value"]:
+        raise ConditionError(f"where {text!r} is no condition such as 'status != REJECTED'")
+    if found["name"] not in columns:
         raise ColumnError(f"where: the table has no column {found['name']!r}")
     return _Condition(found["name"], found["sign"], found["value"].strip("'\""))
 
 
-def _meeting(frame: pandas.DataFrame, conditions: list[_Condition]) -> "pandas.Series":
-    """Which rows meet all conditions."""
-    met = pandas.Series(True, frame.index)
+def _meeting(source: Source, conditions: list[_Condition], reading: Reading) -> Mask:
+    """Which rows meet all conditions; an empty cell meets == and != alone."""
+    met = numpy.ones(len(source), bool)
     for condition in conditions:
-        met &= frame[condition.name].map(condition.is_met).astype(bool)
+        codes, texts = source.cells(condition.name).texts()
+        missing = condition.sign in ("==", "!=") and condition.met([""], reading)[0]
+        met &= numpy.array([*condition.met(texts, reading), missing])[codes]
     return met

@@ -8,12 +8,14 @@ import pandas
 _CLOCK = re.compile(
     r"(?:(?P<date>\d{4}-\d\d-\d\d|\d{8}|\d{1,2}\.\d{1,2}\.\d{4})[T \-])?"
     r"(?P<hour>\d{1,2}):(?P<minute>\d\d)(?::(?P<second>\d\d)(?:[.,](?P<part>\d{1,9}))?)?"
-    r"(?P<zone>Z|[+-]\d\d:?\d\d)?",
+    r"(?: ?(?P<half>[AP]M))?(?P<zone>Z|[+-]\d\d:?\d\d)?",
     re.ASCII,
 )
 _NUMBER = re.compile(r"\d{1,30}(?:[.,]\d{1,30})?", re.ASCII)
 _DATES = {"-": "%Y-%m-%d", ".": "%d.%m.%Y", "": "%Y%m%d"}
 DAY_SECONDS = 86_400
+_FIRST_DAY = datetime.date(1970, 1, 1).toordinal() - 1
+"""The day before the first one: so nanoseconds of a date fit into 62 bits."""
 
 
 def shown(value: object) -> str:
@@ -36,28 +38,37 @@ def seconds(value: object) -> Decimal | None:
     if not found:
         return None
     parts = [int(found[name] or 0) for name in ("hour", "minute", "second")]
+    if found["half"] is not None:
+        parts[0] = parts[0] % 12 + 12 * (found["half"] == "PM") if 0 < parts[0] < 13 else 24
     if parts[0] > 23 or parts[1] > 59 or parts[2] > 60:
         return None
     clock = parts[0] * 3600 + parts[1] * 60 + parts[2]
-    days = _days(found["date"])
-    if days is None:
+    date = days(found["date"])
+    if date is None:
         return None
     part = Decimal(f"0.{found['part'] or 0}")
-    return days * DAY_SECONDS + clock - _offset(found["zone"]) + part
+    return date * DAY_SECONDS + clock - offset(found["zone"]) + part
 
 
-def _days(date: str | None) -> int | None:
+def date_of(text: str) -> datetime.date | None:
+    """The date of a time; None where it has none."""
+    found = _CLOCK.fullmatch(text)
+    number = days(found["date"]) if found else None
+    return datetime.date.fromordinal(number + _FIRST_DAY) if number else None
+
+
+def days(date: str | None) -> int | None:
     """The number of a date, 0 for none given; None where there is no such date."""
     if date is None:
         return 0
     sign = "-" if "-" in date else "." if "." in date else ""
     try:
-        return datetime.datetime.strptime(date, _DATES[sign]).toordinal()
+        return datetime.datetime.strptime(date, _DATES[sign]).toordinal() - _FIRST_DAY
     except ValueError:
         return None
 
 
-def _offset(zone: str | None) -> int:
+def offset(zone: str | None) -> int:
     """The seconds that a zone's clocks are ahead."""
     if zone is None or zone == "Z":
         return 0

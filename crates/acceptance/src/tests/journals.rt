@@ -8,7 +8,7 @@ use auction_terms::{
     AuctionKind, Call, Command, Config, Entry, Limit, Refusal, Reply, Restriction, Side,
 };
 use byte_streams::{Failures, FromMemory, ToMemory};
-use day_audit::{AuditFault, Counts, audit_journal};
+use day_audit::{AuditFault, Audited, Counts, audit_journal};
 use journal::{DayHeader, Journal, RunInput, print_journal, read_journal, read_run_input};
 use order_file::FileFault;
 use printed_lines::Printer;
@@ -369,7 +369,7 @@ fn audited<L: Ledger>(
     blank: Blank,
     text: &[u8],
     results: bool,
-) -> (Result<Counts, AuditFault>, Vec<u8>)
+) -> (Result<Audited, AuditFault>, Vec<u8>)
     requires name { blank.name ≡ L.name }
     requires parts { blank.parts ≡ L.parts }
     requires backed { 0 < L.parts }
@@ -380,12 +380,12 @@ fn audited<L: Ledger>(
     (found, sink.bytes)
 }
 
-fn audit_of(alloc: Global, text: &str) -> (Result<Counts, AuditFault>, Vec<u8>) {
+fn audit_of(alloc: Global, text: &str) -> (Result<Audited, AuditFault>, Vec<u8>) {
     audited::<Brand>(alloc, Blank::new(1), text.as_bytes(), false)
 }
 
 /// The same with the results of the day.
-fn results_of(alloc: Global, text: &str) -> (Result<Counts, AuditFault>, Vec<u8>) {
+fn results_of(alloc: Global, text: &str) -> (Result<Audited, AuditFault>, Vec<u8>) {
     audited::<Brand>(alloc, Blank::new(1), text.as_bytes(), true)
 }
 
@@ -417,14 +417,14 @@ audit bad 1
         first_unlawful: Some(1),
     };
     let (found, written) = audit_of(rt.alloc(), text);
-    assert!(rt; found == Ok(counts));
+    assert!(rt; found == Ok(Audited { counts, behind: 0 }));
     assert!(rt; from_utf8(written.as_slice()) == Ok(wanted));
 }
 
 #[test]
 fn a_legal_day_is_told(rt: HostRuntime) {
     let text =
-        "day,1,1000,200,3,4096,65536,\n0,enter,bid,100,200,entered 1\n1,ask,\n2,uncross,refused 6 NotOperator";
+        "day,1,1000,200,3,4096,65536,\n0,enter,bid,100,200,entered 1\n1,ask,\n2,uncross,refused 6 NotOperator\n";
     let wanted = "entries 3\ncompared 2\nunlawful 0\naudit legal\n";
     let counts = Counts {
         entries: 3,
@@ -433,8 +433,36 @@ fn a_legal_day_is_told(rt: HostRuntime) {
         first_unlawful: None,
     };
     let (found, written) = audit_of(rt.alloc(), text);
-    assert!(rt; found == Ok(counts));
+    assert!(rt; found == Ok(Audited { counts, behind: 0 }));
     assert!(rt; from_utf8(written.as_slice()) == Ok(wanted));
+}
+
+#[test]
+fn the_whole_lines_of_a_broken_copy(rt: HostRuntime) {
+    let rows = [
+        (
+            "day,1,1000,200,3,4096,65536,\n0,enter,bid,1,200,entered 1\n0,enter,bid,1,200,entered",
+            25,
+        ),
+        (
+            "day,1,1000,200,3,4096,65536,\n0,enter,bid,1,200,entered 1\n\0\0\0",
+            3,
+        ),
+        (
+            "day,1,1000,200,3,4096,65536,\n0,enter,bid,1,200,entered 1\r\n0,ask\0lost\n",
+            11,
+        ),
+    ];
+    for (text, behind) in rows {
+        let counts = Counts {
+            entries: 1,
+            compared: 1,
+            unlawful: 0,
+            first_unlawful: None,
+        };
+        let (found, _) = audit_of(rt.alloc(), text);
+        assert!(rt; found == Ok(Audited { counts, behind }));
+    }
 }
 
 #[test]

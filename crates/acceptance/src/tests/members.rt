@@ -17,6 +17,8 @@ use std::test::Fail;
 use std::thread;
 use std::thread::Threads;
 
+mod turns;
+
 const TEN_CALLS: Config = Config {
     low: 1,
     high: 1000,
@@ -80,24 +82,49 @@ impl Gate for Meeting {
     }
 }
 
-fn asks(alloc: Global, times: usize) -> Result<Vec<Command>, AllocError>
-    ensures { IfOk result (λ commands. length commands.items ≡ times) }
-{
-    Vec::from_elem(alloc, Command::Indicate, times)
+/// What the members call: each asks so often, or they call the commands of a day in turn.
+#[derive(Clone, Copy)]
+pub(super) enum Plan {
+    Asks(u16),
+    Turns,
 }
 
-// A script of `times` questions for each member.
+impl Plan {
+    // The commands of one member.
+    fn commands(self, alloc: Global, member: u8) -> Result<Vec<Command>, AllocError>
+        ensures { IfOk result (λ commands. length commands.items ≤ MAX_CALLS) }
+    {
+        match self {
+            Plan::Asks(times) => Vec::from_elem(alloc, Command::Indicate, usize::from(times)),
+            Plan::Turns => turns::commands_of(alloc, member),
+        }
+    }
+
+    // Whether a script was played as it should be: to its end, or until a call was refused.
+    fn is_played<K: BoardIdentity>(self, one: &ScriptRun<K>) -> bool {
+        let receipts = one.receipts.as_slice();
+        match (self, one.fault) {
+            (Plan::Asks(times), None) => receipts.len() == usize::from(times),
+            (Plan::Asks(_), Some(CallFault::Behind { .. })) => false,
+            (Plan::Asks(times), Some(_)) => receipts.len() < usize::from(times),
+            (Plan::Turns, fault) => {
+                fault.is_none() && turns::are_receipts_of(one.member.number(), receipts)
+            }
+        }
+    }
+}
+
+// The script of each member.
 fn scripts<K: BoardIdentity>(
     alloc: Global,
     members: &[Member<K>],
-    times: usize,
+    plan: Plan,
 ) -> Result<Vec<Script>, AllocError>
-    requires few { times ≤ MAX_CALLS }
     ensures { IfOk result (λ scripts. FitsMembers members.now scripts.items) }
 {
     let mut scripts = Vec::new(alloc);
     for member in members.iter() {
-        let commands = asks(alloc, times)?;
+        let commands = plan.commands(alloc, member.number())?;
         scripts.push(Script {
             member: member.number(),
             commands,
@@ -106,21 +133,21 @@ fn scripts<K: BoardIdentity>(
     Ok(scripts)
 }
 
-// The members whose scripts were played to their ends, or until a call was refused.
+// The members whose scripts were played as they should be.
 fn back<K: BoardIdentity>(
     played: Vec<ScriptRun<K>>,
     room: Vec<Member<K>>,
-    times: usize,
+    plan: Plan,
 ) -> Vec<Member<K>> {
     let mut members = room;
     for one in played {
+        let is_played = plan.is_played(&one);
         let ScriptRun {
             member,
-            receipts,
-            fault,
+            receipts: _receipts,
+            fault: _,
         } = one;
-        let is_cut = receipts.len() < times && !matches!(fault, Some(CallFault::Behind { .. }));
-        if (fault.is_none() && receipts.len() == times) || (fault.is_some() && is_cut) {
+        if is_played {
             let _ = members.push(member);
         }
     }
@@ -134,13 +161,12 @@ fn played_and_closed<K: BoardIdentity + Send + Sync, G: Gate + Sync, R: Wait + T
     gate: &G,
     board: Board<K>,
     members: Vec<Member<K>>,
-    times: usize,
+    plan: Plan,
 ) -> Result<Option<Closing>, AllocError>
 where
     Version<K>: Absorb<Update<K>, State = ()> + Send + Sync,
-    requires few { times ≤ MAX_CALLS }
 {
-    let Ok(scripts) = scripts(alloc, members.as_slice(), times) else {
+    let Ok(scripts) = scripts(alloc, members.as_slice(), plan) else {
         board.abandon(rt);
         return Err(AllocError);
     };
@@ -149,7 +175,7 @@ where
         unplayed,
         fault,
     } = run(alloc, &board, members, scripts, gate, rt);
-    let members = back(played, unplayed, times);
+    let members = back(played, unplayed, plan);
     let closing = closed(rt, board, members);
     let is_short = fault.is_some() && closing.is_some();
     if is_short || fault == Some(RunFault::NoThread) {
@@ -164,27 +190,25 @@ fn day<K: BoardIdentity + Send + Sync, G: Gate + Sync, R: Wait + Threads + Sync>
     alloc: Global,
     gate: &G,
     fresh: Fresh,
-    times: usize,
+    plan: Plan,
 ) -> Result<Option<Closing>, AllocError>
     requires names { (K.config ≡ fresh.config) × (K.parts ≡ fresh.members)
         × (K.name ≡ fresh.ledger) × (K.story ≡ fresh.story) }
-    requires few { times ≤ MAX_CALLS }
 {
     let (board, members) = fresh.begin::<K>().map_err(|_| AllocError)?;
-    played_and_closed(rt, alloc, gate, board, members, times)
+    played_and_closed(rt, alloc, gate, board, members, plan)
 }
 
-// The closing of a day on which each of two members asks so often under the gate.
+// The closing of a day on which members call by a plan under the gate.
 pub(super) fn closing_under<G: Gate + Sync, R: Wait + Threads + Sync>(
     rt: &R,
     alloc: Global,
     gate: &G,
-    times: usize,
-) -> Result<Option<Closing>, AllocError>
-    requires few { times ≤ MAX_CALLS }
-{
-    let fresh = Fresh::open(alloc, TEN_CALLS, 2).map_err(|_| AllocError)?;
-    day::<Brand, G, R>(rt, alloc, gate, fresh, times)
+    members: u8,
+    plan: Plan,
+) -> Result<Option<Closing>, AllocError> {
+    let fresh = Fresh::open(alloc, TEN_CALLS, members).map_err(|_| AllocError)?;
+    day::<Brand, G, R>(rt, alloc, gate, fresh, plan)
 }
 
 // Both are inside at once; or one is answered first.
@@ -192,7 +216,7 @@ pub(super) fn closing_under<G: Gate + Sync, R: Wait + Threads + Sync>(
 fn two_members_meet_or_wait(rt: HostRuntime) -> Result<(), Fail> {
     for (waits, first) in [(None, None), (Some(0), Some(1)), (Some(1), Some(0))] {
         let gate = Meeting::new(waits);
-        let closing = closing_under(&rt, rt.alloc(), &gate, 1)?.ok_or("not closed")?;
+        let closing = closing_under(&rt, rt.alloc(), &gate, 2, Plan::Asks(1))?.ok_or("not closed")?;
         assert_eq!(rt; closing.history.len(), 2);
         let member = closing.history.first().map(|entry| entry.member);
         assert!(rt; first.is_none() || member == first);
@@ -203,7 +227,9 @@ fn two_members_meet_or_wait(rt: HostRuntime) -> Result<(), Fail> {
 
 #[test]
 fn scripts_that_fill_the_history(rt: HostRuntime) -> Result<(), Fail> {
-    let closing = closing_under(&rt, rt.alloc(), &OpenGate, 10)?.ok_or("not closed")?;
+    let closing = closing_under(&rt, rt.alloc(), &OpenGate, 2, Plan::Asks(10))?.ok_or(
+        "not closed",
+    )?;
     assert_eq!(rt; closing.history.len(), 10);
     let verdict = audit(rt.alloc(), TEN_CALLS, closing.history.as_slice())?;
     assert!(rt; verdict == AuditFinding::Legal);

@@ -1,11 +1,12 @@
 //! The closing, as C gets it.
 ghost use Rattle.std.specs.Prelude.{◌≡◌, ◌≤◌, ◌<◌, All, Err, IfOk, IfErr, IfNone, IfSome, IsSomeAnd, length};
-ghost use Rattle.std.specs.Prelude.{true, false};
+ghost use Rattle.std.specs.Prelude.{ℕ, true, false};
 ghost use Rattle.auction_terms.specs.Day.{calls_of};
 ghost use Rattle.board_terms.specs.Closings.{IsAccount};
 ghost use Rattle.board_terms.specs.declared.closing.Closing.{Closing};
 ghost use Rattle.shared_board.specs.BoardViews.{IsClosingOf, OpenedBoard};
 ghost use Rattle.auction_c.specs.Entries.{AreEntries};
+ghost use Rattle.auction_c.specs.BoardCalls.{AreOfBoards};
 ghost use Rattle.auction_c.specs.BoardCalls.{HoldAccounts, HoldsAccount, IsAccountError, IsAccountsError, IsCloseError};
 ghost use Rattle.auction_c.specs.BoardCalls.{IsHandleError, IsLockError, WritesClosing, first_boxed, lacks_room};
 ghost use Rattle.auction_c.specs.declared.errors.TheConstants.{BAD_LENGTH, NO_MEMBER};
@@ -18,14 +19,18 @@ use crate::structs::AuctionEntry;
 use board_terms::Closing;
 use shared_board::{SharedMember, TakenFloor};
 
-// `DONE` where the member has this number, and its account is one of this history; else the error.
+// `DONE` where the member is one of the floor's board, has this number, and its account is one of this history; else
+// the error.
 fn account_error(member: &mut SharedMember, number: usize, floor: &TakenFloor) -> u32
-    requires board { member.old.board ≡ floor.now.board }
+    requires board { member.old.board.identity ≡ floor.now.board.identity → member.old.board ≡ floor.now.board }
     ensures same { member.new ≡ member.old }
-    ensures account { result ≡ 0 →
-        (member.old.view.number ≡ number) × IsAccount (calls_of floor.now.history) member.old.view }
+    ensures account { result ≡ 0 → (member.old.board ≡ floor.now.board) × (member.old.view.number ≡ number)
+        × IsAccount (calls_of floor.now.history) member.old.view }
     ensures error { 0 < result → IsAccountError floor.now number member.old result }
 {
+    if member.identity() != floor.identity() {
+        return MISSING_MEMBER;
+    }
     if usize::from(member.number()) != number {
         return MISSING_MEMBER;
     }
@@ -37,7 +42,8 @@ fn account_error(member: &mut SharedMember, number: usize, floor: &TakenFloor) -
 
 // The same of the member that the handle holds.
 fn boxed_error(handle: &mut AuctionMember, number: usize, floor: &TakenFloor) -> u32
-    requires board { IfSome handle.old.boxed.value (λ m. m.board ≡ floor.now.board) }
+    requires board { IfSome handle.old.boxed.value (λ m.
+        m.board.identity ≡ floor.now.board.identity → m.board ≡ floor.now.board) }
     ensures same { handle.new ≡ handle.old }
     ensures account { result ≡ 0 → HoldsAccount floor.now number handle.old.boxed.value }
     ensures error { 0 < result → IsHandleError floor.now number handle.old.boxed.value result }
@@ -51,7 +57,8 @@ fn boxed_error(handle: &mut AuctionMember, number: usize, floor: &TakenFloor) ->
 // `DONE` where the handles hold all members, in the order of their numbers, and their accounts are of this history;
 // else the first error.
 fn accounts_error(handles: &mut [AuctionMember], members: usize, floor: &TakenFloor) -> u32
-    requires one_board { All (λ h. IfSome h.boxed.value (λ m. m.board ≡ floor.now.board)) handles.old }
+    requires identities { All (λ h. IfSome h.boxed.value (λ m.
+        m.board.identity ≡ floor.now.board.identity → m.board ≡ floor.now.board)) handles.old }
     requires members { members ≡ floor.now.board.members }
     ensures same { handles.new ≡ handles.old }
     ensures accounts { result ≡ 0 → HoldAccounts floor.now handles.old }
@@ -149,7 +156,7 @@ pub(crate) fn close_all(
     counts: &mut [u32],
     written: &mut usize,
 ) -> u32
-    requires one_board { (board : OpenedBoard) × All (λ h. IfSome h.boxed.value (λ m. m.board ≡ board)) handles.old }
+    requires identities { (boards : ℕ → OpenedBoard) × AreOfBoards boards handles.old }
     ensures same { handles.new ≡ handles.old }
     ensures done { result ≡ 0 →
         (board : OpenedBoard) × WritesClosing board handles.old entries.new counts.new written.new }

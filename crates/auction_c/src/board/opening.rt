@@ -40,8 +40,13 @@ fn put_in(handles: &mut [AuctionMember], members: Vec<Box<SharedMember>>)
 }
 
 /// Opens a board with as many members as there are handles, which hold none, and has each handle hold its member.
-pub(crate) fn fill(alloc: Global, handles: &mut [AuctionMember], config: Config) -> u32
-    ensures done { result ≡ 0 → HoldsNewMembers config handles.new }
+pub(crate) fn fill(
+    alloc: Global,
+    handles: &mut [AuctionMember],
+    identity: u64,
+    config: Config,
+) -> u32
+    ensures done { result ≡ 0 → HoldsNewMembers identity config handles.new }
     ensures refused { 0 < result → handles.new ≡ handles.old }
     ensures many { 256 ≤ length handles.old → result ≡ BAD_CAPACITY }
     ensures fault { length handles.old < 256 →
@@ -52,7 +57,7 @@ pub(crate) fn fill(alloc: Global, handles: &mut [AuctionMember], config: Config)
     let Ok(count) = u8::try_from(handles.len()) else {
         return BAD_CAPACITY;
     };
-    match open(alloc, config, count) {
+    match open(alloc, identity, config, count) {
         Ok(members) => match boxed(alloc, members) {
             Ok(boxes) => {
                 put_in(handles, boxes);

@@ -1,13 +1,15 @@
-//! What a member is shown of the floor: the ladder, the trades, the entries of the history.
+//! What a member is shown of the floor: the ladder, the trades, where the day is, the entries of the history.
 ghost use Rattle.std.specs.Prelude.{◌≡◌, ◌<◌, drop, length};
-ghost use Rattle.auction_c.specs.BoardCalls.{IsLadderError, IsShowError, ShowsEntries, ShowsLadder, ShowsTrades};
+ghost use Rattle.auction_c.specs.BoardCalls.{IsLadderError, IsShowError, ShowsEntries, ShowsLadder, ShowsState};
+ghost use Rattle.auction_c.specs.BoardCalls.{ShowsTrades};
 ghost use Rattle.auction_c.specs.Calling.{ladder_error, ticks_of};
 
 use crate::board::copying::copy_entries;
 use crate::board::taking::{see_floor, take_floor, take_seen_floor};
 use crate::copying::{copy_ladder, copy_trades};
+use crate::encoding::state_out;
 use crate::errors::{BAD_LENGTH, DONE};
-use crate::structs::{AuctionEntry, AuctionMarketOrders, AuctionTrade};
+use crate::structs::{AuctionDayState, AuctionEntry, AuctionMarketOrders, AuctionTrade};
 use auction_terms::{Entry, Trade};
 use shared_board::SharedMember;
 
@@ -80,6 +82,22 @@ pub(crate) fn show_trades(
     };
     *copied = copy_trades(trades_after(floor.tape(), seen), trades);
     *calls = floor.calls();
+    member.give_floor(floor);
+    DONE
+}
+
+/// Writes where the day is, once the member has seen all calls.
+pub(crate) fn show_state(member: &mut SharedMember, state: &mut AuctionDayState) -> u32
+    ensures done { result ≡ 0 → ShowsState state.new member.old member.new }
+    ensures member { 0 < result → member.new ≡ member.old }
+    ensures error { 0 < result → IsShowError member.old result }
+    ensures same { 0 < result → state.new ≡ state.old }
+{
+    let floor = match take_seen_floor(member) {
+        Ok(floor) => floor,
+        Err(error) => return error,
+    };
+    *state = state_out(floor.auction());
     member.give_floor(floor);
     DONE
 }

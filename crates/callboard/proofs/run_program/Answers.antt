@@ -3,4 +3,4 @@ use Rattle.callboard.proofs.run_program.Goals as goal
 
 -- the words and the ends are those that `serve` had
 pub returns : goal.returns
-returns g c = (_, _, _, _, _, _, _, _, _, c.serve.ensures.answer)
+returns g c = (_, _, _, _, _, _, _, _, _, _, c.serve.ensures.answer)

@@ -142,7 +142,7 @@ fn printed_by<I: Ledger, O: Ledger, T: AllocGlobal + Wait + Threads + Sync>(
         writer: taker,
         failures: Failures::<O>::new(blanks.1),
     };
-    let (status, err) = served::<_, _, Brand, Tracked<Opened>, NoFiles, T>(
+    let (status, err) = served::<_, _, Brand, Tracked<Opened<'_>>, NoFiles, T>(
         rt,
         Blank::new(1),
         words,

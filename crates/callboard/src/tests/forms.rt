@@ -261,7 +261,28 @@ const AUDIT: &[&str] = &["callboard", "--audit"];
 
 const RESULTS: &[&str] = &["callboard", "--audit", "--results"];
 
-static AUDITS: [Row; 11] = [
+static AUDITS: [Row; 13] = [
+    (
+        AUDIT,
+        b"day,10,20,15,2,3,4,\n0,enter,bid,5,15,entered 1\n0,enter,bid,5,15,ent",
+        "entries 1\ncompared 1\nunlawful 0\naudit legal\nincomplete: 20 bytes follow entry 1\n",
+        "",
+        5,
+    ),
+    (
+        AUDIT,
+        b"day,10,20,15,2,3,4,\n0,enter,bid,5,15,entered 2\n\0\0",
+        "\
+1: recorded \"entered 2\", lawful \"entered 1\"
+entries 1
+compared 1
+unlawful 1
+audit bad 0
+incomplete: 2 bytes follow entry 1
+",
+        "",
+        4,
+    ),
     (
         AUDIT,
         b"day,10,20,15,2,3,4,\n",

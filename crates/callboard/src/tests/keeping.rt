@@ -1,8 +1,13 @@
 //! Sessions whose journal is a file in memory.
 
+ghost use Rattle.std.specs.Prelude.{◌≡◌, is_ok};
+
 use super::{Printed, each_gives, run_to_memory};
 use crate::{OpenedJournal, OpensJournal};
-use journal_file::{OpenFileFault, RawFile, Tracked, committed_len};
+use journal_file::{
+    ASIDE, FOUND, OpenFileFault, RESIZED, RawFault, RawFile, Record, SYNCED, Tracked, WRITTEN,
+    committed_len,
+};
 use settings::JournalFile;
 use std::alloc::{AllocError, Global};
 use std::io;
@@ -31,27 +36,20 @@ const DAY: &str = "day,1,1000,200,4,4096,65536,\n";
 
 const MANY_CALLS: usize = 1_000;
 
-/// A file in memory that belongs to somebody else, and fails for good after `calls_left` calls.
+/// Bytes that belong to somebody else, of which calls fail for good after `calls_left` calls.
 #[derive(Drop)]
-struct Held<'a> {
+struct HeldBytes<'a> {
     bytes: &'a mut Vec<u8>,
     calls_left: usize,
 }
 
-impl Held<'_> {
-    fn spend(&mut self) -> io::Result<()> {
-        match self.calls_left.checked_sub(1) {
-            Some(left) => {
-                self.calls_left = left;
-                Ok(())
-            }
-            None => Err(io::Error::from(ErrorKind::Other)),
-        }
+impl HeldBytes<'_> {
+    fn spend(&mut self) -> Result<(), AllocError> {
+        self.calls_left = self.calls_left.checked_sub(1).ok_or(AllocError)?;
+        Ok(())
     }
-}
 
-impl RawFile for Held<'_> {
-    fn write_all_at(&mut self, at: usize, bytes: &[u8]) -> io::Result<()> {
+    fn write(&mut self, at: usize, bytes: &[u8]) -> Result<(), AllocError> {
         self.spend()?;
         for (place, byte) in bytes.iter().enumerate() {
             if let Some(room) = self.bytes.get_mut(at.saturating_add(place)) {
@@ -61,18 +59,64 @@ impl RawFile for Held<'_> {
         Ok(())
     }
 
-    fn set_len(&mut self, len: usize) -> io::Result<()> {
+    fn resize(&mut self, len: usize) -> Result<(), AllocError> {
         self.spend()?;
         self.bytes.resize(len, 0)?;
         Ok(())
     }
+}
 
-    fn sync(&mut self) -> io::Result<()> {
-        self.spend()
+/// A file in memory, which notes the calls that are made on it.
+#[derive(Drop)]
+struct Held<'a> {
+    file: HeldBytes<'a>,
+    calls: Record,
+}
+
+/// What a call on a file reports.
+fn as_raw(done: Result<(), AllocError>) -> Result<(), RawFault>
+    ensures { is_ok result ≡ is_ok done }
+{
+    match done {
+        Ok(()) => Ok(()),
+        Err(_) => Err(RawFault::Failed),
     }
 }
 
-impl<'a> OpensJournal<Tracked<Held<'a>>> for Held<'a> {
+impl RawFile for Held<'_> {
+    ghost calls = { λ held. held.calls.events };
+
+    fn write_all_at(&mut self, at: usize, bytes: &[u8]) -> Result<(), RawFault> {
+        let done = self.file.write(at, bytes);
+        self.calls
+            .note(&[WRITTEN, at as u64, u64::from(done.is_ok())], bytes);
+        as_raw(done)
+    }
+
+    fn set_len(&mut self, len: usize) -> Result<(), RawFault> {
+        let done = self.file.resize(len);
+        self.calls
+            .note(&[RESIZED, len as u64, u64::from(done.is_ok())], &[]);
+        as_raw(done)
+    }
+
+    fn sync(&mut self) -> Result<(), RawFault> {
+        let done = self.file.spend();
+        self.calls.note(&[SYNCED, 0, u64::from(done.is_ok())], &[]);
+        as_raw(done)
+    }
+
+    fn put_aside(&mut self, bytes: &[u8]) -> Result<u64, RawFault> {
+        let done = self.file.spend();
+        self.calls.note(&[ASIDE, 0, u64::from(done.is_ok())], bytes);
+        match done {
+            Ok(()) => Ok(1),
+            Err(_) => Err(RawFault::Failed),
+        }
+    }
+}
+
+impl<'a> OpensJournal<Tracked<Held<'a>>> for HeldBytes<'a> {
     fn open(
         self,
         alloc: Global,
@@ -81,7 +125,9 @@ impl<'a> OpensJournal<Tracked<Held<'a>>> for Held<'a> {
         let Ok(bytes) = self.bytes.to_vec(alloc) else {
             return Err(OpenFileFault::Failed(io::Error::from(ErrorKind::OutOfMemory)));
         };
-        let device = Tracked::over(self, bytes.as_slice());
+        let mut calls = Record::new();
+        calls.note(&[FOUND, 0, 1], bytes.as_slice());
+        let device = Tracked::over(Held { file: self, calls });
         Ok(OpenedJournal { device, bytes })
     }
 }
@@ -94,8 +140,14 @@ fn kept_on<T: AllocGlobal + Wait + Threads + Sync>(
     bytes: &mut Vec<u8>,
     calls_left: usize,
 ) -> Printed {
-    let file = Held { bytes, calls_left };
-    run_to_memory::<Brand, Tracked<Held<'_>>, Held<'_>, T>(rt, Blank::new(1), words, input, file)
+    let file = HeldBytes { bytes, calls_left };
+    run_to_memory::<Brand, Tracked<Held<'_>>, HeldBytes<'_>, T>(
+        rt,
+        Blank::new(1),
+        words,
+        input,
+        file,
+    )
 }
 
 /// The words of a session, what its file holds, its input, the output, the error and the status that they give, and
@@ -112,7 +164,7 @@ type KeptRow = (
 
 const BEGUN: &str = "day,1,1000,200,4,4096,65536,\n1,ask,no price bid - ask -\n";
 
-const ROWS: [KeptRow; 10] = [
+const ROWS: [KeptRow; 13] = [
     (
         KEPT,
         "",
@@ -137,9 +189,36 @@ const ROWS: [KeptRow; 10] = [
         "day,1,1000,200,4,4096,65536,\n1,ask,no price bid - ask -\n1,as\0\0no price\n",
         b"0,uncross\n",
         "2: opening no price\n",
-        "journal 1 entries\n",
+        "journal cut off after its last line: 15 bytes, kept in day.csv.cut-1\njournal 1 entries\n",
         0,
         "day,1,1000,200,4,4096,65536,\n1,ask,no price bid - ask -\n0,uncross,opening no price\n",
+    ),
+    (
+        KEPT,
+        "a note of one line",
+        b"1,ask\n",
+        "",
+        "journal day.csv: not a journal\n",
+        1,
+        "a note of one line",
+    ),
+    (
+        KEPT,
+        "PK\0\u{3}a spreadsheet\nof two lines\n",
+        b"1,ask\n",
+        "",
+        "journal day.csv: not a journal\n",
+        1,
+        "PK\0\u{3}a spreadsheet\nof two lines\n",
+    ),
+    (
+        KEPT,
+        "some,text\nof two lines\n",
+        b"1,ask\n",
+        "",
+        "journal day.csv: not a journal\n",
+        1,
+        "some,text\nof two lines\n",
     ),
     (
         KEPT,
@@ -233,7 +312,7 @@ fn lines_of(bytes: &[u8]) -> usize {
 #[test]
 fn what_is_answered_is_in_a_file_that_fails(rt: HostRuntime) -> Result<(), AllocError> {
     let mut failed_inside = false;
-    for calls in 0..14 {
+    for calls in 0..18 {
         let mut bytes = Vec::new(rt.alloc());
         let printed = kept_on(&rt, KEPT, b"1,ask\n1,ask\n", &mut bytes, calls);
         let end = committed_len(bytes.as_slice());
@@ -251,5 +330,26 @@ fn what_is_answered_is_in_a_file_that_fails(rt: HostRuntime) -> Result<(), Alloc
         assert_eq!(rt; lines_of(bytes.as_slice()), kept.max(1).saturating_add(1));
     }
     assert!(rt; failed_inside);
+    Ok(())
+}
+
+#[test]
+fn a_journal_that_is_spoiled_in_the_middle_stays(rt: HostRuntime) -> Result<(), AllocError> {
+    let mut bytes = DAY.as_bytes().to_vec(rt.alloc())?;
+    for _ in 0..400 {
+        bytes.extend_from_slice(b"1,ask,no price bid - ask -\n")?;
+    }
+    let place = DAY.len() + 200 * 27 + 5;
+    if let Some(byte) = bytes.get_mut(place) {
+        *byte = 0;
+    }
+    let before = bytes.to_vec(rt.alloc())?;
+    let printed = kept_on(&rt, KEPT, b"1,ask\n", &mut bytes, MANY_CALLS);
+    assert_eq!(rt;
+        from_utf8(printed.err.as_slice()).unwrap_or("?"),
+        "journal record 202: damaged, 5400 bytes follow\n"
+    );
+    assert_eq!(rt; printed.status, 1);
+    assert_eq!(rt; bytes.as_slice(), before.as_slice());
     Ok(())
 }

@@ -1,66 +1,252 @@
-// The page of the beamer: what the teacher lets all see.
+// The page of the beamer: how to join, then the call, then what came of it and why.
 import {
-  Clock, Connection, ask, bookPicture, coursePicture, errorText, figures, fill, find, indicationFigures, money,
-  offerLanguages, phaseText, price, resultText, shares, speak, text,
+  ask, choices, errorText, figures, find, hide, make, money, offerLanguages, price, put, shares, speak, spoken, text,
+  tokenOfAddress,
 } from "./common.js";
+import { Connection } from "./connection.js";
+import { bookPicture, coursePicture, drawCode } from "./pictures.js";
+import { lastBook, Replay } from "./replay.js";
+import { roundText } from "./rounds.js";
+import { fill } from "./rows.js";
+import { Clock, indicationFigures, isCall, nextText, phaseText, resultOf, showInterruption } from "./states.js";
+import { reasonsOf } from "./why.js";
 
-const KEPT = "venue.beamer";
-const MOST_ROWS = 12;
+const MOST_GAINS = 3, MOST_ROWS = 12;
 const clock = new Clock(find("clock"));
 const said = { state: {}, ladder: {}, trades: {}, efficiency: {}, course: {} };
-let terms = [], chosen = "", shows = "indication";
+const replays = {};
+let round = null, ranking = [], shownReplay = null;
+let terms = [], chosen = "", screen = { shows: "indication", code: "" }, lostAt = null, isOpen = false, token = "";
 
 const term = () => terms.find((it) => it.name === chosen);
+const replay = new Replay(find("crossing"), draw);
+
+function sceneOf(state) {
+  if (resultOf(state)) return "result";
+  return state.phase === "waiting" ? "join" : "call";
+}
 
 function draw() {
+  hide(find("open"), !isOpen);
+  hide(find("lost"), lostAt === null || !isOpen);
+  if (lostAt !== null) put(find("lost"), text("away", lostAt.toLocaleTimeString(spoken())));
+  document.body.classList.toggle("stale", lostAt !== null);
   const state = said.state[chosen];
-  find("choosing").hidden = terms.length < 2;
-  find("booking").hidden = shows !== "all";
+  hide(find("choosing"), terms.length < 2);
   if (!state) return;
-  find("phase").textContent = phaseText(state);
+  const scene = sceneOf(state);
+  put(find("phase"), phaseText(state));
+  put(find("next"), nextText(state));
   clock.set(state);
-  figures(find("figures"), [...indicationFigures(state.indication), [text("reference"), price(state.reference)]]);
-  const last = state.results.at(-1);
-  find("result").textContent = last ? resultText(last) : "";
-  find("course").replaceChildren(coursePicture(said.course[chosen]?.points ?? [], term()));
-  if (shows === "all") {
-    find("book").replaceChildren(bookPicture(said.ladder[chosen]?.levels ?? [], state.indication.price, term()));
-  }
-  const trades = said.trades[chosen]?.trades ?? [];
-  find("trading").hidden = !trades.length;
-  fill(find("trades"), trades.slice(-MOST_ROWS).map((it) => [{ number: it.trade }, it.buyer ?? "", it.seller ?? "",
-    { number: shares(it.quantity) }, { number: price(it.price) }]));
-  const found = said.efficiency[chosen];
-  find("efficiency").textContent = found?.percent == null || !trades.length ? ""
-    : `${text("efficiency")}: ${found.percent} % ${text("of_most")} `
-      + `(${money(found.gain, term())} / ${money(found.most, term())})`;
+  showInterruption(find("interruption"), state);
+  for (const name of ["join", "call", "result"]) hide(find(`scene-${name}`), name !== scene);
+  hide(find("figures"), scene !== "call");
+  drawRound();
+  drawJoin(scene);
+  if (scene !== "result") replay.stop();
+  if (scene === "call") drawCall(state);
+  if (scene === "result") drawResult(state);
 }
+
+function drawRound() {
+  hide(find("message"), !round?.message);
+  if (!round) return;
+  const isPlain = round.round === 1 && !round.title && !round.practice;
+  put(find("round"), isPlain ? "" : `· ${roundText(round)}`);
+  put(find("message"), round.message);
+}
+
+// ---- joining
+
+function drawJoin(scene) {
+  find("scene-join").className = screen.qr ? "scene two" : "scene";
+  const address = screen.url ?? `${location.origin}/`;
+  put(find("address"), address);
+  put(find("code"), screen.code);
+  put(find("count"), shares(screen.members ?? 0));
+  put(find("robots"), screen.robots ? `· ${text("robots_count", shares(screen.robots))}` : "");
+  hide(find("join-small"), scene === "join" || !screen.code);
+  put(find("join-small"), `${text("join_at")} ${address} · ${text("code")} ${screen.code}`);
+  hide(find("qr-place"), !screen.qr);
+  if (screen.qr) drawCode(find("qr"), screen.qr);
+}
+
+// ---- the call
+
+function drawCall(state) {
+  const showsBook = screen.shows === "all";
+  figures(find("figures"), indicationFigures(state));
+  hide(find("booking"), !showsBook);
+  find("scene-call").className = showsBook ? "scene even" : "scene";
+  const course = said.course[chosen] ?? { began: null, points: [] };
+  coursePicture(find("course"), course, isCall(state) ? clock.now() : state.now, term());
+  if (showsBook) bookPicture(find("book"), said.ladder[chosen]?.levels ?? [], state.indication, term());
+}
+
+// ---- what came of it
+
+// The auctions that have ended in this round.
+const endedOf = (state) => state.results.filter((it) => it.auction !== "interrupted");
+
+function drawResult(state) {
+  const ended = endedOf(state), place = chosenPlace(ended);
+  const result = ended[place], isLast = place === ended.length - 1;
+  const hasPrice = result.price !== null, words = hasPrice ? price(result.price) : text("no_price");
+  put(find("result"), words, hasPrice ? "price-large" : "price-large none");
+  put(find("why-head"), text(hasPrice ? "why" : "why_not"));
+  put(find("result-volume"), hasPrice ? shares(result.volume) : "–");
+  put(find("efficiency"), isLast ? efficiencyText() : "");
+  put(find("predicted"), isLast ? predictedText() : "");
+  fetchReplay(place + 1);
+  drawCrossing(place + 1);
+  const before = ended.slice(0, place).reduce((sum, it) => sum + it.trades, 0);
+  fit((count) => {
+    const gains = isLast ? drawGains(Math.min(MOST_GAINS, Math.ceil(count / 2))) : drawGains(0);
+    drawTrades(before, result.trades, count - gains);
+  });
+}
+
+// Which auction is shown, from 0: the last one, until another is chosen.
+function chosenPlace(ended) {
+  const which = find("which"), last = keyOf(ended.length);
+  choices(which, ended.map((it, place) => [String(place + 1), text(it.auction)]));
+  if (which.dataset.last !== last) which.value = String(ended.length);
+  which.dataset.last = last;
+  hide(find("which-place"), ended.length < 2);
+  return Number(which.value) - 1;
+}
+
+// Draws as many rows as there is room for: `draw` is given the most of them.
+function fit(draw) {
+  const section = find("trading").parentElement;
+  for (let count = MOST_ROWS; count >= 0; count--) {
+    draw(count);
+    if (section.scrollHeight <= section.clientHeight) return;
+  }
+}
+
+// Who gained most of all rounds, where the teacher shows that, else of this one: how many rows.
+function drawGains(most) {
+  const isRanking = screen.payoffs === "ranking" && ranking.length > 0;
+  const gains = (said.efficiency[chosen]?.gains ?? []).map((it, place) => ({ rank: place + 1, ...it }));
+  const rows = (isRanking ? ranking : gains).slice(0, most);
+  hide(find("placing"), !rows.length);
+  for (const node of [find("ranking").caption, find("ranking-head")]) {
+    put(node, text(isRanking ? "ranking" : "who_gained"));
+  }
+  fill(find("ranking"), rows, (it) => it.name, (it) => [{ number: String(it.rank) },
+    { text: it.name, classes: "name" }, { number: price(it.gain) }]);
+  return rows.length;
+}
+
+function predictedText() {
+  const found = said.efficiency[chosen]?.predicted;
+  if (!found) return "";
+  const ends = found.low === found.high ? price(found.low) : text("from_to", price(found.low), price(found.high));
+  return text("predicted", ends, shares(found.volume));
+}
+
+function efficiencyText() {
+  const found = said.efficiency[chosen];
+  if (found?.percent == null || !said.trades[chosen]?.trades.length) return "";
+  return text("efficiency_short", shares(found.percent), price(found.gain), money(found.most, term()));
+}
+
+// The first trades of an auction: it has `count` of them, and those before it `before`.
+function drawTrades(before, count, most) {
+  const rows = (said.trades[chosen]?.trades ?? [])
+    .filter((it) => it.trade > before && it.trade <= before + count).slice(0, most);
+  hide(find("trading"), !rows.length);
+  put(find("more-trades"), count > rows.length ? text("more_trades", shares(count - rows.length)) : "");
+  fill(find("trades"), rows, (it) => it.trade, (it) => [{ text: it.buyer ?? "", classes: "name" },
+    { text: it.seller ?? "", classes: "name" }, { number: shares(it.quantity) }]);
+}
+
+// Asks for the books of an auction that ended, once.
+async function fetchReplay(number) {
+  const key = keyOf(number);
+  if (replays[key]) return;
+  const found = { book: null, frames: [] };
+  replays[key] = found;
+  try {
+    Object.assign(found, await ask(`/api/replay/${chosen}?auction=${number}`, token));
+  } catch {
+    setTimeout(() => { delete replays[key]; }, 5000);
+  }
+  draw();
+}
+
+const keyOf = (number) => [chosen, said.state[chosen].round, number].join(" ");
+
+function drawCrossing(number) {
+  shownReplay = replays[keyOf(number)];
+  const { book, frames = [] } = shownReplay ?? {};
+  hide(find("replay"), !frames.length);
+  put(find("replay"), text(replay.isGoing ? "stop" : "replay"));
+  find("why").replaceChildren(...(book ? reasonsOf(book) : []).map((words) => make("p", words)));
+  if (!book || replay.isGoing) return;
+  const volume = book.levels.find((it) => it.price === book.price)?.volume ?? 0;
+  bookPicture(find("crossing"), lastBook(book), { price: book.price, volume }, term());
+}
+
+// ---- what comes
 
 function take(message) {
   const { type } = message;
-  if (type === "welcome") {
-    terms = message.instruments;
-    chosen ||= terms[0].name;
-    find("title").textContent = document.title = message.title;
-    find("instrument").replaceChildren(...terms.map((it) => new Option(it.title, it.name, false, it.name === chosen)));
-    find("news").textContent = "";
-  } else if (type === "away") find("news").textContent = text("away");
-  else if (type === "error") find("news").textContent = errorText(message.error);
-  else if (type === "beamer") {
-    shows = message.shows;
-    find("code").textContent = message.code;
-  } else if (type in said) said[type][message.instrument] = message;
+  if (type === "welcome") welcome(message);
+  else if (type === "away") lostAt = new Date();
+  else if (type === "here") lostAt = null;
+  else if (type === "error" && message.error === "bad_token") close();
+  else if (type === "error") put(find("phase"), errorText(message));
+  else if (type === "beamer") screen = message;
+  else if (type === "round") round = message;
+  else if (type === "ranking") ranking = message.rows;
+  else if (type in said) said[type][message.instrument] = message;
   draw();
 }
 
-find("address").textContent = location.origin;
+function welcome(message) {
+  if (message.role === "member") {
+    close();
+    return;
+  }
+  terms = message.instruments;
+  isOpen = true;
+  if (!term()) chosen = terms[0].name;
+  put(find("title"), message.title);
+  document.title = message.title;
+  choices(find("instrument"), terms.map((it) => [it.name, it.title]));
+}
+
+function close() {
+  isOpen = false;
+  hide(find("closed"), false);
+  put(find("closed-why"), text("no_beamer"));
+  draw();
+}
+
 find("instrument").addEventListener("change", (event) => {
   chosen = event.target.value;
+  replay.stop();
+  draw();
+});
+find("replay").addEventListener("click", () => {
+  if (replay.isGoing) replay.stop();
+  else replay.start(shownReplay.frames, term());
+  draw();
+});
+find("which").addEventListener("change", () => {
+  replay.stop();
   draw();
 });
 offerLanguages(draw);
-ask("/api/day").then((day) => speak(day.language), () => speak("en"));
-const token = location.hash.slice(1) || sessionStorage.getItem(KEPT) || "";
-sessionStorage.setItem(KEPT, token);
-history.replaceState(null, "", location.pathname);
-new Connection(token, take);
+window.addEventListener("resize", draw);
+setInterval(() => {
+  const state = said.state[chosen];
+  if (state && sceneOf(state) === "call") drawCall(state);
+}, 1000);
+token = tokenOfAddress("venue.beamer");
+ask("/api/day").then((day) => speak(day.language), () => speak("en")).finally(() => {
+  if (token) new Connection(token, take);
+  else close();
+});

@@ -1,11 +1,22 @@
-// What the three pages share: words, the connection, the clock, tables, pictures.
+// What all pages share: words in the chosen language, elements that are changed in place, questions
+// to the venue.
+import { grouped, NumberFault, retyped, typed } from "./numbers.js";
+import { reasonIn } from "./reasons.js";
 import { TEXTS } from "./texts.js";
 
 export const find = (id) => document.getElementById(id);
 const KEPT = "venue.language";
+const SAYS_MORE = ["bad_message", "bad_phase", "above_limit", "not_covered", "no_shares"];
+const OF_A_NAME = "a name has ";
 let language = localStorage.getItem(KEPT) || "";
 
-export const text = (key) => (TEXTS[language] || TEXTS.en)[key] ?? key;
+export const spoken = () => (language in TEXTS ? language : "en");
+
+// The words of a key in the chosen language; {0}, {1}, .. are filled with values.
+export function text(key, ...values) {
+  const words = TEXTS[spoken()][key] ?? key;
+  return words.replace(/\{(\d)\}/g, (_, place) => values[place]);
+}
 
 // Puts the words of the chosen language into the page; the day's language where none was chosen.
 export function speak(given) {
@@ -15,19 +26,48 @@ export function speak(given) {
   find("language").lang = language === "de" ? "en" : "de";
 }
 
+// What is typed into fields stays the number that it was: one price, or several with spaces between.
+function retype(before) {
+  for (const field of document.querySelectorAll("input[inputmode]")) {
+    const parts = field.inputMode === "text" ? field.value.split(/([\s;]+)/) : [field.value];
+    const words = parts.map((it) => retyped(it, before, spoken())).join("");
+    if (field.value !== words) field.value = words;
+  }
+}
+
 export function offerLanguages(redraw) {
   find("language").addEventListener("click", () => {
+    const before = spoken();
     language = language === "de" ? "en" : "de";
+    retype(before);
     localStorage.setItem(KEPT, language);
     speak(language);
     redraw();
   });
 }
 
-// A number of shares, or a decimal price, as the language writes it.
-export const shares = (number) => Number(number).toLocaleString(language);
-export const price = (decimal) => (language === "de" ? decimal.replace(".", ",") : decimal);
-export const errorText = (code) => text(`e_${code}`);
+// A number of shares, a decimal price, and an amount of money, as the language writes them.
+export const shares = (number) => grouped(number, spoken());
+export const price = (decimal) => grouped(decimal, spoken());
+export const money = (amount, terms) => `${price(amount)} ${terms.currency}`;
+export const asTyped = (decimal) => typed(decimal, spoken());
+
+// What is wrong, by the code of an error of the venue; what it says more is added where it says more.
+export function errorText(fault) {
+  const code = fault.code ?? fault.error, reason = fault.text ?? "";
+  const isOther = code === "bad_name" && reason && !reason.startsWith(OF_A_NAME);
+  const known = text(isOther ? "e_bad_message" : `e_${code}`);
+  return reason && (isOther || SAYS_MORE.includes(code)) ? `${known} (${reasonText(reason)})` : known;
+}
+
+// What the venue says why, in the page's language.
+export const reasonText = (words) => reasonIn(words, spoken());
+
+// Why what was typed into a field is no number here. Raises what is no NumberFault.
+export function faultText(fault, field, words) {
+  if (!(fault instanceof NumberFault)) throw fault;
+  return text(fault.code, field, words.trim(), ...fault.values);
+}
 
 export function make(tag, content = "", classes = "") {
   const node = document.createElement(tag);
@@ -36,27 +76,48 @@ export function make(tag, content = "", classes = "") {
   return node;
 }
 
-// Fills the body of a table with rows of cells: a text, a node, or a number of its own class.
-export function fill(table, rows) {
-  const body = table.tBodies[0];
-  body.replaceChildren(...rows.map((cells) => {
-    const row = document.createElement("tr");
-    row.append(...cells.map((cell) => {
-      const place = make("td", "", cell.number !== undefined ? "number" : cell.classes || "");
-      place.append(cell.number ?? cell.text ?? cell);
-      return place;
-    }));
-    return row;
-  }));
+// Changes an element's text, or its class, where it is another: what is the same keeps its focus,
+// its selection and a press that has begun.
+export function put(node, words, classes) {
+  if (node.textContent !== words) node.textContent = words;
+  if (classes !== undefined && node.className !== classes) node.className = classes;
 }
 
-// Figures: words and numbers, side by side.
+export function hide(node, isHidden) {
+  if (node.hidden !== isHidden) node.hidden = isHidden;
+}
+
+// A button that can't be used now keeps its focus, and says so.
+export function disable(button, isOff) {
+  const words = String(Boolean(isOff));
+  if (button.getAttribute("aria-disabled") !== words) button.setAttribute("aria-disabled", words);
+}
+
+export const isOff = (button) => button.getAttribute("aria-disabled") === "true";
+
+// Figures: words and numbers, each in a place of its own that stays.
 export function figures(list, pairs) {
-  list.replaceChildren(...pairs.map(([word, number]) => {
-    const pair = document.createElement("div");
-    pair.append(make("dt", word), make("dd", number, "figure"));
-    return pair;
-  }));
+  while (list.children.length > pairs.length) list.lastElementChild.remove();
+  pairs.forEach(([word, number, classes = ""], place) => {
+    let pair = list.children[place];
+    if (!pair) {
+      pair = make("div");
+      pair.append(make("dt"), make("dd", "", "figure"));
+      list.append(pair);
+    }
+    put(pair.firstElementChild, word);
+    put(pair.lastElementChild, number, `figure ${classes}`.trim());
+  });
+}
+
+// The choices of a list, which keeps the chosen one where it is still there.
+export function choices(list, pairs) {
+  const words = JSON.stringify(pairs);
+  if (list.dataset.choices === words) return;
+  list.dataset.choices = words;
+  const chosen = list.value;
+  list.replaceChildren(...pairs.map(([value, word]) => new Option(word, value)));
+  if (pairs.some(([value]) => value === chosen)) list.value = chosen;
 }
 
 export async function ask(path, token, body) {
@@ -64,201 +125,14 @@ export async function ask(path, token, body) {
   if (body) headers["Content-Type"] = "application/json";
   const answer = await fetch(path, { method: body ? "POST" : "GET", headers, body: body && JSON.stringify(body) });
   const found = await answer.json();
-  if (!answer.ok) throw Object.assign(new Error(found.text), { code: found.error });
+  if (!answer.ok) throw Object.assign(new Error(found.text), { code: found.error, text: found.text });
   return found;
 }
 
-// A connection that comes again by itself. `take` gets each message; messages that aren't answered
-// are sent again under their numbers.
-export class Connection {
-  constructor(token, take) {
-    Object.assign(this, { token, take, open: new Map(), pause: 250, isOver: false });
-    this.next = Date.now() * 1000;
-    this.connect();
-  }
-
-  connect() {
-    const address = location.origin.replace(/^http/, "ws") + "/api/socket";
-    this.socket = new WebSocket(address);
-    this.socket.onopen = () => this.socket.send(JSON.stringify({ type: "hello", token: this.token }));
-    this.socket.onmessage = (event) => this.hear(JSON.parse(event.data));
-    this.socket.onclose = () => {
-      this.isHere = false;
-      if (this.isOver) return;
-      this.take({ type: "away" });
-      setTimeout(() => this.connect(), this.pause);
-      this.pause = Math.min(4000, this.pause * 2);
-    };
-  }
-
-  hear(message) {
-    if (message.type === "welcome") {
-      this.isHere = true;
-      this.pause = 250;
-      for (const sent of this.open.values()) this.socket.send(JSON.stringify(sent));
-    }
-    if (message.type === "error" && message.error === "bad_token") this.isOver = true;
-    if (message.number) {
-      const sent = this.open.get(message.number);
-      this.open.delete(message.number);
-      message.sent = sent;
-    }
-    this.take(message);
-  }
-
-  send(message) {
-    const sent = { ...message, number: this.next++ };
-    this.open.set(sent.number, sent);
-    if (this.isHere) this.socket.send(JSON.stringify(sent));
-  }
-
-  end() {
-    this.isOver = true;
-    this.socket.close();
-  }
-}
-
-// The clock of a phase, by the venue's time.
-export class Clock {
-  constructor(node) {
-    this.node = node;
-    setInterval(() => this.show(), 250);
-  }
-
-  set(state) {
-    this.state = state;
-    this.ahead = state.now - Date.now() / 1000;
-    this.show();
-  }
-
-  show() {
-    const state = this.state;
-    if (!state || state.ends === null) {
-      this.node.textContent = "";
-      return;
-    }
-    const now = state.frozen ? state.now : Date.now() / 1000 + this.ahead;
-    const left = Math.ceil(state.ends - now);
-    const isRandom = state.latest > state.ends;
-    if (left > 0) this.node.textContent = `${Math.floor(left / 60)}:${String(left % 60).padStart(2, "0")}`;
-    else this.node.textContent = isRandom ? text("random") : "0:00";
-  }
-}
-
-export function phaseText(state) {
-  if (state.halted) return `${text("halted")}: ${state.halted}`;
-  if (state.frozen) return text("frozen");
-  const auction = state.phase === "over" ? "" : ` · ${text(state.auction)}`;
-  return text(state.phase) + auction;
-}
-
-export const money = (amount, terms) => `${price(amount)} ${terms.currency}`;
-
-export function indicationFigures(found) {
-  if (found.price === null) {
-    return [[text("best_bid"), found.bid === null ? "–" : price(found.bid)],
-      [text("best_ask"), found.ask === null ? "–" : price(found.ask)]];
-  }
-  const side = found.surplus ? ` (${text(found.side)})` : "";
-  return [[text("price"), price(found.price)], [text("volume"), shares(found.volume)],
-    [text("surplus"), shares(found.surplus) + side]];
-}
-
-export function resultText(result) {
-  const auction = text(result.auction);
-  if (result.price === null) return `${auction}: ${text("no_price")}`;
-  return `${auction}: ${text("price")} ${price(result.price)}, ${text("volume")} ${shares(result.volume)}`;
-}
-
-// ---- pictures
-
-const NAMES = "http://www.w3.org/2000/svg";
-const WIDE = 640, HIGH = 360, LEFT = 64, RIGHT = 20, ABOVE = 32, BELOW = 36, MOST_MARKS = 6;
-
-function drawn(tag, attributes, content = "") {
-  const node = document.createElementNS(NAMES, tag);
-  for (const [name, value] of Object.entries(attributes)) node.setAttribute(name, value);
-  node.textContent = content;
-  return node;
-}
-
-// The values to be written at an axis: multiples of a whole number of units, 1, 2 or 5 of a power of ten.
-function marks([least, most], unit) {
-  let step = unit;
-  for (let place = 0; (most - least) / step > MOST_MARKS; place++) step *= place % 3 === 1 ? 2.5 : 2;
-  const found = [];
-  for (let count = Math.ceil(least / step - 1e-9); count * step <= most + 1e-9 * step; count++) {
-    found.push(count * step + 0);
-  }
-  return found;
-}
-
-// An empty picture with its axes: for each the least and the most, its unit, and the text of a value.
-function picture(label, across, up) {
-  const node = drawn("svg", { viewBox: `0 0 ${WIDE} ${HIGH}`, role: "img", "aria-label": label });
-  const place = ([least, most], value) => (value - least) / (most - least || 1);
-  const x = (value) => LEFT + place(across.ends, value) * (WIDE - LEFT - RIGHT);
-  const y = (value) => HIGH - BELOW - place(up.ends, value) * (HIGH - ABOVE - BELOW);
-  const bottom = HIGH - BELOW;
-  node.append(drawn("path", { class: "axis", d: `M${LEFT} ${ABOVE}V${bottom}H${WIDE - RIGHT}` }));
-  for (const value of marks(up.ends, up.unit)) {
-    node.append(drawn("text", { x: LEFT - 8, y: y(value) + 4, "text-anchor": "end" }, up.text(value)));
-  }
-  for (const value of marks(across.ends, across.unit)) {
-    node.append(drawn("text", { x: x(value), y: bottom + 20, "text-anchor": "middle" }, across.text(value)));
-  }
-  return { node, x, y };
-}
-
-// The axis of prices: from below the least to above the most.
-function priceAxis(prices, terms) {
-  const tick = Number(terms.tick_size), digits = (terms.tick_size.split(".")[1] || "").length;
-  const ends = [Math.min(...prices) - tick, Math.max(...prices) + tick];
-  return { ends, unit: tick, text: (value) => price(value.toFixed(digits)) };
-}
-
-// Demand and supply of a book as steps over the prices.
-export function bookPicture(levels, indicated, terms) {
-  const priced = levels.filter((level) => level.price !== null);
-  if (!priced.length) return make("p", text("no_orders"), "soft");
-  const market = levels.find((level) => level.price === null) || { bid: 0, ask: 0 };
-  const prices = priced.map((level) => Number(level.price));
-  let [demand, supply] = [market.bid, market.ask];
-  const bids = priced.map((level) => (demand += level.bid));
-  const asks = [...priced].reverse().map((level) => (supply += level.ask)).reverse();
-  const up = priceAxis(prices, terms), [least, most] = up.ends;
-  const across = { ends: [0, Math.max(demand, supply, 1)], unit: 1, text: shares };
-  const { node, x, y } = picture(`${text("book")}: ${text("demand")}, ${text("supply")}`, across, up);
-  let path = `M${x(market.bid)} ${y(most)}`;
-  prices.forEach((value, place) => { path += `V${y(value)}H${x(bids[place])}`; });
-  node.append(drawn("path", { class: "bids", d: `${path}V${y(least)}` }));
-  path = `M${x(market.ask)} ${y(least)}`;
-  [...prices].reverse().forEach((value, place) => { path += `V${y(value)}H${x(asks[prices.length - 1 - place])}`; });
-  node.append(drawn("path", { class: "asks", d: `${path}V${y(most)}` }));
-  node.append(drawn("text", { class: "bids", x: LEFT + 8, y: 18 }, `— ${text("demand")}`));
-  node.append(drawn("text", { class: "asks", x: WIDE / 2, y: 18 }, `- - ${text("supply")}`));
-  if (indicated !== null) {
-    const at = y(Number(indicated));
-    node.append(drawn("path", { class: "price", d: `M${LEFT} ${at}H${WIDE - RIGHT}` }));
-  }
-  return node;
-}
-
-// The indicative price over the seconds of the call.
-export function coursePicture(points, terms) {
-  const priced = points.filter((point) => point.price !== null);
-  if (!priced.length) return make("p", text("no_price"), "soft");
-  const begin = points[0].time, end = Math.max(points.at(-1).time, begin + 1);
-  const across = { ends: [0, end - begin], unit: 1, text: (value) => `${value} s` };
-  const up = priceAxis(priced.map((point) => Number(point.price)), terms);
-  const { node, x, y } = picture(text("course"), across, up);
-  let path = "", isDown = false;
-  for (const point of points) {
-    const across = x(point.time - begin);
-    if (isDown) path += `H${across}`;
-    if (point.price !== null) path += `${isDown ? "V" : `M${across} `}${y(Number(point.price))}`;
-    isDown = point.price !== null;
-  }
-  node.append(drawn("path", { class: "course", d: isDown ? `${path}H${x(end - begin)}` : path }));
-  return node;
+// The token that the page's address brings, which the tab keeps and the address bar doesn't show.
+export function tokenOfAddress(kept) {
+  const token = location.hash.slice(1) || sessionStorage.getItem(kept) || "";
+  if (token) sessionStorage.setItem(kept, token);
+  history.replaceState(null, "", location.pathname);
+  return token;
 }

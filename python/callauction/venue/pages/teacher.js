@@ -1,132 +1,224 @@
 // The page of the teacher: phases, members, values, downloads.
+import { asks } from "./asking.js";
 import {
-  Clock, Connection, ask, bookPicture, errorText, figures, fill, find, indicationFigures, make, money,
-  offerLanguages, phaseText, price, resultText, shares, speak, text,
+  ask, choices, disable, errorText, figures, find, hide, isOff, money, offerLanguages, price, put, reasonText, shares,
+  speak, spoken, text, tokenOfAddress,
 } from "./common.js";
+import { Connection } from "./connection.js";
+import { Handing } from "./handing.js";
+import { bookPicture } from "./pictures.js";
+import { People } from "./people.js";
+import { RoundForm } from "./roundform.js";
+import { roundText } from "./rounds.js";
+import { fill } from "./rows.js";
+import {
+  Clock, indicationFigures, isCall, nextText, phaseText, resultOf, resultText, showInterruption,
+} from "./states.js";
+import { offerTabs } from "./tabs.js";
 
-const KEPT = "venue.operator";
 const clock = new Clock(find("clock"));
-const said = { state: {}, ladder: {}, trades: {}, efficiency: {} };
-let terms = [], chosen = "", members = [], codes = {}, token = "";
+const said = { state: {}, ladder: {}, trades: {}, efficiency: {}, course: {} };
+let terms = [], chosen = "", token = "", lostAt = null, isOpen = false, round = null, stepped = null;
 
 const term = () => terms.find((it) => it.name === chosen);
+const handing = new Handing(term, act);
+const roundForm = new RoundForm(term, act);
+const people = new People(act);
+const say = (words, isBad = false) => put(find("said"), words, isBad ? "said bad" : "said good");
+const refuse = (fault) => say(fault.code ? errorText(fault) : text("away_join"), true);
 
-function say(words, isBad = false) {
-  find("news").textContent = words;
-  find("news").className = isBad ? "bad" : "";
-}
-
-// ---- drawing
+// ---- the auction
 
 function draw() {
+  hide(find("open"), !isOpen);
+  hide(find("lost"), lostAt === null || !isOpen);
+  if (lostAt !== null) put(find("lost"), text("away", lostAt.toLocaleTimeString(spoken())));
+  document.body.classList.toggle("stale", lostAt !== null);
   const state = said.state[chosen];
-  find("choosing").hidden = terms.length < 2;
+  hide(find("choosing"), terms.length < 2);
   if (!state) return;
-  find("phase").textContent = phaseText(state);
+  put(find("phase"), state.halted ? `${phaseText(state)}: ${reasonText(state.halted)}` : phaseText(state));
   clock.set(state);
-  figures(find("figures"), [...indicationFigures(state.indication), [text("reference"), price(state.reference)],
-    [text("left"), shares(state.left)]]);
-  const last = state.results.at(-1);
-  find("result").textContent = last ? resultText(last) : "";
-  const isCall = ["call", "extended"].includes(state.phase);
+  drawSteps(state);
+  drawOutcome(state);
+  drawBook(state);
+  drawRound(state);
+  people.draw(chosen, round?.begun);
+  handing.fields.draw();
+}
+
+function drawRound(state) {
+  if (!round) return;
+  put(find("round"), roundText(round));
+  hide(find("message"), !round.message);
+  put(find("message"), round.message);
+  roundForm.draw(["waiting", "over"].includes(state.phase));
+}
+
+function drawSteps(state) {
+  const goes = isCall(state);
   const may = {
-    start: state.phase === "waiting", end: isCall, freeze: isCall && !state.frozen, thaw: state.frozen,
-    uncross: (isCall || state.phase === "ended") && !state.frozen, resume: Boolean(state.halted),
+    start: state.phase === "waiting", end: goes && !state.frozen, freeze: goes && !state.frozen, thaw: state.frozen,
+    uncross: (goes || state.phase === "ended") && !state.frozen, resume: Boolean(state.halted),
   };
-  for (const button of document.querySelectorAll("[data-do]")) button.disabled = !may[button.dataset.do];
-  find("extending").querySelector("button").disabled = !isCall && state.phase !== "ended";
-  find("book").replaceChildren(bookPicture(said.ladder[chosen]?.levels ?? [], state.indication.price, term()));
-  drawTables();
+  for (const button of document.querySelectorAll("[data-do]")) disable(button, !may[button.dataset.do]);
+  disable(find("extend"), !goes && state.phase !== "ended");
 }
 
-function drawTables() {
-  fill(find("ladder"), (said.ladder[chosen]?.levels ?? []).map((it) => [{ number: it.bid ? shares(it.bid) : "" },
+function drawOutcome(state) {
+  const result = resultOf(state), found = said.efficiency[chosen];
+  showInterruption(find("interruption"), state);
+  hide(find("outcome"), !result);
+  if (result) put(find("result"), resultText(result));
+  put(find("efficiency"), efficiencyText(found));
+  figures(find("figures"), [...indicationFigures(state), [text("left"), shares(state.left)]]);
+  put(find("next"), state.phase === "over" ? text("over_next") : nextText(state));
+}
+
+function efficiencyText(found) {
+  if (found?.percent == null || !said.trades[chosen]?.trades.length) return "";
+  const words = text("efficiency_is", shares(found.percent), money(found.gain, term()), money(found.most, term()));
+  return `${text("efficiency")}: ${words}`;
+}
+
+function drawBook(state) {
+  if (!find("auction").hidden) {
+    bookPicture(find("book"), said.ladder[chosen]?.levels ?? [], state.indication, term());
+  }
+  hide(find("ladder"), !said.ladder[chosen]?.levels.length);
+  fill(find("ladder"), said.ladder[chosen]?.levels ?? [], (it) => it.price, (it) => [
+    { number: it.bid ? shares(it.bid) : "", classes: "bid" },
     { number: it.price === null ? text("market_orders") : price(it.price) },
-    { number: it.ask ? shares(it.ask) : "" }]));
-  fill(find("trades"), (said.trades[chosen]?.trades ?? []).map((it) => [{ number: it.trade }, it.buyer, it.seller,
-    { number: shares(it.quantity) }, { number: price(it.price) }]).reverse());
-  const found = said.efficiency[chosen];
-  const hasTrades = Boolean(said.trades[chosen]?.trades.length);
-  find("efficiency").textContent = found?.percent == null || !hasTrades ? ""
-    : `${text("efficiency")}: ${found.percent} % ${text("of_most")} `
-      + `(${money(found.gain, term())} / ${money(found.most, term())})`;
-  fill(find("members"), members.map((it) => {
-    const { value, gain } = it.values[chosen] ?? {};
-    const button = make("button", codes[it.name] || text("new_code"), "small");
-    button.addEventListener("click", () => act({ do: "code", member: it.name }));
-    const words = value ? `${text(value.side)} ${shares(value.quantity)} · ${price(value.price)}` : "";
-    return [it.name, { text: text(it.is_here ? "is_here" : "is_away"), classes: it.is_here ? "good" : "soft" }, words,
-      { number: gain == null ? "" : price(gain) }, button];
-  }));
-  const others = Object.entries(codes).filter(([name]) => name && !members.some((it) => it.name === name));
-  find("codes").textContent = [codes[""] && `${text("code")}: ${codes[""]}`, ...others.map((it) => it.join(": "))]
-    .filter(Boolean).join(" · ");
+    { number: it.ask ? shares(it.ask) : "", classes: "ask" }]);
+  const trades = said.trades[chosen]?.trades ?? [];
+  hide(find("trades").parentElement, !trades.length);
+  hide(find("no-trades"), Boolean(trades.length));
+  fill(find("trades"), [...trades].reverse(), (it) => it.trade, (it) => [{ number: String(it.trade) },
+    { text: it.buyer, classes: "name" }, { text: it.seller, classes: "name" }, { number: shares(it.quantity) },
+    { number: price(it.price) }]);
 }
 
-// ---- what comes, and what is done
+// ---- what comes
 
 function take(message) {
   const { type } = message;
-  if (type === "welcome") {
-    terms = message.instruments;
-    chosen ||= terms[0].name;
-    find("title").textContent = document.title = message.title;
-    find("instrument").replaceChildren(...terms.map((it) => new Option(it.title, it.name, false, it.name === chosen)));
-    [find("low").value, find("high").value] = [term().low, term().high];
-    say(text("connected"));
-  } else if (type === "away") say(text("away"), true);
-  else if (type === "error") say(errorText(message.error), true);
-  else if (type === "members") ({ members, codes } = message);
-  else if (type === "beamer") find("showing").querySelector(`[value=${message.shows}]`).checked = true;
+  if (type === "welcome") welcome(message);
+  else if (type === "away") lostAt = new Date();
+  else if (type === "here") lostAt = null;
+  else if (type === "error") takeError(message);
+  else if (type === "members") people.take(message);
+  else if (type === "beamer") takeShown(message);
+  else if (type === "round") takeRound(message);
   else if (type in said) said[type][message.instrument] = message;
   draw();
 }
 
+function welcome(message) {
+  if (message.role !== "operator") {
+    close();
+    return;
+  }
+  terms = message.instruments;
+  isOpen = true;
+  if (!term()) chosen = terms[0].name;
+  put(find("title"), message.title);
+  document.title = message.title;
+  choices(find("instrument"), terms.map((it) => [it.name, it.title]));
+  handing.fields.begin();
+}
+
+function takeShown({ shows, payoffs = "none" }) {
+  find("showing").querySelector(`[value=${shows}]`).checked = true;
+  find("paying").querySelector(`[value=${payoffs}]`).checked = true;
+}
+
+function takeRound(message) {
+  round = message;
+  roundForm.take(message);
+}
+
+function takeError(message) {
+  if (message.error === "bad_token") close();
+  else refuse({ code: message.error, text: message.text });
+}
+
+// Nobody who may see this page has opened it.
+function close() {
+  isOpen = false;
+  hide(find("closed"), false);
+  put(find("closed-why"), text("no_teacher"));
+  draw();
+}
+
+// ---- what is done
+
+// Does what the operator asks for: what is answered, or nothing where it isn't done. What would take
+// values away is done after a question alone.
 async function act(body) {
   try {
-    await ask("/api/operator", token, { instrument: chosen, ...body });
+    const found = await ask("/api/operator", token, { instrument: chosen, ...body });
     say(text("done"));
+    return found;
   } catch (fault) {
-    say(fault.code ? errorText(fault.code) : text("away"), true);
+    if (fault.code !== "has_values") refuse(fault);
+    else if (await asks(text("give_asks"), text("give_asks_help"), text("give_now"))) {
+      return act({ ...body, replace: true });
+    }
+    return null;
   }
 }
 
+// A step of the auction; a second press before the page shows what came of the first does nothing.
+async function takeStep(button) {
+  const state = said.state[chosen];
+  if (isOff(button) || stepped === state) return;
+  stepped = state;
+  if (!await act({ do: button.dataset.do, phase: state.phase })) stepped = null;
+}
+
+function extend(event) {
+  event.preventDefault();
+  if (!isOff(find("extend"))) act({ do: "extend", seconds: Number(find("seconds").value) });
+}
+
 async function download(kind) {
-  const answer = await fetch(`/api/download/${kind}/${chosen}`, { headers: { Authorization: `Bearer ${token}` } });
+  say(text("preparing"));
+  const path = `/api/download/${kind}/${chosen}?language=${spoken()}`;
+  const answer = await fetch(path, { headers: { Authorization: `Bearer ${token}` } });
   if (!answer.ok) {
-    say((await answer.json()).text, true);
+    say(reasonText((await answer.json()).text), true);
     return;
   }
   const link = document.createElement("a");
   link.href = URL.createObjectURL(await answer.blob());
   link.download = answer.headers.get("Content-Disposition").split('"')[1];
   link.click();
+  say(text("done"));
   setTimeout(() => URL.revokeObjectURL(link.href), 10000);
 }
 
 for (const button of document.querySelectorAll("[data-do]")) {
-  button.addEventListener("click", () => act({ do: button.dataset.do, phase: said.state[chosen].phase }));
+  button.addEventListener("click", () => takeStep(button));
 }
 for (const button of document.querySelectorAll("[data-get]")) {
-  button.addEventListener("click", () => download(button.dataset.get));
+  button.addEventListener("click", () => download(button.dataset.get).catch(() => refuse({})));
 }
-find("extending").addEventListener("submit", (event) => {
-  event.preventDefault();
-  act({ do: "extend", seconds: Number(find("seconds").value) });
-});
-find("giving").addEventListener("submit", (event) => {
-  event.preventDefault();
-  const [low, high] = ["low", "high"].map((id) => find(id).value.trim().replace(",", "."));
-  act({ do: "give", low, high, quantity: Number(find("quantity").value) });
-});
+find("extending").addEventListener("submit", extend);
 find("showing").addEventListener("change", (event) => act({ do: "show", shows: event.target.value }));
+find("paying").addEventListener("change", (event) => act({ do: "payoffs", shows: event.target.value }));
+find("announcing").addEventListener("submit", (event) => {
+  event.preventDefault();
+  act({ do: "message", text: find("announced").value.trim() });
+});
 find("instrument").addEventListener("change", (event) => {
   chosen = event.target.value;
   draw();
 });
+offerTabs(document.querySelector(".tabs"), draw);
 offerLanguages(draw);
-ask("/api/day").then((day) => speak(day.language), () => speak("en"));
-token = location.hash.slice(1) || sessionStorage.getItem(KEPT) || "";
-sessionStorage.setItem(KEPT, token);
-history.replaceState(null, "", location.pathname);
-new Connection(token, take);
+window.addEventListener("resize", draw);
+token = tokenOfAddress("venue.operator");
+ask("/api/day").then((day) => speak(day.language), () => speak("en")).finally(() => {
+  if (token) new Connection(token, take);
+  else close();
+});

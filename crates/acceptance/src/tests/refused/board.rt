@@ -4,7 +4,7 @@
 
 ghost use Rattle.std.specs.Prelude.{◌≡◌};
 
-use crate::tests::members::closing_under;
+use crate::tests::members::{Plan, closing_under};
 use crate::tests::{BID, DAY, bid_entered, closed};
 use auction_terms::Reply;
 use left_right::Absorb;
@@ -63,7 +63,7 @@ fn calls_are_recorded(rt: HostRuntime) -> Result<(), AllocError> {
 
 #[test]
 fn scripts_are_played(rt: HostRuntime) -> Result<(), AllocError> {
-    let closing = closing_under(&rt, rt.alloc(), &OpenGate, 2)?;
+    let closing = closing_under(&rt, rt.alloc(), &OpenGate, 2, Plan::Asks(2))?;
     assert!(rt; closing.is_some_and(|closing| closing.calls.as_slice() == [2, 2].as_slice()));
     Ok(())
 }

@@ -1,59 +1,27 @@
 -- Answers of `repair` (src/journal.rt): what the prover left open; rt looks here.
-use Rattle.std.proofs.Common.{◌≡◌, List, ℕ, ◌∙◌, ap, subst, arith}
-use Rattle.journal_file.specs.Device.{IsResized}
-use Rattle.journal_file.specs.Committed.{committed}
-use Rattle.journal_file.proofs.Lines.{committed-twice}
-use Rattle.journal_file.proofs.Moments.{one, two}
-use Rattle.journal_file.proofs.Crash.{resized_keeps, cut_done}
+use Rattle.std.proofs.Common.{◌≡◌, List, ℕ, refl, sym, subst}
+use Rattle.journal_file.specs.Committed.{committed, Means}
+use Rattle.journal_file.proofs.Moments.{then, weaker}
 use Rattle.journal_file.proofs.journal.repair.Goals as goal
 
-pub returns-in_err-resize-clause-any_moment : goal.returns-in_err-resize-clause-any_moment
-returns-in_err-resize-clause-any_moment g c =
+pub returns-in_err-settle-clause-any_moment : goal.returns-in_err-settle-clause-any_moment
+returns-in_err-settle-clause-any_moment g c stored =
     let device = c.args.device.now in
     let file = g.D.Device.seen device in
-    let len = c.args.end in
-    let P : List ℕ → Type 0 = λ f. committed f ≡ committed file in
-    let here : (f : List ℕ) → g.D.Device.may_leave device f → P f = λ f now. ap committed (c.requires.durable f now) in
-    let after : (f : List ℕ) → g.D.Device.may_leave c.resize.new.self f → P f = λ f now.
-    let from = c.resize.ensures.crash f now in
-    resized_keeps file len f (omega (arith, c.requires.end))
-    (subst (λ d. IsResized len d f) (c.requires.durable from.0 from.1) from.2) in
-    one g.D.Device.moment g.D.Device.left_since g.D.Device.may_leave g.met.D.Device.only_now device c.resize.new.self P
-    here c.resize.ensures.time after
-
-pub returns-in_err-sync-clause-any_moment : goal.returns-in_err-sync-clause-any_moment
-returns-in_err-sync-clause-any_moment g c =
-    let device = c.args.device.now in
-    let file = g.D.Device.seen device in
-    let len = c.args.end in
-    let P : List ℕ → Type 0 = λ f. committed f ≡ committed file in
-    let here : (f : List ℕ) → g.D.Device.may_leave device f → P f = λ f now. ap committed (c.requires.durable f now) in
-    let after : (f : List ℕ) → g.D.Device.may_leave c.resize.new.self f → P f = λ f now.
-    let from = c.resize.ensures.crash f now in
-    resized_keeps file len f (omega (arith, c.requires.end))
-    (subst (λ d. IsResized len d f) (c.requires.durable from.0 from.1) from.2) in
-    two g.D.Device.moment g.D.Device.left_since g.D.Device.may_leave g.met.D.Device.only_now device c.resize.new.self
-    c.sync.new.self P here c.resize.ensures.time after c.sync.ensures.time c.sync.ensures.crash
+    let same : (f : List ℕ) → f ≡ file → Means (committed file) f = λ f is.
+    subst (Means (committed file)) (sym is) (refl, c.requires.torn) in
+    weaker g.D.Device.moment g.D.Device.left_since device c.settle.new.device (λ f. f ≡ file) (Means (committed file))
+    (c.settle.ensures.any_moment stored) same
 
 pub returns-clause-any_moment : goal.returns-clause-any_moment
-returns-clause-any_moment g c =
+returns-clause-any_moment g c stored =
     let device = c.args.device.now in
     let file = g.D.Device.seen device in
-    let len = c.args.end in
-    let P : List ℕ → Type 0 = λ f. committed f ≡ committed file in
-    let here : (f : List ℕ) → g.D.Device.may_leave device f → P f = λ f now. ap committed (c.requires.durable f now) in
-    let after : (f : List ℕ) → g.D.Device.may_leave c.resize.new.self f → P f = λ f now.
-    let from = c.resize.ensures.crash f now in
-    resized_keeps file len f (omega (arith, c.requires.end))
-    (subst (λ d. IsResized len d f) (c.requires.durable from.0 from.1) from.2) in
-    two g.D.Device.moment g.D.Device.left_since g.D.Device.may_leave g.met.D.Device.only_now device c.resize.new.self
-    c.sync.new.self P here c.resize.ensures.time after c.sync.ensures.time c.sync.ensures.crash
-
-pub returns-clause-file : goal.returns-clause-file
-returns-clause-file g c =
-    c.sync.ensures.seen ∙ c.in_ok-resize.ensures.resized
-    ∙ cut_done (g.D.Device.seen c.args.device.now) c.args.end c.requires.end
-
-pub returns-clause-same : goal.returns-clause-same
-returns-clause-same g c =
-    ap committed (returns-clause-file g c) ∙ committed-twice (g.D.Device.seen c.args.device.now)
+    let mid = c.settle.new.device in
+    let same : (f : List ℕ) → f ≡ file → Means (committed file) f = λ f is.
+    subst (Means (committed file)) (sym is) (refl, c.requires.torn) in
+    let as_before : (f : List ℕ) → Means (committed (g.D.Device.seen mid)) f → Means (committed file) f = λ f means.
+    subst (λ (l : List ℕ). Means (committed l) f) c.in_ok-settle.ensures.seen means in
+    then g.D.Device.moment g.D.Device.left_since device mid c.cut.new.device (λ f. f ≡ file)
+    (Means (committed (g.D.Device.seen mid))) (Means (committed file)) (c.settle.ensures.any_moment stored)
+    c.cut.ensures.any_moment same as_before

@@ -3,5 +3,4 @@ use Rattle.kept_session.proofs.FromOpeningLaws.{from-opening}
 use Rattle.kept_session.proofs.laws.leaves_from_opening.Goals as goal
 
 pub returns : goal.returns
-returns g c =
-    from-opening g.D.Device.seen g.D.Device.may_leave g.D.Device.moment g.D.Device.left_since g.D.Device.faults
+returns g c = from-opening g.D.Device

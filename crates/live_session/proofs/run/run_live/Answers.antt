@@ -91,6 +91,7 @@ returns-in_err-give g c =
     (λ d k. g.met.C.Conversation.becomes_on _ _ _ just.device.same k)
     (subst (λ (h : List ℕ). IsBeginningOf answers (answered_whole c.args.terms c.args.auction h)) (sym none)
     (begins-same answers))
+    (inr (ap (λ (h : List ℕ). answered_whole c.args.terms c.args.auction h) (sym none)))
     c.give.new.talk c.give.new.self c.in_err-give.field-0.0 c.in_err-give.ensures)
 
 pub returns-then-count-eq0 : goal.returns-then-count-eq0
@@ -181,7 +182,8 @@ returns-in_err-give-2 g c =
     bytes c.hear.new.self.responder
     (answered c.args.terms c.args.auction (heard ++ bytes)) just all.gathers
     (λ d k. g.met.C.Conversation.becomes_on _ _ _ just.device.same k)
-    (begins-whole c.args.terms c.args.auction (heard ++ bytes)) c.give-in-turns.new.talk c.give-in-turns.new.self
+    (begins-whole c.args.terms c.args.auction (heard ++ bytes)) (inl refl) c.give-in-turns.new.talk
+    c.give-in-turns.new.self
     c.in_err-give-2.field-0.0 c.in_err-give-2.ensures)
 
 pub turns-preserved : goal.turns-preserved

@@ -1,11 +1,28 @@
 -- Answers of `close_all` (src/board/closing.rt): what the prover left open; rt looks here.
-use Rattle.std.proofs.Common.{◌≡◌, ◌∙◌, ◌<◌, IsSomeAnd, List, ap, arith, length, set, subst, sym}
+use Rattle.std.proofs.Common.{◌≡◌, ◌∙◌, ◌<◌, All, IfSome, IsSomeAnd, List, ap, arith, length, set, subst, sym}
 use Rattle.std.proofs.lemmas.List.{set-get_or}
 use Rattle.shared_board.specs.BoardViews.{BoardMember, FloorView}
 use Rattle.auction_c.specs.declared.member_handle.AuctionMember.{AuctionMember}
 use Rattle.auction_c.specs.BoardCalls.{HoldAccounts, IsAccountsError}
-use Rattle.auction_c.proofs.ClosingLaws.{close_error, writes_closing}
+use Rattle.auction_c.proofs.ClosingLaws.{all_of_one, close_error, of_first, writes_closing}
 use Rattle.auction_c.proofs.board.closing.close_all.Goals as goal
+
+pub accounts_error-error-requires-clause-identities : goal.accounts_error-error-requires-clause-identities
+accounts_error-error-requires-clause-identities c =
+    let f : FloorView = c.in-Ok.floor in
+    let now = c.args.handles.now in
+    let first = c.index-handles-0.result in
+    let back : set now 0 c.take_first_floor.new.first ≡ now =
+    ap (set now 0) c.take_first_floor.ensures.same ∙ set-get_or now 0 first in
+    let boxed : IsSomeAnd first.boxed.value (λ (m : BoardMember). f.board ≡ m.board) =
+    subst (λ (a : AuctionMember). IsSomeAnd a.boxed.value (λ (m : BoardMember). f.board ≡ m.board))
+    (sym c.index-handles-0.is) c.in-Ok.ensures.board in
+    let boards = c.requires.identities.0 in
+    let of = c.requires.identities.1 in
+    subst (λ (hs : List AuctionMember). All (λ (h : AuctionMember). IfSome h.boxed.value
+    (λ (m : BoardMember). m.board.identity ≡ f.board.identity → m.board ≡ f.board)) hs) (sym back)
+    (all_of_one boards f.board now (of_first boards f.board now first (sym c.is_empty.ensures ∙ c.if-is_empty.false)
+    c.index-handles-0.is boxed of) of)
 
 pub returns-clause-done : goal.returns-clause-done
 returns-clause-done c =

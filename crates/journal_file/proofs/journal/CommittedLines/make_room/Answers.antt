@@ -1,10 +1,11 @@
 -- Answers of `CommittedLines::make_room` (src/journal.rt): what the prover left open; rt looks here.
-use Rattle.std.proofs.Common.{◌≡◌, ◌+◌, ◌++◌, List, ℕ, length, replicate, sym, ◌∙◌, ap, subst, arith}
+use Rattle.std.proofs.Common.{◌+◌, ◌++◌, List, ℕ, length, replicate, refl, sym, ◌∙◌, ap, subst, arith}
 use Rattle.journal_file.specs.Device.{IsResized, IsOnlyOutcome}
-use Rattle.journal_file.specs.Committed.{committed}
+use Rattle.journal_file.specs.Committed.{committed, Means}
 use Rattle.journal_file.proofs.Lines.{committed-twice}
 use Rattle.journal_file.proofs.Moments.{one, two}
-use Rattle.journal_file.proofs.Crash.{resized_keeps, grown, committed-text}
+use Rattle.journal_file.proofs.TornEnds.{torn-end-room}
+use Rattle.journal_file.proofs.Crash.{resized_means, grown, committed-text}
 use Rattle.journal_file.proofs.journal.CommittedLines.make_room.Goals as goal
 
 pub returns-in_err-resize-clause-any_moment : goal.returns-in_err-resize-clause-any_moment
@@ -13,11 +14,14 @@ returns-in_err-resize-clause-any_moment g c =
     let device = c.args.self.now.device in
     let file = g.D.Device.seen device in
     let len = c.args.self.now.end + (c.args.count + c.args.self.now.spare) in
-    let P : List ℕ → Type 0 = λ f. committed f ≡ committed file in
-    let here : (f : List ℕ) → g.D.Device.may_leave device f → P f = λ f now. ap committed (s.durable f now) in
+    let P = Means (committed file) in
+    let torn = torn-end-room file (committed file) c.args.self.now.room s.file refl in
+    let here : (f : List ℕ) → g.D.Device.may_leave device f → P f = λ f now.
+    subst P (sym (s.durable f now)) (refl, torn) in
     let after : (f : List ℕ) → g.D.Device.may_leave c.resize.new.self f → P f = λ f now.
     let from = c.resize.ensures.crash f now in
-    resized_keeps file len f (omega (arith, s.end)) (subst (λ d. IsResized len d f) (s.durable from.0 from.1) from.2) in
+    resized_means file len f (omega (arith, s.end)) torn
+    (subst (λ d. IsResized len d f) (s.durable from.0 from.1) from.2) in
     one g.D.Device.moment g.D.Device.left_since g.D.Device.may_leave g.met.D.Device.only_now device c.resize.new.self P
     here c.resize.ensures.time after
 
@@ -27,11 +31,14 @@ returns-in_err-sync-clause-any_moment g c =
     let device = c.args.self.now.device in
     let file = g.D.Device.seen device in
     let len = c.args.self.now.end + (c.args.count + c.args.self.now.spare) in
-    let P : List ℕ → Type 0 = λ f. committed f ≡ committed file in
-    let here : (f : List ℕ) → g.D.Device.may_leave device f → P f = λ f now. ap committed (s.durable f now) in
+    let P = Means (committed file) in
+    let torn = torn-end-room file (committed file) c.args.self.now.room s.file refl in
+    let here : (f : List ℕ) → g.D.Device.may_leave device f → P f = λ f now.
+    subst P (sym (s.durable f now)) (refl, torn) in
     let after : (f : List ℕ) → g.D.Device.may_leave c.resize.new.self f → P f = λ f now.
     let from = c.resize.ensures.crash f now in
-    resized_keeps file len f (omega (arith, s.end)) (subst (λ d. IsResized len d f) (s.durable from.0 from.1) from.2) in
+    resized_means file len f (omega (arith, s.end)) torn
+    (subst (λ d. IsResized len d f) (s.durable from.0 from.1) from.2) in
     two g.D.Device.moment g.D.Device.left_since g.D.Device.may_leave g.met.D.Device.only_now device c.resize.new.self
     c.sync.new.self P here c.resize.ensures.time after c.sync.ensures.time c.sync.ensures.crash
 
@@ -41,11 +48,14 @@ returns-clause-any_moment g c =
     let device = c.args.self.now.device in
     let file = g.D.Device.seen device in
     let len = c.args.self.now.end + (c.args.count + c.args.self.now.spare) in
-    let P : List ℕ → Type 0 = λ f. committed f ≡ committed file in
-    let here : (f : List ℕ) → g.D.Device.may_leave device f → P f = λ f now. ap committed (s.durable f now) in
+    let P = Means (committed file) in
+    let torn = torn-end-room file (committed file) c.args.self.now.room s.file refl in
+    let here : (f : List ℕ) → g.D.Device.may_leave device f → P f = λ f now.
+    subst P (sym (s.durable f now)) (refl, torn) in
     let after : (f : List ℕ) → g.D.Device.may_leave c.resize.new.self f → P f = λ f now.
     let from = c.resize.ensures.crash f now in
-    resized_keeps file len f (omega (arith, s.end)) (subst (λ d. IsResized len d f) (s.durable from.0 from.1) from.2) in
+    resized_means file len f (omega (arith, s.end)) torn
+    (subst (λ d. IsResized len d f) (s.durable from.0 from.1) from.2) in
     two g.D.Device.moment g.D.Device.left_since g.D.Device.may_leave g.met.D.Device.only_now device c.resize.new.self
     c.sync.new.self P here c.resize.ensures.time after c.sync.ensures.time c.sync.ensures.crash
 

@@ -1,12 +1,12 @@
 -- Answers of `KeptConversation::commit` (src/conversation.rt): what the prover left open; rt looks here.
-use Rattle.std.proofs.Common.{[], inr, refl, ap}
+use Rattle.std.proofs.Common.{[], inr, refl, ap, sym, ◌∙◌}
 use Rattle.std.proofs.lemmas.List.{append-nil}
-use Rattle.kept_session.specs.Kept.{text_tried}
-use Rattle.kept_session.proofs.CommitLaws.{fault-cause, entry-lines-whole, failed, made, refused}
+use Rattle.kept_session.specs.Kept.{text_kept}
+use Rattle.kept_session.proofs.CommitLaws.{fault-cause, entry-lines-short, entry-lines-whole, failed, made, refused}
 use Rattle.kept_session.proofs.conversation.KeptConversationConversation.commit.Goals as goal
 
-pub commit-requires-clause-whole : goal.commit-requires-clause-whole
-commit-requires-clause-whole g c = entry-lines-whole c.args.entries.now c.requires
+pub commit-requires-clause-short : goal.commit-requires-clause-short
+commit-requires-clause-short g c = entry-lines-short c.args.entries.now c.requires
 
 pub returns-then-self-clause-same : goal.returns-then-self-clause-same
 returns-then-self-clause-same g c =
@@ -40,10 +40,10 @@ returns-in-Err-clause-same g c =
           c.commit.new.self s.calls.events c.note-in-Err.new.self.events s.is_broken c.args.entries.now c.if-self.false
           (entry-lines-whole c.args.entries.now c.requires) c.commit.ensures.any_moment c.commit.ensures.causes
           c.note-in-Err.ensures (fault-cause g.D.Device.seen g.D.Device.moment g.D.Device.left_since g.D.Device.faults
-          s.journal.now c.commit.new.self c.args.entries.now c.in-Err._error (s.steady c.if-self.false).end
-          c.in-Err.ensures.failed c.in-Err.ensures.full)),
+          s.journal.now c.commit.new.self c.args.entries.now c.in-Err.error (s.steady c.if-self.false).end
+          c.in-Err.ensures.failed c.in-Err.ensures.changed c.in-Err.ensures.full)),
     )
 
 pub returns-in-Err-clause-entries : goal.returns-in-Err-clause-entries
 returns-in-Err-clause-entries g c =
-    (c.args.entries.now, [], append-nil c.args.entries.now, ap text_tried c.note-in-Err.ensures)
+    ([], c.args.entries.now, refl, ap text_kept c.note-in-Err.ensures ∙ sym (append-nil _))

@@ -1,0 +1,99 @@
+"""What the parts of the test command need, and the tasks that build it.
+
+Where the gate is among the parts, the program and its tests are those that it proved and built, and
+nothing else is taken for them; the library is built over the crates that it proved. Else each is
+taken as it is, where it is newer than all sources, or built.
+"""
+import functools
+import os
+import pathlib
+import shutil
+import time
+from collections.abc import Iterator
+
+import built
+import gate
+from beside import Fault, Product, Task
+
+PROGRAM, TESTS, LIBRARY = "PROGRAM", "TESTS", "LIBRARY"
+"""Words of a command that mean what is built."""
+PROVED = "PROVED"
+"""The crates below the library's, as the gate proved them."""
+KEPT = built.TOP / "out/check/gate"
+"""Where what the gate built is kept for the parts, and for a run that goes on."""
+LINES = {PROGRAM: "rt: callboard proved", TESTS: "rt: callboard: its tests are proved"}
+"""What the gate prints once these are built."""
+
+
+class Builds:
+    """What of the program, its tests and the library is there, and what builds the rest."""
+
+    def __init__(
+        self, needed: set[str], has_gate: bool, is_gate_done: bool, rooms: pathlib.Path
+    ) -> None:
+        """Of those that are needed; whether the gate is to run, or has passed on the same sources;
+        and where temporary folders are.
+        """
+        self.begin = time.time()
+        self.needed, self.has_gate = needed, has_gate
+        self.gate = rooms / ".gate"  # no part has such a name
+        self.files = {PROGRAM: built.PROGRAM, TESTS: built.TESTS, LIBRARY: built.ARCHIVE}
+        by_gate = {name: KEPT / self.files[name].name for name in LINES}
+        if has_gate or is_gate_done and all(file.is_file() for file in by_gate.values()):
+            self.files |= by_gate
+        self.there = set() if has_gate else {name for name in needed if self.is_there(name)}
+
+    def is_there(self, name: str) -> bool:
+        """Whether this is built of the sources as they are."""
+        file = self.files[name]
+        return file.is_file() if file.parent == KEPT else built.is_current(file)
+
+    def path(self, name: str) -> str:
+        """The path that a command has for this."""
+        return str(built.LIBRARY if name == LIBRARY else self.files[name])
+
+    def of_gate(self) -> tuple[Product, ...]:
+        """What the gate makes."""
+        below = frozenset(f"rt: {name} proved" for name in gate.crates_of_library())
+        found = [
+            Product(name, frozenset({line}), functools.partial(self.keep, name))
+            for name, line in LINES.items()
+        ]
+        return (*found, Product(PROVED, below))
+
+    def keep(self, name: str) -> None:
+        """Keeps a file that the gate built, where the parts look, and where ./callboard does.
+        Raises OSError.
+        """
+        usual = built.PROGRAM if name == PROGRAM else built.TESTS
+        for to in (self.files[name], usual):
+            to.parent.mkdir(parents=True, exist_ok=True)
+            begun = to.with_name(f".{to.name}.{os.getpid()}")
+            shutil.copy(self.gate / usual.relative_to(built.TOP), begun)
+            os.utime(begun, (self.begin, self.begin))  # a source that was changed since is newer
+            os.replace(begun, to)
+
+    def tasks(self) -> Iterator[Task]:
+        """What builds what isn't there, each after the one before it."""
+        if self.has_gate:
+            if LIBRARY in self.needed:
+                words = gate.library_words(self.gate)
+                yield self.task(LIBRARY, words, frozenset({PROVED}))
+            return
+        before: frozenset[str] = frozenset()
+        for name in (PROGRAM, TESTS, LIBRARY):
+            if name in self.needed - self.there:
+                yield self.task(name, built.words_of(self.files[name]), before)
+                before = frozenset({name})
+
+    def made(self, name: str) -> None:
+        """Takes what was built. Raises Fault where it isn't there, OSError."""
+        try:
+            built.made(self.files[name], self.begin)
+        except built.NotBuilt as fault:
+            raise Fault(str(fault)) from None
+
+    def task(self, name: str, words: list[str], needs: frozenset[str]) -> Task:
+        """The task that builds this so."""
+        product = Product(name, take=lambda: self.made(name))
+        return Task(f"build_{name.lower()}", lambda: words, needs, (product,), is_proof=True)

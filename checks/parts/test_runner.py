@@ -1,0 +1,805 @@
+"""The test command itself, on planted parts: what it prints of parts that pass, fail, crash and
+hang, which run beside each other and in which order, what it leaves running, and how a run goes on.
+"""
+import contextlib
+import os
+import pathlib
+import re
+import signal
+import subprocess
+import sys
+import time
+from collections.abc import Callable, Iterator
+
+import pytest
+
+TOP = pathlib.Path(__file__).resolve().parent.parent.parent
+sys.path[:0] = [str(TOP / "checks"), str(TOP / "build")]
+
+import beside  # noqa: E402
+import builds  # noqa: E402
+import built  # noqa: E402
+import changed  # noqa: E402
+import edits  # noqa: E402
+import gate  # noqa: E402
+import machine  # noqa: E402
+import package  # noqa: E402
+import passes  # noqa: E402
+import program as building  # noqa: E402
+import proved_binaries  # noqa: E402
+import runner  # noqa: E402
+import toolchain  # noqa: E402
+import version  # noqa: E402
+from beside import Product, Schedule, Task  # noqa: E402
+
+SECONDS = 60.0  # until what has to come is there
+PLANTED = """
+import pathlib, sys
+sys.path[:0] = [{checks!r}, {build!r}]
+import built
+built.TOP = pathlib.Path({top!r})
+import beside, runner
+beside.PATIENCE = 1.0
+runner.PARTS[:] = [runner.Part(*row) for row in {rows!r}]
+sys.exit(runner.main())
+"""
+PARTS = """#!/bin/bash
+# What a planted part does: parts.sh NAME WHAT. $RECORD has a line as it begins and as it ends.
+echo "begin $1 $$ $TMPDIR" >> "$RECORD"
+case $2 in
+    meets) until [ "$(grep -c ^begin "$RECORD")" -ge 4 ]; do sleep 0.05; done ;;
+    passes) sleep 0.2; echo '3 passed, 0 failed' ;;
+    fails) echo 'this was wrong'; echo '2 passed, 1 failed'; echo "end $1" >> "$RECORD"; exit 1 ;;
+    lies) echo '2 passed, 0 failed'; exit 1 ;;
+    says) [ -e "$RECORD.mended" ] || exit 1 ;;
+    crashes) kill -SEGV $$ ;;
+    hangs) sleep 1000 ;;
+    leaves) setsid sleep 1000 & echo "left $!" >> "$RECORD" ;;
+    refuses) trap '' INT TERM; setsid sleep 1000 & echo "left $!" >> "$RECORD"
+        while true; do sleep 0.1; done ;;
+    edits) echo 1 >> source ;;
+esac
+echo "end $1" >> "$RECORD"
+"""
+SECOND = re.compile(r"\d+\.\d s|\d+:\d\d")
+
+
+class Planted:
+    """A repository with planted parts, of which a row is a name and what the part does."""
+
+    def __init__(self, folder: pathlib.Path, rows: list[str]) -> None:
+        self.top, self.record = folder / "a repository", folder / "record"
+        self.top.mkdir()
+        subprocess.run(["git", "init", "-q"], cwd=self.top, check=True)
+        (self.top / ".gitignore").write_text("out/\n")
+        (self.top / "source").write_text("1\n")
+        (self.top / "parts.sh").write_text(PARTS)
+        (self.top / "parts.sh").chmod(0o755)
+        parts = []
+        for row in rows:
+            name, what, *alone = row.split()
+            parts.append((name, "planted", f"./parts.sh {name} {what}", "", "", bool(alone)))
+        self.script = folder / "planted.py"
+        paths = {name: str(TOP / name) for name in ("checks", "build")}
+        self.script.write_text(PLANTED.format(top=str(self.top), rows=parts, **paths))
+
+    def start(self, *words: str) -> "subprocess.Popen[str]":
+        """Begins a run."""
+        command = ["env", "--default-signal=INT,TERM", sys.executable, str(self.script), *words]
+        env = os.environ | {"RECORD": str(self.record), "PYTHONDONTWRITEBYTECODE": "1"}
+        pipe = subprocess.PIPE
+        return subprocess.Popen(
+            command, cwd="/", env=env, stdin=subprocess.DEVNULL, stdout=pipe, stderr=pipe, text=True
+        )
+
+    def run(self, *words: str) -> tuple[int, list[str]]:
+        """The status of a run, and the lines that it printed."""
+        self.record.write_text("")
+        child = self.start(*words)
+        out, error = child.communicate(timeout=SECONDS)
+        assert error == "" or child.returncode == 2, error
+        return child.returncode, (out + error).splitlines()
+
+    def recorded(self, word: str) -> list[list[str]]:
+        """What parts have written down under this word."""
+        rows = [line.split() for line in self.record.read_text().splitlines()]
+        return [row[1:] for row in rows if row[0] == word]
+
+    def begun(self) -> list[str]:
+        """The parts that have begun, in their order."""
+        return [row[0] for row in self.recorded("begin")]
+
+    def apart(self) -> bool:
+        """Whether each part had ended before another one began."""
+        words = [line.split()[0] for line in self.record.read_text().splitlines()]
+        return words == ["begin", "end"] * (len(words) // 2)
+
+    def until(self, count: int) -> None:
+        """Waits until as many parts have begun."""
+        wait_for(lambda: self.record.exists() and len(self.begun()) >= count)
+
+
+Plant = Callable[..., Planted]
+
+
+@pytest.fixture
+def plant(tmp_path: pathlib.Path) -> Plant:
+    """Plants a repository with parts of these rows."""
+    return lambda *rows: Planted(tmp_path, [*rows])
+
+
+def wait_for(holds: Callable[[], bool]) -> None:
+    """Waits until this holds."""
+    last = time.monotonic() + SECONDS
+    while not holds():
+        assert time.monotonic() < last
+        time.sleep(0.02)
+
+
+def runs(process: str) -> bool:
+    """Whether a process runs, by its number."""
+    with contextlib.suppress(OSError):
+        state = pathlib.Path("/proc", process, "stat").read_text().rpartition(")")[2].split()[0]
+        return state != "Z"
+    return False
+
+
+def plain(lines: list[str]) -> list[str]:
+    """Lines without their seconds and without the line of the whole time, in one order."""
+    kept = [line for line in lines if not re.match(r"check: \d+:\d\d on ", line)]
+    return sorted(SECOND.sub("..", line) for line in kept)
+
+
+# ---- what is printed
+
+MIXED = ["good passes", "bad fails", "liar lies", "still says", "gone crashes"]
+PRINTED = """\
+bad: this was wrong
+bad: 2 passed, 1 failed
+check: bad: FAILED: 2 of 3 passed, ..
+check: gone: FAILED: 0 of 1 passed, ..
+check: good: ok: 3 of 3 passed, ..
+check: liar: FAILED: 2 of 3 passed, ..
+check: still: FAILED: 0 of 1 passed, ..
+gone: ended by SIGSEGV
+liar: 2 passed, 0 failed
+7 passed, 4 failed
+"""
+
+
+@pytest.mark.parametrize("jobs", ["1", "4"])
+def test_what_is_printed(plant: Plant, jobs: str) -> None:
+    planted = plant(*MIXED)
+    status, lines = planted.run("-j", jobs)
+    assert status == 1
+    assert plain(lines) == sorted(PRINTED.splitlines())
+    assert lines[-1] == "7 passed, 4 failed"
+    assert lines.index("bad: this was wrong") + 1 == lines.index("bad: 2 passed, 1 failed")
+    assert sorted(planted.begun()) == sorted(row.split()[0] for row in MIXED)
+
+
+def test_all_passes(plant: Plant) -> None:
+    status, lines = plant("one passes", "other passes").run()
+    assert (status, lines[-1]) == (0, "6 passed, 0 failed")
+    assert re.fullmatch(r"check: \d+:\d\d on \d+ cores?, \d+ at once; the longest: .*", lines[-2])
+
+
+def test_what_parts_print_is_shown(plant: Plant) -> None:
+    planted = plant("one passes", "bad fails")
+    planted.record.write_text("")
+    out, error = planted.start("--show").communicate(timeout=SECONDS)
+    assert out.count("one: 3 passed, 0 failed\n") == out.count("bad: this was wrong\n") == 1
+    assert sorted(error.splitlines()) == ["check: bad: planted", "check: one: planted"]
+
+
+@pytest.mark.parametrize("words", [["none"], ["-j", "0"], ["-j", "x"], ["--jobs", "-1"]])
+def test_wrong_words(plant: Plant, words: list[str]) -> None:
+    planted = plant("one passes")
+    assert planted.run(*words)[0] == 2
+    assert planted.begun() == []
+
+
+def test_one_run_at_a_time(plant: Plant) -> None:
+    planted = plant("one hangs")
+    first = planted.start()
+    planted.until(1)
+    second = planted.start()
+    out, error = second.communicate(timeout=SECONDS)
+    assert (second.returncode, out) == (2, "0 passed, 1 failed\n")
+    assert error == "check: another ./check runs in this repository\n"
+    first.terminate()
+    first.communicate(timeout=SECONDS)
+
+
+# ---- what runs beside what
+
+def test_parts_run_side_by_side(plant: Plant) -> None:
+    assert plant(*(f"part{it} meets" for it in range(4))).run("-j", "4")[0] == 0
+
+
+def test_one_part_at_a_time(plant: Plant) -> None:
+    planted = plant(*(f"part{it} passes" for it in range(4)))
+    assert planted.run("-j", "1")[0] == 0
+    assert planted.apart()
+
+
+def test_one_that_runs_alone(plant: Plant) -> None:
+    planted = plant("alone passes alone", "one passes", "two passes", "lone passes alone")
+    assert planted.run("-j", "4")[0] == 0
+    words = [line.split()[:2] for line in planted.record.read_text().splitlines()]
+    for name in ("alone", "lone"):
+        begin = words.index(["begin", name])
+        assert words[begin + 1] == ["end", name]
+    assert {name for _, name in words[:4]} == {"one", "two"}
+
+
+def test_the_longest_first(plant: Plant) -> None:
+    planted = plant("short passes", "long passes", "new passes", "longest passes")
+    (planted.top / "out/check").mkdir(parents=True)
+    rows = "short 2.0\nlonger 8\nlong 9.5\nlongest 99.0\n"
+    (planted.top / "out/check/seconds.txt").write_text(rows)
+    planted.run("-j", "1")
+    assert planted.begun() == ["new", "longest", "long", "short"]
+
+
+def test_seconds_are_learned(plant: Plant) -> None:
+    planted = plant("one passes", "bad fails")
+    planted.run()
+    ((name, seconds),) = [
+        line.split() for line in (planted.top / "out/check/seconds.txt").read_text().splitlines()
+    ]
+    assert name == "one" and 0.2 <= float(seconds) < SECONDS
+
+
+@pytest.mark.parametrize("text", ["", "one\n", "one x\n", "\n\n", "one 1 2 3\n", "\0"])
+def test_files_that_are_damaged(plant: Plant, text: str) -> None:
+    planted = plant("one passes")
+    (planted.top / "out/check").mkdir(parents=True)
+    for name in ("seconds.txt", "passed.txt"):
+        (planted.top / "out/check" / name).write_text(text)
+    assert planted.run("--resume")[0] == 0
+    assert planted.begun() == ["one"]
+
+
+# ---- what goes wrong
+
+def test_a_part_that_hangs_until_it_is_killed(plant: Plant) -> None:
+    planted = plant("one hangs", "two passes")
+    child = planted.start()
+    planted.until(2)
+    (process,) = [row[1] for row in planted.recorded("begin") if row[0] == "one"]
+    os.kill(int(process), signal.SIGKILL)
+    out, _ = child.communicate(timeout=SECONDS)
+    assert child.returncode == 1
+    assert "one: ended by SIGKILL\n" in out and "check: two: ok: 3 of 3" in out
+    assert out.endswith("\n3 passed, 1 failed\n")
+
+
+@pytest.mark.parametrize("how", [signal.SIGTERM, signal.SIGINT], ids=["SIGTERM", "SIGINT"])
+def test_a_run_that_is_broken_off(plant: Plant, how: signal.Signals) -> None:
+    planted = plant("one passes", "two refuses", "three hangs", "four passes alone")
+    child = planted.start("-j", "3")
+    planted.until(3)
+    passed = planted.top / "out/check/passed.txt"
+    wait_for(lambda: bool(planted.recorded("left")) and passed.exists())
+    child.send_signal(how)
+    out, _ = child.communicate(timeout=SECONDS)
+    assert child.returncode == 130
+    lines = out.splitlines()
+    assert [line.split(":")[1:3] for line in lines[1:3]] == [
+        [" two", " BROKEN OFF"],
+        [" three", " BROKEN OFF"],
+    ]
+    assert lines[3] == "check: not run: four"
+    assert lines[-1] == "3 passed, 3 failed"
+    rows = [*planted.recorded("begin"), *planted.recorded("left")]
+    processes = [row[1] if len(row) > 1 else row[0] for row in rows]
+    assert not [it for it in processes if runs(it)]
+    rooms = [row[2] for row in planted.recorded("begin")]
+    assert not any(os.path.exists(room) for room in rooms)
+
+
+def test_what_a_part_leaves_running_is_ended(plant: Plant) -> None:
+    planted = plant("one leaves", "two passes")
+    assert planted.run()[0] == 0
+    ((left,),) = planted.recorded("left")
+    assert not runs(left)
+
+
+def test_each_part_has_its_temporary_folder(plant: Plant) -> None:
+    planted = plant("one passes", "two passes")
+    planted.run()
+    rooms = [pathlib.Path(row[2]) for row in planted.recorded("begin")]
+    assert sorted(room.name for room in rooms) == ["one", "two"]
+    assert not rooms[0].parent.exists()
+
+
+# ---- a run that goes on
+
+def test_a_run_goes_on(plant: Plant) -> None:
+    planted = plant("one passes", "two says", "three passes")
+    assert planted.run()[1][-1] == "6 passed, 1 failed"
+    pathlib.Path(f"{planted.record}.mended").write_text("")
+    status, lines = planted.run("--resume")
+    assert (status, planted.begun()) == (0, ["two"])
+    before = [line for line in lines if line.endswith(" before")]
+    assert [line.split(":")[1] for line in before] == [" one", " three"]
+    assert lines[-1] == "7 passed, 0 failed"
+    assert planted.run("--resume")[1][-1] == "7 passed, 0 failed"
+    assert planted.begun() == []
+    planted.run("one")
+    assert planted.begun() == ["one"]
+    planted.run("--resume", "one", "two")
+    assert planted.begun() == []
+
+
+def change_text(top: pathlib.Path) -> None:
+    (top / "source").write_text("2\n")
+
+
+def change_mode(top: pathlib.Path) -> None:
+    (top / "source").chmod(0o755)
+
+
+def add_file(top: pathlib.Path) -> None:
+    (top / "new").write_text("")
+
+
+def make_link(top: pathlib.Path) -> None:
+    (top / "source").unlink()
+    (top / "source").symlink_to("parts.sh")
+
+
+def remove_file(top: pathlib.Path) -> None:
+    subprocess.run(["git", "add", "source"], cwd=top, check=True)
+    (top / "source").unlink()
+
+
+@pytest.mark.parametrize("change", [change_text, change_mode, add_file, make_link, remove_file])
+def test_changed_sources_run_again(plant: Plant, change: Callable[[pathlib.Path], None]) -> None:
+    planted = plant("one passes", "two passes")
+    planted.run()
+    (planted.top / "out/other").write_text("what is made is no source\n")
+    planted.run("--resume")
+    assert planted.begun() == []
+    change(planted.top)
+    planted.run("--resume")
+    assert sorted(planted.begun()) == ["one", "two"]
+
+
+def test_what_fails_later_passed_no_more(plant: Plant) -> None:
+    planted = plant("one says")
+    mended = pathlib.Path(f"{planted.record}.mended")
+    mended.write_text("")
+    assert planted.run()[0] == 0
+    mended.unlink()
+    assert planted.run()[0] == 1
+    assert planted.run("--resume")[0] == 1
+
+
+def test_sources_that_change_meanwhile(plant: Plant) -> None:
+    planted = plant("one edits", "two passes")
+    lines = planted.run("-j", "1")[1]
+    note = "check: sources were changed meanwhile: nothing more is kept for --resume"
+    assert lines.count(note) == 1
+    planted.run("--resume")
+    assert sorted(planted.begun()) == ["one", "two"]
+
+
+def test_a_run_that_was_broken_off_goes_on(plant: Plant) -> None:
+    planted = plant("one passes", "two hangs")
+    child = planted.start("-j", "1")
+    planted.until(2)
+    child.terminate()
+    child.communicate(timeout=SECONDS)
+    planted.record.write_text("")
+    child = planted.start("--resume")
+    planted.until(1)
+    assert planted.begun() == ["two"]
+    child.terminate()
+    child.communicate(timeout=SECONDS)
+
+
+# ---- what is built
+
+class Heard(beside.Viewer):
+    """Keeps what is heard of tasks: the names as they begin and end, and why one wasn't begun."""
+
+    def __init__(self) -> None:
+        self.rows: list[str] = []
+
+    def begun(self, task: Task) -> None:
+        self.rows.append(f"begin {task.name}")
+
+    def ended(self, how: beside.Ended) -> None:
+        self.rows.append(f"end {task_end(how)}")
+
+
+def task_end(how: beside.Ended) -> str:
+    """How a task ended, in words."""
+    return f"{how.task.name} {how.why or how.status}"
+
+
+def shell(name: str, text: str, *needs: str, is_proof: bool = False, gives: object = ()) -> Task:
+    """A task that runs a text of the shell."""
+    made = tuple(gives) if isinstance(gives, list) else ()
+    return Task(name, lambda: ["sh", "-c", text], frozenset(needs), made, is_proof=is_proof)
+
+
+@pytest.fixture(name="scheduled")
+def schedules(tmp_path: pathlib.Path) -> Iterator[Callable[..., list[str]]]:
+    """Runs tasks, and answers what was heard of them."""
+    def scheduled(*tasks: Task, jobs: int = 4) -> list[str]:
+        heard = Heard()
+        Schedule([*tasks], {"there"}, {}, jobs, heard).run(tmp_path, tmp_path, tmp_path)
+        return heard.rows
+
+    yield scheduled
+
+
+Scheduled = Callable[..., list[str]]
+
+
+def test_a_product_is_there_before_its_maker_ends(scheduled: Scheduled) -> None:
+    taken: list[str] = []
+    product = Product("it", frozenset({"one", "two"}), lambda: taken.append("it"))
+    text = "echo one; echo other; sleep 0.2; echo two; until [ -e used ]; do sleep 0.05; done"
+    maker = shell("maker", text, gives=[product])
+    rows = scheduled(maker, shell("user", "touch used", "it", "there"))
+    assert rows[:2] == ["begin maker", "begin user"]
+    assert taken == ["it"]
+
+
+@pytest.mark.parametrize("text", ["echo one", "echo one; exit 3", "printf 'on\\ne'"])
+def test_a_product_that_is_not_made(scheduled: Scheduled, text: str) -> None:
+    product = Product("it", frozenset({"one", "two"}))
+    rows = scheduled(shell("maker", text, gives=[product]), shell("user", "true", "it"))
+    assert rows[-1] == "end user maker made no it: see maker.log"
+    assert "begin user" not in rows
+
+
+def test_a_product_of_a_task_that_fails(scheduled: Scheduled) -> None:
+    product = Product("it")
+    rows = scheduled(shell("maker", "exit 1", gives=[product]), shell("user", "true", "it"))
+    assert rows == ["begin maker", "end maker 1", "end user maker made no it: see maker.log"]
+
+
+def test_a_product_that_cannot_be_taken(scheduled: Scheduled) -> None:
+    def refuse() -> None:
+        raise beside.Fault("it is broken")
+
+    product = Product("it", take=refuse)
+    rows = scheduled(shell("maker", "true", gives=[product]), shell("user", "true", "it"))
+    assert rows[-1] == "end user it is broken"
+
+
+def test_a_product_of_nobody(scheduled: Scheduled) -> None:
+    rows = scheduled(shell("user", "true", "it"), shell("other", "true"))
+    assert sorted(rows) == ["begin other", "end other 0", "end user nothing makes it"]
+
+
+def test_a_command_that_is_not_there(scheduled: Scheduled) -> None:
+    (row,) = scheduled(Task("one", lambda: ["./nowhere"]))
+    assert row.startswith("end one [Errno 2] No such file")
+
+
+@pytest.mark.parametrize(
+    "free, is_proof, beside_another",
+    [(3.9, True, False), (7.9, True, False), (8.1, True, True), (0.9, False, False)],
+)
+def test_memory_that_has_to_be_free(
+    scheduled: Scheduled,
+    monkeypatch: pytest.MonkeyPatch,
+    free: float,
+    is_proof: bool,
+    beside_another: bool,
+) -> None:
+    monkeypatch.setattr(machine, "free_gib", lambda: free)
+    rows = scheduled(*(shell(name, "sleep 0.3", is_proof=is_proof) for name in ("one", "two")))
+    assert (rows[1] == "begin two") == beside_another
+
+
+def test_a_proof_leaves_room_to_others(
+    scheduled: Scheduled, monkeypatch: pytest.MonkeyPatch
+) -> None:
+    monkeypatch.setattr(machine, "free_gib", lambda: 5.5)
+    rows = scheduled(shell("proof", "sleep 0.3", is_proof=True), shell("other", "true"))
+    assert rows[:2] == ["begin proof", "begin other"]
+
+
+def test_the_gates_copy(plant: Plant, monkeypatch: pytest.MonkeyPatch) -> None:
+    planted = plant("one passes")
+    (planted.top / "out").mkdir()
+    (planted.top / "out/made").write_text("")
+    (planted.top / "a folder").mkdir()
+    (planted.top / "a folder/link").symlink_to("../source")
+    monkeypatch.setattr(built, "TOP", planted.top)
+    to = planted.top.parent / "copy"
+    gate.copy(to, [])
+    names = {str(it.relative_to(to)) for it in to.rglob("*")}
+    assert names == {".git", ".gitignore", "a folder", "a folder/link", "parts.sh", "source"}
+    assert os.readlink(to / "a folder/link") == "../source"
+    assert os.access(to / "parts.sh", os.X_OK) and not os.access(to / "source", os.X_OK)
+    assert passes.files_of(planted.top) == [".gitignore", "a folder/link", "parts.sh", "source"]
+
+
+@pytest.fixture(name="three")
+def built_files(tmp_path: pathlib.Path, monkeypatch: pytest.MonkeyPatch) -> pathlib.Path:
+    """A repository in which a program, its tests and a library are built, and the gate's are kept.
+    """
+    for name in ("PROGRAM", "TESTS", "ARCHIVE"):
+        monkeypatch.setattr(built, name, tmp_path / "usual" / name)
+    monkeypatch.setattr(builds, "KEPT", tmp_path / "kept")
+    monkeypatch.setattr(built, "newest_source", lambda: time.time() - 1000)
+    for folder, names in {"usual": ("PROGRAM", "ARCHIVE"), "kept": ("PROGRAM", "TESTS")}.items():
+        (tmp_path / folder).mkdir()
+        for name in names:
+            (tmp_path / folder / name).write_text("")
+    return tmp_path
+
+
+EVERY = {"PROGRAM", "TESTS", "LIBRARY"}
+
+
+def test_what_is_built_without_the_gate(three: pathlib.Path) -> None:
+    found = builds.Builds(EVERY, False, False, three)
+    assert found.there == {"PROGRAM", "LIBRARY"}
+    assert found.path("PROGRAM") == str(three / "usual/PROGRAM")
+    assert [task.name for task in found.tasks()] == ["build_tests"]
+    os.utime(three / "usual/PROGRAM", (1, 1))  # older than the sources
+    later = [*builds.Builds(EVERY, False, False, three).tasks()]
+    assert [(task.name, *task.needs) for task in later] == [
+        ("build_program",),
+        ("build_tests", "PROGRAM"),
+    ]
+
+
+def test_what_is_built_after_the_gate(three: pathlib.Path) -> None:
+    found = builds.Builds(EVERY, False, True, three)
+    assert found.there == EVERY and [*found.tasks()] == []
+    assert found.path("TESTS") == str(three / "kept/TESTS")
+    (three / "kept/TESTS").unlink()
+    assert builds.Builds(EVERY, False, True, three).path("PROGRAM") == str(three / "usual/PROGRAM")
+
+
+def test_what_is_built_by_the_gate(
+    three: pathlib.Path, monkeypatch: pytest.MonkeyPatch
+) -> None:
+    found = builds.Builds(EVERY, True, False, three)
+    assert found.there == set()
+    (task,) = found.tasks()
+    assert (task.name, *task.needs) == ("build_library", builds.PROVED)
+    made = {product.name: product for product in found.of_gate()}
+    assert made["PROGRAM"].lines == {"rt: callboard proved"}
+    assert "rt: auction proved" in made[builds.PROVED].lines
+    monkeypatch.setattr(built, "TOP", three)
+    with pytest.raises(OSError):
+        made["PROGRAM"].take()
+    (three / ".gate/usual").mkdir(parents=True)
+    (three / ".gate/usual/PROGRAM").write_text("proved from nothing")
+    made["PROGRAM"].take()
+    for folder in ("usual", "kept"):
+        assert (three / folder / "PROGRAM").read_text() == "proved from nothing"
+    (three / "usual/ARCHIVE").unlink()
+    with pytest.raises(beside.Fault, match="ARCHIVE was not built"):
+        task.gives[0].take()
+
+
+@pytest.mark.parametrize(
+    "change, is_kept", [("nothing", True), ("program", False), ("sources", False), ("gate", False)]
+)
+def test_over_which_binaries_a_run_was(
+    three: pathlib.Path, monkeypatch: pytest.MonkeyPatch, change: str, is_kept: bool
+) -> None:
+    written: list[tuple[str, list[str]]] = []
+    monkeypatch.setattr(proved_binaries, "write", lambda *given: written.append(given))
+    monkeypatch.setattr(runner, "sources", lambda: "other" if change == "sources" else "these")
+    if change == "program":
+        (three / "usual/PROGRAM").write_text("built meanwhile")
+    parts = ["layout"] if change == "gate" else ["layout", "ci"]
+    passed = passes.Passes(three / "passed.txt", "these")
+    results = runner.Results([], False, passes.Seconds(three / "seconds.txt"), passed)
+    results.passed = 7
+    runner.keep_binaries(results, builds.Builds(EVERY, True, False, three), parts)
+    assert written == ([("7 passed, 0 failed", parts)] if is_kept else [])
+
+
+def test_wrong_bodies_are_tried_once(
+    tmp_path: pathlib.Path, monkeypatch: pytest.MonkeyPatch
+) -> None:
+    """In the gate, or over kept proofs, where there are any; all over these without the gate."""
+    for name in ("kept", "new", "plain"):
+        for part in ("src", "out/incremental"):
+            (tmp_path / "crates" / name / part).mkdir(parents=True)
+    for name in ("kept", "new"):
+        (tmp_path / "crates" / name / "must-fail").mkdir()
+        (tmp_path / "crates" / name / "must-fail/a.edit").write_text("")
+    (tmp_path / "crates/kept/out/incremental/proofs").write_text("")
+    assert edits.kept_crates(tmp_path) == ["kept"]
+    every = edits.all_edits(tmp_path)
+    monkeypatch.setattr(edits, "all_edits", lambda: every)
+    monkeypatch.setattr(edits, "kept_crates", lambda: ["kept"])
+    assert runner.tried_elsewhere({"ci", "layout"}) == []
+    assert runner.tried_elsewhere({"ci", "bodies"}) == ["kept"]
+    assert runner.tried_elsewhere({"bodies"}) == ["kept", "new"]
+    monkeypatch.setattr(built, "TOP", tmp_path)
+    gate.copy(tmp_path / "gate", ["kept"])
+    names = [str(it.relative_to(tmp_path / "gate")) for it in (tmp_path / "gate").rglob("*.edit")]
+    assert names == ["crates/new/must-fail/a.edit"]
+
+
+def test_no_wrong_body_over_kept_proofs() -> None:
+    words = [str(TOP / "checks/wrong-bodies"), "--kept"]
+    ran = subprocess.run(words, capture_output=True, text=True)
+    assert (ran.returncode, ran.stdout) == (0, "0 passed, 0 failed\n")
+
+
+# ---- how long crates take
+
+def test_seconds_of_crates(tmp_path: pathlib.Path, monkeypatch: pytest.MonkeyPatch) -> None:
+    here, kept = tmp_path / "here", tmp_path / "kept"
+    monkeypatch.setattr(building, "SECONDS", here)
+    monkeypatch.setattr(building, "KEPT_SECONDS", kept)
+    lines = {"low": "low:\n", "high": "high: low\n"}
+    monkeypatch.setattr(building, "crate_lines", lambda top: lines)
+    with pytest.raises(building.CannotBuild):
+        building.keep_seconds()
+    here.write_text("gone 5.0 6.0\nhigh 7.0 9.5\nlow 1.0 2.0\n")
+    building.keep_seconds()
+    assert [line for line in kept.read_text().splitlines() if line[0] != "#"] == [
+        "low 1.0 2.0",
+        "high 7.0 9.5",
+    ]
+    known = building.seconds_in(kept)
+    assert known["high"] == building.Took(7.0, 9.5)
+    assert building.seconds_to_top({"low": [], "high": ["low"], "new": ["low"]}, known) == {
+        "new": building.UNKNOWN,
+        "high": 7.0,
+        "low": 1.0 + building.UNKNOWN,
+    }
+
+
+def test_no_seconds_of_crates_that_are_gone() -> None:
+    known = building.seconds_in(building.KEPT_SECONDS)
+    assert known and set(known) <= set(toolchain.crate_lines(TOP))
+
+
+# ---- short runs, and runs on what is installed
+
+CRATES_TXT = "low:\nmiddle: low slab\nhigh: low middle slab\nother:\n"
+
+
+@pytest.fixture(name="repository")
+def repository_of_crates(tmp_path: pathlib.Path, monkeypatch: pytest.MonkeyPatch) -> pathlib.Path:
+    """A repository of four crates, of which one is below two others, with a commit."""
+    (tmp_path / "crates.txt").write_text(CRATES_TXT)
+    for name in ("low", "middle", "high", "other"):
+        for part in ("src", "must-fail"):
+            (tmp_path / "crates" / name / part).mkdir(parents=True)
+            (tmp_path / "crates" / name / part / "a file").write_text("1\n")
+    git = ["git", "-c", "user.name=x", "-c", "user.email=x@x"]
+    for words in (["init", "-q"], ["add", "."], ["commit", "-q", "-m", "first"]):
+        subprocess.run([*git, *words], cwd=tmp_path, check=True)
+    monkeypatch.setattr(changed, "TOP", tmp_path)
+    return tmp_path
+
+
+@pytest.mark.parametrize(
+    "file, text, names",
+    [
+        ("crates/low/src/a file", "2\n", ["low", "middle", "high"]),
+        ("crates/middle/src/new", "", ["middle", "high"]),
+        ("crates/high/must-fail/a file", "2\n", []),
+        ("crates/other/specs/new", "", ["other"]),
+        ("new", "", []),
+        ("crates.txt", CRATES_TXT.replace("other:", "other: slab"), ["other"]),
+    ],
+)
+def test_crates_that_changed(
+    repository: pathlib.Path, file: str, text: str, names: list[str]
+) -> None:
+    commit = changed.usual_commit()
+    assert changed.changed(commit) == []
+    (repository / file).parent.mkdir(exist_ok=True)
+    (repository / file).write_text(text)
+    assert sorted(changed.changed(commit)) == sorted(names)
+    assert names == [] or changed.changed("HEAD")[0] == names[0]
+
+
+def test_since_origins_main(repository: pathlib.Path) -> None:
+    first = changed.usual_commit()
+    git = ["git", "-c", "user.name=x", "-c", "user.email=x@x"]
+    subprocess.run([*git, "update-ref", "refs/remotes/origin/main", "HEAD"], cwd=repository)
+    (repository / "crates/other/src/a file").write_text("2\n")
+    subprocess.run([*git, "commit", "-q", "-a", "-m", "second"], cwd=repository, check=True)
+    assert changed.usual_commit() == first
+    assert changed.changed(first) == ["other"]
+    assert changed.changed("HEAD") == []
+
+
+def test_each_part_has_a_short_command_or_none() -> None:
+    found = {part.name: part.command for part in runner.short(runner.PARTS, "COMMIT")}
+    names = {part.name for part in runner.PARTS} - {runner.GATE, runner.BODIES, "runner"}
+    assert set(found) == names | {"crates"}
+    assert found["crates"] == "checks/changed.py COMMIT"
+    for part in runner.PARTS:
+        if part.name in names - {"layout", "edits", "header", "promises"}:
+            assert found[part.name] not in ("", part.command)
+
+
+def package_in(folder: pathlib.Path, *places: str, version_of: str = "") -> pathlib.Path:
+    """A folder with these places, of which a program says that it has this version."""
+    said = f"callboard {version_of or version.version()}"
+    for place in places:
+        (folder / place).parent.mkdir(parents=True, exist_ok=True)
+        (folder / place).write_text(f"#!/bin/sh\necho '{said}'\n")
+        (folder / place).chmod(0o755)
+    return folder
+
+
+OF_WHEEL = "lib/python3.11/site-packages/callauction"
+
+
+@pytest.mark.parametrize(
+    "places, there",
+    [
+        (["callboard"], {"PROGRAM"}),
+        (["bin/callboard", "lib/libcallauction.a"], {"PROGRAM", "LIBRARY"}),
+        ([f"{OF_WHEEL}/bin/callboard"], {"PROGRAM", "PACKAGE"}),
+        (
+            [
+                "bin/callboard",
+                "lib/x86_64-linux-gnu/libcallauction.a",
+                "lib/python3/dist-packages/callauction/__init__.py",
+            ],
+            {"PROGRAM", "LIBRARY", "PACKAGE"},
+        ),
+    ],
+    ids=["tarball", "./install --without-python", "wheel", "packages of Debian"],
+)
+def test_what_is_installed(tmp_path: pathlib.Path, places: list[str], there: set[str]) -> None:
+    prefix = package_in(tmp_path / "a prefix", *places)
+    found = package.Package(prefix, tmp_path)
+    assert found.there == there
+    assert found.path("PROGRAM") == str(prefix / places[0])
+    if "PACKAGE" in there:
+        assert found.path("PACKAGE") in str(next(prefix.glob("lib/python3*/*-packages")))
+    names = {part.name for part in runner.on_package(runner.PARTS, found)}
+    assert names >= {"examples", "compare", "hostile", "live", "refusals"}
+    assert ("library" in names) == ("LIBRARY" in there)
+    assert ("python" in names) == ("market" in names) == ("PACKAGE" in there)
+    assert not names & {"layout", "ci", "release"}
+
+
+def test_what_is_not_installed(tmp_path: pathlib.Path) -> None:
+    with pytest.raises(beside.Fault, match="has no program bin/callboard or callboard"):
+        package.Package(tmp_path, tmp_path)
+    old = package_in(tmp_path, "callboard", version_of="1.2.3")
+    with pytest.raises(beside.Fault, match="'callboard 1.2.3', and these are the tests of"):
+        package.Package(old, tmp_path)
+
+
+def test_a_library_that_is_installed(tmp_path: pathlib.Path) -> None:
+    prefix = package_in(tmp_path / "prefix", "bin/callboard", "lib/libcallauction.a")
+    for part in runner.PARTS:
+        (tmp_path / part.name).mkdir()  # as each has a folder for its temporary files
+    folder = pathlib.Path(package.Package(prefix, tmp_path).path("LIBRARY"))
+    assert (folder / "libcallauction.a").samefile(prefix / "lib/libcallauction.a")
+    assert "-lcallauction" in (folder / "callauction.pc").read_text()
+
+
+def test_one_case_of_each_test(tmp_path: pathlib.Path) -> None:
+    text = "import pytest\n\n\n@pytest.mark.parametrize('case', [1, 2, 3])\n"
+    text += "def test_cases(case: int) -> None:\n    assert case == 1\n\n\n"
+    text += "def test_other() -> None:\n    pass\n"
+    (tmp_path / "test_planted.py").write_text(text)
+    words = [sys.executable, "-B", "-m", "pytest", "-q", "-p", "checks.one_of_each", str(tmp_path)]
+    ran = subprocess.run(words, cwd=TOP, capture_output=True, text=True)
+    assert ran.returncode == 0 and "2 passed, 2 deselected" in ran.stdout
+
+
+@pytest.mark.parametrize(
+    "words", [["--since", "HEAD"], ["--installed", "/", "--short"], ["--installed", "/nowhere"]]
+)
+def test_words_that_do_not_go_together(plant: Plant, words: list[str]) -> None:
+    assert plant("one passes").run(*words)[0] == 2

@@ -1,0 +1,295 @@
+"""The FIX front of a venue: sessions of members, beside those who come by pages or WebSocket.
+
+What a session was sent is in QuickFIX's store, in the venue's folder; what it said is in the log.
+"""
+import asyncio
+import contextlib
+import logging
+import os
+import pathlib
+import ssl
+from collections.abc import AsyncIterator, Coroutine, Sequence
+from typing import Any
+
+from callauction.fix._quickfix import Engine
+from callauction.fix.orders import CLIENT, Report
+from callauction.fix.seats import Desk, Seat
+from callauction.fix.streams import Stream
+from callauction.fix.tags import Pairs, Tag, event_of, now, packed
+from callauction.fix.wires import Wire
+from callauction.venue import gates, tokens
+from callauction.venue.fix_terms import VENUE, Terms
+from callauction.venue.instrument import Instrument
+from callauction.venue.messages import MessageError
+from callauction.venue.recovery import Entry, Message
+from callauction.venue.serving import AddressError
+from callauction.venue.venue import Venue
+
+NOTICES = logging.getLogger("callauction.venue")
+DICTIONARY = pathlib.Path(__file__).with_name("FIX44.xml")
+BEGIN = "FIX.4.4"
+SETTINGS = """[DEFAULT]
+ConnectionType=acceptor
+SocketAcceptPort=0
+HeartBtInt=30
+StartTime=00:00:00
+EndTime=00:00:00
+TimestampPrecision=6
+FileStorePath={store}
+DataDictionary={dictionary}
+"""
+SESSION = "[SESSION]\nBeginString={begin}\nSenderCompID={venue}\nTargetCompID={member}\n"
+STORED = ("body", "header", "seqnums")
+"""The files of a session's store."""
+FILES_OF_SESSION = 8
+TICK, PAUSE = 1.0, 0.5
+MOST_CONNECTIONS, MOST_OF_ADDRESS = 256, 64
+"""Connections at once, and those of one address on which nobody has logged on."""
+
+
+class Front:
+    """The FIX sessions of a venue, which hears all entries of its boards from the venue's opening
+    on, and listens while it is `served`.
+    """
+
+    engine: Engine
+
+    def __init__(self, venue: Venue, terms: Terms, program: str) -> None:
+        self._venue, self._terms, self._program = venue, terms, program
+        self.gates = gates.Gates(MOST_CONNECTIONS, MOST_OF_ADDRESS)
+        self.files = MOST_CONNECTIONS + FILES_OF_SESSION * len(terms.sessions)
+        desk = Desk(venue, self._stream, self._tell, self._send)
+        seats = [Seat(it, name, session_of(it), desk) for it, name in terms.sessions.items()]
+        self._seats = {it.session: it for it in seats}
+        self._by_member = {it.name: it for it in seats}
+        self._streams: dict[str, Stream] = {}
+        self._wires: dict[int, Wire] = {}
+        self._files: dict[str, list[int]] = {}
+        self._tasks: set[asyncio.Task[None]] = set()
+        self._is_ready = False
+        self._wakes = asyncio.Event()
+        self._listener: gates.Listener | None = None
+        venue.on_entry = self._entered
+
+    # ---- begin and end
+
+    @contextlib.asynccontextmanager
+    async def served(self, context: ssl.SSLContext | None) -> AsyncIterator[str]:
+        """Listens, with this TLS: the line that says where. Raises AddressError."""
+        try:
+            sockets = gates.listening(self._terms.host, self._terms.port)
+        except OSError as fault:
+            raise AddressError(f"fix: can't listen: {fault.strerror}") from None
+        try:
+            self.engine = Engine(self._settings(), self._accepts)
+            self._open_files()
+        except (RuntimeError, OSError) as fault:
+            raise AddressError(f"fix: {fault}") from None
+        if self._venue.is_known:
+            await self._begin()
+        else:
+            self._start(self._begin())
+        self._start(self._write())
+        self._start(self._tick())
+        self._listener = gates.Listener(self.gates, sockets, lambda: Wire(self), context)
+        try:
+            yield f"fix      {named(self._terms.host)}:{sockets[0].getsockname()[1]}"
+        finally:
+            self._end()
+
+    def _settings(self) -> str:
+        """QuickFIX's settings."""
+        head = SETTINGS.format(store=self._venue.folder, dictionary=DICTIONARY)
+        names = {"begin": BEGIN, "venue": VENUE}
+        return head + "".join(SESSION.format(**names, member=it) for it in self._terms.sessions)
+
+    def _open_files(self) -> None:
+        """Opens the files of the stores, which are synced where the day is."""
+        for seat in self._seats.values() if self._venue.day.is_synced else ():
+            names = (f"{BEGIN}-{VENUE}-{seat.comp_id}.{it}" for it in STORED)
+            paths = [self._venue.folder / name for name in names]
+            self._files[seat.session] = [os.open(it, os.O_RDONLY | os.O_CLOEXEC) for it in paths]
+
+    async def _begin(self) -> None:
+        """Finds what was sent and what was taken, and sends what wasn't; then sessions may begin.
+        """
+        while not self._venue.is_known:
+            await asyncio.sleep(PAUSE)
+        for seat in self._seats.values():
+            await self._admit(seat)
+            sent = self.engine.sent(seat.session)
+            seat.told = {event for it in sent if (event := event_of(it, seat.comp_id))}
+            found = self.engine.expected(seat.session)
+            if (last := seat.expected()) != found:
+                NOTICES.info("%s: message %d is expected again", seat.session, last)
+                self.engine.set_expected(seat.session, last)
+        self._is_ready = True
+        for stream in [*self._streams.values()]:
+            self._start(stream.run())
+        for seat in self._seats.values():
+            self._start(self._serve(seat))
+
+    async def _admit(self, seat: Seat) -> None:
+        """Has the venue know the member of a session, whose password a file keeps if it is new."""
+        if self._venue.members.named(seat.name) is None:
+            token = tokens.secret_of(self._venue.folder, f"fix.{seat.comp_id}")
+            try:
+                await self._venue.admit(seat.name, token)
+            except MessageError as fault:
+                NOTICES.error("fix: %s can't be a member: %s", seat.name, fault.text)
+
+    async def _serve(self, seat: Seat) -> None:
+        """Takes what a session says; a fault of it is nobody else's matter."""
+        try:
+            await seat.serve()
+        except Exception:
+            NOTICES.critical("fix: %s has failed: start the venue again", seat.name, exc_info=True)
+
+    def _start(self, work: "Coroutine[Any, Any, None]") -> None:
+        """Begins a task, which ends with the front; a fault of one ends the front."""
+
+        def ended(task: "asyncio.Task[None]") -> None:
+            self._tasks.discard(task)
+            if not task.cancelled() and (fault := task.exception()):
+                NOTICES.critical("the FIX front has failed: start the venue again", exc_info=fault)
+                self._end()
+
+        task = asyncio.get_running_loop().create_task(work)
+        self._tasks.add(task)
+        task.add_done_callback(ended)
+
+    def _end(self) -> None:
+        """Logs all sessions out, and takes nothing more."""
+        self._is_ready = False
+        for task in [*self._tasks]:
+            task.cancel()
+        if self._listener is not None:
+            self._listener.close()
+        with contextlib.suppress(RuntimeError, OSError):  # a disk that is full
+            self._log_out()
+        for wire in self._wires.values():
+            wire.end()
+
+    def _log_out(self) -> None:
+        """Sends a Logout to all. Raises RuntimeError and OSError where that can't be stored."""
+        for number in self._wires:
+            self.engine.log_out(number, "the venue ends")
+        found = self.engine.outgoing()
+        for file in self._files_of(found):
+            os.fdatasync(file)
+        for number, data, _ in found:
+            self._wires[number].send(data, True)
+
+    # ---- bytes
+
+    def _accepts(self, session: str, password: bytes) -> bool:
+        """Whether a session takes a Logon with this password."""
+        token = password.decode("latin-1")
+        seat, member = self._seats[session], self._venue.members.of_token(token)
+        is_own = self._is_ready and member is not None and member.name == seat.name
+        return is_own and member is not None and member.hellos.takes()
+
+    def connected(self, wire: Wire) -> int:
+        """A connection has come: its number."""
+        number = self.engine.connect()
+        self._wires[number] = wire
+        return number
+
+    def heard(self, number: int) -> Seat | None:
+        """Something was said on a connection: whose it is."""
+        self._drain()
+        return self._seats.get(self.engine.session_on(number))
+
+    def begun(self, wire: Wire) -> None:
+        """A connection is somebody's now."""
+        self._venue.enter(wire)
+        self._venue.show_members()
+
+    def lost(self, wire: Wire) -> None:
+        """A connection has ended."""
+        self._wires.pop(wire.number, None)
+        self.engine.lost(wire.number)
+        self._drain()
+        if wire.member is not None:
+            self._venue.watchers.pop(wire, None)
+            self._venue.show_members()
+
+    def _drain(self) -> None:
+        """Takes what sessions say."""
+        self._wakes.set()
+        for what, session, text in self.engine.drain():
+            if what == "message":
+                self._seats[session].put(text)
+            else:
+                NOTICES.info("fix: %s %s %s", what, session, text.decode("latin-1"))
+
+    async def _tick(self) -> None:
+        """Lets sessions know the time, and ends the orders of a round that was left."""
+        while True:
+            await asyncio.sleep(TICK)
+            self.engine.tick()
+            self._drain()
+            for stream in self._streams.values():
+                stream.end_before(self._venue.round.number)
+
+    async def _write(self) -> None:
+        """Sends what sessions have to send, once the store has it."""
+        while True:
+            await self._wakes.wait()
+            self._wakes.clear()
+            found = self.engine.outgoing()
+            works = (asyncio.to_thread(os.fdatasync, it) for it in self._files_of(found))
+            await asyncio.gather(*works)
+            for number, data, is_last in found:
+                if wire := self._wires.get(number):
+                    wire.send(data, is_last)
+
+    def _files_of(self, found: Sequence[tuple[int, bytes, bool]]) -> list[int]:
+        """The files that have to be on the disk before these bytes are sent."""
+        sessions = {self.engine.session_on(number) for number, *_ in found if number in self._wires}
+        return [file for it in sessions for file in self._files.get(it, [])]
+
+    def _send(self, seat: Seat, kind: str, pairs: Pairs, groups: Any) -> None:
+        """Stores a message, and sends it soon where its session is on."""
+        self.engine.send(seat.session, kind, packed(pairs), groups)
+        self._wakes.set()
+
+    # ---- what the venue says
+
+    def _stream(self, board: Instrument) -> Stream:
+        """The stream of a board."""
+        key = board.board.key
+        if key not in self._streams:
+            self._streams[key] = Stream(board, self._program, self._tell)
+            if self._is_ready:
+                self._start(self._streams[key].run())
+        return self._streams[key]
+
+    def _entered(self, board: Instrument, message: Message, entry: Entry | None) -> None:
+        """A message has its entry, or never had one."""
+        seat = self._by_member.get(message.member)
+        if seat is not None and message.number < 0:
+            number = -message.number
+            seat.numbers[number] = seat.numbers.get(number, False) or entry is not None
+            if entry is not None and CLIENT in message.note:
+                seat.clients[message.note[CLIENT]] = number
+        if entry is not None:
+            self._stream(board).put(message, entry)
+
+    def _tell(self, report: Report) -> None:
+        """Sends a member what it wasn't sent yet."""
+        seat = self._by_member.get(report.member)
+        if seat is not None and report.event not in seat.told:
+            seat.told.add(report.event)
+            self._send(seat, report.type, [*report.pairs, (Tag.TRANSACT_TIME, now())], ())
+
+
+def named(host: str) -> str:
+    """A host as it is before a port."""
+    return f"[{host}]" if ":" in host else host
+
+
+def session_of(comp_id: str) -> str:
+    """QuickFIX's name of a session."""
+    return f"{BEGIN}:{VENUE}->{comp_id}"
+

@@ -1,0 +1,277 @@
+"""What members by FIX are sent of a board, from its entries and what the program shows of them: the
+same entries give the same messages with the same ids, before and after a restart.
+"""
+import dataclasses
+from collections.abc import Mapping
+from decimal import Decimal
+
+from callauction.fix.tags import (
+    CLOSING,
+    CODES,
+    DAY,
+    GOOD_TILL_CANCEL,
+    LIMIT,
+    MARKET,
+    NONE,
+    OPENING,
+    Exec,
+    Pairs,
+    Status,
+    Tag,
+    Type,
+)
+from callauction.fix.uncrosses import Seen
+from callauction.venue import views
+from callauction.venue.instrument import Instrument
+from callauction.venue.recovery import Entry, Message
+from callauction.words import Refusal
+from callauction.words import MARKET as AT_MARKET
+
+REJECTED = {
+    Refusal.BAD_QUANTITY: "13",
+    Refusal.BOOK_FULL: "3",
+    Refusal.DAY_OVER: "2",
+    Refusal.PAST_AUCTION: "4",
+}
+"""OrdRejReason of the program's refusals."""
+TOO_LATE = "0"
+NOT_CHANGED = {Refusal.UNKNOWN_ORDER: "1", Refusal.DAY_OVER: TOO_LATE}
+"""CxlRejReason of the program's refusals."""
+OTHER = "99"
+ENTER, DELETE = "enter", "delete"
+TIMES = {"opening": OPENING, "closing": CLOSING}
+ENDED = (Status.CANCELED, Status.REJECTED, Status.EXPIRED, Status.DONE)
+CENT = Decimal("0.000001")
+"""To what an average price is rounded."""
+CLIENT, ORIGIN, TIME = (str(int(it)) for it in (Tag.CL_ORD_ID, Tag.ORIG_CL_ORD_ID, 59))
+"""What the log keeps beside a message of a member by FIX."""
+
+
+@dataclasses.dataclass(frozen=True, slots=True)
+class Report:
+    """A message to a member; `event` is its id, by which it is sent once."""
+
+    member: str
+    type: Type
+    event: str
+    pairs: Pairs
+
+
+@dataclasses.dataclass(slots=True)
+class Held:
+    """An order, and the id that its member last gave it; `paid` is in ticks times shares."""
+
+    order: int
+    member: str
+    client: str
+    side: str
+    open: int
+    limit: str
+    peak: str
+    only: str
+    time: str
+    total: int
+    filled: int = 0
+    paid: int = 0
+    status: Status = Status.NEW
+
+    @classmethod
+    def of(cls, message: Message, entry: Entry) -> "Held":
+        """A new order, whose number is 0 where it was refused."""
+        fields = entry.record.split(",")[2:] + ["", ""]
+        side, quantity, limit, peak, only = fields[:5]
+        note, shares = message.note, int(quantity)
+        client, time = note.get(CLIENT, ""), note.get(TIME, DAY)
+        number = entry.order or 0
+        return cls(number, message.member, client, side, shares, limit, peak, only, time, shares)
+
+
+class Orders:
+    """The orders of a board as members by FIX see them."""
+
+    def __init__(self, board: Instrument) -> None:
+        self._board = board
+        self._open: dict[int, Held] = {}
+        self._by_client: dict[tuple[str, str], Held] = {}
+
+    def of_client(self, member: str, client: str) -> Held | None:
+        """The order to which a member gave this id."""
+        return self._by_client.get((member, client))
+
+    def event(self, place: int) -> str:
+        """The id of what an entry comes to."""
+        return f"{self._board.board.key}.{place}"
+
+    # ---- entries
+
+    def take(self, message: Message, entry: Entry) -> Report:
+        """What the entry of a member's command is sent as."""
+        event, word = self.event(entry.place), entry.record.split(",")[1]
+        if word == ENTER:
+            return self._entered(Held.of(message, entry), entry, event)
+        held = self._open.get(int(entry.record.split(",")[2]))
+        if held is None or entry.reply.startswith("refused"):
+            return self._kept(held, message, entry, event)
+        return self._edited(held, message, entry, event)
+
+    def _kept(self, held: Held | None, message: Message, entry: Entry, event: str) -> Report:
+        """An order wasn't changed, perhaps as it has ended."""
+        asked = Asked.of(message, entry.record.split(",")[1] == DELETE)
+        ended = self.of_client(message.member, asked.origin) if held is None else None
+        reason = TOO_LATE if ended else reason_of(NOT_CHANGED, entry.reply)
+        return refusal(message.member, event, asked, held or ended, reason, entry.reply)
+
+    def _entered(self, held: Held, entry: Entry, event: str) -> Report:
+        """A new order was taken or refused."""
+        if not held.order:
+            held.status = Status.REJECTED
+            reason = reason_of(REJECTED, entry.reply)
+            more = [(Tag.ORD_REJ_REASON, reason), (Tag.TEXT, entry.reply)]
+            return self.report(held, event, Status.REJECTED, [*more])
+        self._open[held.order] = held
+        self._named(held)
+        return self.report(held, event, Status.NEW)
+
+    def _edited(self, held: Held, message: Message, entry: Entry, event: str) -> Report:
+        """An order was changed or deleted."""
+        held.client = message.note.get(CLIENT, held.client)
+        self._named(held)
+        origin = message.note.get(ORIGIN, "")
+        more = [(Tag.ORIG_CL_ORD_ID, origin)] if origin else []
+        fields = entry.record.split(",")
+        if fields[1] == DELETE:
+            self._end(held, Status.CANCELED)
+            return self.report(held, event, Status.CANCELED, [*more])
+        held.open, held.limit = int(fields[3]), fields[4]
+        held.total = held.filled + held.open
+        return self.report(held, event, Exec.REPLACED, [*more])
+
+    def _named(self, held: Held) -> None:
+        """An order is known by the id that it has now."""
+        if held.client:
+            self._by_client[held.member, held.client] = held
+
+    def _end(self, held: Held, status: Status) -> None:
+        """Nothing more of an order is open."""
+        held.open, held.status = 0, status
+        del self._open[held.order]
+
+    # ---- uncrosses
+
+    def uncrossed(self, place: int, seen: Seen) -> list[Report]:
+        """What the uncross at a place did: a report for each side of a trade, then what ended."""
+        event = self.event(place)
+        found = [report for it in seen.trades for report in self._traded(it, event)]
+        for number in seen.before:
+            found += self._seen_after(self._open[number], seen, event)
+        return found
+
+    def _traded(self, trade: views.Trade, event: str) -> list[Report]:
+        """A trade, for both of its sides."""
+        found = []
+        for letter, number in (("b", trade.bid), ("a", trade.ask)):
+            held = self._open[number]
+            held.open, held.filled = held.open - trade.quantity, held.filled + trade.quantity
+            held.paid += trade.quantity * trade.tick
+            held.status = Status.PARTLY if held.open else Status.FILLED
+            more: Pairs = [
+                (Tag.LAST_QTY, str(trade.quantity)),
+                (Tag.LAST_PX, self._board.terms.price(trade.tick)),
+                (Tag.TRD_MATCH_ID, f"{self._board.board.key}.{trade.number}"),
+            ]
+            found.append(self.report(held, f"{event}.{trade.number}{letter}", Exec.TRADE, more))
+        return found
+
+    def _seen_after(self, held: Held, seen: Seen, event: str) -> list[Report]:
+        """What became of an order that was open before an uncross: one of which something was left
+        and that isn't open after it has expired, and all do at the end of the day.
+        """
+        if not held.open:
+            del self._open[held.order]
+            return []
+        if held.order in seen.after and not seen.is_over:
+            return []
+        is_done = seen.is_over and held.time == GOOD_TILL_CANCEL
+        self._end(held, Status.DONE if is_done else Status.EXPIRED)
+        return [self.report(held, f"{event}.x{held.order}", held.status)]
+
+    def over(self) -> list[Report]:
+        """What the end of the board's round does to the orders that are open."""
+        event, found = f"{self._board.board.key}.end", []
+        for held in [*self._open.values()]:
+            self._end(held, Status.EXPIRED)
+            found.append(self.report(held, f"{event}.x{held.order}", Status.EXPIRED))
+        return found
+
+    # ---- reports
+
+    def report(self, held: Held, event: str, kind: str, more: Pairs | None = None) -> Report:
+        """An ExecutionReport of an order as it is now."""
+        left = 0 if held.status in ENDED else held.open
+        pairs: Pairs = [
+            (Tag.ORDER_ID, str(held.order) if held.order else NONE),
+            (Tag.EXEC_ID, event),
+            (Tag.EXEC_TYPE, kind),
+            (Tag.ORD_STATUS, held.status),
+            (Tag.SYMBOL, self._board.board.market),
+            (Tag.SIDE, CODES[held.side]),
+            (Tag.ORDER_QTY, str(held.total)),
+            (Tag.LEAVES_QTY, str(left)),
+            (Tag.CUM_QTY, str(held.filled)),
+            (Tag.AVG_PX, self._average(held)),
+            (Tag.TIME_IN_FORCE, TIMES.get(held.only, held.time)),
+            *self._priced(held),
+        ]
+        pairs += [(Tag.CL_ORD_ID, held.client)] if held.client else []
+        pairs += [(Tag.MAX_FLOOR, held.peak)] if held.peak else []
+        return Report(held.member, Type.REPORT, event, pairs + (more or []))
+
+    def _priced(self, held: Held) -> Pairs:
+        """The type of an order, and its price."""
+        if held.limit == AT_MARKET:
+            return [(Tag.ORD_TYPE, MARKET)]
+        return [(Tag.ORD_TYPE, LIMIT), (Tag.PRICE, self._board.terms.price(int(held.limit)))]
+
+    def _average(self, held: Held) -> str:
+        """The average price of what was filled."""
+        if not held.filled:
+            return "0"
+        paid = held.paid * self._board.terms.grid.tick_size
+        return format((Decimal(paid) / held.filled).quantize(CENT).normalize(), "f")
+
+
+@dataclasses.dataclass(frozen=True)
+class Asked:
+    """A request for another order or none: its ids, and whether it is a cancel."""
+
+    client: str
+    origin: str
+    is_cancel: bool
+
+    @classmethod
+    def of(cls, message: Message, is_cancel: bool) -> "Asked":
+        """The request that became a message."""
+        note: Mapping[str, str] = message.note
+        return cls(note.get(CLIENT, NONE), note.get(ORIGIN, NONE), is_cancel)
+
+
+def reason_of(reasons: Mapping[Refusal, str], reply: str) -> str:
+    """The reason of FIX for a refusal of the program."""
+    return reasons.get(Refusal(int(reply.split(" ")[1])), OTHER)
+
+
+def refusal(
+    member: str, event: str, asked: Asked, held: Held | None, reason: str, text: str
+) -> Report:
+    """An OrderCancelReject of an order as it is now."""
+    pairs: Pairs = [
+        (Tag.ORDER_ID, str(held.order) if held else NONE),
+        (Tag.CL_ORD_ID, asked.client),
+        (Tag.ORIG_CL_ORD_ID, asked.origin),
+        (Tag.ORD_STATUS, held.status if held else Status.REJECTED),
+        (Tag.CXL_REJ_RESPONSE_TO, "1" if asked.is_cancel else "2"),
+        (Tag.CXL_REJ_REASON, reason),
+        (Tag.TEXT, text),
+        (Tag.EVENT_ID, event),
+    ]
+    return Report(member, Type.CANCEL_REJECT, event, pairs)

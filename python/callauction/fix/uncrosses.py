@@ -1,0 +1,67 @@
+"""What an uncross did, as the program shows it: a second run of it, on the journal's commands up to
+there, shows the open orders before and after, the trades, and where the day is.
+"""
+import asyncio
+import dataclasses
+import subprocess
+from collections.abc import Sequence
+
+from callauction.venue import replay, views
+from callauction.venue.downloads import DownloadError
+from callauction.venue.instrument import Instrument
+from callauction.venue.phases import OVER
+
+RESERVE = ("--reserve", "0")
+"""Each command of the journal was taken, those that were kept for the operator too."""
+MOST_SECONDS = 60.0
+"""How long the program may take."""
+Open = dict[int, views.OpenOrder]
+
+
+@dataclasses.dataclass(frozen=True)
+class Seen:
+    """The open orders before an uncross and after it, by their numbers; its trades; whether the day
+    is over.
+    """
+
+    before: Open
+    after: Open
+    trades: list[views.Trade]
+    is_over: bool
+
+
+async def seen_of(board: Instrument, program: str, place: int, known: int) -> Seen:
+    """What the uncross at this place of the journal, from 1, did. `known` trades were made before.
+    It is asked for in a thread, as a journal may be long. Raises DownloadError.
+    """
+    return await asyncio.to_thread(seen, board, program, place, known)
+
+
+def seen(board: Instrument, program: str, place: int, known: int) -> Seen:
+    """What an uncross did, once the program has said it. Raises DownloadError."""
+    commands = [record for record, _ in replay.entries_of(board)[:place]]
+    asked = ["show,orders", commands[-1], "show,orders", f"show,trades,{known + 1}", "show,day"]
+    words = [program, "--live", *RESERVE, *board.terms.words()]
+    said = output(words, [*commands[:-1], *asked])
+    before, after, trades, day = [*replay.shows_of(said)]
+    is_over = views.DayView.of(day[0]).auction == OVER
+    return Seen(open_of(before), open_of(after), views.trades_of(trades), is_over)
+
+
+def output(words: Sequence[str], records: Sequence[str]) -> list[str]:
+    """The lines that the program prints of these records. Raises DownloadError."""
+    text = "".join(f"{it}\n" for it in records)
+    try:
+        ran = subprocess.run(
+            words, input=text, capture_output=True, encoding="ascii", timeout=MOST_SECONDS
+        )
+    except (OSError, subprocess.TimeoutExpired) as fault:
+        raise DownloadError(str(fault)) from None
+    if ran.returncode != 0:
+        raise DownloadError(ran.stderr.strip().partition("\n")[0])
+    return ran.stdout.splitlines()
+
+
+def open_of(lines: Sequence[str]) -> Open:
+    """The rows of `show,orders` by their orders."""
+    return {it.order: it for it in views.orders_of(lines)}

@@ -1,0 +1,135 @@
+"""A connection by FIX. It is read no faster than what it says is taken and what it is sent is read,
+and it takes no more than a share of the time.
+"""
+import asyncio
+from typing import Protocol
+
+from callauction.fix._quickfix import Engine
+from callauction.fix.seats import Seat
+from callauction.venue import shown
+from callauction.venue.gates import Gate, Gates
+from callauction.venue.members import Member
+from callauction.venue.messages import ERRORS
+
+MOST_UNSENT = 1 << 24
+"""Bytes that a connection may leave unread; then it ends, and the store has the rest."""
+MOST_TOOK = 0.001
+"""Seconds that something said may take before others have their turn first."""
+BUSY_SHARE = 4
+"""How often that time passes before more is read of it."""
+
+
+class Host(Protocol):
+    """Who has the connections and the sessions."""
+
+    engine: Engine
+    gates: Gates
+
+    def connected(self, wire: "Wire") -> int:
+        """A connection has come: its number."""
+
+    def heard(self, number: int) -> Seat | None:
+        """Something was said on a connection: whose it is."""
+
+    def begun(self, wire: "Wire") -> None:
+        """A connection is somebody's now."""
+
+    def lost(self, wire: "Wire") -> None:
+        """A connection has ended."""
+
+
+class Wire(asyncio.Protocol):
+    """A connection, whose bytes QuickFIX reads. To the venue it is a watcher who is shown nothing.
+    """
+
+    role = "member"
+    topics: frozenset[str] = frozenset()
+
+    def __init__(self, host: Host) -> None:
+        self._host = host
+        self.number = 0
+        self.member: Member | None = None
+        self.is_leaving = False
+        self._is_left = self._is_full = self._is_paused = False
+        self._rests_until = 0.0
+        self.seat: Seat | None = None
+
+    def connection_made(self, transport: asyncio.BaseTransport) -> None:
+        """It may speak."""
+        assert isinstance(transport, asyncio.Transport)
+        self._transport = transport
+        self._gate: Gate = self._host.gates.of(transport)
+        self.number = self._host.connected(self)
+
+    def data_received(self, data: bytes) -> None:
+        """It says this."""
+        loop = asyncio.get_running_loop()
+        self._gate.is_held = True
+        begin = loop.time()
+        self._is_left = self._is_full = self._host.engine.feed(self.number, data)
+        took = loop.time() - begin
+        if took > MOST_TOOK:
+            self._rests_until = loop.time() + BUSY_SHARE * took
+            loop.call_later(BUSY_SHARE * took, self.go_on)
+        seat = self._host.heard(self.number)
+        if seat is not None and self.seat is None:
+            self._begun(seat)
+        if seat is not None and seat.is_busy:
+            self._gate.untaken = 0
+        self.go_on()
+
+    def _begun(self, seat: Seat) -> None:
+        """It is somebody's now."""
+        self.seat, self.member = seat, seat.member
+        seat.address, seat.heard = self._gate.address, self.go_on
+        self._gate.known()
+        self._host.begun(self)
+
+    def go_on(self) -> None:
+        """Reads on, where it may."""
+        is_resting = asyncio.get_running_loop().time() < self._rests_until
+        is_busy = self.seat is not None and self.seat.is_busy
+        is_slow = self._is_paused or self._is_full
+        if is_slow or is_resting or is_busy or self._transport.is_closing():
+            return
+        if self._is_left:
+            self.data_received(b"")
+        else:
+            self._gate.is_held = False
+
+    def send(self, data: bytes, is_last: bool) -> None:
+        """Sends bytes; nothing more is said after the last ones."""
+        self._is_full = False
+        self._transport.write(data)
+        if self._transport.get_write_buffer_size() > MOST_UNSENT:
+            self._transport.abort()
+        elif is_last:
+            self._transport.close()
+        elif self._is_left:
+            asyncio.get_running_loop().call_soon(self.go_on)
+
+    def offer(self, key: str, message: shown.Json) -> None:
+        """Shows nothing: reports and snapshots are messages of the session."""
+
+    def leave(self, code: str) -> None:
+        """Ends its session, for one of the ERRORS of messages."""
+        self.is_leaving = True
+        self._host.engine.log_out(self.number, ERRORS[code])
+        self._host.heard(self.number)
+
+    def end(self) -> None:
+        """Ends once all was sent."""
+        self._transport.close()
+
+    def pause_writing(self) -> None:
+        """It reads too slowly for now."""
+        self._is_paused = self._gate.is_held = True
+
+    def resume_writing(self) -> None:
+        """It has read what it was sent."""
+        self._is_paused = False
+        self.go_on()
+
+    def connection_lost(self, fault: Exception | None) -> None:
+        """It has ended."""
+        self._host.lost(self)

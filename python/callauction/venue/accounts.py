@@ -1,0 +1,129 @@
+"""The accounts of an instrument's members: who was handed out which value, and what each gained.
+
+A hand-out to all begins a period, at whose end all shares are counted; a value that one member gets
+later counts for its whole period, and that of a member who left for what it traded alone. So all
+members of a period gain together no more than most_gain.
+"""
+import dataclasses
+from collections.abc import Callable, Iterable, Iterator, Mapping
+
+from callauction.venue.gains import (
+    Predicted, Uncovered, Value, gain_of, most_gain, predicted, used_of,
+)
+
+
+@dataclasses.dataclass(frozen=True, slots=True)
+class Fill:
+    """What an order of a member had of a trade."""
+
+    trade: int
+    order: int
+    side: str
+    quantity: int
+    tick: int
+
+
+@dataclasses.dataclass
+class Period:
+    """What was handed out, how many trades of the day came before, and who left meanwhile."""
+
+    since: int
+    values: dict[str, Value] = dataclasses.field(default_factory=dict)
+    gone: set[str] = dataclasses.field(default_factory=set)
+
+
+FillsOf = Callable[[str], Iterable[Fill]]
+"""What gives the fills of the member of this name."""
+
+
+class Accounts:
+    """The periods of an instrument's day, of which the first begins with it."""
+
+    def __init__(self, uncovered: Uncovered) -> None:
+        self.uncovered = uncovered
+        self.periods = [Period(0)]
+
+    @property
+    def values(self) -> dict[str, Value]:
+        """The values that members have now, by their names."""
+        return self.periods[-1].values
+
+    @property
+    def since(self) -> int:
+        """The trades before the values that members have now."""
+        return self.periods[-1].since
+
+    @property
+    def has_values(self) -> bool:
+        """Whether anybody was handed out a value."""
+        return any(it.values for it in self.periods)
+
+    def give(self, values: Mapping[str, Value], is_to_all: bool, trades: int) -> None:
+        """Hands out values after `trades` trades: where they are to all, nobody else has one."""
+        if is_to_all and trades > self.periods[-1].since:
+            self.periods.append(Period(trades))
+        if is_to_all:
+            self.values.clear()
+        self.values.update(values)
+
+    def leave(self, member: str) -> None:
+        """A member is no longer there to trade."""
+        self.periods[-1].gone.add(member)
+
+    def come_back(self, member: str) -> None:
+        """A member that had left is there again."""
+        self.periods[-1].gone.discard(member)
+
+    def gain_of(self, member: str, fills: Iterable[Fill]) -> int:
+        """What a member's fills gain, in ticks times shares. Those of a period in which nobody had
+        a value count nothing.
+        """
+        found = [*fills]
+        return sum(
+            gain_of(
+                period.values.get(member),
+                ((it.side, it.quantity, it.tick) for it in found if begin < it.trade <= end),
+                self.uncovered,
+            )
+            for period, begin, end in self._spans()
+            if period.values
+        )
+
+    def left_of(self, member: str, fills: Iterable[Fill]) -> int | None:
+        """How many shares more a member's value covers after its fills, None where it has none."""
+        value = self.values.get(member)
+        if value is None:
+            return None
+        held = sum(
+            it.quantity if it.side == value.side else -it.quantity
+            for it in fills
+            if it.trade > self.since
+        )
+        return max(0, value.quantity - held)
+
+    def most(self, fills_of: FillsOf) -> int:
+        """The most that all could gain together, in ticks times shares."""
+        return sum(most_gain([*self._usable(*it, fills_of)]) for it in self._spans())
+
+    def predicted(self, fills_of: FillsOf) -> Predicted | None:
+        """What the values that members have now predict."""
+        *_, last = self._spans()
+        return predicted([*self._usable(*last, fills_of)])
+
+    def _usable(
+        self, period: Period, begin: int, end: float, fills_of: FillsOf
+    ) -> Iterator[Value]:
+        """The values of a period, those of members who left as far as they used them."""
+        for member, value in period.values.items():
+            if member not in period.gone:
+                yield value
+                continue
+            fills = [it for it in fills_of(member) if begin < it.trade <= end]
+            if used := used_of(value, ((it.side, it.quantity, it.tick) for it in fills)):
+                yield dataclasses.replace(value, quantity=used)
+
+    def _spans(self) -> Iterable[tuple[Period, int, float]]:
+        """Each period, the last trade before it and its own last."""
+        ends = [*(it.since for it in self.periods[1:]), float("inf")]
+        begins = (it.since for it in self.periods)
+        return zip(self.periods, begins, ends)

@@ -1,0 +1,33 @@
+"""Copies a day, also one that runs: `python3 -m callauction.venue.backup FOLDER COPY`."""
+import argparse
+import pathlib
+import sys
+
+from callauction.statuses import BAD_FILE, DONE, FAILED
+from callauction.venue import copies
+from callauction.venue.log import LogError
+
+
+def main() -> int:
+    """Copies a day; answers the status."""
+    parser = argparse.ArgumentParser(
+        prog="python3 -m callauction.venue.backup",
+        description="Copies the folder of a venue, which may run meanwhile, as it was at a moment.",
+        epilog="statuses: 0 copied; 1 a journal and the log don't fit; 3 a read or a write failed",
+    )
+    parser.add_argument("folder", type=pathlib.Path, metavar="FOLDER", help="of the venue")
+    parser.add_argument("copy", type=pathlib.Path, metavar="COPY", help="a new folder")
+    asked = parser.parse_args()
+    try:
+        print(copies.summary(copies.backup(asked.folder, asked.copy)))
+        return DONE
+    except (copies.CopyError, LogError) as fault:
+        text, status = str(fault), BAD_FILE
+    except OSError as fault:
+        text, status = f"{fault.filename}: {fault.strerror}", FAILED
+    print(f"backup: {text}", file=sys.stderr)
+    return status
+
+
+if __name__ == "__main__":
+    sys.exit(main())

@@ -1,0 +1,196 @@
+"""Copies of a day, also of one that runs: `backup FOLDER COPY` and `restore COPY FOLDER`.
+
+A copy is a day as a crash at one moment could have left it: each journal has no entry whose message
+the log hasn't, and the log has no mark of an entry that its journal hasn't. The log is cut where it
+would, and the ends of the journals that the rest of it doesn't know.
+"""
+import hashlib
+import os
+import pathlib
+import re
+import shutil
+import subprocess
+
+from callauction.venue import owned, tokens
+from callauction.venue.log import Line, LogError, read_lines
+from callauction.venue.recovery import (
+    Entry,
+    RecoveryError,
+    RolledBackError,
+    entries_in,
+    settled,
+)
+from callauction.venue.venue import LOG, mark_of, runs_of
+
+JOURNAL = ".journal.csv"
+TOKEN = ".token"
+SUMS = "SHA256SUMS"
+LEFT_OUT = re.compile(r".*\.new|.*\.cut-\d+|" + SUMS)
+STORE, STORED = "FIX.", (".seqnums", ".header", ".body")
+"""The files of a session by FIX, in the order in which they are read: what a later one hasn't,
+those before don't know of. The journals behind them have all that members were sent.
+"""
+NAME = re.compile(r"[^\x00-\x1f\x7f]{1,255}")
+MOST_BYTES = 1 << 30
+"""The bytes that a file of a day may have."""
+Files = dict[str, bytes]
+
+
+class CopyError(Exception):
+    """A copy that can't be made or isn't whole; the text says why."""
+
+
+def journals_of(files: Files) -> dict[str, str]:
+    """The journals among files, by the names of their instruments."""
+    return {name.removesuffix(JOURNAL): name for name in files if name.endswith(JOURNAL)}
+
+
+def whole_lines(content: bytes) -> bytes:
+    """The lines that have ended, before the room of a journal that runs."""
+    text = content.partition(b"\0")[0]
+    return text[: text.rfind(b"\n") + 1]
+
+
+def read_day(folder: pathlib.Path) -> tuple[Files, int]:
+    """All files of a day, the log behind the journals, and how many lines it had before them.
+    Raises OSError, and CopyError where there is no log.
+    """
+    names = sorted(it.name for it in folder.iterdir() if not LEFT_OUT.fullmatch(it.name))
+    if LOG not in names:
+        raise CopyError(f"{folder} is no folder of a venue: it has no {LOG}")
+    begun = whole_lines(read_file(folder / LOG)).count(b"\n")
+    names.sort(key=turn_of)
+    found = {}
+    for name in names:
+        content = read_file(folder / name)
+        found[name] = whole_lines(content) if name.endswith((JOURNAL, LOG)) else content
+    return found, begun
+
+
+def turn_of(name: str) -> tuple[bool, int, str]:
+    """When a file of a day is read: stores first, the log last."""
+    suffix = pathlib.PurePath(name).suffix
+    is_stored = name.startswith(STORE) and suffix in STORED
+    return name == LOG, STORED.index(suffix) if is_stored else len(STORED), name
+
+
+def read_file(path: pathlib.Path) -> bytes:
+    """A file of a day, which is no link. Raises OSError, and CopyError where it is another's."""
+    if not NAME.fullmatch(path.name):
+        raise CopyError(f"{str(path)!r} is no name that a file of a day has")
+    return owned.whole(path, MOST_BYTES, os.O_NOFOLLOW)
+
+
+def consistent(files: Files, begun: int | None = None) -> Files:
+    """The files of a day as they were at one moment, at which the log had at least `begun` lines,
+    else all that it has. Raises CopyError, and LogError.
+    """
+    lines = read_lines(files[LOG], LOG)
+    names = journals_of(files)
+    entries = {name: entries_in(files[file].decode("latin-1")) for name, file in names.items()}
+    end = first_ahead(lines, entries)
+    if end < (len(lines) if begun is None else begun):
+        name = lines[end]["instrument"]
+        raise CopyError(f"{name}{JOURNAL} is missing, or older than what {LOG} knows of it")
+    kept = lines[:end]
+    texts = files[LOG].splitlines(keepends=True)[: len(kept)]
+    found = files | {LOG: b"".join(texts)}
+    for name, file in names.items():
+        count = most_known([it for it in kept if it.get("instrument") == name], entries[name])
+        if count is None:
+            raise CopyError(f"{file} isn't the journal of which {LOG} knows")
+        found[file] = b"".join(files[file].splitlines(keepends=True)[: count + 1])
+    return found
+
+
+def first_ahead(lines: list[Line], entries: dict[str, list[Entry]]) -> int:
+    """The place of the first line of the log that knows of an entry that isn't among these."""
+    for place, line in enumerate(lines):
+        if line["kind"] in ("start", "mark"):
+            if line["entries"] > len(entries.get(line["instrument"], [])):
+                return place
+    return len(lines)
+
+
+def most_known(lines: list[Line], entries: list[Entry]) -> int | None:
+    """How many of the first entries follow from the messages of the log; None where none do, or
+    where the log knows of others.
+    """
+    mark = mark_of(lines)
+    runs = runs_of(lines)
+    for count in range(len(entries), mark.entries - 1, -1):
+        try:
+            mark.check(entries[:count])
+            settled(next(iter(runs.values()), []), entries[:count])
+        except RolledBackError:
+            return None
+        except RecoveryError:
+            continue
+        return count
+    return None
+
+
+def sums_of(files: Files) -> bytes:
+    """What `sha256sum --check` reads of these files."""
+    rows = (f"{hashlib.sha256(files[name]).hexdigest()}  {name}\n" for name in sorted(files))
+    return "".join(rows).encode()
+
+
+def write_day(files: Files, folder: pathlib.Path) -> None:
+    """Writes a day to a new folder, whole and on the disk, or nothing. Raises OSError, CopyError.
+    """
+    if os.path.lexists(folder):
+        raise CopyError(f"{folder} is there already")
+    begun = folder.with_name(f"{folder.name}.new")
+    begun.mkdir(mode=owned.FOLDER_MODE)
+    try:
+        for name, content in files.items():
+            owned.write(begun / name, content)
+        begun.rename(folder)
+    except OSError:
+        shutil.rmtree(begun, ignore_errors=True)
+        raise
+    owned.sync_folder(folder.parent)
+
+
+def backup(folder: pathlib.Path, copy: pathlib.Path) -> Files:
+    """Copies a day, which may run meanwhile: its files. Raises CopyError, LogError, OSError."""
+    files = consistent(*read_day(folder))
+    write_day(files | {SUMS: sums_of(files)}, copy)
+    return files
+
+
+def restore(copy: pathlib.Path, folder: pathlib.Path, program: str) -> Files:
+    """Puts a copy to a new folder once all of it is checked: its sums, its journals beside its log,
+    and by the program each reply of them. Raises CopyError, LogError, OSError.
+    """
+    files = {it.name: read_file(it) for it in sorted(copy.iterdir())}
+    sums = files.pop(SUMS, b"")
+    if sums_of(files) != sums:
+        raise CopyError(f"{copy} isn't the copy that was made: its {SUMS} says otherwise")
+    if LOG not in files:
+        raise CopyError(f"{copy} is no copy of a venue: it has no {LOG}")
+    if consistent(files) != files:
+        raise CopyError(f"{copy}: its journals and its {LOG} aren't of one moment")
+    for name in files:
+        if name.endswith(TOKEN) and not tokens.is_token(files[name]):
+            raise CopyError(f"{copy / name} holds no token")
+    for file in journals_of(files).values():
+        audit(program, file, files[file])
+    write_day(files, folder)
+    return files
+
+
+def audit(program: str, name: str, journal: bytes) -> None:
+    """Raises CopyError where the program finds a fault in a journal, and OSError."""
+    ran = subprocess.run([program, "--audit"], input=journal, capture_output=True)
+    if ran.returncode != 0:
+        last = (ran.stderr or ran.stdout).decode("utf-8", "replace").strip().rpartition("\n")[2]
+        raise CopyError(f"{name}: {last}")
+
+
+def summary(files: Files) -> str:
+    """What a copy has, in a line."""
+    counts = [files[file].count(b"\n") - 1 for file in journals_of(files).values()]
+    lines = files[LOG].count(b"\n")
+    return f"{len(counts)} journals with {sum(counts)} entries, {lines} lines of the log"

@@ -1,0 +1,53 @@
+"""What a day's file says of its FIX front: the table [fix]."""
+import dataclasses
+import re
+from collections.abc import Mapping
+from typing import Any
+
+from callauction.venue.fields import ConfigError, Fields
+
+VENUE = "VENUE"
+"""The CompID of the venue."""
+COMP_ID = re.compile(r"[A-Za-z0-9_.]{1,24}")
+ADDRESS = re.compile(r"(?P<host>[A-Za-z0-9.-]+|\[[0-9A-Fa-f:.]+\]):(?P<port>[0-9]{1,5})")
+HOST, PORT = "127.0.0.1", 9878
+
+
+@dataclasses.dataclass(frozen=True)
+class Terms:
+    """Where it listens, and the name of the member of each CompID."""
+
+    sessions: Mapping[str, str]
+    host: str = HOST
+    port: int = PORT
+
+
+def terms_of(table: dict[str, Any]) -> Terms:
+    """The front of a table. Raises ConfigError."""
+    fields = Fields("fix", table)
+    host, port = address_of(fields)
+    members = sessions_of(fields, fields.table("sessions"))
+    fields.ended()
+    return Terms(members, host, port)
+
+
+def address_of(fields: Fields) -> tuple[str, int]:
+    """The host and the port of `address`. Raises ConfigError."""
+    found = ADDRESS.fullmatch(fields.text("address", f"{HOST}:{PORT}", ADDRESS))
+    if found is None or int(found["port"]) >= 1 << 16:
+        raise fields.fault("address", "is none such as \"127.0.0.1:9878\"")
+    return found["host"].strip("[]"), int(found["port"])
+
+
+def sessions_of(fields: Fields, table: dict[str, Any]) -> dict[str, str]:
+    """The member of each CompID. Raises ConfigError."""
+    if not table:
+        raise fields.fault("sessions", "has no CompID")
+    for comp_id in table:
+        if not COMP_ID.fullmatch(comp_id) or comp_id == VENUE:
+            why = "is no CompID of 1 to 24 letters, digits, points or underscores"
+            raise fields.fault(f"sessions: {comp_id!r}", why)
+    names = Fields("fix: sessions", {"names": [*table.values()]}).names("names")
+    if len(names) < len(table):
+        raise ConfigError("fix: sessions: a member has one CompID")
+    return dict(zip(table, names))

@@ -1,0 +1,376 @@
+"""Connections: how many there may be, of one address and of all, and how long one may take to ask.
+
+A connection waits until a whole request has come, or until it has said who it is. Where there are
+too many, one that waits gives way to the new one: the oldest of the same address, or of the address
+that has most of them. So half requests shut out nobody, however many there are. And a connection is
+read no faster than what it has said is taken, a little of each in turn.
+"""
+import asyncio
+import collections
+import contextlib
+import dataclasses
+import enum
+import logging
+import resource
+import socket
+import ssl
+from collections.abc import Callable, Iterator
+
+from callauction.venue.rates import network_of
+
+NOTICES = logging.getLogger("callauction.venue")
+MOST_CONNECTIONS = 4096
+MOST_OF_ADDRESS = 256
+"""Connections of one address on which no member, nor the operator, has said who it is."""
+FILES_KEPT = 256
+"""How many of the files that this process may open are no connections."""
+HEAD_SECONDS, BODY_SECONDS, IDLE_SECONDS = 10.0, 10.0, 30.0
+"""How long a connection may take to its first request; a request to its end; how long between two.
+"""
+SWEEP_SECONDS = 0.5
+BACKLOG = 1024
+ACCEPT_PAUSE = 0.1
+"""Seconds until connections are taken again after that failed."""
+STUCK_SECONDS = 30.0
+"""How long somebody who is known may take nothing of what it was sent."""
+SLICE, HEAD_SLICE = 8192, 1024
+"""Bytes of a connection that are looked at before it is the turn of the others: of one that is
+known, each two of whose slices have a whole message, and of another.
+"""
+MOST_UNTAKEN = 98_304
+"""Bytes that are looked at of one request of who isn't known: its head and its body."""
+MOST_REQUESTS = 4
+"""Requests that a connection sent at once, from which on no more of it is looked at."""
+BUSY_SECONDS, IN_VAIN_SECONDS = 0.005, 0.5
+"""How long until it is tried again to look at more; how long after as much had no message."""
+
+
+class Stage(enum.Enum):
+    """What a connection does: it waits for a whole request, is served, or is somebody's."""
+
+    WAITING = enum.auto()
+    SERVED = enum.auto()
+    KNOWN = enum.auto()
+
+
+@dataclasses.dataclass(eq=False)
+class Gate:
+    """A connection from an address, or a network that one has of IPv6; `ends` is when it has waited
+    too long.
+    """
+
+    address: str
+    socket: socket.socket
+    ends: float
+    stage: Stage = Stage.WAITING
+    transport: asyncio.Transport | None = None
+    task: "asyncio.Task[None] | None" = None
+    unsent: int = 0
+    untaken: int = 0
+    is_held: bool = False
+
+    @contextlib.contextmanager
+    def taking(self) -> Iterator[None]:
+        """Something that it said is taken; until it is, nothing more is looked at."""
+        self.is_held, self.untaken = True, 0
+        try:
+            yield
+        finally:
+            self.is_held = False
+
+    def end_request(self) -> None:
+        """Nothing more of its request is looked at."""
+        self.untaken = MOST_UNTAKEN
+
+    def known(self) -> None:
+        """It has said who it is."""
+        self.stage, self.untaken = Stage.KNOWN, 0
+        self.ends = asyncio.get_running_loop().time() + STUCK_SECONDS
+
+    def close(self) -> None:
+        """Ends it at once."""
+        if self.transport is not None:
+            self.transport.abort()
+        elif self.task is not None:
+            self.task.cancel()
+
+
+class Gates:
+    """All connections of a venue."""
+
+    def __init__(self, most: int = MOST_CONNECTIONS, of_address: int = MOST_OF_ADDRESS) -> None:
+        self._most, self._of_address = most, of_address
+        self._all: dict[Gate, None] = {}
+        self._by_transport: dict[asyncio.BaseTransport, Gate] = {}
+
+    def __len__(self) -> int:
+        return len(self._all)
+
+    # ---- who comes and goes
+
+    def enter(self, gate: Gate) -> bool:
+        """Whether a new connection may be; one that waits may have to give way."""
+        unknown = [it for it in self._all if it.stage is not Stage.KNOWN]
+        own = [it for it in unknown if it.address == gate.address]
+        if len(own) >= self._of_address and not self._gives_way(own):
+            return False
+        if len(self._all) >= self._most and not self._gives_way(unknown):
+            return False
+        self._all[gate] = None
+        return True
+
+    def _gives_way(self, those: list[Gate]) -> bool:
+        """Whether one of these ended, the oldest that waits of the address that has most of them.
+        """
+        waiting = [it for it in those if it.stage is Stage.WAITING]
+        if not waiting:
+            return False
+        counts = collections.Counter(it.address for it in waiting)
+        most = max(counts.values())
+        gate = next(it for it in waiting if counts[it.address] == most)
+        NOTICES.warning("too many connections: one of %s gives way", gate.address)
+        self.leave(gate)
+        gate.close()
+        return True
+
+    def begun(self, gate: Gate, transport: asyncio.Transport) -> None:
+        """A connection has its transport."""
+        gate.transport = transport
+        self._by_transport[transport] = gate
+
+    def leave(self, gate: Gate) -> None:
+        """A connection has ended."""
+        self._all.pop(gate, None)
+        if gate.transport is not None:
+            self._by_transport.pop(gate.transport, None)
+
+    # ---- what they do
+
+    @contextlib.contextmanager
+    def served(self, transport: asyncio.BaseTransport | None) -> Iterator[None]:
+        """A whole request of a connection is there, until it is answered."""
+        gate = self._by_transport.get(transport) if transport else None
+        if gate is None:
+            yield
+            return
+        gate.stage = Stage.SERVED
+        try:
+            yield
+        finally:
+            gate.stage, gate.untaken = Stage.WAITING, 0
+            gate.ends = asyncio.get_running_loop().time() + IDLE_SECONDS
+
+    def of(self, transport: asyncio.Transport) -> Gate:
+        """The connection of a transport, also of one that came past the gates."""
+        if found := self._by_transport.get(transport):
+            return found
+        return Gate("", transport.get_extra_info("socket"), 0.0, transport=transport)
+
+    def sweep(self) -> None:
+        """Ends those that have waited too long, unless they still take what they asked for."""
+        now = asyncio.get_running_loop().time()
+        self._end_stuck(now)
+        late = [it for it in self._all if it.stage is Stage.WAITING and it.ends < now]
+        for gate in late:
+            unsent = gate.transport.get_write_buffer_size() if gate.transport else 0
+            if 0 < unsent != gate.unsent:
+                gate.unsent, gate.ends = unsent, now + IDLE_SECONDS
+                continue
+            self.leave(gate)
+            gate.close()
+
+    def _end_stuck(self, now: float) -> None:
+        """Ends those who are known and take nothing of what they were sent."""
+        for gate in [it for it in self._all if it.stage is Stage.KNOWN]:
+            unsent = gate.transport.get_write_buffer_size() if gate.transport else 0
+            if not unsent or unsent < gate.unsent:
+                gate.ends = now + STUCK_SECONDS
+            gate.unsent = unsent
+            if gate.ends < now:
+                self.leave(gate)
+                gate.close()
+
+
+class Passed(asyncio.Protocol):
+    """The protocol of a connection, which says what comes of it to the gates, and passes it on in
+    slices, no sooner than it may say more: aiohttp bounds neither the requests nor the empty
+    messages that wait.
+    """
+
+    def __init__(self, gates: Gates, gate: Gate, inner: asyncio.Protocol) -> None:
+        self._gates, self._gate, self._inner = gates, gate, inner
+        self._transport: asyncio.Transport | None = None
+        self._rest = bytearray()
+        self._turn: asyncio.Handle | None = None
+
+    def connection_made(self, transport: asyncio.BaseTransport) -> None:
+        """It may speak."""
+        assert isinstance(transport, asyncio.Transport)
+        self._transport = transport
+        self._gates.begun(self._gate, transport)
+        self._inner.connection_made(transport)
+
+    def connection_lost(self, fault: Exception | None) -> None:
+        """It has ended."""
+        self._rest.clear()
+        self._gates.leave(self._gate)
+        self._inner.connection_lost(fault)
+
+    def data_received(self, data: bytes) -> None:
+        """It says this."""
+        self._rest += data
+        if self._turn is None:
+            self._pass_on()
+        else:
+            self._read_on(False)
+
+    def _pass_on(self) -> None:
+        """Passes on a slice, if it may, and says when the next one is looked at."""
+        self._turn = None
+        gate, seconds = self._gate, self._seconds()
+        if not seconds and self._rest:
+            size = SLICE if gate.stage is Stage.KNOWN else HEAD_SLICE
+            taken = bytes(self._rest[:size])
+            del self._rest[:size]
+            gate.untaken += len(taken)
+            self._inner.data_received(taken)
+        if self._rest:
+            self._turn = asyncio.get_running_loop().call_later(seconds, self._pass_on)
+        self._read_on(not self._rest)
+
+    def _seconds(self) -> float:
+        """How long it has to wait until it may say more."""
+        gate = self._gate
+        if gate.stage is not Stage.KNOWN:
+            if gate.untaken >= MOST_UNTAKEN:
+                return IN_VAIN_SECONDS
+            waiting = len(getattr(self._inner, "_messages", ()))
+            return BUSY_SECONDS if waiting >= MOST_REQUESTS else 0.0
+        if gate.is_held:
+            return BUSY_SECONDS
+        if gate.untaken >= SLICE:
+            gate.untaken = 0
+            return IN_VAIN_SECONDS
+        return 0.0
+
+    def _read_on(self, is_wanted: bool) -> None:
+        """Reads more of it, or nothing for now."""
+        transport = self._transport
+        if transport is None or transport.is_closing():
+            self._rest.clear()
+        elif is_wanted:
+            transport.resume_reading()
+        else:
+            transport.pause_reading()
+
+    def eof_received(self) -> bool | None:
+        """It says nothing more."""
+        return self._inner.eof_received()
+
+    def pause_writing(self) -> None:
+        """It takes nothing more for now."""
+        self._inner.pause_writing()
+
+    def resume_writing(self) -> None:
+        """It takes more."""
+        self._inner.resume_writing()
+
+
+class Listener:
+    """Takes connections at sockets that listen, and serves them by protocols."""
+
+    def __init__(
+        self,
+        gates: Gates,
+        sockets: list[socket.socket],
+        protocol: Callable[[], asyncio.Protocol],
+        tls: ssl.SSLContext | None,
+    ) -> None:
+        self._gates, self._sockets, self._protocol, self._tls = gates, sockets, protocol, tls
+        self._serving: set[asyncio.Task[None]] = set()
+        loop = asyncio.get_running_loop()
+        self._tasks = [loop.create_task(self._accept(it)) for it in sockets]
+        self._tasks.append(loop.create_task(self._sweep()))
+
+    def close(self) -> None:
+        """Takes nothing more."""
+        for task in [*self._tasks, *self._serving]:
+            task.cancel()
+        for each in self._sockets:
+            each.close()
+
+    async def _sweep(self) -> None:
+        """Ends what waits too long."""
+        while True:
+            await asyncio.sleep(SWEEP_SECONDS)
+            self._gates.sweep()
+
+    async def _accept(self, listening: socket.socket) -> None:
+        """Takes what comes at a socket."""
+        loop = asyncio.get_running_loop()
+        while True:
+            await asyncio.sleep(0)  # what gave way ends before the next one is taken
+            try:
+                accepted, peer = await loop.sock_accept(listening)
+            except OSError as fault:
+                NOTICES.error("a connection can't be taken: %s", fault.strerror)
+                await asyncio.sleep(ACCEPT_PAUSE)
+                continue
+            ends = loop.time() + HEAD_SECONDS
+            gate = Gate(network_of(str(peer[0])), accepted, ends)
+            if not self._gates.enter(gate):
+                NOTICES.warning("too many connections: one of %s is refused", gate.address)
+                accepted.close()
+                continue
+            gate.task = loop.create_task(self._serve(gate))
+            self._serving.add(gate.task)
+            gate.task.add_done_callback(self._serving.discard)
+
+    async def _serve(self, gate: Gate) -> None:
+        """Begins to serve a connection; what is wrong with its TLS is nobody else's matter."""
+        loop = asyncio.get_running_loop()
+        seconds = HEAD_SECONDS if self._tls else None
+        try:
+            await loop.connect_accepted_socket(
+                lambda: Passed(self._gates, gate, self._protocol()),
+                gate.socket,
+                ssl=self._tls,
+                ssl_handshake_timeout=seconds,
+            )
+        except (OSError, asyncio.CancelledError):
+            self._gates.leave(gate)
+            gate.socket.close()
+
+
+def most_connections(kept: int = 0) -> int:
+    """How many connections there may be, once this process may open as many files as it can; `kept`
+    more files are others.
+    """
+    _, hard = resource.getrlimit(resource.RLIMIT_NOFILE)
+    if hard == resource.RLIM_INFINITY:
+        hard = MOST_CONNECTIONS + FILES_KEPT
+    soft = min(hard, MOST_CONNECTIONS + FILES_KEPT)
+    with contextlib.suppress(ValueError, OSError):
+        resource.setrlimit(resource.RLIMIT_NOFILE, (soft, hard))
+    return max(soft // 2, soft - FILES_KEPT - kept)
+
+
+def listening(host: str, port: int) -> list[socket.socket]:
+    """Sockets that listen on a host. Raises OSError."""
+    found: list[socket.socket] = []
+    rows = socket.getaddrinfo(host, port, type=socket.SOCK_STREAM, flags=socket.AI_PASSIVE)
+    try:
+        for family, kind, protocol, _, address in dict.fromkeys(rows):
+            each = socket.socket(family, kind, protocol)
+            found.append(each)
+            each.setsockopt(socket.SOL_SOCKET, socket.SO_REUSEADDR, 1)
+            if family == socket.AF_INET6:
+                each.setsockopt(socket.IPPROTO_IPV6, socket.IPV6_V6ONLY, 1)
+            each.bind(address)
+            each.listen(BACKLOG)
+            each.setblocking(False)
+    except OSError:
+        for each in found:
+            each.close()
+        raise
+    return found

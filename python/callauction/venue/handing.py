@@ -1,0 +1,189 @@
+"""How values are handed out: by chance, by schedules of demand and supply, from a list of names, or
+those that are there, kept or shuffled.
+"""
+import csv
+import dataclasses
+import io
+import random
+from collections.abc import Iterable, Mapping, Sequence
+from typing import Protocol
+
+from callauction.venue.gains import Value
+from callauction.venue.names import folded
+
+HOWS = ("none", "keep", "shuffle", "chance", "schedule", "list")
+SIDES = ("bid", "ask")
+GERMAN = {
+    "seite": "side", "preis": "price", "wert": "price", "menge": "quantity", "stück": "quantity",
+    "runde": "round", "kauf": "bid", "verkauf": "ask",
+}  # fmt: skip
+"""What German words of a list of values mean."""
+CHANCE = random.SystemRandom()
+
+
+class HandError(ValueError):
+    """Values that can't be handed out so; the text says why."""
+
+
+class Prices(Protocol):
+    """What makes a tick of a price. Raises HandError where no value may be this."""
+
+    def __call__(self, price: str, /) -> int: ...
+
+
+@dataclasses.dataclass(frozen=True)
+class Row:
+    """A value of a list: its round, None for each; whose it is; its price as a decimal text."""
+
+    round: int | None
+    member: str
+    side: str
+    price: str
+    quantity: int
+
+
+@dataclasses.dataclass(frozen=True)
+class Rule:
+    """How values are handed out, with prices as decimal texts: `chance` from low to high, half of
+    the members buying; `schedule`, one price of demand or supply after the other; `list`, rows; or
+    one of HOWS that needs nothing else.
+    """
+
+    how: str = "keep"
+    low: str = ""
+    high: str = ""
+    quantity: int = 100
+    demand: tuple[str, ...] = ()
+    supply: tuple[str, ...] = ()
+    rows: tuple[Row, ...] = ()
+
+    def check(self, tick_of: Prices) -> None:
+        """Raises HandError where it can't be followed with these prices."""
+        if self.how == "chance" and not (self.low and self.high):
+            raise HandError("values by chance have a low and a high price")
+        if self.how == "chance" and tick_of(self.low) > tick_of(self.high):
+            raise HandError("low is above high")
+        if self.how == "schedule" and not (self.demand and self.supply):
+            raise HandError("a schedule has prices of demand and of supply")
+        if self.how == "list" and not self.rows:
+            raise HandError("the list of values is empty")
+        for price in (*self.demand, *self.supply, *(row.price for row in self.rows)):
+            tick_of(price)
+
+    def dealt(
+        self,
+        names: Sequence[str],
+        before: Mapping[str, Value],
+        tick_of: Prices,
+        number: int = 1,
+    ) -> dict[str, Value]:
+        """The values of a group's members, who had others before, in the round of this number.
+        Raises HandError.
+        """
+        self.check(tick_of)
+        held = {name: before[name] for name in names if name in before}
+        match self.how:
+            case "keep":
+                return held
+            case "shuffle":
+                ring = CHANCE.sample([*held], len(held))
+                return {name: held[of] for name, of in zip(ring, ring[1:] + ring[:1])}
+            case "chance":
+                low, high = tick_of(self.low), tick_of(self.high)
+                ticks = [CHANCE.randint(low, high) for _ in names]
+                return self._in_turn(names, [*zip(len(names) * SIDES, ticks)])
+            case "schedule":
+                slots = in_turn([*map(tick_of, self.demand)], [*map(tick_of, self.supply)])
+                return self._in_turn(names, slots)
+            case "list":
+                return values_of(self.rows, names, tick_of, number)
+        return {}
+
+    def _in_turn(
+        self, names: Sequence[str], slots: Sequence[tuple[str, int]]
+    ) -> dict[str, Value]:
+        """A value for each name, in an order by chance; the first again where there are no more."""
+        order = CHANCE.sample([*names], len(names))
+        places = (slots[place % len(slots)] for place in range(len(order)))
+        return {name: Value(side, tick, self.quantity) for name, (side, tick) in zip(order, places)}
+
+
+def in_turn(demand: Sequence[int], supply: Sequence[int]) -> list[tuple[str, int]]:
+    """The prices of a schedule one after the other, so that each beginning has of both sides as
+    much as the whole, the first ones first.
+    """
+    placed = [
+        ((place + 0.5) / len(ticks), side, tick)
+        for side, ticks in zip(SIDES, (demand, supply))
+        for place, tick in enumerate(ticks)
+    ]
+    return [(side, tick) for _, side, tick in sorted(placed, key=lambda it: it[0])]
+
+
+def values_of(
+    rows: Iterable[Row], names: Iterable[str], tick_of: Prices, number: int
+) -> dict[str, Value]:
+    """What the rows of a round say of these members."""
+    there = {folded(name): name for name in names}
+    return {
+        there[member]: Value(row.side, tick_of(row.price), row.quantity)
+        for row in rows
+        if (member := folded(row.member)) in there and row.round in (None, number)
+    }
+
+
+def named(
+    rows: Iterable[Row], titles: Mapping[str, str]
+) -> tuple[tuple[Row, ...], tuple[Row, ...]]:
+    """The rows of members, with their names, and those of nobody yet; `titles` are keys of names.
+    """
+    names = {folded(title): name for title, name in titles.items()}
+    found, absent = [], []
+    for row in rows:
+        if (name := names.get(folded(row.member))) is not None:
+            found.append(dataclasses.replace(row, member=name))
+        else:
+            absent.append(row)
+    return tuple(found), tuple(absent)
+
+
+def rows_of(text: str) -> tuple[Row, ...]:
+    """The rows of a CSV file with the columns name, side, price, quantity, and perhaps round, or
+    their German words. Where its first line has semicolons between, its prices may have decimal
+    commas. Raises HandError, which names the line.
+    """
+    file = io.StringIO(text.removeprefix("\ufeff"))
+    mark = max(",;", key=file.readline().count)
+    file.seek(0)
+    reader = csv.DictReader(file, delimiter=mark, strict=True)
+    heads = [it.strip().casefold() for it in reader.fieldnames or ()]
+    reader.fieldnames = columns = [GERMAN.get(it, it) for it in heads]
+    if not {"name", "side", "price", "quantity"} <= {*columns}:
+        raise HandError("the first line isn't name,side,price,quantity, perhaps with round")
+    found = []
+    try:
+        for row in reader:
+            found.append(row_of(row, reader.line_num, mark == ";"))
+    except csv.Error as fault:
+        raise HandError(f"line {reader.line_num}: {fault}") from None
+    return tuple(found)
+
+
+def row_of(row: Mapping[str, str | None], line: int, has_comma: bool = False) -> Row:
+    """A row of a file, whose price may have a decimal comma. Raises HandError."""
+    cells = {key: " ".join((value or "").split()) for key, value in row.items() if key}
+    cells["side"] = GERMAN.get(cells["side"].casefold(), cells["side"])
+    if cells["side"] not in SIDES:
+        raise HandError(f"line {line}: side {cells['side']!r} is neither bid nor ask")
+    if not cells["quantity"].isdecimal() or not 1 <= int(cells["quantity"][:12]) <= 10**9:
+        raise HandError(f"line {line}: quantity {cells['quantity']!r} is no number of shares")
+    number = cells.get("round", "")
+    if number and not (number.isdecimal() and 1 <= int(number[:6]) <= 10_000):
+        raise HandError(f"line {line}: round {number!r} is no number of a round")
+    return Row(
+        int(number) if number else None,
+        cells["name"],
+        cells["side"],
+        cells["price"].replace(",", ".") if has_comma else cells["price"],
+        int(cells["quantity"]),
+    )

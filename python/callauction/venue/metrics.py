@@ -1,0 +1,136 @@
+"""What operations look at, on an address of its own: `/healthz` and `/metrics`, the latter in the
+text form of Prometheus.
+"""
+import os
+from collections.abc import Iterator
+
+from aiohttp import web
+from prometheus_client import CONTENT_TYPE_LATEST, CollectorRegistry, generate_latest
+from prometheus_client.core import CounterMetricFamily, GaugeMetricFamily, HistogramMetricFamily
+from prometheus_client.metrics_core import Metric
+
+from callauction.venue.gates import Gates
+from callauction.venue.instrument import Instrument
+from callauction.venue.phases import Phase
+from callauction.venue.venue import Venue
+
+PREFIX = "callboard"
+OF_INSTRUMENTS = ("instrument",)
+HEADERS = {"X-Content-Type-Options": "nosniff", "Cache-Control": "no-store"}
+
+
+class Measures:
+    """What is measured of a venue, each time that it is asked for."""
+
+    def __init__(self, venue: Venue, gates: Gates) -> None:
+        self._venue, self._gates = venue, gates
+
+    def collect(self) -> Iterator[Metric]:
+        """All measures."""
+        yield from self._of_venue()
+        yield from self._of_instruments()
+        yield self._phases()
+        yield self._answers()
+
+    def _of_venue(self) -> Iterator[Metric]:
+        """Those of the whole venue."""
+        venue = self._venue
+        there = [it for it in venue.watchers if it.role == "member"]
+        disk = os.statvfs(venue.folder)
+        values = {
+            "up": ("1 while the venue runs", 1),
+            "venue_halted": ("1 while the whole venue has halted", int(bool(venue.halted))),
+            "members": ("members who have joined", len(venue.members.all)),
+            "members_connected": ("members who are connected", len({it.member for it in there})),
+            "connections": ("connections that are open", len(self._gates)),
+            "log_waiting_lines": ("lines that wait for the disk", venue.log.waiting),
+            "disk_free_bytes": ("room on the disk of the day", disk.f_bavail * disk.f_frsize),
+        }
+        for name, (what, value) in values.items():
+            yield GaugeMetricFamily(f"{PREFIX}_{name}", what, value)
+
+    def _of_instruments(self) -> Iterator[Metric]:
+        """Those of each instrument."""
+        gauges = {
+            "halted": "1 while the instrument has halted",
+            "waiting": "messages that wait for their answer",
+            "calls_left": "commands that the day has left",
+        }
+        counters = {
+            "orders": "commands that were answered, entries of the journal",
+            "trades": "trades of the day",
+        }
+        for name, what in gauges.items():
+            gauge = GaugeMetricFamily(f"{PREFIX}_{name}", what, labels=OF_INSTRUMENTS)
+            for of, instrument in self._venue.instruments.items():
+                gauge.add_metric([of], value_of(instrument, name))
+            yield gauge
+        for name, what in counters.items():
+            counter = CounterMetricFamily(f"{PREFIX}_{name}", what, labels=OF_INSTRUMENTS)
+            for of, instrument in self._venue.instruments.items():
+                counter.add_metric([of], value_of(instrument, name))
+            yield counter
+
+    def _phases(self) -> Metric:
+        """In which phase each instrument is: 1 for that, 0 for the others."""
+        found = GaugeMetricFamily(
+            f"{PREFIX}_phase", "1 for the phase", labels=(*OF_INSTRUMENTS, "phase")
+        )
+        for name, instrument in self._venue.instruments.items():
+            for phase in Phase:
+                found.add_metric([name, str(phase)], int(instrument.state.phase is phase))
+        return found
+
+    def _answers(self) -> Metric:
+        """How long members waited for their answers."""
+        what = "from a message's arrival to its answer"
+        found = HistogramMetricFamily(f"{PREFIX}_answer_seconds", what, labels=OF_INSTRUMENTS)
+        for name, instrument in self._venue.instruments.items():
+            times = instrument.engine.times
+            found.add_metric([name], [*times.buckets()], times.total)
+        return found
+
+
+def value_of(instrument: Instrument, name: str) -> float:
+    """A measure of an instrument."""
+    engine = instrument.engine
+    values = {
+        "halted": int(engine.halted is not None),
+        "waiting": engine.waiting,
+        "calls_left": instrument.day.left,
+        "orders": engine.count,
+        "trades": len(instrument.trades),
+    }
+    return values[name]
+
+
+def application(venue: Venue, gates: Gates) -> web.Application:
+    """What serves the two pages."""
+    registry = CollectorRegistry(auto_describe=False)
+    registry.register(Measures(venue, gates))  # type: ignore[arg-type]
+
+    async def healthz(request: web.Request) -> web.Response:
+        halted = halts_of(venue)
+        found = {"status": "halted" if halted else "ok", "halted": halted}
+        return web.json_response(found, status=503 if halted else 200)
+
+    async def metrics(request: web.Request) -> web.Response:
+        return web.Response(
+            body=generate_latest(registry), headers={"Content-Type": CONTENT_TYPE_LATEST}
+        )
+
+    async def mark(request: web.Request, answer: web.StreamResponse) -> None:
+        answer.headers.update(HEADERS)
+
+    found = web.Application()
+    found.on_response_prepare.append(mark)
+    found.router.add_get("/healthz", healthz)
+    found.router.add_get("/metrics", metrics)
+    return found
+
+
+def halts_of(venue: Venue) -> dict[str, str]:
+    """Why the venue, and each of its instruments, has halted, where it has."""
+    halted = {name: it.engine.halted for name, it in venue.instruments.items()}
+    found = {name: why for name, why in halted.items() if why is not None}
+    return found | ({"venue": venue.halted} if venue.halted else {})

@@ -1,0 +1,99 @@
+// How values are handed out, as fields of a form say it; and the form by which they are handed out now.
+import { asTyped, faultText, find, hide, put, spoken, text } from "./common.js";
+import { priceOf, quantityOf } from "./numbers.js";
+
+// The fields of a form whose elements are named by this prefix; `term` gives the instrument.
+export class ValueFields {
+  constructor(form, prefix, term) {
+    Object.assign(this, { form, prefix, term });
+    this.field("how").addEventListener("change", () => this.draw());
+  }
+
+  field(name) {
+    return find(this.prefix + name);
+  }
+
+  get how() {
+    return this.field("how").value;
+  }
+
+  draw() {
+    put(this.field("how-help"), text(`help_${this.how}`));
+    for (const field of this.form.querySelectorAll("[data-how]")) {
+      hide(field, !field.dataset.how.split(" ").includes(this.how));
+    }
+  }
+
+  // The bounds of the instrument, as the first values by chance.
+  begin() {
+    if (this.field("low").value) return;
+    const { low, high } = this.term();
+    [this.field("low").value, this.field("high").value] = [low, high].map(asTyped);
+  }
+
+  // What they say, as the venue takes it. Raises an error whose text says what can't be read.
+  async read() {
+    const { how } = this;
+    if (how === "list") return { file: await this.file() };
+    if (how !== "chance" && how !== "schedule") return {};
+    const most = this.term().most_quantity;
+    const quantity = this.readField("quantity", (words) => quantityOf(words, spoken(), most));
+    if (how === "schedule") return { quantity, demand: this.prices("demand"), supply: this.prices("supply") };
+    const [low, high] = ["low", "high"].map((name) => this.prices(name)[0]);
+    if (Number(low) > Number(high)) throw new Error(text("low_above"));
+    return { quantity, low, high };
+  }
+
+  // The prices of a field, with spaces or semicolons between.
+  prices(name) {
+    const read = (words) => priceOf(words, spoken(), this.term());
+    return this.readField(name, (words) => words.trim().split(/[\s;]+/).map(read));
+  }
+
+  async file() {
+    const [file] = this.field("file").files;
+    if (!file) throw new Error(text("no_file"));
+    const bytes = await file.arrayBuffer();
+    try {
+      return new TextDecoder("utf-8", { fatal: true }).decode(bytes);
+    } catch {
+      throw new Error(text("not_utf8"));
+    }
+  }
+
+  readField(name, read) {
+    const words = this.field(name).value;
+    try {
+      return read(words);
+    } catch (fault) {
+      throw new Error(faultText(fault, text(name), words));
+    }
+  }
+}
+
+// The form by which the teacher hands out values now. `act` does what is asked for.
+export class Handing {
+  constructor(term, act) {
+    this.act = act;
+    this.fields = new ValueFields(find("giving"), "", term);
+    find("giving").addEventListener("submit", (event) => this.submit(event));
+  }
+
+  say(words, isBad = false) {
+    put(find("give-said"), words, isBad ? "said bad" : "said good");
+  }
+
+  async submit(event) {
+    event.preventDefault();
+    this.say("");
+    const { how } = this.fields, to = how === "list" ? "named" : how === "shuffle" ? "all" : find("whom").value;
+    try {
+      const found = await this.act({ do: "give", how, to, ...await this.fields.read() });
+      if (!found) return;
+      const absent = found.absent?.length ? ` ${text("absent", found.absent.join(", "))}` : "";
+      this.say(text("given", found.given) + absent);
+    } catch (fault) {
+      this.say(fault.message, true);
+    }
+  }
+}

@@ -1,0 +1,137 @@
+// The members as the teacher sees them: who is there, what they have and gained, and what is done with
+// one of them, with the door, with robots.
+import { asks } from "./asking.js";
+import { find, hide, price, put, shares, spoken, text } from "./common.js";
+import { fill } from "./rows.js";
+
+const KEYS = {
+  name: (it) => it.name.toLocaleLowerCase(spoken()), status: (it) => Number(!it.is_here),
+  value: (it) => Number(it.value?.price ?? -1), gain: (it) => Number(it.gain ?? -Infinity),
+};
+
+export class People {
+  // `act` does what is asked for.
+  constructor(act) {
+    Object.assign(this, { act, members: [], codes: {}, isOpen: true, sorted: { by: "", isDown: false } });
+    for (const head of document.querySelectorAll("[data-sort]")) {
+      head.querySelector("button").addEventListener("click", () => this.sortBy(head.dataset.sort));
+    }
+    find("door").addEventListener("click", () => act({ do: "door", open: !this.isOpen }));
+    find("day-code").addEventListener("click", () => act({ do: "code" }));
+    find("remove-away").addEventListener("click", () => this.removeAway());
+    find("robot-form").addEventListener("submit", (event) => this.addRobots(event));
+    find("no-robots").addEventListener("click", () => act({ do: "robots", count: 0 }));
+  }
+
+  // Robots that were removed are no longer listed.
+  take({ members, codes, open = true }) {
+    Object.assign(this, { members: members.filter((it) => !it.is_removed || !it.robot), codes, isOpen: open });
+  }
+
+  // The members with what they have, by their gains or as the teacher sorts them.
+  ranked(chosen) {
+    const rows = this.members.map((it) => ({ ...it, ...valueOf(it, chosen) }));
+    const gains = rows.filter((it) => it.gain != null).map((it) => Number(it.gain));
+    const isRanked = gains.some((it) => it !== gains[0]);
+    for (const row of rows) {
+      const before = gains.filter((it) => it > Number(row.gain)).length;
+      row.rank = isRanked && row.gain != null ? String(1 + before) : "";
+    }
+    const { by, isDown } = this.sorted;
+    if (!by) return rows;
+    const key = KEYS[by], sign = isDown ? -1 : 1;
+    return rows.sort((one, other) => sign * (key(one) > key(other) ? 1 : key(one) < key(other) ? -1 : 0));
+  }
+
+  // Who is no robot, and not here.
+  get away() {
+    return this.members.filter((it) => !it.is_removed && !it.robot && !it.is_here);
+  }
+
+  // `hasBegun` says whether the values of the round are handed out.
+  draw(chosen, hasBegun = this.hasBegun) {
+    Object.assign(this, { chosen, hasBegun });
+    const there = this.members.filter((it) => !it.is_removed), here = there.filter((it) => it.is_here);
+    put(find("door"), text(this.isOpen ? "close_door" : "open_door"));
+    hide(find("no-members"), Boolean(this.members.length));
+    hide(find("members").parentElement, !this.members.length);
+    const robots = there.filter((it) => it.robot);
+    const words = text("members_count", shares(there.length - robots.length), shares(here.length - robots.length));
+    put(find("count"), robots.length ? `${words}, ${text("robots_count", shares(robots.length))}` : words);
+    hide(find("remove-away"), !this.away.length);
+    hide(find("no-robots"), !robots.length);
+    const lacks = robots.some((it) => it.robot !== "zero" && !valueOf(it, chosen).value);
+    hide(find("robots-help"), !lacks || !(hasBegun || there.some((it) => valueOf(it, chosen).value)));
+    fill(find("members"), this.ranked(chosen), (it) => it.name, (it) => this.cellsOf(it));
+    for (const head of document.querySelectorAll("[data-sort]")) this.markSorted(head);
+    this.drawCodes();
+  }
+
+  cellsOf(it) {
+    const here = text(it.is_removed ? "is_removed" : it.is_here ? "is_here" : "is_away");
+    const status = it.robot ? `${text("robot")}: ${text(`robot_${it.robot}`)}` : here;
+    const value = it.value ? { text: valueText(it.value), classes: it.value.side }
+      : { text: text("no_value"), classes: "soft" };
+    const act = (name, key, press) => ({ name, text: text(key), label: `${text(key)}: ${it.name}`, press });
+    const back = act("remove", it.is_removed ? "readmit" : "remove", (member) => this.removeOrReadmit(member));
+    const buttons = [act("code", "new_code", (member) => this.act({ do: "code", member: member.name })),
+      act("rename", "rename", (member) => this.rename(member)), back];
+    return [
+      { number: it.rank, label: text("rank") }, { text: it.name, classes: "name" },
+      { text: status, classes: it.is_here && !it.is_removed ? "good" : "soft" }, value,
+      { number: it.gain == null ? "" : price(it.gain), label: text("gains") },
+      { text: Object.hasOwn(this.codes, it.name) ? this.codes[it.name] : "", classes: "own-code" },
+      { classes: "doing", buttons: it.robot ? [back] : buttons },
+    ];
+  }
+
+  markSorted(head) {
+    if (head.dataset.sort !== this.sorted.by) head.removeAttribute("aria-sort");
+    else head.setAttribute("aria-sort", this.sorted.isDown ? "descending" : "ascending");
+  }
+
+  // The code of the day, and those of names that nobody has taken yet.
+  drawCodes() {
+    const others = Object.entries(this.codes).filter(([name]) => name && !this.members.some((it) => it.name === name));
+    const day = this.codes[""] && `${text("code")}: ${this.codes[""]}`;
+    put(find("codes"), [day, ...others.map(([name, code]) => `${name}: ${code}`)].filter(Boolean).join(" · "));
+  }
+
+  sortBy(by) {
+    const isGain = by === "gain", { sorted } = this;
+    if (sorted.by !== by) this.sorted = { by, isDown: isGain };
+    else this.sorted = sorted.isDown === isGain ? { by, isDown: !isGain } : { by: "", isDown: false };
+    this.draw(this.chosen);
+  }
+
+  async rename({ name }) {
+    const written = await asks(text("rename_asks", name), "", text("rename"), name);
+    if (written) await this.act({ do: "rename", member: name, name: written });
+  }
+
+  async removeOrReadmit({ name, is_removed: isRemoved }) {
+    if (isRemoved) await this.act({ do: "readmit", member: name });
+    else if (await asks(text("remove_asks", name), text("remove_help"), text("remove"))) {
+      await this.act({ do: "remove", member: name });
+    }
+  }
+
+  async removeAway() {
+    const names = this.away.map((it) => it.name);
+    const help = `${text("remove_away_help")} ${text("remove_help")}`;
+    if (await asks(text("remove_away_asks", shares(names.length)), help, text("remove"))) {
+      await this.act({ do: "remove", members: names });
+    }
+  }
+
+  async addRobots(event) {
+    event.preventDefault();
+    const count = find("robots").value.trim();
+    if (/^\d{1,3}$/.test(count)) await this.act({ do: "robots", count: Number(count), kind: find("robot-kind").value });
+  }
+}
+
+// What a member has of a board; of another one where it is in another group.
+const valueOf = (it, chosen) => it.values[chosen] ?? Object.values(it.values)[0] ?? {};
+
+const valueText = ({ side, quantity, price: worth }) => `${text(side)} ${shares(quantity)} · ${price(worth)}`;

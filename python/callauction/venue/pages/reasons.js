@@ -1,0 +1,76 @@
+// Why the venue refuses something, in German: what it says, with {} for each gap, and what is said
+// in its place. A gap is a number, a phase, a field of a form, or a reason again.
+import { grouped } from "./numbers.js";
+
+const GERMAN = {
+  "an auction is going on: end its call, and uncross":
+    "eine Auktion läuft noch: den Aufruf beenden und den Preis ermitteln",
+  "the round is {}": "es ist Runde {}",
+  "the round has begun": "die Runde hat begonnen",
+  "the phase is {} and no longer {}": "der Stand ist „{}“ und nicht mehr „{}“",
+  "no call can start in the phase {}": "im Stand „{}“ beginnt kein Aufruf",
+  "no call can end in the phase {}": "im Stand „{}“ endet kein Aufruf",
+  "no call can be extended in the phase {}": "im Stand „{}“ wird kein Aufruf verlängert",
+  "nothing can be frozen in the phase {}": "im Stand „{}“ wird nichts angehalten",
+  "nothing can be uncrossed in the phase {}": "im Stand „{}“ wird kein Preis ermittelt",
+  "nothing is frozen": "nichts ist angehalten",
+  "an uncross is going on": "ein Preis wird gerade ermittelt",
+  "the last uncross isn't seen yet": "die letzte Preisermittlung ist noch nicht zu sehen",
+  "the program doesn't answer now": "das Programm antwortet gerade nicht",
+  "values by chance have a low and a high price": "Werte durch Zufall haben ein Tief und ein Hoch",
+  "low is above high": "Tief liegt über Hoch",
+  "a schedule has prices of demand and of supply": "eine Liste hat Preise der Nachfrage und des Angebots",
+  "the list of values is empty": "die Liste der Werte ist leer",
+  "the first line isn't name,side,price,quantity, perhaps with round":
+    "die erste Zeile ist nicht Name;Seite;Preis;Menge, vielleicht mit Runde",
+  "line {}: side {} is neither bid nor ask": "Zeile {}: Seite {} ist weder Kauf noch Verkauf",
+  "line {}: quantity {} is no number of shares": "Zeile {}: Menge {} ist keine Zahl von Stücken",
+  "line {}: round {} is no number of a round": "Zeile {}: Runde {} ist keine Nummer einer Runde",
+  "line {}: {}": "Zeile {}: {}",
+  "a value is from {} to {}": "ein Wert liegt zwischen {} und {}",
+  "a reference is from {} to {}": "eine Referenz liegt zwischen {} und {}",
+  "the price {} is no multiple of the tick size {}": "der Preis {} ist kein Vielfaches von {}",
+  "the reference {} is no multiple of the tick size {}": "die Referenz {} ist kein Vielfaches von {}",
+  "the price {} is no whole number from {} to {}": "der Preis {} ist zu groß",
+  "the price {} is no decimal number": "der Preis {} ist keine Zahl",
+  "the reference {} is no whole number from {} to {}": "die Referenz {} ist zu groß",
+  "the reference {} is no decimal number": "die Referenz {} ist keine Zahl",
+  "language is none of en, de": "die Sprache ist weder en noch de",
+  "there is no member {}": "{} ist kein Mitglied",
+  "{} is removed already": "{} ist schon entfernt",
+  "{} isn't removed": "{} ist nicht entfernt",
+  "this name is a role's here": "dieser Name ist hier der einer Rolle",
+  "text has more than {} letters, or < or >": "mehr als {} Zeichen, oder < oder >",
+  "round: {} has more than {} letters, or < or >": "{}: mehr als {} Zeichen, oder < oder >",
+  "round: {} {} is no whole number from {} to {}": "{}: {} ist keine ganze Zahl von {} bis {}",
+  "{} is no whole number from {} to {}": "{}: eine ganze Zahl von {} bis {}",
+  "at most {} shares more can be entered on this side": "auf dieser Seite höchstens noch {} Stück",
+  "an order has at most {} shares": "eine Order hat höchstens {} Stück",
+  "a member has at most {} commands a day of an instrument": "ein Mitglied hat am Tag höchstens {} Eingaben",
+  "a member has at most {} open orders of an instrument": "ein Mitglied hat höchstens {} offene Orders",
+  "a member has at most {} shares in open orders of an instrument":
+    "ein Mitglied hat höchstens {} Stück in offenen Orders",
+  "a member has at most this value of open orders of an instrument":
+    "offene Orders eines Mitglieds haben nicht mehr Wert",
+};
+const WORDS = {
+  waiting: "noch kein Aufruf", call: "Aufrufphase", extended: "verlängerte Aufrufphase", ended: "Aufruf beendet",
+  over: "Handelstag beendet", title: "Titel", message: "Allen gesagt", seconds: "Sekunden", count: "Anzahl",
+  quantity: "Menge", shares: "Stück",
+};
+const NUMBER = /^\d+(\.\d+)?$/;
+const patternOf = (words) => new RegExp(`^${words.split("{}")
+  .map((part) => part.replace(/[.*+?^$()|[\]\\]/g, "\\$&")).join("(.*?)")}$`, "s");
+const PATTERNS = Object.entries(GERMAN).map(([words, german]) => [patternOf(words), german]);
+
+const gapOf = (words) => (NUMBER.test(words) ? grouped(words, "de") : WORDS[words] ?? words);
+
+// A reason of the venue in a language; one that isn't known as it is.
+export function reasonIn(words, language) {
+  if (language !== "de") return words;
+  for (const [pattern, german] of PATTERNS) {
+    const [found, ...gaps] = pattern.exec(words) ?? [];
+    if (found !== undefined) return german.replace(/\{\}/g, () => gapOf(gaps.shift()));
+  }
+  return words;
+}

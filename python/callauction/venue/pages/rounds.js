@@ -1,0 +1,18 @@
+// Which round it is and what its treatment is, in words.
+import { money, shares, text } from "./common.js";
+
+// The number of a round, its title, and whether it is for practice.
+export function roundText({ round, title, practice }) {
+  return [text("round", round), title, practice ? text("practice") : ""].filter(Boolean).join(" · ");
+}
+
+// What members may see and do in a round, a sentence each.
+export function treatmentTexts(found, terms) {
+  return [
+    text(found.book === "open" ? "book_open" : "book_closed"),
+    found.covered && text("covered_says"),
+    !found.own_trades && text("own_trades_says"),
+    found.shares !== null && text("shares_says", shares(found.shares)),
+    found.money && text("money_says", money(found.money, terms)),
+  ].filter(Boolean);
+}

@@ -1,0 +1,92 @@
+// What the state of an auction is, in words: its phase, its clock, its indication, what came of it.
+import { hide, price, put, shares, text } from "./common.js";
+
+// The clock of a phase, by the venue's time.
+export class Clock {
+  constructor(node) {
+    this.node = node;
+    setInterval(() => this.show(), 250);
+  }
+
+  set(state) {
+    if (this.state !== state) this.ahead = state.now - Date.now() / 1000;
+    this.state = state;
+    this.show();
+  }
+
+  // The venue's time now, in seconds of the epoch.
+  now() {
+    return this.state?.frozen ? this.state.now : Date.now() / 1000 + (this.ahead ?? 0);
+  }
+
+  show() {
+    put(this.node, this.words());
+  }
+
+  words() {
+    const state = this.state;
+    if (!state || state.ends === null || !isCall(state)) return "";
+    const left = Math.max(0, Math.ceil(state.ends - this.now()));
+    if (left === 0 && state.latest > state.ends) return text("random");
+    return `${Math.floor(left / 60)}:${String(left % 60).padStart(2, "0")}`;
+  }
+}
+
+export const isCall = (state) => ["call", "extended"].includes(state.phase);
+export const takesOrders = (state) => isCall(state) && !state.frozen && !state.halted;
+
+// The interruption that extended the call, if one did: nothing was executed then.
+export function interruptionOf(state) {
+  const last = state.results.at(-1);
+  const isGoing = ["call", "extended", "ended"].includes(state.phase);
+  return isGoing && last?.auction === "interrupted" ? last : null;
+}
+
+// What the last auction came to, while no other one goes on.
+export function resultOf(state) {
+  const last = state.results.at(-1);
+  return ["waiting", "over"].includes(state.phase) && last && last.auction !== "interrupted" ? last : null;
+}
+
+export function phaseText(state) {
+  if (state.halted) return text("halted");
+  const auction = state.phase === "over" ? "" : `${text(state.auction)} · `;
+  if (state.frozen) return `${auction}${text("frozen")}`;
+  const last = resultOf(state);
+  if (last && state.phase === "waiting") return `${text(last.auction)} · ${text("is_over")}`;
+  return auction + text(interruptionOf(state) && state.phase === "extended" ? "interrupted" : state.phase);
+}
+
+// What comes after the auction that is over.
+export function nextText(state) {
+  if (state.halted) return text("halted_help");
+  if (state.phase === "over") return text("over_help");
+  return resultOf(state) ? text("next_auction", text(state.auction)) : "";
+}
+
+// The figures of a call: each keeps its place, whether there is a price or not.
+export function indicationFigures(state) {
+  const found = state.indication, dash = "–";
+  const reference = [text("reference"), price(state.reference)];
+  if (found.price === null) {
+    return [[text("best_bid"), found.bid === null ? dash : price(found.bid), "bid"],
+      [text("best_ask"), found.ask === null ? dash : price(found.ask), "ask"], [text("volume"), dash], reference];
+  }
+  const surplus = found.surplus ? `${text("surplus")}, ${text(`surplus_${found.side}`)}` : text("surplus");
+  return [[text("indication"), price(found.price), "good"], [text("volume"), shares(found.volume)],
+    [surplus, shares(found.surplus)], reference];
+}
+
+export function resultText(result) {
+  const auction = text(result.auction);
+  if (result.price === null) return `${auction}: ${text("no_price")}`;
+  return text("result_is", auction, price(result.price), shares(result.volume));
+}
+
+// Says that an interruption executed nothing, where there is one.
+export function showInterruption(node, state) {
+  const found = interruptionOf(state);
+  hide(node, !found);
+  const key = state.phase === "ended" ? "interruption_ended" : "interruption";
+  if (found) put(node, text(key, price(found.price), price(state.reference)));
+}

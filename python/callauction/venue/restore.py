@@ -1,0 +1,38 @@
+"""Checks a copy of a day and puts it to a new folder: `python3 -m callauction.venue.restore COPY
+FOLDER`.
+"""
+import argparse
+import pathlib
+import sys
+
+from callauction import finder
+from callauction.statuses import BAD_FILE, DONE, FAILED
+from callauction.venue import copies
+from callauction.venue.log import LogError
+
+
+def main() -> int:
+    """Restores a day; answers the status."""
+    parser = argparse.ArgumentParser(
+        prog="python3 -m callauction.venue.restore",
+        description="Puts a copy of a venue's folder to a new folder, once all of it is checked.",
+        epilog="statuses: 0 restored; 1 the copy isn't whole, or has an unlawful reply; 3 no "
+        "program, or a read or a write failed",
+    )
+    parser.add_argument("copy", type=pathlib.Path, metavar="COPY", help="what backup has made")
+    parser.add_argument("folder", type=pathlib.Path, metavar="FOLDER", help="a new folder")
+    asked = parser.parse_args()
+    try:
+        print(copies.summary(copies.restore(asked.copy, asked.folder, finder.program())))
+        return DONE
+    except (copies.CopyError, LogError) as fault:
+        text, status = str(fault), BAD_FILE
+    except OSError as fault:
+        named = f"{fault.filename}: {fault.strerror}" if fault.filename else str(fault)
+        text, status = named, FAILED
+    print(f"restore: {text}", file=sys.stderr)
+    return status
+
+
+if __name__ == "__main__":
+    sys.exit(main())

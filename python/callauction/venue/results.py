@@ -1,0 +1,73 @@
+"""What members came to in the rounds of a venue: what they traded, gained and are paid."""
+import dataclasses
+from collections.abc import Iterable, Sequence
+from decimal import ROUND_HALF_UP, Decimal
+
+from callauction.venue import config
+from callauction.venue.instrument import Instrument
+from callauction.venue.members import Member, Members
+from callauction.venue.rounds import Round
+
+CENT = Decimal("0.01")
+
+
+@dataclasses.dataclass(frozen=True)
+class Gain:
+    """What a member gained in a round, in money; None where nobody was handed out a value."""
+
+    round: int
+    title: str
+    is_practice: bool
+    gain: Decimal | None
+
+
+@dataclasses.dataclass(frozen=True)
+class Payoff:
+    """What a member is paid: its gains, their sum without practice, the money in its currency; and
+    its rank among all, from 1.
+    """
+
+    member: str
+    title: str
+    gains: tuple[Gain, ...]
+    gain: Decimal
+    paid: Decimal
+    currency: str
+    rank: int = 1
+
+
+def money_of(board: Instrument, ticks: int) -> Decimal:
+    """Ticks times shares as money."""
+    return ticks * board.terms.grid.tick_size
+
+
+def gain_in(round_: Round, member: str) -> Decimal | None:
+    """What a member gained on all boards of a round, None where no values were handed out."""
+    boards = [it for it in round_.boards.values() if it.accounts.has_values]
+    if not boards:
+        return None
+    return sum((money_of(it, it.gain_of(member)) for it in boards), Decimal(0))
+
+
+def payoff_of(day: config.Day, rounds: Iterable[Round], member: Member) -> Payoff:
+    """What a member is paid; its rank isn't known yet."""
+    gains = tuple(
+        Gain(it.number, it.treatment.title, it.treatment.is_practice, gain_in(it, member.name))
+        for it in rounds
+        if it.has_begun
+    )
+    counted = (it.gain for it in gains if it.gain is not None and not it.is_practice)
+    total = sum(counted, Decimal(0))
+    terms = day.payoff
+    paid = max(Decimal(0), terms.base + terms.rate * total).quantize(CENT, ROUND_HALF_UP)
+    return Payoff(member.name, member.title, gains, total, paid, day.paid_in)
+
+
+def payoffs(day: config.Day, rounds: Sequence[Round], members: Members) -> list[Payoff]:
+    """What the members are paid, who has most first, robots and who was removed aside."""
+    paid = [payoff_of(day, rounds, it) for it in members.all if not it.robot]
+    paid.sort(key=lambda it: -it.gain)
+    ranks: dict[Decimal, int] = {}
+    for place, it in enumerate(paid, 1):
+        ranks.setdefault(it.gain, place)
+    return [dataclasses.replace(it, rank=ranks[it.gain]) for it in paid]

@@ -1,0 +1,129 @@
+"""Robots that fill in for members: each enters one order a call, for what is left of its value, at
+a time by chance from when it has one.
+"""
+import asyncio
+import random
+import time
+from collections.abc import Iterator
+from typing import Protocol
+
+from callauction.venue.gains import Value
+from callauction.venue.instrument import Instrument
+from callauction.venue.members import Member, Members
+from callauction.venue.messages import MessageError, Order
+from callauction.venue.recovery import Entry
+
+KINDS = ("zero", "truthful", "shading")
+"""Zero intelligence, a price by chance at which nothing is lost; the value itself; a tenth less
+than it, or more than the cost. Without a value zero intelligence buys or sells by chance, at a
+price within a quarter of the reference, and the others do nothing.
+"""
+PAUSE = 0.2
+MOST_SECONDS = 10.0
+"""Seconds after the begin of a call until all robots have entered, and at most this share of it."""
+MOST_SHARE = 0.7
+MOST_ROBOTS = 200
+QUANTITIES = range(10, 101, 10)
+CHANCE = random.SystemRandom()
+Turn = tuple[str, str, str]
+"""A robot's turn: its name, the key of its board, the auction."""
+
+
+class Host(Protocol):
+    """A venue, as robots see it."""
+
+    members: Members
+    halted: str | None
+
+    @property
+    def instruments(self) -> dict[str, Instrument]:
+        """The boards of the round that is played."""
+
+    def submit(self, member: Member, order: Order) -> "tuple[asyncio.Future[Entry], bool]":
+        """Sends a message of a member. Raises MessageError."""
+
+
+class Robots:
+    """The robots of a venue."""
+
+    def __init__(self, venue: Host) -> None:
+        self._venue = venue
+        self._due: dict[Turn, float] = {}
+
+    async def run(self) -> None:
+        """Enters orders of robots when their time has come."""
+        while True:
+            await asyncio.sleep(PAUSE)
+            for member, board in self._turns():
+                turn = member.name, board.board.key, board.state.auction
+                if turn not in self._due:
+                    self._due[turn] = time.time() + CHANCE.random() * window(board)
+                if self._due[turn] <= time.time():
+                    self._due[turn] = float("inf")
+                    self._play(member, board)
+
+    def _turns(self) -> Iterator[tuple[Member, Instrument]]:
+        """The robots that may enter an order, and where."""
+        robots = [it for it in self._venue.members.all if it.robot]
+        for board in self._venue.instruments.values():
+            halted = board.engine.halted or self._venue.halted
+            if board.state.takes_orders() and not halted:
+                here = (it for it in robots if it.group == board.board.group)
+                yield from ((it, board) for it in here if not waits(it, board))
+
+    def _play(self, member: Member, board: Instrument) -> None:
+        """Enters a robot's order, unless it has one."""
+        if board.open_orders(member.name):
+            return
+        record = record_of(member.robot, board, member.name)
+        if record is None:
+            return
+        try:
+            order = Order(member.last + 1, board.terms.name, record)
+            answer, _ = self._venue.submit(member, order)
+        except MessageError:
+            return  # such as one that the limits of the round refuse
+        answer.add_done_callback(lambda it: it.cancelled() or it.exception())
+
+
+def waits(robot: Member, board: Instrument) -> bool:
+    """Whether a robot does nothing until it has a value."""
+    return robot.robot != "zero" and robot.name not in board.accounts.values
+
+
+def window(board: Instrument) -> float:
+    """The seconds in which the robots enter their orders."""
+    ends = board.state.ends
+    return MOST_SECONDS if ends is None else min(MOST_SECONDS, MOST_SHARE * (ends - time.time()))
+
+
+def record_of(kind: str, board: Instrument, member: str) -> str | None:
+    """The order of a robot after its number, None where it has none."""
+    value = board.accounts.values.get(member)
+    if value is None:
+        return blind(board) if kind == "zero" else None
+    left = board.accounts.left_of(member, board.fills_of(member))
+    if not left:
+        return None
+    tick = max(board.terms.low, min(board.terms.high, tick_of(kind, value, board)))
+    return f"enter,{value.side},{min(left, board.terms.most_quantity)},{tick}"
+
+
+def tick_of(kind: str, value: Value, board: Instrument) -> int:
+    """The limit of a robot with a value."""
+    is_bid = value.side == "bid"
+    if kind == "truthful":
+        return value.tick
+    if kind == "shading":
+        return value.tick - (1 if is_bid else -1) * max(1, value.tick // 10)
+    ends = (board.terms.low, value.tick) if is_bid else (value.tick, board.terms.high)
+    return CHANCE.randint(min(ends), max(ends))
+
+
+def blind(board: Instrument) -> str:
+    """The order of a robot that has no value."""
+    reference = board.day.reference
+    least = max(board.terms.low, reference - reference // 4)
+    most = min(board.terms.high, reference + reference // 4)
+    quantity = min(CHANCE.choice(QUANTITIES), board.terms.most_quantity)
+    return f"enter,{CHANCE.choice(('bid', 'ask'))},{quantity},{CHANCE.randint(least, most)}"

@@ -1,0 +1,359 @@
+"""A log of FIX messages, 4.2 to 5.0, as a table with a row for each execution report.
+
+A log has lines of `tag=value` parted by any sign, or is a CSV file headed by tags or names. Columns
+have the names of the standard, of the tags in NAMES. Market data (MsgType W and X) with the price
+of an auction is a row where trades of the instrument are next to it (_Phase.is_result); else it is
+an indication. What else is done to a message is in _Log.
+"""
+import csv
+import dataclasses
+import functools
+import io
+import itertools
+import re
+from collections import Counter
+from collections.abc import Iterable, Iterator
+from decimal import Decimal, InvalidOperation
+
+from callauction.verdict.cells import Short, Source, parted_source
+
+NAMES = {
+    "1": "Account", "11": "ClOrdID", "14": "CumQty", "17": "ExecID", "19": "ExecRefID",
+    "31": "LastPx", "32": "LastQty", "34": "MsgSeqNum", "35": "MsgType", "37": "OrderID",
+    "38": "OrderQty", "39": "OrdStatus", "40": "OrdType", "41": "OrigClOrdID",
+    "43": "PossDupFlag", "44": "Price", "48": "SecurityID", "49": "SenderCompID",
+    "52": "SendingTime", "54": "Side", "55": "Symbol", "56": "TargetCompID",
+    "59": "TimeInForce", "60": "TransactTime", "111": "MaxFloor", "150": "ExecType",
+    "151": "LeavesQty", "269": "MDEntryType", "270": "MDEntryPx", "271": "MDEntrySize",
+    "277": "TradeCondition", "336": "TradingSessionID", "448": "PartyID", "452": "PartyRole",
+    "625": "TradingSessionSubID", "880": "TrdMatchID", "1138": "DisplayQty",
+}  # fmt: skip
+"""The tags that are read."""
+TAGS = {name: tag for tag, name in NAMES.items()}
+IMBALANCE = "Imbalance"
+"""The column of a result's surplus, which is an entry of its own in market data."""
+RESULT = "AuctionResult"
+"""The ExecType of a row that is the result of an auction."""
+HEADER = (*NAMES.values(), IMBALANCE)
+OTHERS = "messages of other types than execution reports and results"
+NO_MESSAGE = "lines without a FIX message"
+AGAIN = "messages that were sent again, read once"
+INDICATIONS = "prices in market data that have no trades next to them: indications"
+_BEGIN = re.compile(r"8=FIXT?\.\d\.\d(?:SP\d)?(?P<sign>\D{1,6}?)9=")
+_ENDING = 24
+"""In how many letters at the end of a message its last field is."""
+_TRAILER = re.compile(r"(?:^|\D)10=\d{3}\D{0,6}$")
+_REPORT, _DATA = ("8", "ExecutionReport"), ("W", "X")
+_PRICES, _VOLUME, _SURPLUS = ("Q", "4", "5"), "B", "A"
+"""The types of market data's entries: an auction's price, its volume and its imbalance."""
+_MORE = {"P": "1", "Q": "2"}
+"""The side that has more, by the condition of an imbalance."""
+_TRADES = ("F", "1", "2", "Trade", "TRADE")
+_BUSTS = ("H", "Trade Cancel", "TradeCancel", "TRADE_CANCEL")
+_RESTATED = ("D", "Restated", "RESTATED")
+_ENTRIES = ("0", "New", "NEW")
+_REPLACED = ("5", "Replaced", "REPLACED", *_RESTATED)
+_AT_MARKET, _LIMITED = ("1", "Market", "MARKET"), ("2", "Limit", "LIMIT", "")
+MARKET = "MARKET"
+"""The price of a market order."""
+_EXECUTING_FIRM = "1"
+_AUCTIONS, _CONTINUOUS = ("2", "4", "6"), "3"
+"""The TradingSessionSubID of auctions, and that of continuous trading."""
+_TYPE = re.compile(r"\w{1,2}|[A-Z]\w+")
+Pairs = list[tuple[str, str]]
+Message = dict[str, str]
+
+
+class LogError(ValueError):
+    """A file isn't a log of FIX messages; one line."""
+
+
+@dataclasses.dataclass(frozen=True)
+class Log:
+    """The rows of a log, the lines that can't be read, what else was met, and whether a message is
+    behind the last row, so that the log wasn't cut there.
+    """
+
+    source: Source
+    short: Short
+    notes: Counter[str]
+    is_ended: bool
+
+
+def table_of(text: str, separator: str) -> Log:
+    """The table of a log. Raises LogError."""
+    log = _Log()
+    if _BEGIN.search(text):
+        for line, pairs in _tagged(text, log):
+            log.add(line, pairs)
+    else:
+        for line, pairs in _fields(text, separator, log):
+            log.add(line, pairs)
+    return log.table()
+
+
+def _tagged(text: str, log: "_Log") -> Iterator[tuple[int, Pairs]]:
+    """The messages of a log of tag=value with their lines, or their numbers where all are in one
+    line. One without its last field is cut, where the first or the last one has it.
+    """
+    begins = [found.start() for found in itertools.islice(_BEGIN.finditer(text), 2)]
+    ends = text[begins[0] : [*begins, len(text)][1]].partition("\n")[0], text
+    has_trailers = any(_TRAILER.search(end.rstrip()[-_ENDING:]) for end in ends)
+    is_one_line = text.count("\n") <= 1
+    number = 0
+    for place, line in enumerate(text.split("\n"), 1):
+        begins = [found.start() for found in _BEGIN.finditer(line)]
+        if not begins and line.strip():
+            log.lost(place, line)
+        for begin, end in zip(begins, [*begins[1:], len(line)]):
+            number += 1
+            label, message = number if is_one_line else place, line[begin:end].rstrip()
+            if has_trailers and not _TRAILER.search(message[-_ENDING:]):
+                log.short.append((label, "the message is cut: it has no CheckSum (10)"))
+                continue
+            yield label, _pairs(message)
+
+
+def _pairs(message: str) -> Pairs:
+    """The fields of a message with their names."""
+    begin = _BEGIN.match(message)
+    fields = _field(begin["sign"] if begin else "\x01").findall(message)
+    return [(NAMES.get(tag, tag), value) for tag, value in fields]
+
+
+@functools.lru_cache(maxsize=8)
+def _field(sign: str) -> "re.Pattern[str]":
+    """The pattern of a field that ends with a sign."""
+    if len(sign) == 1:
+        return re.compile(rf"(\d+)=([^{re.escape(sign)}]*)")
+    return re.compile(rf"(\d+)=(.*?)(?:{re.escape(sign)}|$)")
+
+
+def _fields(text: str, separator: str, log: "_Log") -> Iterator[tuple[int, Pairs]]:
+    """The rows of a CSV file headed by tags or names, of as many fields as the header. Raises
+    LogError.
+    """
+    reader = csv.reader(io.StringIO(text, newline=""), delimiter=separator)
+    header = [_name(it) for it in next(reader)]
+    if not {"ExecType", "OrderID"} & {*header}:
+        raise LogError(
+            "the file has neither FIX messages (8=FIX) nor a header with ExecType or 150 "
+            "(separator says what parts its fields)"
+        )
+    for fields in reader:
+        if any(fields) and len(fields) != len(header):
+            why = f"has {len(fields)} fields, the header {len(header)}"
+            log.short.append((reader.line_num, why))
+        elif any(fields):
+            given = [("MsgType", _REPORT[0])] * ("MsgType" not in header)
+            yield reader.line_num, [*given, *zip(header, map(str.strip, fields))]
+
+
+def _name(head: str) -> str:
+    """The name that a column's head is: a tag, a name, or both."""
+    found = re.search(r"\d+", head)
+    name = NAMES.get(found[0]) if found else None
+    return name or head.strip()
+
+
+@dataclasses.dataclass
+class _Phase:
+    """Where an instrument is: its last price in market data, and from which place on trades follow
+    one another, no row of an order being between.
+    """
+
+    result: tuple[int, Message] | None = None
+    trades: int = -1
+    price: str = ""
+    is_done: bool = False
+
+    def is_result(self, found: Message) -> bool:
+        """Whether market data is the result of the trades: it names an auction, or has their price.
+        """
+        is_named = found.get("TradingSessionSubID", "") in _AUCTIONS
+        return is_named or _number(found["LastPx"]) == _number(self.price)
+
+
+class _Log:
+    """The rows of a log as they come. A report that was sent again is left out; a restated order is
+    a new one where it is unknown; a bust has the TrdMatchID of the report that it names; an order
+    of another type than market and limit has that in place of its kind, which is a bad row.
+    """
+
+    def __init__(self) -> None:
+        self.rows: list[tuple[float, int, str]] = []
+        self.short: list[tuple[int, str]] = []
+        self.notes: Counter[str] = Counter()
+        self.seen: set[tuple[str, str, str, str]] = set()
+        self.known: set[tuple[str, str]] = set()
+        self.matches: dict[tuple[str, str], str] = {}
+        self.phases: dict[str, _Phase] = {}
+        self.last = 0
+
+    def lost(self, line: int, text: str) -> None:
+        """Notes a line without a message; one that has a field is a message that was cut."""
+        if re.search(r"(?:^|\D)(?:35|150|37)=\S", text):
+            self.short.append((line, "the message has no begin (8=FIX)"))
+        else:
+            self.notes[NO_MESSAGE] += 1
+
+    def add(self, line: int, pairs: Pairs) -> None:
+        """A message."""
+        self.last = line
+        message: Message = dict(reversed(pairs))  # the first field of a name
+        kind = message.get("MsgType", "")
+        if kind in _DATA:
+            self._data(line, message, pairs)
+        elif kind in _REPORT:
+            self._report(line, message, pairs)
+        elif _TYPE.fullmatch(kind):
+            self.notes[OTHERS] += 1
+        else:
+            self.short.append((line, f"MsgType (35) {kind!r} is none"))
+
+    def _phase(self, message: Message) -> _Phase:
+        return self.phases.setdefault(_instrument(message), _Phase())
+
+    # ---- execution reports
+
+    def _report(self, line: int, message: Message, pairs: Pairs) -> None:
+        order, kind = message.get("OrderID", ""), message.get("ExecType", "")
+        mark = message.get("ExecID", ""), order, kind, _instrument(message)
+        if mark[0] not in ("", "0") and mark in self.seen:
+            self.notes[AGAIN] += 1
+            return
+        self.seen.add(mark)
+        if message.get("PartyRole", "") != _EXECUTING_FIRM:
+            message["PartyID"] = _member(pairs)
+        self._restate(message, (_instrument(message), order or message.get("ClOrdID", "")))
+        kind = message.get("ExecType", "")
+        phase = self._phase(message)
+        if kind in _TRADES:
+            self._trade(message, phase)
+        elif kind in _BUSTS:
+            match = self.matches.get((_instrument(message), message.get("ExecRefID", "")), "")
+            message["TrdMatchID"] = message.get("TrdMatchID", "") or match
+        else:
+            self._forget(phase)
+            self._type(message, kind)
+        self._put(len(self.rows), line, message)
+
+    def _restate(self, message: Message, order: tuple[str, str]) -> None:
+        """A restated order that is unknown is a new one, as those of an earlier day."""
+        kind = message.get("ExecType", "")
+        if kind in _RESTATED:
+            message["ExecType"] = _REPLACED[0] if order in self.known else _ENTRIES[0]
+        if kind in (*_ENTRIES, *_REPLACED):
+            self.known.add(order)
+
+    def _type(self, message: Message, kind: str) -> None:
+        """A market order's price is the word for it; another type is a bad row."""
+        if kind not in (*_ENTRIES, *_REPLACED):
+            return
+        type_ = message.get("OrdType", "")
+        if type_ in _AT_MARKET:
+            message["Price"] = MARKET
+        elif type_ not in _LIMITED:
+            message["ExecType"] = f"OrdType {type_}"
+
+    def _trade(self, message: Message, phase: _Phase) -> None:
+        mark = _instrument(message), message.get("ExecID", "")
+        self.matches[mark] = message.get("TrdMatchID", "")
+        if message.get("TradingSessionSubID", "") == _CONTINUOUS:
+            self._forget(phase)
+            return
+        if phase.trades < 0:
+            phase.trades, phase.price = len(self.rows), message.get("LastPx", "")
+        if phase.result is not None and not phase.is_done and phase.is_result(phase.result[1]):
+            self._result(phase, *phase.result)
+
+    # ---- market data
+
+    def _data(self, line: int, message: Message, pairs: Pairs) -> None:
+        """The price of an auction in market data, with its volume and its surplus."""
+        found: Message = {}
+        for entry in _entries(pairs):
+            kind, size = entry.get("MDEntryType", ""), entry.get("MDEntrySize", "")
+            if kind in _PRICES:
+                found["LastPx"] = entry.get("MDEntryPx", "")
+                found.setdefault("LastQty", size)
+            elif kind == _VOLUME:
+                found["LastQty"] = size
+            elif kind == _SURPLUS:
+                found[IMBALANCE] = size
+                found["Side"] = _MORE.get(entry.get("TradeCondition", ""), "")
+        if "LastPx" not in found:
+            self.notes[OTHERS] += 1
+            return
+        time = message.get("TransactTime", "") or message.get("SendingTime", "")
+        kept = ("Symbol", "SecurityID", "TradingSessionID", "TradingSessionSubID", "MsgSeqNum")
+        found |= {name: message[name] for name in kept if name in message}
+        found |= {"ExecType": RESULT, "TransactTime": time}
+        phase = self._phase(message)
+        if phase.trades >= 0 and not phase.is_done and phase.is_result(found):
+            self._result(phase, line, found)
+            return
+        self.notes[INDICATIONS] += phase.result is not None
+        phase.result = line, found
+
+    def _result(self, phase: _Phase, line: int, found: Message) -> None:
+        """Puts a result above the first of its trades."""
+        self._put(phase.trades - 0.5, line, found)
+        phase.result, phase.is_done = None, True
+
+    def _forget(self, phase: _Phase) -> None:
+        """A row of an order parts what is before it from the trades behind it."""
+        self.notes[INDICATIONS] += phase.result is not None
+        phase.result, phase.trades, phase.is_done = None, -1, False
+
+    # ---- the table
+
+    def _put(self, place: float, line: int, message: Message) -> None:
+        get = message.get
+        self.rows.append((place, line, "\x1f".join([get(name, "") for name in HEADER])))
+
+    def table(self) -> Log:
+        """The table of what was added. Raises LogError."""
+        if not self.rows:
+            raise LogError("the log has no execution report (35=8)")
+        for phase in self.phases.values():
+            self._forget(phase)
+        rows = sorted(self.rows, key=lambda row: row[0])
+        texts, lines = [text for _, _, text in rows], [line for _, line, _ in rows]
+        source, short = parted_source(HEADER, texts, lines)
+        is_ended = self.last > max(lines)
+        return Log(source, (*self.short, *short), +self.notes, is_ended)
+
+
+def _number(text: str) -> Decimal | str:
+    try:
+        return Decimal(text)
+    except InvalidOperation:
+        return text
+
+
+def _instrument(message: Message) -> str:
+    return message.get("SecurityID", "") or message.get("Symbol", "")
+
+
+def _entries(pairs: Iterable[tuple[str, str]]) -> list[Message]:
+    """The entries of market data."""
+    found: list[Message] = []
+    for name, value in pairs:
+        if name == "MDEntryType":
+            found.append({})
+        if found:
+            found[-1].setdefault(name, value)
+    return found
+
+
+def _member(pairs: Iterable[tuple[str, str]]) -> str:
+    """The party that is the executing firm, else the first one."""
+    parties: list[tuple[str, str]] = []
+    for name, value in pairs:
+        if name == "PartyID":
+            parties.append((value, ""))
+        elif name == "PartyRole" and parties:
+            parties[-1] = parties[-1][0], value
+    firms = [party for party, role in parties if role == _EXECUTING_FIRM]
+    return next(iter([*firms, *(party for party, _ in parties)]), "")

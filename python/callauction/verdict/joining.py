@@ -1,0 +1,151 @@
+"""Rows that belong together: both rows of a trade, a bust and its trade, and the result of an
+auction that trades alone say.
+"""
+import dataclasses
+
+import numpy
+
+from callauction.verdict.cells import Codes, Ints, paired_codes
+from callauction.verdict.rows import (
+    BAD,
+    BUST,
+    FILL,
+    MISSING,
+    SIDES,
+    STOPPED,
+    TAKEN,
+    TRADE,
+    UNCROSS,
+    Doubt,
+    Rows,
+)
+
+ONE_SIDED = "trades without the row of their other side, read as fills of their orders"
+BUSTED = "trades that busts take out"
+MADE = "results that aren't recorded: the price is that of the auction's trades"
+_NO_TRADE = "no trade has its orders, its shares and its price"
+
+
+# ---- both rows of a trade
+
+
+def join_sides(rows: Rows, codes: Codes | None, instrument: Codes) -> None:
+    """Makes one trade of two rows, each of an order and its side, with one number in `codes`, one
+    quantity and one price; where any is left of an instrument, all of it are fills of their orders.
+    """
+    is_trade = (rows.kind == TRADE) | (rows.kind == BUST)
+    alone = numpy.flatnonzero(is_trade & (rows.bid < 0) & (rows.ask < 0) & (rows.key >= 0))
+    for number in numpy.unique(instrument[alone]).tolist():
+        _join(rows, alone[instrument[alone] == number], codes)
+
+
+def _join(rows: Rows, alone: Ints, codes: Codes | None) -> None:
+    """Joins these rows of an instrument."""
+    bids, asks = _both(rows, alone, codes)
+    if 2 * len(bids) < len(alone):
+        made = alone[rows.kind[alone] == TRADE]
+        rows.kind[made] = FILL
+        rows.notes[ONE_SIDED] += len(made)
+        return
+    first, second = numpy.minimum(bids, asks), numpy.maximum(bids, asks)
+    for side, those in zip(SIDES[1:], (bids, asks)):
+        for name, own in ((side, rows.key), (f"{side}_member", rows.member)):
+            array = getattr(rows, name).copy()
+            array[first] = own[those]
+            setattr(rows, name, array)
+    rows.kind[second] = BAD
+
+
+def _both(rows: Rows, these: Ints, codes: Codes | None) -> tuple[Ints, Ints]:
+    """The rows of bids and of asks that are a trade each; none where a column says of none."""
+    if codes is None or (codes[these] < 0).any() or (rows.side[these] <= 0).any():
+        return numpy.zeros(0, "i8"), numpy.zeros(0, "i8")
+    own = paired_codes(codes[these], rows.kind[these])
+    for values in (rows.quantity[these], rows.price[these].astype("i8")):
+        own = paired_codes(own, values - int(values.min(initial=0)))
+    order = numpy.lexsort((these, own))
+    sides = [order[rows.side[these[order]] == side] for side in (1, 2)]
+    if not numpy.array_equal(own[sides[0]], own[sides[1]]):
+        return numpy.zeros(0, "i8"), numpy.zeros(0, "i8")
+    return these[sides[0]], these[sides[1]]
+
+
+# ---- busts
+
+
+def take_busted(rows: Rows) -> None:
+    """Takes out the trade or the fill of each bust: the last one above it, else the first below;
+    a bust without one is a bad row.
+    """
+    busts = numpy.flatnonzero(rows.kind == BUST)
+    if not len(busts):
+        return
+    these = numpy.flatnonzero((rows.kind == TRADE) | (rows.kind == FILL))
+    known: dict[tuple[int, ...], list[int]] = {}
+    for place in these.tolist():
+        known.setdefault(_mark(rows, place), []).append(place)
+    for place in busts.tolist():
+        price = int(rows.price[place])
+        those = known.get(_mark(rows, place), [])
+        own = [it for it in those if price < 0 or rows.price[it] in (price, MISSING)]
+        if not own:
+            rows.refuse(place, _NO_TRADE, Doubt.TRADES)
+            continue
+        taken = max((it for it in own if it < place), default=own[0])
+        those.remove(taken)
+        rows.kind[taken], rows.kind[place] = TAKEN, BAD
+        rows.notes[BUSTED] += 1
+
+
+def _mark(rows: Rows, place: int) -> tuple[int, ...]:
+    """What a trade or a fill is: its orders and its shares."""
+    bid, ask, shares = int(rows.bid[place]), int(rows.ask[place]), int(rows.quantity[place])
+    return (bid, ask, shares) if bid >= 0 else (int(rows.key[place]), shares)
+
+
+# ---- results that trades say
+
+
+def with_results(rows: Rows) -> Rows:
+    """The rows of an instrument with a row `uncross` above the first trade of each auction that
+    trades name and no such row does; its price is theirs, and nothing else of it is known.
+    """
+    uncrosses = numpy.flatnonzero(rows.kind == UNCROSS)
+    held = {*rows.state[uncrosses].tolist()} - {STOPPED}
+    made = numpy.flatnonzero(
+        ((rows.kind == TRADE) | (rows.kind == FILL)) & (rows.state > 0) & (rows.state != STOPPED)
+    )
+    if not rows.makes_results or MISSING in held:
+        return rows
+    firsts: dict[int, int] = {}
+    for place in made.tolist():
+        if int(rows.state[place]) not in held:
+            firsts.setdefault(int(rows.state[place]), place)
+    if not firsts:
+        return rows
+    at = numpy.array(sorted(firsts.values()), "i8")
+    places = numpy.insert(numpy.arange(len(rows.kind)), at, at)
+    found = rows.moved(places)
+    found.names = dataclasses.replace(rows.names, places=places)
+    found.bad = [dataclasses.replace(it, place=_moved(it.place, at), since=_moved(it.since, at))
+                 for it in rows.bad]  # fmt: skip
+    for place in (at + numpy.arange(len(at))).tolist():
+        _make_result(found, place)
+    found.notes[MADE] += len(at)
+    return found
+
+
+def _moved(place: int, at: Ints) -> int:
+    """Where a place is when a row is put above each of these."""
+    return place + int(numpy.searchsorted(at, place, "right")) if place >= 0 else place
+
+
+def _make_result(rows: Rows, place: int) -> None:
+    """Makes a row the result of the auction that it names."""
+    state = rows.state[place]
+    trades = ((rows.kind == TRADE) | (rows.kind == FILL)) & (rows.state == state)
+    prices = numpy.unique(rows.price[trades])
+    rows.kind[place] = UNCROSS
+    rows.price[place] = prices[0] if len(prices) == 1 else MISSING
+    for name in ("key", "new_id", "bid", "ask", "side", "quantity", "surplus", "count"):
+        getattr(rows, name)[place] = MISSING

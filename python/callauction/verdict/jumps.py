@@ -1,0 +1,62 @@
+"""Differences that are one: what one jumped priority moved among the trades of an auction."""
+import dataclasses
+from collections.abc import Iterator, Sequence
+
+from callauction.verdict.comparing import Difference, Fill, Trade
+from callauction.verdict.context import Context
+
+
+def grouped(context: Context, differences: Sequence[Difference]) -> list[list[Difference]]:
+    """The differences of an uncross, those of trades and fills that are of one jump being one
+    group, in which those of most shares come first.
+    """
+    movable = [it for it in differences if isinstance(it.recorded or it.lawful, Trade | Fill)]
+    if len(movable) < 2 or context.judged.result is None:
+        return [[each] for each in differences]
+    jump_of = {key: number for number, keys in enumerate(_jumps(context)) for key in keys}
+    groups: dict[tuple[object, ...], list[Difference]] = {}
+    for place, each in enumerate(differences):
+        jump = next((jump_of[key] for key in each.keys if key in jump_of), None)
+        is_moved = jump is not None and isinstance(each.recorded or each.lawful, Trade | Fill)
+        mark = (jump, each.doubt) if is_moved else (None, place)
+        groups.setdefault(mark, []).append(each)
+    return [sorted(those, key=_shares, reverse=True) for those in groups.values()]
+
+
+def _jumps(context: Context) -> Iterator[list[int]]:
+    """The orders of each jump: those of a side, in their priority, with other shares than the
+    lawful ones, from one that lacks some to where as many are too many.
+    """
+    for gaps in context.gaps.values():
+        keys: list[int] = []
+        balance = 0
+        for key, gap in gaps.items():
+            keys.append(key)
+            balance += gap
+            if balance == 0:
+                yield keys
+                keys = []
+
+
+def _shares(each: Difference) -> int:
+    """How many shares a difference moves."""
+    values = [it for it in (each.recorded, each.lawful) if isinstance(it, Trade | Fill)]
+    shares = [it.quantity for it in values]
+    if len(values) > 1 and _is_one(values):
+        return abs(shares[0] - shares[1])
+    return max(shares, default=0)
+
+
+def _is_one(values: Sequence[Trade | Fill]) -> bool:
+    """Whether two values are of the same orders."""
+    one, other = (
+        (it.bid, it.ask) if isinstance(it, Trade) else (it.order,) for it in values
+    )
+    return one == other
+
+
+def joined(those: Sequence[Difference]) -> Difference:
+    """The first of some differences, with the rows and the orders of all."""
+    places = tuple(dict.fromkeys(place for each in those for place in each.places))
+    keys = tuple(dict.fromkeys(key for each in those for key in each.keys))
+    return dataclasses.replace(those[0], places=places, keys=keys)

@@ -1,0 +1,165 @@
+"""What may be together in one file and mustn't be judged so: two days, a file of orders and one of
+results, a result and its correction.
+"""
+import dataclasses
+from collections.abc import Sequence
+
+import numpy
+
+from callauction.verdict import clocks, times
+from callauction.verdict.cells import Ints
+from callauction.verdict.reading import ExtractError
+from callauction.verdict.rows import (
+    BAD,
+    CANCEL,
+    FILL,
+    MISSING,
+    NEW,
+    STOPPED,
+    TRADE,
+    UNCROSS,
+    BadRow,
+    Doubt,
+    Rows,
+)
+from callauction.words import AUCTIONS
+
+
+def _results(rows: Rows) -> Ints:
+    """The rows uncross that publish something of an auction that ended."""
+    says = (rows.price != MISSING) | (rows.quantity >= 0)
+    found: Ints = numpy.flatnonzero((rows.kind == UNCROSS) & (rows.state != STOPPED) & says)
+    return found
+
+
+# ---- two days
+
+
+def refuse_days(rows: Rows) -> None:
+    """Raises ExtractError where results have two dates, or where rows of later orders are between
+    two results of one auction.
+    """
+    results, days = _results(rows), list[tuple[str, int]]()
+    for place in results.tolist():
+        date = times.date_of(rows.names.time(place))
+        days += [(str(date), place)] if date is not None else []
+    (first, one), (last, other) = min(days, default=("", 0)), max(days, default=("", 0))
+    if first != last:
+        condition = f"{rows.names.theirs['time']} < {last}T00:00:00"
+        _refuse(rows, (one, other), "results of two days", f"--where '{condition}'")
+    for number in range(len(AUCTIONS)):
+        those = results[rows.state[results] == 1 + number]
+        for one, other in zip(those.tolist(), those[1:].tolist()):
+            time, own = rows.time[other], rows.kind[one:other] == NEW
+            if time != clocks.NONE and (rows.time[one:other][own] > time).any():
+                what = f"results of one auction, the {AUCTIONS[number]}, of two days or markets"
+                _refuse(rows, (one, other), what, "--where")
+
+
+def _refuse(rows: Rows, both: tuple[int, int], what: str, how: str) -> None:
+    one, other = (rows.labels[place] for place in both)
+    raise ExtractError(
+        f"rows {one} and {other} are {what}: keep one by {how}, or name a column that tells them "
+        "apart by --by"
+    )
+
+
+# ---- a file of orders and one of results
+
+
+def refuse_parts(rows: Rows, due: Sequence[int]) -> None:
+    """Raises ExtractError where orders or results are put together so that their times, or their
+    names, are in another order than the rows. One result above the orders of its auction is a fault
+    of its own where its trades are below them.
+    """
+    orders = numpy.flatnonzero((rows.kind >= NEW) & (rows.kind <= CANCEL))
+    ends = numpy.flatnonzero(rows.kind == UNCROSS)
+    names = rows.state[ends] - 1
+    if len(names) > 1 and names.tolist() == [*due][::-1]:
+        raise ExtractError("results are in reverse order (is the newest row first?): say --sort")
+    timed = orders[rows.time[orders] != clocks.NONE]
+    is_timed = len(timed) > 0 and (rows.time[ends] != clocks.NONE).all()
+    falls = numpy.flatnonzero(rows.time[ends[1:]] < rows.time[ends[:-1]])
+    if is_timed and len(falls):
+        one, other = rows.labels[ends[falls[0] : falls[0] + 2]]
+        raise ExtractError(f"the times of results, rows {one} and {other}, fall: say --sort")
+    wrong = _by_time(rows, timed, ends) if is_timed else _untimed(rows, orders, ends)
+    if len(wrong):
+        raise ExtractError(
+            f"rows {rows.labels[wrong[0]]} and {rows.labels[ends[0]]} are in another order than "
+            "their times (are orders and results put together?): say --sort"
+        )
+
+
+def _by_time(rows: Rows, orders: Ints, ends: Ints) -> Ints:
+    """The rows of orders below all results, and above or below all uncrosses where all entries are,
+    that by their times aren't there; below all uncrosses those of several alone.
+    """
+    at, end = rows.time[orders], numpy.sort(rows.time[ends])
+    texts = [rows.names.time(int(it[0])) for it in (orders, ends)]
+    slack = clocks.SECOND if ":" in texts[1] else 0
+    last = numpy.flatnonzero((rows.kind >= UNCROSS) & (rows.kind <= FILL))[-1]
+    news = orders[rows.kind[orders] == NEW]
+    wrong = (orders > last) & (at < end[-1])
+    if len(news) and news[-1] < ends[0]:
+        wrong |= (orders < ends[0]) & (at > end[0] + slack)
+    elif len(news) and news[0] > ends[-1]:
+        phases = numpy.searchsorted(end, at, "right")
+        early = (orders > ends[-1]) & (phases < len(end))
+        wrong |= early & (len(numpy.unique(phases[early])) > 1)
+    is_dated = [times.date_of(text) is not None for text in texts]
+    found: Ints = orders[wrong & (is_dated[0] == is_dated[1])]
+    return found
+
+
+def _untimed(rows: Rows, orders: Ints, ends: Ints) -> Ints:
+    """The rows of orders above all of several uncrosses, of which a later one executes shares, or
+    below all of them.
+    """
+    is_apart = len(orders) > 0 and len(ends) > 1
+    is_above = is_apart and orders[-1] < ends[0] and (rows.quantity[ends[1:]] > 0).any()
+    return orders if is_above or is_apart and orders[0] > ends[-1] else orders[:0]
+
+
+# ---- a result and its correction
+
+
+def corrected(rows: Rows, due: Sequence[int], is_close: bool = False) -> Rows:
+    """The rows, where there are more results than auctions with the last one of an auction in the
+    place of the one above its trades, else of the first, and the others as bad rows; with
+    `is_close` only where no row of an order is between them.
+    """
+    results = _results(rows)
+    names = rows.state[results] - 1
+    names[(names < 0) & (len(due) == 1)] = due[0]
+    for number in due if len(results) > len(due) else ():
+        those = results[names == number]
+        kind = rows.kind[those.min(initial=len(rows.kind)) : those.max(initial=0)]
+        is_apart = bool(((kind >= NEW) & (kind <= CANCEL)).any())
+        if len(those) > 1 and due.count(number) == 1 and not (is_close and is_apart):
+            others = results[(results > those[0]) & ~numpy.isin(results, those)]
+            end = int(others.min(initial=len(rows.kind)))
+            rows = _corrected(rows, those, _moment(rows, those, end), AUCTIONS[number])
+    return rows
+
+
+def _moment(rows: Rows, those: Ints, end: int) -> int:
+    """The place of the last of these results above the first trade between them and this end, else
+    of the first one.
+    """
+    made = numpy.flatnonzero((rows.kind[:end] == TRADE) | (rows.kind[:end] == FILL))
+    made = made[made > those[0]][:1]
+    return int(those[those < made[0]][-1] if len(made) else those[0])
+
+
+def _corrected(rows: Rows, those: Ints, at: int, auction: str) -> Rows:
+    """The rows with the last of these results of an auction alone, at a place."""
+    bad, kind, last = [*rows.bad], rows.kind.copy(), int(those[-1])
+    for place in those[:-1].tolist():
+        why = f"row {rows.labels[last]} is a later result of the {auction}, read in its place"
+        bad.append(BadRow(place, rows.labels[place], why, Doubt.ITEM, place))
+    kind[those] = BAD
+    kind[at] = UNCROSS
+    labels = rows.labels.copy()
+    labels[at] = labels[last]
+    return dataclasses.replace(rows.with_said(at, last), kind=kind, bad=bad, labels=labels)

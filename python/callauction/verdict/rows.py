@@ -1,0 +1,201 @@
+"""The rows of an extract as arrays, in the order in which they are read; and those that can't be,
+each with what that leaves in doubt.
+"""
+import dataclasses
+import enum
+from collections import Counter
+from collections.abc import Mapping
+from decimal import Decimal
+from typing import Any
+
+import numpy
+from numpy.typing import NDArray
+
+from callauction.verdict.cells import Array, Codes, Ints, Source
+from callauction.verdict.reading import End
+from callauction.words import AUCTIONS
+
+Bytes = NDArray[numpy.int8]
+NEW, REPLACE, CANCEL, UNCROSS, TRADE, FILL, BUST = range(7)
+MISSING, BAD = -1, -2
+"""A cell that is empty, and one that can't be read."""
+TAKEN = -3
+"""The kind of a trade or a fill that a bust takes out."""
+MARKET, NO_PRICE = -1, -2
+"""The price of a market order or one that wasn't recorded; that of an uncross without one."""
+SIDES = ("none", "bid", "ask")
+INTERRUPTED = "interrupted"
+STATES = ("", *AUCTIONS, INTERRUPTED)
+"""What the column `auction` says, by its number."""
+STOPPED = STATES.index(INTERRUPTED)
+SAID = ("price", "quantity", "surplus", "side", "count")
+"""What a result says beside its auction: names of the arrays of rows."""
+CONTINUOUS, OUTSIDE = "continuous", len(STATES)
+"""The word of `auction` for a trade outside of the auctions, and its number."""
+RESTRICTIONS = ("opening", "closing")
+OWN = (1, MISSING, 2)
+"""By the number of an auction the restriction to it alone, where there is one."""
+
+
+class Doubt(enum.Enum):
+    """What a bad row leaves in doubt."""
+
+    BOOKS = "the books from some row on"
+    ORDER = "the books from some row on, which lack an order"
+    TRADES = "which trades are missing"
+    ANY = "the books from some row on, and which trades are missing"
+    ITEM = "one published item"
+
+
+@dataclasses.dataclass(frozen=True, slots=True)
+class BadRow:
+    """A row that can't be read or that no lawful board takes, why, and what that leaves in doubt,
+    from behind the place `since` on.
+    """
+
+    place: int
+    label: object
+    why: str
+    doubt: Doubt
+    since: int = -1
+
+    @property
+    def is_order(self) -> bool:
+        """Whether it may be of an order, without which books may be others."""
+        return self.doubt in (Doubt.BOOKS, Doubt.ORDER, Doubt.ANY)
+
+    @property
+    def is_blank(self) -> bool:
+        """Whether it may do more to the books than enter an order."""
+        return self.doubt in (Doubt.BOOKS, Doubt.ANY)
+
+    @property
+    def is_trade(self) -> bool:
+        """Whether it may be a trade or a fill."""
+        return self.doubt in (Doubt.TRADES, Doubt.ANY)
+
+    def __str__(self) -> str:
+        return f"row {self.label}: {self.why}"
+
+
+@dataclasses.dataclass(frozen=True)
+class Names:
+    """The texts of ids by their numbers, of members by theirs, and of times by places, read when
+    they are asked for. `ids` has by an id's number where it is: a row times the columns, and a
+    column.
+    """
+
+    source: Source
+    ids: Ints
+    columns: tuple[str, ...]
+    members: list[str]
+    theirs: Mapping[str, str]
+    """By our name of a column the table's own."""
+    begin: int = 0
+    base: int = 0
+    places: Ints | None = None
+    """Where rows are in the table, where some are there twice."""
+
+    def order(self, key: int) -> str:
+        """The text of an id, which of a key is the first one of its order."""
+        row, column = divmod(int(self.ids[key + self.base]), len(self.columns))
+        return self._cell(row, self.columns[column])
+
+    def member(self, number: int) -> str:
+        """A member's name, empty for none."""
+        return self.members[number] if number >= 0 else ""
+
+    def time(self, place: int) -> str:
+        """The time of a row as it is there, empty for none."""
+        return self.cell(place, "time")
+
+    def cell(self, place: int, column: str) -> str:
+        """The text of a row in one of our columns, empty where the table hasn't it."""
+        theirs = self.theirs.get(column)
+        place = place if self.places is None else int(self.places[place])
+        return "" if theirs is None else self._cell(place + self.begin, theirs)
+
+    def _cell(self, row: int, column: str) -> str:
+        return self.source.take(numpy.array([row])).cells(column).text(0)
+
+
+@dataclasses.dataclass
+class Rows:
+    """The rows of one or more instruments by their places. Orders are known by keys: of each the
+    number of its first id. A price is the number of one of `prices`, which rise.
+    """
+
+    labels: Array
+    kind: Bytes
+    time: Ints
+    key: Codes
+    new_id: Codes
+    side: Bytes
+    price: Codes
+    quantity: Ints
+    only: Bytes
+    kept: Bytes
+    state: Bytes
+    surplus: Ints
+    count: Ints
+    bid: Codes
+    ask: Codes
+    bid_member: Codes
+    ask_member: Codes
+    member: Codes
+    group: Ints
+    """Equal for rows of which nothing says which was first: the same time and sequence."""
+    prices: list[Decimal]
+    names: Names
+    has_market: bool
+    """Whether a word for market orders was said, so that an empty price is none."""
+    is_ordered: bool = False
+    """Whether an order's own rows of one time are in their right order."""
+    bad: list[BadRow] = dataclasses.field(default_factory=list)
+    notes: Counter[str] = dataclasses.field(default_factory=Counter)
+    dropped: frozenset[str] = frozenset()
+    """The ids of orders in trades and fills that don't meet the conditions."""
+    makes_results: bool = False
+    """Whether auctions that trades name alone have their price."""
+    end: End | None = None
+    """The end of the file, where it is one, without a time where rows are sorted."""
+
+    def refuse(self, place: int, why: str, doubt: Doubt, since: int | None = None) -> None:
+        """Notes a row as a bad one, which is nothing from then on."""
+        begin = int(place) if since is None else since
+        self.bad.append(BadRow(int(place), self.labels[place], why, doubt, begin))
+        self.kind[place] = BAD
+
+    def with_said(self, place: int, other: int | None) -> "Rows":
+        """The rows, of which one says what another result says, or none."""
+        said = {name: getattr(self, name).copy() for name in SAID}
+        for values in said.values():
+            values[place] = MISSING if other is None else values[other]
+        return dataclasses.replace(self, **said)
+
+    def _parts(self) -> dict[str, Any]:
+        fields = (field.name for field in dataclasses.fields(self))
+        arrays = {name: getattr(self, name) for name in fields}
+        return {name: it for name, it in arrays.items() if isinstance(it, numpy.ndarray)}
+
+    def moved(self, places: Ints) -> "Rows":
+        """The rows in another order, in which none goes over an uncross or a bad row."""
+        parts = {name: it[places] for name, it in self._parts().items()}
+        return dataclasses.replace(self, **parts)
+
+    def take(self, begin: int, end: int) -> "Rows":
+        """The rows of one instrument, with keys of its own."""
+        parts = {name: it[begin:end] for name, it in self._parts().items()}
+        ids = ("key", "new_id", "bid", "ask")
+        keys = [parts[name][parts[name] >= 0] for name in ids]
+        base = min((int(each.min()) for each in keys if len(each)), default=0)
+        for name in ids:
+            parts[name] = numpy.where(parts[name] >= 0, parts[name] - base, MISSING)
+        bad = [
+            dataclasses.replace(it, place=it.place - begin, since=max(-1, it.since - begin))
+            for it in self.bad
+            if begin <= it.place < end
+        ]
+        names = dataclasses.replace(self.names, begin=begin, base=base)
+        notes = Counter(self.notes)
+        return dataclasses.replace(self, **parts, bad=bad, names=names, notes=notes)

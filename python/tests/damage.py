@@ -1,0 +1,288 @@
+"""Damage to recorded days, as a desk's extracts have it: each changes what is recorded of a lawful
+day, so that what was published may seem unlawful.
+"""
+import random
+from collections.abc import Callable
+from typing import Any
+
+from extracts import AUCTIONS, Extract, Recorder, Rows, price_of
+
+ORDERS = ("new", "replace", "cancel")
+Damage = Callable[[random.Random, Rows], int | None]
+"""Damages rows; answers the place of the first that is touched, None where there is none to touch.
+"""
+
+
+class Clock(Recorder):
+    """A day of the model in which no two rows of orders have one time."""
+
+    def add(self, event: str, **cells: object) -> None:
+        self.seconds += 1
+        super().add(event, **cells)
+
+
+def timed_day(seed: int, most: int = 12) -> Extract:
+    """A whole day with a time of its own for each row of an order."""
+    chance = random.Random(seed)
+    recorder = Clock(chance)
+    steps: list[Callable[[], None]] = [recorder.enter] * 6 + [recorder.replace, recorder.cancel]
+    while recorder.day.kind():
+        for _ in range(chance.randint(2, most)):
+            chance.choice(steps)()
+        recorder.uncross()
+    span = None if recorder.range is None else price_of(recorder.range)
+    return Extract(recorder.rows, price_of(recorder.reference), span, recorder.lawful)
+
+
+def places(rows: Rows, *events: str) -> list[int]:
+    """The places of the rows of these events."""
+    return [place for place, row in enumerate(rows) if row["event"] in events]
+
+
+def some(chance: random.Random, those: list[int]) -> int | None:
+    return chance.choice(those) if those else None
+
+
+# ---- rows that can't be read, or aren't there
+
+
+def unread_order(chance: random.Random, rows: Rows) -> int | None:
+    """A row of an order has a cell that can't be read."""
+    place = some(chance, places(rows, *ORDERS))
+    if place is not None:
+        column = {"new": chance.choice(["side", "quantity", "price"]), "cancel": "order"}
+        rows[place][column.get(rows[place]["event"], "quantity")] = chance.choice(["1e3", "?"])
+        if rows[place]["event"] == "cancel":
+            rows[place]["order"] = ""
+    return place
+
+
+def missing_entry(chance: random.Random, rows: Rows) -> int | None:
+    """The entry of an order is missing; what came of it is there."""
+    place = some(chance, places(rows, "new"))
+    named = place is not None and any(
+        rows[place]["order"] in (row.get("bid"), row.get("ask"), row.get("order"))
+        for row in rows[place + 1 :]
+    )
+    if place is None or not named:
+        return None
+    del rows[place]
+    return place
+
+
+def missing_head(chance: random.Random, rows: Rows) -> int | None:
+    """The first rows are missing, up to an order of which other rows are there."""
+    for count in range(1, 6):
+        gone = {row["order"] for row in rows[:count] if row["event"] == "new"}
+        left = {row.get(name) for row in rows[count:] for name in ("order", "bid", "ask")}
+        if gone and gone <= left and all(row["event"] in ORDERS for row in rows[:count]):
+            del rows[:count]
+            return 0
+    return None
+
+
+def stray_cancel(chance: random.Random, rows: Rows) -> int | None:
+    """A cancel names an order that nobody knows."""
+    place = chance.randrange(len(rows))
+    rows.insert(place, dict(event="cancel", order="ZZZ", time=rows[place]["time"]))
+    return place
+
+
+def unread_trade(chance: random.Random, rows: Rows) -> int | None:
+    """A row of a trade can't be read."""
+    place = some(chance, places(rows, "trade"))
+    if place is not None:
+        rows[place][chance.choice(["quantity", "price", "auction"])] = "n/a"
+    return place
+
+
+def unread_result(chance: random.Random, rows: Rows) -> int | None:
+    """A cell of a row uncross can't be read."""
+    place = some(chance, places(rows, "uncross"))
+    if place is not None:
+        rows[place][chance.choice(["price", "quantity", "surplus", "side", "trades"])] = "n/a"
+    return place
+
+
+def missing_uncross(chance: random.Random, rows: Rows) -> int | None:
+    """A row uncross is missing, with its trades or without."""
+    place = some(chance, places(rows, "uncross"))
+    if place is None:
+        return None
+    auction, time = rows[place]["auction"], rows[place]["time"]
+    has_trades = chance.random() < 0.5
+    rows[:] = [
+        row for at, row in enumerate(rows)
+        if at != place and not (has_trades and row["event"] == "trade" and row["time"] == time)
+    ]  # fmt: skip
+    return place if auction in AUCTIONS else None
+
+
+# ---- the order of rows
+
+
+def ties(chance: random.Random, rows: Rows) -> int | None:
+    """Times have ten seconds, and rows of one time come in any order."""
+    for row in rows:
+        row["time"] = row["time"][:-1] + "0"
+    first = None
+    for place in range(len(rows) - 1):
+        one, other = rows[place : place + 2]
+        is_free = {one["event"], other["event"]} <= {*ORDERS} and one["time"] == other["time"]
+        if is_free and one["order"] != other["order"] and chance.random() < 0.5:
+            rows[place : place + 2] = [other, one]
+            first = place if first is None else first
+    return first
+
+
+def ties_of_an_order(chance: random.Random, rows: Rows) -> int | None:
+    """Two replaces of an order have one time, and came in the other order; no other row of the
+    order is between them.
+    """
+    for place in places(rows, "replace"):
+        order = rows[place]["order"]
+        later = [
+            at for at in places(rows, "replace")
+            if at > place and rows[at]["order"] == order
+            and all(row["event"] in ORDERS for row in rows[place:at])
+            and all(row["order"] != order for row in rows[place + 1 : at])
+        ]  # fmt: skip
+        if later:
+            row = rows.pop(later[0])
+            row["time"] = rows[place]["time"]
+            rows.insert(place, row)
+            return place
+    return None
+
+
+def at_the_uncross(chance: random.Random, rows: Rows) -> int | None:
+    """Rows of the uncross's time are behind it, though they came before it."""
+    place = some(chance, places(rows, "uncross"))
+    if not place or rows[place - 1]["event"] not in ORDERS:
+        return None
+    row = rows.pop(place - 1)
+    row["time"] = rows[place - 1]["time"]
+    rows.insert(place, row)
+    return place - 1
+
+
+def times_fall(chance: random.Random, rows: Rows) -> int | None:
+    """Two rows of a call phase are in another order than their times, which are right."""
+    those = [
+        place for place in places(rows, *ORDERS)[:-1]
+        if rows[place + 1]["event"] in ORDERS and rows[place]["order"] != rows[place + 1]["order"]
+    ]  # fmt: skip
+    place = some(chance, those)
+    if place is not None:
+        rows[place : place + 2] = rows[place : place + 2][::-1]
+    return place
+
+
+# ---- rows that are there twice
+
+
+def sent_again(chance: random.Random, rows: Rows) -> int | None:
+    """Rows were sent again."""
+    those = chance.sample(range(len(rows)), min(4, len(rows)))
+    found = [place for place in those if rows[place]["event"] in ("new", "replace", "uncross")]
+    for place in sorted(found, reverse=True):
+        rows.insert(place + 1, dict(rows[place]))
+    return min(found, default=None)
+
+
+def sent_again_with_sequences(chance: random.Random, rows: Rows) -> int | None:
+    """Rows of any event were sent again, with their sequences."""
+    for place, row in enumerate(rows):
+        row["sequence"] = str(place)
+    place = chance.randrange(len(rows))
+    rows.insert(place + 1, dict(rows[place]))
+    return place
+
+
+def trades_of_both_sides(chance: random.Random, rows: Rows) -> int | None:
+    """Each trade has a row for each side."""
+    those = places(rows, "trade")
+    if len(those) < 2:
+        return None
+    rows[:] = [row for it in rows for row in [it] * (2 if it["event"] == "trade" else 1)]
+    return those[0]
+
+
+# ---- what is no law
+
+
+def paired_otherwise(chance: random.Random, rows: Rows) -> int | None:
+    """The same shares of each order, but bids trade with asks from the other end."""
+    first = None
+    for auction in AUCTIONS:
+        those = [at for at in places(rows, "trade") if rows[at]["auction"] == auction]
+        made = [rows[at] for at in those]
+        is_whole = len(those) > 1 and those[-1] - those[0] == len(those) - 1
+        if not is_whole or not all(row["quantity"].isdigit() for row in made):
+            continue
+        first = those[0] if first is None else first
+        asks = [[row["ask"], int(row["quantity"]), row["ask_member"]] for row in made][::-1]
+        rows[those[0] : those[-1] + 1] = _laid(made, asks)
+        for row in rows:
+            if row["event"] == "uncross" and row["auction"] == auction:
+                count = sum(it["event"] == "trade" and it["auction"] == auction for it in rows)
+                row["trades"] = str(count)
+    return first
+
+
+def _laid(made: Rows, asks: list[list[Any]]) -> Rows:
+    """The trades of the same bids with these asks."""
+    found: Rows = []
+    for row in made:
+        left = int(row["quantity"])
+        while left:
+            shares = min(left, asks[0][1])
+            pair = dict(ask=asks[0][0], ask_member=asks[0][2], quantity=str(shares))
+            found.append({**row, **pair})
+            left -= shares
+            asks[0][1] -= shares
+            if not asks[0][1]:
+                asks.pop(0)
+    return found
+
+
+def peaks_of_all(chance: random.Random, rows: Rows) -> int | None:
+    """Each order has a peak: 0, its whole quantity, or more."""
+    for place in places(rows, "new"):
+        rows[place]["peak"] = chance.choice(["0", rows[place]["quantity"], "99999"])
+    return 0
+
+
+def unchanged_prices(chance: random.Random, rows: Rows) -> int | None:
+    """Replaces have no price where it is the one of before."""
+    prices: dict[str, str | None] = {}
+    first = None
+    for place, row in enumerate(rows):
+        if row["event"] in ("new", "replace"):
+            if row["event"] == "replace" and row.get("price") == prices[row["order"]]:
+                first = place if first is None and "price" in row else first
+                row.pop("price", None)
+            else:
+                prices[row["order"]] = row.get("price")
+    return first
+
+
+DAMAGES: dict[str, Damage] = {
+    "unread order": unread_order,
+    "missing entry": missing_entry,
+    "missing head": missing_head,
+    "stray cancel": stray_cancel,
+    "unread trade": unread_trade,
+    "unread result": unread_result,
+    "missing uncross": missing_uncross,
+    "ties": ties,
+    "ties of an order": ties_of_an_order,
+    "at the uncross": at_the_uncross,
+    "times fall": times_fall,
+    "sent again": sent_again,
+    "sent again with sequences": sent_again_with_sequences,
+    "trades of both sides": trades_of_both_sides,
+    "paired otherwise": paired_otherwise,
+    "peaks of all": peaks_of_all,
+    "unchanged prices": unchanged_prices,
+}

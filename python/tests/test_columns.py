@@ -1,0 +1,155 @@
+"""Arrays of commands of columns: nothing of them is cut, and the auction takes what they say."""
+from typing import Any
+
+import hypothesis
+import numpy
+import pandas
+import pytest
+from arrayed import array_of
+from callauction import (
+    COMMAND,
+    Auction,
+    Change,
+    Command,
+    CommandTag,
+    Delete,
+    Enter,
+    Indicate,
+    NoCommandError,
+    OrderStatus,
+    ReadTrade,
+    Restriction,
+    Side,
+    Uncross,
+    commands,
+)
+from callauction.columns import NAMES
+from hypothesis import strategies
+
+BID, ASK = Side.BID, Side.ASK
+
+
+def test_orders_of_columns() -> None:
+    limits, peaks = [200, 199, None], [None, 3, None]
+    made = commands(side=[BID, ASK, BID], quantity=[5, 6, 7], limit=limits, peak=peaks)
+    wanted = array_of([(1, Enter(BID, 5, 200)), (1, Enter(ASK, 6, 199, 3)), (1, Enter(BID, 7))])
+    assert made.dtype == COMMAND and made.tobytes() == wanted.tobytes()
+
+
+def test_one_number_is_that_of_all() -> None:
+    made = commands(side=numpy.array([1, 2, 1]), quantity=100, limit=numpy.float64(200), member=3,
+                    restriction=Restriction.CLOSING_ONLY)
+    closing = Restriction.CLOSING_ONLY
+    wanted = array_of([(3, Enter(side, 100, 200, None, closing)) for side in (BID, ASK, BID)])
+    assert made.tobytes() == wanted.tobytes()
+    assert len(commands(side=BID, quantity=5)) == 1
+    assert len(commands(side=[], quantity=[], limit=[])) == 0
+
+
+def test_all_commands() -> None:
+    made = commands(
+        tag=[*CommandTag], side=[BID, *[None] * 6], quantity=[5, 6, *[None] * 5],
+        limit=[200, *[None] * 6], id=[None, 1, 2, 3, None, 4, None], member=[1, 2, 3, 4, 5, 6, 0],
+    )  # fmt: skip
+    wanted: list[tuple[int, Command]] = [
+        (1, Enter(BID, 5, 200)), (2, Change(1, 6)), (3, Delete(2)), (4, OrderStatus(3)),
+        (5, Indicate()), (6, ReadTrade(4)), (0, Uncross()),
+    ]  # fmt: skip
+    assert made.tobytes() == array_of(wanted).tobytes()
+
+
+def test_a_frame() -> None:
+    frame = pandas.DataFrame({"side": [1, 2], "quantity": [5.0, 6.0]})
+    frame["limit"] = pandas.array([200, None], "Int64")
+    wanted = array_of([(4, Enter(BID, 5, 200)), (4, Enter(ASK, 6))])
+    assert commands(frame, member=4).tobytes() == wanted.tobytes()
+    assert commands(dict(frame), member=4).tobytes() == wanted.tobytes()
+    words = frame.assign(side=["bid", "ask"], member=4)
+    assert commands(words).tobytes() == wanted.tobytes()
+    with pytest.raises(TypeError, match="^qty is no column of commands: these are tag, member, "):
+        commands(frame.rename(columns={"quantity": "qty"}))
+    with pytest.raises(TypeError, match="^side is in the frame and given beside it$"):
+        commands(frame, side=BID)
+
+
+HIDDEN = numpy.ma.array([1, 2], mask=[0, 1])  # type: ignore[no-untyped-call]
+BAD: list[tuple[type[Exception], str, dict[str, Any]]] = [
+    (ValueError, "limit: element 1, 199.95, is no exact whole number", {"limit": [200, 199.95]}),
+    (ValueError, "limit: element 1, nan, is", {"limit": numpy.array([200, numpy.nan])}),
+    (ValueError, "limit: element 0, nan, is", {"limit": pandas.Series([None, 200.0])}),
+    (ValueError, "quantity: element 0, inf, is", {"quantity": [float("inf"), 1]}),
+    (ValueError, "quantity: element 0, 1e[+]17, is", {"quantity": numpy.array([1e17, 1])}),
+    (TypeError, "quantity: element 0 must be an integer, not bool", {"quantity": [True, 2]}),
+    (TypeError, "quantity must be integers, not bool", {"quantity": numpy.array([True, False])}),
+    (TypeError, "quantity: element 1 .* not bool", {"quantity": pandas.array([1, True], "object")}),
+    (ValueError, "member: element 1 must be from 0 to 255, not 300", {"member": [1, 300]}),
+    (ValueError, "member: element 1 must .* not 300", {"member": numpy.array([1, 300])}),
+    (ValueError, "member: element 1 is missing", {"member": [1, None]}),
+    (ValueError, "limit: element 0 must be from 0 to 4294967295, not -1", {"limit": [-1, 1]}),
+    (ValueError, "limit: element 1 .* not 4294967296", {"limit": numpy.array([1, 1 << 32])}),
+    (ValueError, "quantity: element 0 must .* not 18446744073709551616", {"quantity": 1 << 64}),
+    (ValueError, "limit: element 1 is masked", {"limit": HIDDEN}),
+    (ValueError, "side: element 0 must be one of Side, not 3", {"side": [3, 1]}),
+    (ValueError, "side: element 1 must be BID or ASK, as ENTER needs it", {"side": [BID, None]}),
+    (ValueError, "side: element 0 must be BID or ASK", {"side": numpy.array([0, 1])}),
+    (ValueError, "quantity: element 1 must be a number, as ENTER", {"quantity": [5, None]}),
+    (ValueError, "id: element 0 must be a number, as DELETE needs it", {"tag": CommandTag.DELETE}),
+    (ValueError, "tag: element 0 must be one of CommandTag, not 8", {"tag": 8}),
+    (ValueError, "restriction: element 0 must be one of Restriction", {"restriction": 3}),
+    (ValueError, "columns must have one length, not side 2, limit 3", {"limit": [1, 2, 3]}),
+    (ValueError, "limit must have one dimension, not 2", {"limit": numpy.ones((2, 2))}),
+    (TypeError, "limit: element 0 must be an integer, not str", {"limit": "200"}),
+    (TypeError, "limit: element 1 must be an integer, not str", {"limit": [200, "201"]}),
+    (TypeError, "limit: element 0 must be an integer, not list", {"limit": [[1], [2]]}),
+    (TypeError, "limit: element 0 must be an integer, not set", {"limit": {1, 2}}),
+    (TypeError, "side: element 1 must be an integer, not str", {"side": ["bid", "buy"]}),
+    (TypeError, "limit: element 0 must .* not complex", {"limit": numpy.array([1j, 2])}),
+]
+
+
+@pytest.mark.parametrize("fault, text, given", BAD)
+def test_what_numpy_would_cut(fault: type[Exception], text: str, given: dict[str, Any]) -> None:
+    columns: dict[str, Any] = {"side": [BID, ASK], "quantity": 5} | given
+    with pytest.raises(fault, match=f"^{text}"):
+        commands(**columns)
+
+
+def test_the_greatest_numbers_are_kept() -> None:
+    most = numpy.array([(1 << 64) - 1, 1], "u8")
+    made = commands(side=BID, quantity=most, peak=most, limit=[(1 << 32) - 1, 0], member=255)
+    assert made["quantity"].tolist() == made["peak"].tolist() == most.tolist()
+    assert made["limit"].tolist() == [(1 << 32) - 1, 0] and made["has_limit"].tolist() == [1, 1]
+
+
+NUMBERS = strategies.one_of(
+    strategies.none(),
+    strategies.integers(-2, 300),
+    strategies.integers(),
+    strategies.floats(),
+    strategies.booleans(),
+    strategies.text(max_size=2),
+)
+COLUMNS = strategies.one_of(NUMBERS, strategies.lists(NUMBERS, min_size=2, max_size=2))
+
+
+@hypothesis.settings(max_examples=300, deadline=None, database=None)
+@hypothesis.given(
+    strategies.dictionaries(strategies.sampled_from(NAMES), COLUMNS)
+)
+def test_what_is_made_is_commands(given: dict[str, Any]) -> None:
+    """Each array is one of commands, whose numbers are the given ones."""
+    try:
+        made = commands(**given)
+    except (TypeError, ValueError):
+        return
+    for name, column in given.items():
+        listed = column if isinstance(column, list) else [column] * len(made)
+        for row, value in zip(made, listed):
+            assert value is None or row[name] == value
+            if name in ("limit", "peak"):
+                assert row[f"has_{name}"] == (value is not None)
+    with Auction() as auction:
+        try:
+            auction.apply_many(made)
+        except NoCommandError as error:
+            pytest.fail(f"{made}: {error}")

@@ -1,0 +1,594 @@
+"""Extracts that are put together, cut, copied or corrected: a lawful one is never unlawful, what is
+mixed is refused with one line that says what to do, and a fault in one is found.
+"""
+import re
+from collections.abc import Callable
+from pathlib import Path
+from typing import Any
+
+import pytest
+from callauction.__main__ import main
+from callauction.verdict import Reading, Verdict, audit_events, shapes
+from damage import ORDERS, places, timed_day
+from extracts import Extract, Rows
+from logs import FixLog
+from logs import line as message_of
+from test_desk import TRADE, UNCROSS, audited, base_day, text_of
+from test_verdict import frame_of, judged
+
+Printed = pytest.CaptureFixture[str]
+
+
+def base_rows() -> Rows:
+    return [dict(row) for row in base_day().rows]
+
+
+def split(rows: Rows) -> tuple[Rows, Rows]:
+    """The rows of orders, and those of results."""
+    orders = [row for row in rows if row["event"] in ORDERS]
+    return orders, [row for row in rows if row["event"] not in ORDERS]
+
+
+def refused(rows: Rows, words: list[str], folder: Path, printed: Printed) -> str:
+    """The one line with which an extract is refused."""
+    assert audited(text_of(rows), words, folder) == 1
+    found = printed.readouterr()
+    assert found.err.count("\n") == 1 and not found.out
+    return found.err
+
+
+# ---- what is put together
+
+
+@pytest.mark.parametrize("part", [
+    lambda orders, results: orders + results,
+    lambda orders, results: results + orders,
+    lambda orders, results: (
+        [row for row in results if row["event"] == UNCROSS] + orders
+        + [row for row in results if row["event"] == TRADE]),
+    lambda orders, results: (
+        [row for row in orders if row["event"] == "new"] + results
+        + [row for row in orders if row["event"] != "new"]),
+    lambda orders, results: (
+        [row for row in base_rows() if row["event"] != "cancel"]
+        + [row for row in orders if row["event"] == "cancel"]),
+    lambda orders, results: base_rows()[::-1],
+])  # fmt: skip
+def test_files_put_together_are_refused_and_sorted_read(
+    part: Callable[[Rows, Rows], Rows], tmp_path: Path, capsys: Printed
+) -> None:
+    rows = part(*split(base_rows()))
+    assert "say --sort" in refused(rows, [], tmp_path, capsys)
+    for number, row in enumerate(base_rows()):
+        for it in rows:
+            if {**it, "sequence": ""} == {**row, "sequence": ""}:
+                it["sequence"] = str(number)
+    assert audited(text_of(rows), ["--sort"], tmp_path) == 0
+
+
+def test_the_orders_of_a_day_and_the_results_of_one_auction_are_refused(
+    tmp_path: Path, capsys: Printed
+) -> None:
+    orders, results = split(base_rows())
+    opening = [row for row in results if row["auction"] == "opening"]
+    line = refused(orders + opening, ["--auctions", "opening"], tmp_path, capsys)
+    assert "say --sort" in line
+    assert audited(text_of(orders + opening), ["--auctions", "opening", "--sort"], tmp_path) == 0
+
+
+def test_one_auction_may_be_put_together(tmp_path: Path) -> None:
+    """Its orders are above its result, so that nothing is mixed; and a fault in it is found."""
+    rows = base_rows()
+    end = max(place for place, row in enumerate(rows) if row.get("auction") == "opening")
+    orders, results = split(rows[: end + 1])
+    assert audited(text_of(orders + results), ["--auctions", "opening"], tmp_path) == 0
+    results[0]["quantity"] = "7"
+    assert audited(text_of(orders + results), ["--auctions", "opening"], tmp_path) == 4
+
+
+@pytest.mark.parametrize("part", [
+    lambda orders, results: orders + results,
+    lambda orders, results: results + orders,
+    lambda orders, results: base_rows()[::-1],
+])
+def test_files_put_together_without_times_condemn_no_day(
+    part: Callable[[Rows, Rows], Rows], tmp_path: Path, capsys: Printed
+) -> None:
+    rows = part(*split(base_rows()))
+    for row in rows:
+        del row["time"]
+    assert "say --sort" in refused(rows, [], tmp_path, capsys)
+
+
+def test_orders_above_the_first_result_alone_are_judged_without_times() -> None:
+    """The later auctions have no price, so nothing says that the rows are in another order."""
+    rows: Rows = [
+        dict(event="new", order="A", side="bid", price="10.00", quantity="10"),
+        dict(event="new", order="B", side="ask", price="10.00", quantity="10"),
+        dict(event="uncross", price="10.01", quantity="10", auction="opening"),
+        dict(event="uncross", quantity="0", auction="intraday"),
+        dict(event="uncross", quantity="0", auction="closing"),
+    ]  # fmt: skip
+    verdict = audit_events(frame_of(rows), reference="10", tick_size="0.01")
+    assert [finding.item for finding in verdict.findings] == ["price"]
+
+
+@pytest.mark.parametrize("hours", [-1, 1])
+@pytest.mark.parametrize("events", [ORDERS, (UNCROSS, TRADE)])
+def test_another_zone_that_is_not_said_hides_no_fault(
+    hours: int, events: tuple[str, ...], tmp_path: Path
+) -> None:
+    """The rows of orders, or those of results, are stamped an hour off."""
+    rows = base_rows()
+    for place in places(rows, *events):
+        time = rows[place]["time"]
+        rows[place]["time"] = f"{int(time[:2]) + hours:02}{time[2:]}"
+    assert audited(text_of(rows), [], tmp_path) == 0
+    rows[places(rows, UNCROSS)[0]]["quantity"] = "7"
+    assert audited(text_of(rows), [], tmp_path) == 4
+
+
+def with_date(rows: Rows, date: str) -> Rows:
+    return [dict(row, time=f"{date}T{row['time']}") for row in rows]
+
+
+def test_two_days_are_refused_with_the_condition_that_keeps_one(
+    tmp_path: Path, capsys: Printed
+) -> None:
+    rows = with_date(base_rows(), "2026-11-25") + with_date(base_rows(), "2026-11-26")
+    line = refused(rows, [], tmp_path, capsys)
+    assert "are results of two days" in line and "--by" in line
+    [condition] = re.findall("--where '(.*)'", line)
+    assert audited(text_of(rows), ["--where", condition], tmp_path) == 0
+    assert audited(text_of(rows), ["--where", condition.replace("<", ">=")], tmp_path) == 0
+
+
+def test_two_days_without_dates_are_refused(tmp_path: Path, capsys: Printed) -> None:
+    rows = base_rows()
+    other = [dict(row) for row in rows]
+    for row in other:
+        row["time"] = f"{row['time'][:-1]}{9 - int(row['time'][-1])}"
+    said = "are results of one auction, the opening, of two days or markets"
+    assert said in refused(rows + other, [], tmp_path, capsys)
+
+
+def test_orders_of_another_day_leave_a_doubt(tmp_path: Path, capsys: Printed) -> None:
+    """They may be carried over, and the day is lawful with them; else nothing is certain."""
+    rows = with_date(base_rows(), "2026-11-25")
+    early = [dict(rows[0], time="2026-11-24T10:00:00"), *rows[1:]]
+    assert audited(text_of(early), [], tmp_path) == 0
+    other = dict(rows[0], order="OLD", time="2026-11-24T10:00:00", quantity="90000")
+    assert audited(text_of([dict(other, side=side, order=side) for side in ("bid", "ask")] + rows),
+                   [], tmp_path) == 5
+    assert "are of two days" in capsys.readouterr().out
+
+
+@pytest.mark.parametrize("column", ["isin", "Symbol", "Instrument ID", "WKN"])
+def test_two_instruments_are_refused_without_by(
+    column: str, tmp_path: Path, capsys: Printed
+) -> None:
+    rows = [{**row, column: name} for row in base_rows() for name in ("DE1", "DE2")]
+    line = refused(rows, ["--ignore", "*"], tmp_path, capsys)
+    assert f"{column} has 2 values, such as DE1 and DE2: say --by {column}" in line
+    [condition] = re.findall("--where '(.*)'", line)
+    assert audited(text_of(rows), ["--ignore", "*", "--where", condition], tmp_path) == 0
+    assert audited(text_of(rows), ["--ignore", "*", "--by", column], tmp_path) == 0
+
+
+@pytest.mark.parametrize("tag, name", [(48, "SecurityID (48)"), (55, "Symbol (55)")])
+def test_a_log_of_two_instruments_is_refused_without_by(
+    tag: int, name: str, tmp_path: Path, capsys: Printed
+) -> None:
+    log, lines = FixLog(base_day(), 1), list[str]()
+    for text in ("DE1", "DE2"):
+        lines += [message_of([(tag, text) if it[0] == 48 else it for it in fields])
+                  for fields in log.messages]  # fmt: skip
+    content = "\n".join([*lines, ""])
+    assert audited(content, ["--shape", "fix"], tmp_path) == 1
+    column = name.split()[0]
+    assert capsys.readouterr().err == (
+        f"callauction: {name} has 2 values, such as DE1 and DE2: say --by {column}, or keep one by "
+        f"--where '{column} == DE1'\n"
+    )
+    for words in (["--by", column], ["--where", f"{column} == DE1"]):
+        assert audited(content, ["--shape", "fix", *words], tmp_path) == 5
+        assert "findings 0\n" in capsys.readouterr().out
+
+
+def test_a_log_that_is_cut_condemns_no_day(tmp_path: Path) -> None:
+    """Behind each message, and within it."""
+    day = timed_day(3, 12)
+    messages = FixLog(day, 3).tagged("|").splitlines(keepends=True)
+    path, count = tmp_path / "day.log", 0
+    for end in range(3, len(messages)):
+        whole = "".join(messages[:end])
+        for content in (whole, whole[: -7 - end % 40]):
+            path.write_text(content)
+            verdict = audit_events(path, reference=day.reference, range=day.range,
+                                   tick_size="0.01", reading=shapes.reading_of("fix"))  # fmt: skip
+            assert verdict.word != "unlawful", f"{content[-200:]}\n{verdict}"
+            count += len(verdict.doubtful)
+    assert count
+
+
+def test_one_instrument_may_have_other_columns(tmp_path: Path) -> None:
+    """Its name has two spellings, and another column says that it is one."""
+    rows = [{**row, "isin": "DE1", "Symbol": f"{number % 2}"}
+            for number, row in enumerate(base_rows())]  # fmt: skip
+    assert audited(text_of(rows), ["--ignore", "*"], tmp_path) == 0
+
+
+# ---- results that are there again
+
+
+def corrected(rows: Rows, last: str, later: bool) -> None:
+    """A result of the opening with other cells, below the right one or above it, at once or later.
+    """
+    first, second = places(rows, UNCROSS)[:2]
+    price = f"{float(rows[first]['price']) + 0.02:.2f}"
+    wrong, right = dict(rows[first], price=price, trades="77"), dict(rows[first])
+    rows[first] = wrong if last == "right" else right
+    other = right if last == "right" else wrong
+    place = second if later else first + 1
+    rows.insert(place, dict(other, time=rows[place - 1]["time"]))
+
+
+@pytest.mark.parametrize("later", [True, False])
+def test_a_corrected_result_condemns_no_day(
+    later: bool, tmp_path: Path, capsys: Printed
+) -> None:
+    rows = base_rows()
+    corrected(rows, "right", later)
+    assert audited(text_of(rows), [], tmp_path) == 5
+    printed = capsys.readouterr()
+    assert "is a later result of the opening, read in its place" in printed.err
+    assert "findings 0\n" in printed.out and "doubtful" not in printed.out
+
+
+def test_a_corrected_result_of_the_one_auction_needs_no_name(tmp_path: Path) -> None:
+    rows = base_rows()
+    rows = rows[: 1 + max(at for at, row in enumerate(rows) if row.get("auction") == "opening")]
+    place = places(rows, UNCROSS)[0]
+    rows.append(dict(rows[place]))
+    rows[place]["price"] = "9.00"
+    for row in rows:
+        row.pop("auction", None)
+    assert audited(text_of(rows), ["--auctions", "opening"], tmp_path) == 5
+    rows[-1]["price"] = "9.00"
+    assert audited(text_of(rows), ["--auctions", "opening"], tmp_path) == 4
+
+
+def test_a_corrected_result_with_a_range_leaves_a_doubt(tmp_path: Path, capsys: Printed) -> None:
+    """There the first result may be an interruption."""
+    rows = base_rows()
+    corrected(rows, "right", False)
+    assert audited(text_of(rows), ["--range", "5.00"], tmp_path) == 5
+    assert "the later one may correct the other" in capsys.readouterr().out
+
+
+def test_an_earlier_result_of_an_auction_is_none_of_its_end(
+    tmp_path: Path, capsys: Printed
+) -> None:
+    """An indication in the call phase has the auction's name; it is above orders of that."""
+    rows = base_rows()
+    first = places(rows, UNCROSS)[0]
+    rows.insert(first - 3, dict(event=UNCROSS, auction="opening", price="9.99", quantity="10",
+                                time=rows[first - 4]["time"]))  # fmt: skip
+    assert audited(text_of(rows), [], tmp_path) == 5
+    assert "is a later result of the opening" in capsys.readouterr().err
+
+
+@pytest.mark.parametrize("later", [True, False])
+def test_the_last_result_counts(later: bool, tmp_path: Path, capsys: Printed) -> None:
+    rows = base_rows()
+    corrected(rows, "wrong", later)
+    assert audited(text_of(rows), [], tmp_path) == 4
+    place = places(rows, UNCROSS)[1]
+    assert f"row {place + 2}, " in capsys.readouterr().out
+
+
+def test_a_correction_excuses_no_trades_at_two_prices(tmp_path: Path, capsys: Printed) -> None:
+    rows = base_rows()
+    corrected(rows, "right", False)
+    place = places(rows, TRADE)[0]
+    rows[place]["price"] = f"{float(rows[place]['price']) + 0.02:.2f}"
+    assert audited(text_of(rows), [], tmp_path) == 4
+    assert "trade: recorded" in capsys.readouterr().out
+
+
+# ---- market orders
+
+
+def zero_prices(rows: Rows, word: str) -> Rows:
+    """Market orders with a word in place of an empty price."""
+    found = [dict(row) for row in rows]
+    for place in places(found, "new", "replace"):
+        found[place]["price"] = found[place].get("price") or word
+    return found
+
+
+def day_of_market_orders() -> Extract:
+    """A day with trades of which market orders are a part."""
+    for seed in range(1000):
+        day = timed_day(seed, 20)
+        if day.range is None and min(outcome.trades for outcome in day.lawful) > 1:
+            if sum("price" not in row for row in day.rows if row["event"] == "new") > 5:
+                return day
+    raise LookupError
+
+
+@pytest.mark.parametrize("word, words, status, text", [
+    ("0", [], 0, "orders at the price 0, read as market orders"),
+    ("0.00", [], 0, "orders at the price 0, read as market orders"),
+    ("0.00", ["--market", "0"], 0, ""),
+    ("", [], 0, ""),
+    ("MKT", [], 5, "price 'MKT' is no decimal number (--market MKT reads a market order)"),
+    ("MKT", ["--market", "mkt"], 0, ""),
+    ("0", ["--market", "MKT"], 5, "price 0 is no limit (--market 0 reads a market order)"),
+    ("0", ["--low", "0"], 4, ""),
+])
+def test_a_market_order_by_any_word(
+    word: str, words: list[str], status: int, text: str, tmp_path: Path, capsys: Printed
+) -> None:
+    day = day_of_market_orders()
+    content = text_of(zero_prices(day.rows, word))
+    assert audited(content, ["--reference", day.reference, *words], tmp_path) == status
+    assert text in capsys.readouterr().err
+
+
+def test_trades_at_0_have_no_price(tmp_path: Path) -> None:
+    rows = base_rows()
+    for place in places(rows, TRADE):
+        rows[place]["price"] = "0.00"
+    assert audited(text_of(rows), [], tmp_path) == 0
+    rows[places(rows, TRADE)[0]]["price"] = base_rows()[places(rows, TRADE)[0]]["price"]
+    assert audited(text_of(rows), [], tmp_path) == 4
+
+
+def test_0_is_a_limit_among_prices_below_it() -> None:
+    """Prices from -5.05 to 5.05 around 0, where no order is a market order."""
+    rows: Rows = [
+        dict(event="new", order="A", side="bid", price="0", quantity="10"),
+        dict(event="new", order="B", side="ask", price="-0.01", quantity="10"),
+        dict(event="uncross", price="0", quantity="10", surplus="0", side="none",
+             auction="opening", trades="1"),
+        dict(event="trade", bid="A", ask="B", quantity="10", price="0"),
+    ]  # fmt: skip
+    verdict = audit_events(frame_of(rows), reference="0.5", tick_size="0.01", auctions=["opening"])
+    assert verdict.word == "lawful", str(verdict)
+
+
+# ---- files that are cut
+
+
+def read_file(content: str, day: Extract, folder: Path) -> Verdict:
+    path = folder / "day.csv"
+    path.write_bytes(content.encode())
+    return audit_events(path, reference=day.reference, tick_size="0.01", range=day.range)
+
+
+@pytest.mark.parametrize("column", ["price", "quantity", "bid", "auction", "trades"])
+def test_a_file_that_is_cut_within_its_last_row_condemns_no_day(
+    column: str, tmp_path: Path
+) -> None:
+    """Behind any result or trade, with the column as the last one, within the cell or behind it."""
+    day = base_day()
+    names = dict.fromkeys(name for row in day.rows for name in row if name != column)
+    rows = [{name: row.get(name, "") for name in [*names, column]} for row in day.rows]
+    text = ",".join(rows[0]) + "\n"
+    doubtful = 0
+    for row in rows:
+        line = ",".join(row.values())
+        if row["event"] in (UNCROSS, TRADE):
+            for cut in range(len(line) - len(row[column]), len(line) + 1):
+                verdict = read_file(text + line[:cut], day, tmp_path)
+                assert verdict.word != "unlawful", f"{line[:cut]}\n{verdict}"
+                doubtful += len(verdict.doubtful)
+        text += line + "\n"
+    assert doubtful and read_file(text, day, tmp_path).word == "lawful"
+    assert read_file(text[:-1], day, tmp_path).word == "lawful"
+
+
+def test_a_file_that_is_cut_behind_any_row_condemns_no_day(tmp_path: Path) -> None:
+    doubtful = 0
+    for seed in range(6):
+        day = timed_day(seed)
+        lines = text_of(day.rows).splitlines(keepends=True)
+        for end in range(2, len(lines)):
+            verdict = read_file("".join(lines[:end]), day, tmp_path)
+            assert verdict.word != "unlawful", f"{seed} {end}\n{verdict}"
+            doubtful += len(verdict.doubtful)
+    assert doubtful
+
+
+def test_a_missing_trade_is_certain_where_a_later_row_follows(tmp_path: Path) -> None:
+    day = base_day()
+    rows = base_rows()
+    del rows[-1]
+    verdict = read_file(text_of(rows), day, tmp_path)
+    assert verdict.word == "incomplete" and len(verdict.doubtful) == 1
+    assert str(verdict.doubtful[0]).endswith(
+        f": the file ends with row {len(rows) + 1}, and may be cut there"
+    )
+    late = dict(event="cancel", order=places(rows, "new") and rows[0]["order"], time="20:00:00")
+    assert read_file(text_of([*rows, late]), day, tmp_path).word == "unlawful"
+    path = tmp_path / "day.csv"
+    path.write_text(text_of([*rows, late]))
+    reading = Reading(where=("event != cancel",))
+    if not places(base_rows(), "cancel"):
+        found = audit_events(path, reference=day.reference, tick_size="0.01", reading=reading)
+        assert found.word == "unlawful"
+    assert judged(Extract(rows, day.reference, day.range, day.lawful)).word == "unlawful"
+
+
+def test_an_extra_trade_at_the_end_of_a_file_is_certain(tmp_path: Path) -> None:
+    rows = base_rows()
+    rows[-1]["quantity"] = str(int(rows[-1]["quantity"]) + 1)
+    assert read_file(text_of(rows), base_day(), tmp_path).word == "unlawful"
+
+
+# ---- files as spreadsheets write them
+
+
+def german(rows: Rows) -> str:
+    """The rows with semicolons, decimal commas and points between thousands."""
+    for row in rows:
+        row["price"] = row.get("price", "").replace(".", ",")
+        for name in ("quantity", "surplus"):
+            row[name] = f"{int(row[name]):,}".replace(",", ".") if row.get(name) else ""
+    return "\ufeff" + text_of(rows, ";").replace("\n", "\r\n")
+
+
+@pytest.mark.parametrize("added", [
+    lambda head: "",
+    lambda head: " \t ",
+    lambda head: ";" * head.count(";"),
+    lambda head: head,
+])
+@pytest.mark.parametrize("is_faulty", [False, True])
+def test_lines_without_a_row_are_passed_over(
+    added: Callable[[str], str], is_faulty: bool, tmp_path: Path, capsys: Printed
+) -> None:
+    """Empty ones, of blanks, of separators, and the header of each page; lines keep their numbers.
+    """
+    rows = base_rows()
+    last = places(rows, UNCROSS)[-1]
+    if is_faulty:
+        rows[last]["quantity"] = "7"
+    lines = german(rows).split("\r\n")
+    more = added(lines[0].removeprefix("\ufeff"))
+    text = "\r\n".join([*lines[:9], more, *lines[9:12], more, *lines[12:-1], more, ""])
+    words = ["--separator", ";", "--decimal", ",", "--thousands", "."]
+    assert audited(text, words, tmp_path) == (4 if is_faulty else 0)
+    assert (f"row {last + 4}, " in capsys.readouterr().out) == is_faulty
+
+
+@pytest.mark.parametrize("words, status", [([], 5), (["--thousands", "."], 0)])
+def test_thousands_that_are_not_said_are_read_as_no_decimals(
+    words: list[str], status: int, tmp_path: Path, capsys: Printed
+) -> None:
+    """By hand: 1,000 and 500 are bid, 1,500 are asked, and all are executed."""
+    (tmp_path / "day.csv").write_text(
+        "event,order,side,price,quantity,auction,surplus,trades,bid,ask\n"
+        "new,A,bid,10.02,1.000,,,,,\nnew,B,bid,10.02,500,,,,,\nnew,S,ask,10.02,1.500,,,,,\n"
+        "uncross,,none,10.02,1.500,opening,0,2,,\ntrade,,,10.02,1.000,,,,A,S\n"
+        "trade,,,10.02,500,,,,B,S\n"
+    )
+    given = ["--reference", "10", "--tick-size", "0.01", "--auctions", "opening", *words]
+    assert main(["audit", str(tmp_path / "day.csv"), *given]) == status
+    hint = "row 2: quantity '1.000' is no whole number from 0 to 4,294,967,295 (--thousands says"
+    assert (hint in capsys.readouterr().err) == (status == 5)
+
+
+def test_empty_columns_without_a_name_are_passed_over(tmp_path: Path) -> None:
+    text = "".join(f"{line},,,\n" for line in text_of(base_rows()).splitlines())
+    assert audited(text, [], tmp_path) == 0
+
+
+def test_times_may_be_of_twelve_hours(tmp_path: Path) -> None:
+    """Sorted, as otherwise times decide little; 12 is midnight or noon, and 13 is no hour."""
+    rows = base_rows()
+    for number, row in enumerate(rows):
+        row["sequence"] = str(number)
+        row["time"] = f"{'12' if row['time'][:2] == '09' else row['time'][:2]}{row['time'][2:]} PM"
+    assert audited(text_of(rows[::-1]), ["--sort"], tmp_path) == 0
+    rows[0]["time"] = "13:00:00 PM"
+    assert audited(text_of(rows), ["--sort"], tmp_path) == 1
+
+
+# ---- rows that were copied
+
+
+def test_a_trade_copied_to_another_place_condemns_no_day() -> None:
+    day = base_day()
+    made = places(day.rows, TRADE)
+    for place in (made[0], made[-1]):
+        extract = day.copy()
+        other = made[1] + 1 if place == made[0] else len(extract.rows) - 2
+        extract.rows.insert(other, dict(extract.rows[place]))
+        if abs(other - place) > 1:
+            verdict = judged(extract)
+            assert verdict.word == "incomplete", str(verdict)
+            assert "is there twice: is it one?" in str(verdict)
+
+
+def test_a_cancel_of_some_shares_that_is_copied_condemns_no_day() -> None:
+    """By hand: 10 are left of A's 20 after a cancel of 10, none after two."""
+    cancel = dict(event="cancel", order="A", quantity="10", time="09:01")
+    rows: Rows = [
+        dict(event="new", order="A", side="bid", price="10.00", quantity="20", time="09:00"),
+        cancel, cancel,
+        dict(event="new", order="S", side="ask", price="10.00", quantity="10", time="09:02"),
+        dict(event="uncross", price="10.00", quantity="10", auction="opening", time="09:03"),
+    ]  # fmt: skip
+    terms = dict(reference="10", tick_size="0.01", auctions=["opening"])
+    verdict = judged_rows(rows, terms)
+    assert verdict.word == "incomplete" and "is there twice" in str(verdict)
+    rows[2] = dict(cancel, quantity="9")
+    assert judged_rows(rows, terms).word == "unlawful"
+
+
+def test_a_trade_with_an_id_is_one_wherever_its_copy_is(tmp_path: Path, capsys: Printed) -> None:
+    for other in (False, True):
+        rows = base_rows()
+        made = places(rows, TRADE)
+        for number, place in enumerate(made):
+            rows[place]["TradeID"] = f"T{number}"
+        rows.insert(len(rows) if other else made[0] + 1, dict(rows[made[0]]))
+        assert audited(text_of(rows), ["--ignore", "TradeID"], tmp_path) == 0
+        assert "rows that were sent again, read once: 1" in capsys.readouterr().err
+        rows[made[0]]["TradeID"] = "T99"
+        assert audited(text_of(rows), ["--ignore", "TradeID"], tmp_path) in ((4, 5)[other], 4)
+
+
+# ---- what is said of a finding
+
+
+def test_a_finding_of_a_fill_has_the_recorded_price() -> None:
+    """A is filled with 9 at 10.05, where 10 at 10.00 are lawful."""
+    rows: Rows = [
+        dict(event="new", order="A", side="bid", price="10.00", quantity="10"),
+        dict(event="new", order="B", side="ask", price="10.00", quantity="10"),
+        dict(event="uncross", price="10.00", quantity="10", surplus="0", side="none",
+             auction="opening"),
+        dict(event="fill", order="A", quantity="9", price="10.05"),
+        dict(event="fill", order="B", quantity="10", price="10.00"),
+    ]  # fmt: skip
+    verdict = audit_events(frame_of(rows), reference="10", tick_size="0.01", auctions=["opening"])
+    [finding] = verdict.findings
+    assert (finding.recorded, finding.lawful) == ("A 9 at 10.05", "A 10 at 10.00")
+
+
+def test_a_tie_excuses_no_order_that_does_not_count() -> None:
+    """A and B have one time, and C, which is for the closing alone, is executed in the opening."""
+    rows: Rows = [
+        dict(event="new", order="A", side="bid", price="10.00", quantity="10", time="09:00"),
+        dict(event="new", order="B", side="bid", price="10.00", quantity="10", time="09:00"),
+        dict(event="new", order="C", side="bid", price="10.00", quantity="10", time="09:01",
+             restriction="closing"),
+        dict(event="new", order="S", side="ask", price="10.00", quantity="10", time="09:02"),
+        dict(event="uncross", price="10.00", quantity="10", auction="opening", time="09:03"),
+        dict(event="trade", bid="B", ask="S", quantity="10", price="10.00", time="09:03"),
+    ]  # fmt: skip
+    terms = dict(reference="10", tick_size="0.01", auctions=["opening"])
+    assert judged_rows(rows, terms).word == "incomplete"
+    rows[-1]["bid"] = "C"
+    assert judged_rows(rows, terms).word == "unlawful"
+
+
+def judged_rows(rows: Rows, terms: dict[str, Any]) -> Verdict:
+    return audit_events(frame_of(rows), **terms)
+
+
+def test_names_of_auctions_are_certain_whatever_the_books_are() -> None:
+    """Without any order, or with rows of one time."""
+    results: Rows = [dict(event="uncross", time=f"1{number}:00:00", auction=name, quantity="0")
+                     for number, name in enumerate(("opening", "intraday", "closing"))]  # fmt: skip
+    tied: Rows = [row | {"time": "08:00:00"} for row in base_rows()]
+    swapped = judged(Extract([results[0] | {"auction": "closing"}, *results[1:]], "10", None, []))
+    assert [it.item for it in swapped.findings] == ["auction"], str(swapped)
+    for rows in (results, tied):
+        rows.append(dict(event="uncross", time="23:00:00", auction="closing"))
+        verdict = judged(Extract(rows, base_day().reference, None, []))
+        assert verdict.word == "unlawful", str(verdict)
+        assert [it.lawful for it in verdict.findings] == ["day over"]

@@ -1,0 +1,241 @@
+"""What is certain and what is in doubt, on random days that are damaged: a lawful one is never
+unlawful, and a fault before the damage is always found (docs/AUDIT.md, "What leaves a doubt").
+"""
+import itertools
+import random
+
+import pytest
+from callauction.verdict import Verdict
+from damage import DAMAGES, ORDERS, places, stray_cancel, ties, timed_day, trades_of_both_sides
+from extracts import Extract
+from test_verdict import judged
+
+SEEDS = range(40)
+NEVER_LAWFUL = ("unread order", "missing entry", "missing head", "stray cancel", "unread trade",
+                "unread result", "missing uncross")  # fmt: skip
+NEVER_IN_DOUBT = ("sent again", "sent again with sequences", "peaks of all")
+
+
+@pytest.mark.parametrize("name", DAMAGES)
+def test_a_lawful_day_that_is_damaged_is_never_unlawful(name: str) -> None:
+    touched = 0
+    for seed in SEEDS:
+        extract = timed_day(seed)
+        if DAMAGES[name](random.Random(seed), extract.rows) is None:
+            continue
+        touched += 1
+        verdict = judged(extract)
+        assert verdict.word != "unlawful", f"{seed}\n{verdict}"
+        assert verdict.word == "incomplete" or name not in NEVER_LAWFUL, f"{seed}\n{verdict}"
+        assert verdict.word == "lawful" or name not in NEVER_IN_DOUBT, f"{seed}\n{verdict}"
+    assert touched > 5
+
+
+def planted(extract: Extract, before: int) -> int | None:
+    """Publishes another volume at an uncross before a place; answers its place."""
+    for place in places(extract.rows, "uncross"):
+        row = extract.rows[place]
+        if place < before and row.get("trades") and row["quantity"] != "0":
+            row["quantity"] = str(int(row["quantity"]) + 1)
+            return place
+    return None
+
+
+@pytest.mark.parametrize("name", DAMAGES)
+def test_a_fault_before_the_damage_is_found(name: str) -> None:
+    found = 0
+    for seed in range(150):
+        extract = timed_day(seed)
+        touched = extract.copy()
+        first = DAMAGES[name](random.Random(seed), touched.rows)
+        if first is None or name in ("missing head", "missing entry", "stray cancel", "ties"):
+            continue
+        fault = planted(touched, first)
+        if fault is None:
+            continue
+        found += 1
+        verdict = judged(touched)
+        assert verdict.word == "unlawful", f"{seed}\n{verdict}"
+        assert fault in [finding.row for finding in verdict.findings], str(verdict)
+        if found == 12:
+            break
+
+
+def test_damage_of_several_kinds_is_read_together() -> None:
+    """Ties in each call phase, and a row of each trade for each side."""
+    doubtful = 0
+    for seed in SEEDS:
+        extract, chance = timed_day(seed), random.Random(seed)
+        both = [damage(chance, extract.rows) for damage in (ties, trades_of_both_sides)]
+        if None not in both:
+            verdict = judged(extract)
+            assert verdict.word == "incomplete", f"{seed}\n{verdict}"
+            doubtful += len(verdict.doubtful)
+    assert doubtful
+
+
+@pytest.mark.parametrize("names", itertools.combinations(
+    ("unread order", "unread trade", "times fall", "sent again", "paired otherwise"), 2
+))  # fmt: skip
+def test_two_damages_leave_a_lawful_day(names: tuple[str, str]) -> None:
+    for seed in range(15):
+        extract, chance = timed_day(seed), random.Random(seed)
+        for name in names:
+            DAMAGES[name](chance, extract.rows)
+        assert judged(extract).word != "unlawful", f"{seed}\n{judged(extract)}"
+
+
+# ---- certain whatever wasn't read
+
+
+def with_unread_head(seed: int) -> Extract:
+    """A day whose first row, of an order, can't be read."""
+    extract = timed_day(seed)
+    assert extract.rows[0]["event"] == "new"
+    extract.rows[0]["quantity"] = "?"
+    return extract
+
+
+def of_trades(extract: Extract, least: int) -> list[int]:
+    """The places of the first auction's trades, where it has at least this many; else none."""
+    for auction in ("opening", "intraday", "closing"):
+        trades = places(extract.rows, "trade")
+        those = [at for at in trades if extract.rows[at]["auction"] == auction]
+        if len(those) >= least:
+            return those
+    return []
+
+
+def certain_of(extract: Extract) -> Verdict:
+    verdict = judged(extract)
+    assert verdict.word == "unlawful", str(verdict)
+    assert all(verdict.explain(finding) for finding in verdict.findings)
+    return verdict
+
+
+def test_trades_of_one_auction_at_two_prices_are_certain() -> None:
+    count = 0
+    for seed in SEEDS:
+        extract = with_unread_head(seed)
+        those = of_trades(extract, 2)
+        if those:
+            count += 1
+            extract.rows[those[0]]["price"] = "9.99"
+            extract.rows[those[1]]["price"] = "10.31"
+            verdict = certain_of(extract)
+            assert "trade" in {finding.item for finding in verdict.findings}
+    assert count > 5
+
+
+def test_shares_that_do_not_add_up_to_the_volume_are_certain() -> None:
+    count = 0
+    for seed in SEEDS:
+        extract = with_unread_head(seed)
+        those = of_trades(extract, 1)
+        if those:
+            count += 1
+            row = extract.rows[those[0]]
+            row["quantity"] = str(int(row["quantity"]) + 1)
+            items = {finding.item for finding in certain_of(extract).findings}
+            assert items <= {"trade", "fill", "volume"}
+    assert count > 5
+
+
+def test_an_execution_beyond_the_limit_is_certain() -> None:
+    count = 0
+    for seed in SEEDS:
+        extract = with_unread_head(seed)
+        known = {row["order"]: row for row in extract.rows[1:] if row["event"] == "new"}
+        replaced = {row["order"] for row in extract.rows if row["event"] == "replace"}
+        for place in of_trades(extract, 1):
+            row = extract.rows[place]
+            bid = known.get(row["bid"])
+            if bid is not None and "price" in bid and row["bid"] not in replaced:
+                count += 1
+                bid["price"] = "9.50"
+                assert "trade" in {finding.item for finding in certain_of(extract).findings}
+                break
+    assert count > 5
+
+
+def test_a_stray_cancel_does_not_silence_a_day_whose_sums_fix_the_books() -> None:
+    """Price, volume, surplus and side are those of the rows, so nothing that was executed is
+    missing: another order in a trade is a fault.
+    """
+    count = 0
+    for seed in SEEDS:
+        extract = timed_day(seed)
+        for place in of_trades(extract, 2):
+            row = extract.rows[place]
+            extract.rows[place] = {**row, "bid": row["ask"], "ask": row["bid"]}
+            count += 1
+            stray_cancel(random.Random(seed), extract.rows)
+            assert certain_of(extract).findings
+            break
+    assert count > 5
+
+
+# ---- what isn't law is in doubt
+
+
+def test_a_day_that_was_interrupted_is_in_doubt_without_its_range() -> None:
+    seen = 0
+    for seed in range(120):
+        extract = timed_day(seed)
+        if any(outcome.is_interrupted for outcome in extract.lawful):
+            seen += 1
+            assert judged(extract).word == "lawful"
+            verdict = judged(extract, range=None)
+            assert verdict.word == "incomplete" and verdict.doubtful, str(verdict)
+    assert seen > 3
+
+
+def test_a_doubtful_finding_has_its_reason_in_its_line() -> None:
+    for seed in SEEDS:
+        extract = timed_day(seed)
+        first = places(extract.rows, "new")[0]
+        extract.rows[first]["quantity"] = "1e3"
+        verdict = judged(extract)
+        for finding in verdict.doubtful:
+            assert str(finding).startswith(f"doubtful: row {finding.row}, ")
+            assert str(finding).endswith(f": {finding.doubt}") and f"row {first}: " in finding.doubt
+            assert f"In doubt: {finding.doubt}." in verdict.explain(finding)
+        assert f"doubtful {len(verdict.doubtful)}" in verdict.lines() or not verdict.doubtful
+
+
+def test_rows_of_orders_have_times_of_their_own() -> None:
+    rows = timed_day(1).rows
+    times = [row["time"] for row in rows if row["event"] in ORDERS]
+    assert len({*times}) == len(times)
+
+
+@pytest.mark.parametrize("word", ["", "continuous"])
+def test_trades_between_the_auctions_leave_a_doubt(word: str) -> None:
+    """Two orders of a call phase trade at once, so what the rules give from then on is of other
+    books; a fault before them stays certain.
+    """
+    count = 0
+    for seed in SEEDS:
+        extract = timed_day(seed)
+        first, second = places(extract.rows, "uncross")[:2]
+        orders = [at for at in places(extract.rows, *ORDERS) if first < at < second]
+        if len(orders) < 3 or not extract.rows[first].get("trades"):
+            continue
+        count += 1
+        at, clock = orders[1], extract.rows[orders[1]]["time"]
+        pair = (("X", "bid", "10.30"), ("Y", "ask", "9.80"))
+        made = [
+            dict(event="new", order=order, member="M9", side=side, quantity="5000", price=price,
+                 time=clock)
+            for order, side, price in pair
+        ]  # fmt: skip
+        made.append(dict(event="trade", bid="X", ask="Y", quantity="5000", price="10.30",
+                         time=clock, auction=word))  # fmt: skip
+        extract.rows[at + 1 : at + 1] = made
+        verdict = judged(extract)
+        assert verdict.word == "incomplete", f"{seed}\n{verdict}"
+        assert "audit-auction" in "\n".join([*verdict.remarks(), *map(str, verdict.doubtful)])
+        row = extract.rows[first]
+        row["quantity"] = str(int(row["quantity"]) + 1)
+        assert judged(extract).word == "unlawful"
+    assert count > 5

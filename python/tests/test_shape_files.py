@@ -1,0 +1,395 @@
+"""Shapes of other systems: logs of FIX messages, what venues keep for supervision, columns for each
+kind of row, and trades that busts take out.
+"""
+import random
+from pathlib import Path
+
+import pytest
+from callauction.__main__ import main
+from callauction.verdict import Reading, Verdict, audit_events, audit_instruments, shapes
+from damage import places, timed_day
+from extracts import TOP, Extract, random_day
+from logs import FixLog, instant, kept_for_supervision, line
+from test_desk import base_day, text_of
+from test_verdict import judged
+
+EXTRACTS = TOP / "examples/extracts"
+SEEDS = range(25)
+
+
+def read_as(shape: str, text: str, extract: Extract, path: Path) -> Verdict:
+    path.write_text(text, encoding="utf-8")
+    return audit_events(
+        path, reference=extract.reference, range=extract.range, tick_size="0.01",
+        reading=shapes.reading_of(shape),
+    )  # fmt: skip
+
+
+# ---- the stored examples
+
+
+@pytest.mark.parametrize("name", sorted(path.stem for path in EXTRACTS.glob("*.args")))
+def test_the_stored_extracts_have_their_verdicts(
+    name: str, capsys: pytest.CaptureFixture[str]
+) -> None:
+    path = EXTRACTS / f"{name}.args"
+    [file] = (it for it in EXTRACTS.glob(f"{path.stem}.*") if it.suffix in (".csv", ".log"))
+    status = main(["audit", str(file), *path.read_text(encoding="utf-8").split()])
+    printed = capsys.readouterr().out
+    assert printed == path.with_suffix(".txt").read_text(encoding="utf-8")
+    assert status == {"lawful": 0, "unlawful": 4, "incomplete": 5}[printed.split()[-1]]
+
+
+# ---- FIX
+
+
+@pytest.mark.parametrize("seed", SEEDS)
+def test_a_log_of_fix_has_the_verdict_of_its_day(seed: int, tmp_path: Path) -> None:
+    """A lawful day's log isn't unlawful, and where each auction has a price nothing but counts,
+    which market data hasn't, is left out; interruptions, which it hasn't either, are in doubt.
+    """
+    extract = timed_day(seed, 20)
+    sign = ("\x01", "|", "^A", "<SOH>")[seed % 4]
+    text = FixLog(extract, seed).tagged(sign, ("FIX.4.2", "FIX.4.4", "FIXT.1.1")[seed % 3])
+    verdict = read_as("fix", text, extract, tmp_path / "day.log")
+    assert verdict.word == "incomplete" and not verdict.findings, f"{seed}\n{verdict}"
+    assert not verdict.bad_rows, verdict.bad_rows
+    if all(outcome.tick and not outcome.is_interrupted for outcome in extract.lawful):
+        counts = {name: it for name, it in verdict.coverage.counts.items() if name != "counts"}
+        open_ = [name for name, (compared, due) in counts.items() if compared != due]
+        assert not open_ and not verdict.doubtful, f"{seed}\n{verdict}"
+
+
+@pytest.mark.parametrize("seed", SEEDS)
+def test_a_fault_in_a_log_of_fix_is_found(seed: int, tmp_path: Path) -> None:
+    extract = timed_day(seed, 20)
+    log = FixLog(extract, seed)
+    results = [it for it in log.messages if (35, "W") in it and (268, "3") in it]
+    if any(outcome.is_interrupted for outcome in extract.lawful) or not results:
+        return
+    place = log.messages.index(results[0])
+    changed = [(tag, "9.31" if tag == 270 else text) for tag, text in results[0]]
+    log.messages[place] = changed
+    verdict = read_as("fix", log.tagged(), extract, tmp_path / "day.log")
+    assert verdict.word == "unlawful" and any("9.31" in it.recorded for it in verdict.findings)
+
+
+def lawful_log(has_results: bool = True) -> FixLog:
+    return FixLog(base_day(), 1, has_results)
+
+
+def test_a_csv_file_of_execution_reports_may_have_tags_or_names(tmp_path: Path) -> None:
+    heads = {37: "OrderID", 150: "ExecType", 54: "Side", 60: "TransactTime", 40: "OrdType",
+             44: "Price", 38: "OrderQty", 151: "LeavesQty", 59: "TimeInForce", 31: "LastPx",
+             32: "LastQty", 880: "TrdMatchID", 625: "TradingSessionSubID", 448: "PartyID",
+             17: "ExecID"}  # fmt: skip
+    log = lawful_log()
+    words = []
+    for names in (heads, {tag: str(tag) for tag in heads},
+                  {tag: f"{name} ({tag})" for tag, name in heads.items()}):
+        verdict = read_as("fix", log.columns(names), base_day(), tmp_path / "day.csv")
+        assert not verdict.findings and not verdict.bad_rows, verdict
+        words.append(str(verdict))
+    assert len({*words}) == 1 and "prices 3 of 3\nvolumes 0 of 3" in words[0]
+    cut = log.columns(heads)[:-40] + "\n"
+    verdict = read_as("fix", cut, base_day(), tmp_path / "day.csv")
+    assert " fields, the header 15" in str(verdict.bad_rows[0]) and verdict.word == "incomplete"
+
+
+def test_what_was_sent_again_is_read_once(tmp_path: Path) -> None:
+    log = lawful_log()
+    once = read_as("fix", log.tagged(), base_day(), tmp_path / "day.log")
+    reports = [place for place, it in enumerate(log.messages) if (35, "8") in it]
+    for place in reports[::-3]:
+        log.messages.insert(place + 1, [(43, "Y"), *log.messages[place]])
+    again = read_as("fix", log.tagged(), base_day(), tmp_path / "day.log")
+    assert str(again) == str(once) and again.word == "incomplete" and not again.findings
+
+
+def test_a_dirty_log_is_read_as_far_as_it_goes(tmp_path: Path) -> None:
+    """Heartbeats, empty lines, times of a logger before messages, and a message that is cut."""
+    lines = [f"2026-11-27 08:50:00,1 INFO in {it}" for it in lawful_log().tagged().splitlines()]
+    clean = "\n".join(["session begins", line([(35, "0"), (34, "1")]), "", *lines, ""])
+    verdict = read_as("fix", clean, base_day(), tmp_path / "day.log")
+    assert not verdict.findings and not verdict.bad_rows
+    assert verdict.notes["lines without a FIX message"] == 1
+    cut = [at for at, it in enumerate(lines) if "150=0" in it][1]
+    lines[cut] = lines[cut][:90]
+    verdict = read_as("fix", "\n".join([*lines, ""]), base_day(), tmp_path / "day.log")
+    assert verdict.word == "incomplete"
+    assert f"row {cut + 1}: the message is cut: it has no CheckSum (10)" in map(
+        str, verdict.bad_rows
+    )
+
+
+def test_instruments_have_matches_of_their_own(tmp_path: Path) -> None:
+    """Two instruments have the same orders, ExecIDs and TrdMatchIDs, and one lacks a report."""
+    lines = []
+    for name in ("DE1", "DE2"):
+        log = lawful_log()
+        trades = [it for it in log.messages if (150, "F") in it]
+        if name == "DE2":
+            trades[-1][:] = [(35, "0")]
+        lines += [
+            line([(tag, name if tag == 48 else text) for tag, text in it]) for it in log.messages
+        ]
+    path = tmp_path / "day.log"
+    path.write_text("\n".join([*lines, ""]))
+    found = audit_instruments(
+        path, "SecurityID", reading=shapes.reading_of("fix"), reference=base_day().reference,
+        tick_size="0.01",
+    )  # fmt: skip
+    [one, other] = found.to_dict("records")
+    assert one["verdict"] == "incomplete" and one["findings"] == one["doubtful"] == 0
+    assert one["trades"] == one["trades_due"] and other["trades"] == 0
+    assert other["findings"] == 1
+
+
+def test_trades_of_which_one_side_is_there_are_fills(tmp_path: Path) -> None:
+    log = lawful_log()
+    for fields in log.messages:
+        fields[:] = [it for it in fields if it[0] != 880]
+    verdict = read_as("fix", log.tagged(), base_day(), tmp_path / "day.log")
+    assert not verdict.findings and verdict.coverage["trades"][0] == 0
+    compared, due = verdict.coverage["fills"]
+    assert compared == due > 0
+
+
+def test_a_trade_cancel_takes_out_the_trade_that_it_names(tmp_path: Path) -> None:
+    """A trade with too many shares, and its cancel by ExecRefID, beside the right one."""
+    log = lawful_log()
+    places_ = [at for at, it in enumerate(log.messages) if (150, "F") in it][:2]
+    for number, place in enumerate(places_[::-1]):
+        fields = dict(log.messages[place])
+        wrong = fields | {17: f"W{number}", 32: str(int(fields[32]) + 5), 880: "TW"}
+        gone = {it: text for it, text in wrong.items() if it != 880}
+        bust = gone | {150: "H", 19: f"W{number}", 17: f"B{number}"}
+        log.messages.insert(places_[1] + 1, [*bust.items()])
+        log.messages.insert(places_[1] + 1, [*wrong.items()])
+    verdict = read_as("fix", log.tagged(), base_day(), tmp_path / "day.log")
+    assert not verdict.findings and not verdict.bad_rows, verdict
+    assert verdict.notes["trades that busts take out"] == 1
+
+
+def test_a_result_that_is_lost_is_not_the_indication_before_it(tmp_path: Path) -> None:
+    """Whatever of it can't be read, or all; the indication has another price."""
+    log = lawful_log()
+    results = [at for at, it in enumerate(log.messages) if (268, "3") in it]
+    for place in results:
+        whole = log.messages[place]
+        for number in range(len(whole) + 1):
+            log.messages[place] = [(tag, "?" if at == number else text)
+                                   for at, (tag, text) in enumerate(whole)]  # fmt: skip
+            if number == len(whole):
+                log.messages[place] = [(35, "0")]
+            verdict = read_as("fix", log.tagged(), base_day(), tmp_path / "day.log")
+            assert verdict.word == "incomplete", f"{log.messages[place]}\n{verdict}"
+        log.messages[place] = whole
+
+
+def test_a_report_of_no_known_message_type_is_a_bad_row(tmp_path: Path) -> None:
+    log = lawful_log()
+    place = next(at for at, it in enumerate(log.messages) if (150, "F") in it)
+    log.messages[place][0] = (35, "?")
+    verdict = read_as("fix", log.tagged(), base_day(), tmp_path / "day.log")
+    assert verdict.word == "incomplete" and "MsgType (35) '?' is none" in str(verdict.bad_rows[0])
+
+
+def test_continuous_trading_in_a_log_leaves_a_doubt(tmp_path: Path) -> None:
+    """A pair of orders that trades at once after the opening, in the session 3."""
+    log = lawful_log()
+    made = [at for at, it in enumerate(log.messages) if (150, "F") in it and (625, "2") in it]
+    time = dict(log.messages[made[-1] + 1])[60]
+    for number, (side, price) in enumerate((("1", "10.30"), ("2", "9.70"))):
+        head = [(35, "8"), (48, "DE1"), (37, f"X{side}"), (54, side), (60, time)]
+        entry = [(150, "0"), (40, "2"), (44, price), (38, "900"), (151, "900"), (59, "0")]
+        trade = [(150, "F"), (31, "10.00"), (32, "900"), (151, "0"), (880, "C"), (625, "3")]
+        at = made[-1] + 2 + number
+        log.messages.insert(at, [*head, (17, f"C{side}"), *entry])
+        log.messages.insert(at + 1 + number, [*head, (17, f"D{side}"), *trade])
+    verdict = read_as("fix", log.tagged(), base_day(), tmp_path / "day.log")
+    assert verdict.word == "incomplete" and verdict.doubtful, str(verdict)
+    assert any("audit-auction" in str(row) for row in verdict.bad_rows)
+    closed = [finding for finding in verdict.doubtful if finding.auction == "opening"]
+    assert not closed
+
+
+def test_a_condition_that_drops_a_report_of_a_trade_leaves_a_doubt(tmp_path: Path) -> None:
+    log = lawful_log()
+    reports = [dict(it)[17] for it in log.messages if (150, "F") in it]
+    path = tmp_path / "day.log"
+    path.write_text(log.tagged())
+    for where in (f"ExecID != {reports[0]}", f"ExecID != {reports[-1]}", "LastQty != 20"):
+        reading = shapes.joined(shapes.reading_of("fix"), {"where": (where,)})
+        verdict = audit_events(path, reference=base_day().reference, tick_size="0.01",
+                               reading=reading)  # fmt: skip
+        assert verdict.word == "incomplete", f"{where}\n{verdict}"
+
+
+def test_orders_of_other_types_are_bad_rows(tmp_path: Path) -> None:
+    log = lawful_log()
+    [first, *_] = [it for it in log.messages if (150, "0") in it]
+    first[:] = [(40, "3") if tag == 40 else (tag, text) for tag, text in first]
+    verdict = read_as("fix", log.tagged(), base_day(), tmp_path / "day.log")
+    assert verdict.word == "incomplete"
+    assert "event 'OrdType 3' is none of " in str(verdict.bad_rows[0])
+
+
+@pytest.mark.parametrize("text", ["a,b\n1,2\n", line([(35, "0")]) + "\n"])
+def test_a_file_without_execution_reports_is_refused(
+    text: str, tmp_path: Path, capsys: pytest.CaptureFixture[str]
+) -> None:
+    path = tmp_path / "day.log"
+    path.write_text(text)
+    words = ["--shape", "fix", "--reference", "10", "--tick-size", "0.01"]
+    assert main(["audit", str(path), *words]) == 1
+    assert capsys.readouterr().err.count("\n") == 1
+
+
+# ---- orders that venues keep
+
+
+@pytest.mark.parametrize("seed", SEEDS)
+def test_orders_that_venues_keep_have_the_verdict_of_their_day(seed: int, tmp_path: Path) -> None:
+    extract = timed_day(seed, 15)
+    if any(row.get("restriction") or (row["event"] == "cancel" and row.get("quantity"))
+           for row in extract.rows) or extract.range is not None:  # fmt: skip
+        extract = base_without_restrictions(seed)
+    path = tmp_path / "day.csv"
+    path.write_text(kept_for_supervision(extract), encoding="utf-8")
+    reading = shapes.joined(shapes.reading_of("rts24"), {"separator": ";"})
+    verdict = audit_events(
+        path, reference=extract.reference, tick_size="0.01", reading=reading
+    )
+    assert verdict.word == "incomplete" and not verdict.findings, f"{seed}\n{verdict}"
+    priced = sum(outcome.tick is not None for outcome in extract.lawful)
+    assert not verdict.bad_rows and (priced < 3 or not verdict.doubtful)
+    assert verdict.coverage["prices"][0] == priced
+
+
+def base_without_restrictions(seed: int) -> Extract:
+    """A day without restrictions, cancels of some shares and ranges."""
+    for other in range(1000 * seed + 1000, 1000 * seed + 3000):
+        found = timed_day(other, 6)
+        is_plain = not any(
+            row.get("restriction") or (row["event"] == "cancel" and row.get("quantity"))
+            for row in found.rows
+        )
+        if is_plain and found.range is None and any(it.trades > 1 for it in found.lawful):
+            return found
+    raise LookupError
+
+
+# ---- shapes and columns
+
+
+def test_a_column_for_each_kind_of_row(
+    tmp_path: Path, capsys: pytest.CaptureFixture[str]
+) -> None:
+    day = base_day()
+    rows = [dict(row) for row in day.rows]
+    for row in rows:
+        for name in ("price", "quantity"):
+            if row["event"] in ("trade", "uncross") and name in row:
+                row[f"Last{name}"] = row.pop(name)
+    path = tmp_path / "day.csv"
+    path.write_text(text_of(rows))
+    words = ["audit", str(path), "--tick-size", "0.01", "--reference", day.reference]
+    of_trades = "trade.price=Lastprice,trade.quantity=Lastquantity"
+    of_results = "uncross.price=Lastprice,uncross.quantity=Lastquantity"
+    assert main([*words, "--columns", f"{of_trades},{of_results}"]) == 0
+    assert main([*words, "--columns", of_trades, "--ignore", "*"]) == 5
+    capsys.readouterr()
+    for wrong in ("order.price=Lastprice", "trade.event=Lastprice", "trade.pryce=Lastprice",
+                  "trade.price=Last"):
+        assert main([*words, "--columns", wrong]) == 1
+        assert capsys.readouterr().err.count("\n") == 1
+
+
+def test_a_shape_is_a_file_that_can_be_copied_and_edited(
+    tmp_path: Path, capsys: pytest.CaptureFixture[str]
+) -> None:
+    text = shapes.path_of("fix").read_text(encoding="utf-8")
+    mine = tmp_path / "mine.toml"
+    mine.write_text(text.replace('member = "PartyID"', 'member = "Account"'), encoding="utf-8")
+    assert shapes.reading_of(str(mine)).columns["member"] == "Account"
+    assert shapes.names() == ["fix", "rts24"]
+    day = ["audit", str(EXTRACTS / "german.csv"), "--reference", "1", "--tick-size", "1", "--shape"]
+    for content in ("colums = 1", "[columns]\norder = 1", "sort = 'yes'", "= 1", "format = 'xml'",
+                    "where = 'a == b'", "values = {side = 'bid'}"):
+        mine.write_text(content)
+        assert main([*day, str(mine)]) == 2, content
+        assert capsys.readouterr().err.count("\n") == 1
+    assert main([*day, "nothing"]) == 2
+    assert "is neither a file nor one of fix, rts24" in capsys.readouterr().err
+
+
+def test_a_journal_is_made_of_the_orders_of_a_log(
+    tmp_path: Path, capsys: pytest.CaptureFixture[str]
+) -> None:
+    words = ["convert", str(EXTRACTS / "fix.log"), "--shape", "fix", "--reference", "19.90",
+             "--tick-size", "0.01", "-o", str(tmp_path / "journal.csv")]  # fmt: skip
+    assert main(words) == 2
+    assert "--pair: a journal has a trade in one row" in capsys.readouterr().err
+    assert main([*words, "--where", "ExecType != F", "--pair", ""]) == 0
+    assert len((tmp_path / "journal.csv").read_text().splitlines()) > 8
+
+
+def test_options_add_to_a_shape() -> None:
+    shape = Reading(columns={"order": "Id", "time": "T"}, values={"side": {"B": "bid"}},
+                    market=("0",), separator=";")
+    own = {"columns": {"time": "", "member": "M"}, "values": {"side": {"S": "ask"}},
+           "market": ("MKT",), "separator": None, "sort": True}  # fmt: skip
+    found = shapes.joined(shape, own)
+    assert found.columns == {"order": "Id", "member": "M"} and found.sort
+    assert found.values == {"side": {"B": "bid", "S": "ask"}}
+    assert found.market == ("0", "MKT") and found.separator == ";"
+
+
+# ---- busts
+
+
+@pytest.mark.parametrize("seed", SEEDS)
+def test_a_bust_takes_a_trade_out(seed: int) -> None:
+    """Of a trade and its rebooking one is left; the bust of a lawful one is in doubt; one of no
+    trade is a bad row.
+    """
+    extract = timed_day(seed)
+    trades = places(extract.rows, "trade")
+    if not trades:
+        return
+    place = random.Random(seed).choice(trades)
+    row = extract.rows[place]
+    bust = {name: row[name] for name in ("time", "bid", "ask", "quantity", "price")}
+    bust["event"] = "bust"
+    rebooked = extract.copy()
+    rebooked.rows[place + 1 : place + 1] = [bust, dict(row)]
+    assert judged(rebooked).word == "lawful", str(judged(rebooked))
+    busted = extract.copy()
+    busted.rows.insert(place + 1, bust)
+    verdict = judged(busted)
+    assert verdict.word == "incomplete", str(verdict)
+    if len(trades) > 1:
+        assert f"a bust takes the trade of row {place} out" in str(verdict)
+    stray = extract.copy()
+    stray.rows.insert(place + 1, {**bust, "quantity": "999999"})
+    verdict = judged(stray)
+    assert verdict.word == "incomplete" and "no trade has its orders" in str(verdict.bad_rows[0])
+
+
+def test_a_bust_of_a_wrong_trade_leaves_the_fault() -> None:
+    """A trade of two other orders, which is busted and not made again, is missing for certain."""
+    for seed in SEEDS:
+        extract = timed_day(seed)
+        trades = places(extract.rows, "trade")
+        if len(trades) > 1:
+            row = extract.rows[trades[0]]
+            wrong = {**row, "bid": row["ask"], "ask": row["bid"]}
+            extract.rows[trades[0] : trades[0] + 1] = [wrong, {**wrong, "event": "bust"}]
+            verdict = judged(extract)
+            assert verdict.word == "unlawful", str(verdict)
+            assert verdict.findings[0].recorded == "no such trade"
+
+
+def test_random_days_have_times_that_logs_can_have() -> None:
+    assert instant(random_day(1).rows[0]["time"]).startswith("20261127-0")

@@ -1,0 +1,82 @@
+"""Money as ticks: exactly, or not at all."""
+from decimal import Decimal
+from typing import Any
+
+import hypothesis
+import pytest
+from callauction import Ticks
+from hypothesis import strategies
+
+
+@pytest.mark.parametrize(
+    "tick_size, price, tick",
+    [
+        ("0.01", "199.75", 19975),
+        ("0.01", 199.75, 19975),
+        ("0.01", 1.15, 115),  # 1.15 / 0.01 is 114.99999999999999
+        ("0.01", Decimal("0.07"), 7),
+        ("0.01", 3, 300),
+        ("0.05", "20.05", 401),
+        ("0.05", "0", 0),
+        (5, "1000", 200),
+        (0.5, "1.50", 3),
+    ],
+)
+def test_a_price_is_a_tick(tick_size: object, price: object, tick: int) -> None:
+    ticks = Ticks(tick_size)
+    assert ticks.of(price) == tick
+    assert ticks.price(tick) == Decimal(str(price))
+
+
+@pytest.mark.parametrize(
+    "price, fault",
+    [
+        ("199.755", "price 199.755 is no multiple of the tick size 0.01"),
+        (0.1 + 0.2, "price 0.30000000000000004 is no multiple of the tick size 0.01"),
+        ("-0.01", "price -0.01 is tick -1, which isn't from 0 to 4,294,967,295"),
+        ("42949672.96", "price 42949672.96 is tick 4,294,967,296, which isn't"),
+        ("1,50", "price '1,50' is no decimal number"),
+        (float("nan"), "price nan is no decimal number"),
+        (float("inf"), "price inf is no decimal number"),
+        (True, "price True is no decimal number"),
+        (None, "price None is no decimal number"),
+    ],
+)
+def test_a_price_that_is_no_tick(price: Any, fault: str) -> None:
+    with pytest.raises(ValueError, match=f"^{fault}"):
+        Ticks("0.01").of(price)
+
+
+def test_a_base() -> None:
+    ticks = Ticks("0.25", base="-10")
+    assert (ticks.of("-9.75"), ticks.price(1), ticks.tick_size, ticks.base) == (
+        1, Decimal("-9.75"), Decimal("0.25"), Decimal(-10)
+    )  # fmt: skip
+    assert repr(ticks) == "Ticks(0.25, -10)" and repr(Ticks("0.01")) == "Ticks(0.01)"
+    with pytest.raises(ValueError, match="price 1.1 is no multiple of the tick size 0.25 from -10"):
+        ticks.of("1.1")
+
+
+@pytest.mark.parametrize("given", [("0",), ("-1",), ("x",), (None,), ("0.01", "x")])
+def test_no_grid(given: tuple[Any, ...]) -> None:
+    with pytest.raises(ValueError, match="^(tick_size|base) "):
+        Ticks(*given)
+
+
+def test_a_column_of_prices() -> None:
+    assert Ticks("0.01").of_many(["1.15", 2.3]).tolist() == [115, 230]
+    with pytest.raises(ValueError, match="^element 1: price 0.001 is no multiple"):
+        Ticks("0.01").of_many(["1.15", "0.001"])
+    with pytest.raises(TypeError):
+        Ticks("0.01").price(1.5)  # type: ignore[arg-type]
+
+
+SIZES = strategies.decimals("0.0001", "1000", places=4)
+
+
+@hypothesis.settings(deadline=None, database=None)
+@hypothesis.given(SIZES, strategies.integers(0, 4_294_967_295))
+def test_a_tick_comes_back(tick_size: Decimal, tick: int) -> None:
+    ticks = Ticks(tick_size)
+    assert ticks.of(ticks.price(tick)) == tick
+    assert ticks.of(str(ticks.price(tick))) == tick

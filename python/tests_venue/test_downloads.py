@@ -1,0 +1,167 @@
+"""What the operator takes home, round by round, with names and money."""
+import csv
+import io
+import pathlib
+import re
+
+import served
+from conftest import FAST
+from served import Served
+from test_rounds import trade
+
+DAY = FAST + """
+[payoff]
+base = "5"
+rate = "0.5"
+currency = "CHF"
+[[round]]
+title = "Try it"
+practice = true
+[[round]]
+"""
+VALUES = [{"member": "=Anna", "side": "bid", "price": "3.00", "quantity": 20},
+          {"member": "Bert", "side": "ask", "price": "1.50", "quantity": 10}]
+
+
+def download(venue: Served, kind: str) -> str:
+    """A download, which is there."""
+    status, text = venue.call(f"api/download/{kind}/XYZ", token=venue.operator)
+    assert status == 200, text
+    return str(text)
+
+
+def rows(text: str) -> list[dict[str, str]]:
+    """The rows of a CSV file."""
+    return [*csv.DictReader(io.StringIO(text))]
+
+
+def lesson(venue: Served) -> None:
+    """Two rounds of two members, and somebody who does nothing."""
+    anna, bert = venue.join("=Anna"), venue.join("Bert")
+    venue.join("Carl")
+    venue.do("give", values=VALUES)
+    trade(venue, anna, bert, "2.00")
+    venue.do("next", round=2)
+    trade(venue, anna, bert, "2.50")
+
+
+def test_the_results(tmp_path: pathlib.Path) -> None:
+    with served.served(tmp_path, DAY) as venue:
+        lesson(venue)
+        found = rows(download(venue, "results"))
+        text = download(venue, "results")
+    assert (tmp_path / "venue/results.csv").read_text() == text
+    assert [(it["round"], it["name"]) for it in found] == [
+        *(("1", "'=Anna"), ("1", "Bert"), ("1", "Carl")),
+        *(("2", "'=Anna"), ("2", "Bert"), ("2", "Carl")),
+        *(("all", "Bert"), ("all", "'=Anna"), ("all", "Carl")),
+    ]
+    anna = found[3]
+    assert anna == {
+        "round": "2", "title": "", "practice": "no", "instrument": "XYZ", "name": "'=Anna",
+        "robot": "", "side": "bid", "value": "3.00", "quantity": "20", "bought": "10",
+        "paid": "25.00", "sold": "0", "received": "0.00", "gain": "5.00", "possible": "15.00",
+        "efficiency": "1.0000", "payoff": "2.500",
+    }
+    assert (found[0]["practice"], found[0]["title"], found[0]["payoff"]) == ("yes", "Try it", "")
+    assert (found[5]["side"], found[5]["gain"]) == ("", "0.00")
+    assert [(it["gain"], it["payoff"]) for it in found[-3:]] == [
+        ("10.00", "10.00"), ("5.00", "7.50"), ("0.00", "5.00")
+    ]
+
+
+def test_the_trades(tmp_path: pathlib.Path) -> None:
+    with served.served(tmp_path, DAY) as venue:
+        lesson(venue)
+        text = download(venue, "trades")
+    assert text == (
+        "round,instrument,auction,trade,buyer,seller,quantity,price,amount\n"
+        "1,XYZ,opening,1,'=Anna,Bert,10,2.00,20.00\n"
+        "2,XYZ,opening,1,'=Anna,Bert,10,2.50,25.00\n"
+    )
+
+
+def test_the_report(tmp_path: pathlib.Path) -> None:
+    """As docs/VENUE.md starts the venue: by the folder python, without a built library."""
+    with served.served(tmp_path, DAY) as venue:
+        lesson(venue)
+        text = download(venue, "report")
+    heads = re.findall(r"<h2[^>]*>([^<]+)</h2>", text)
+    assert heads == ["Result", "Round 1 · Try it · practice", "Round 2"]
+    assert "Opening: price 2.50 EUR, 10 shares" in text
+    assert text.count("The record of 3 entries is legal.") == 2
+    assert text.count("Efficiency: 100 % of the greatest possible gain, 15.00 EUR") == 2
+    assert "limit 2.50 executes" in text.lower() or "2.50" in text
+    assert text.count("<img ") == 2
+    for cell in ("&#x27;=Anna", "Bert", "25.00", "7.50"):
+        assert f">{cell}</" in text
+
+
+def test_a_report_of_a_day_without_auctions(venue: Served) -> None:
+    assert "<h2" not in download(venue, "report")
+    venue.join("Anna")
+    venue.do("start")
+    venue.do("uncross")
+    assert "<img" not in download(venue, "report")
+    assert rows(download(venue, "trades")) == []
+
+
+def spreadsheet(venue: Served, kind: str, language: str) -> str:
+    """A download for a spreadsheet, with the mark of UTF-8 at its beginning."""
+    path = f"api/download/{kind}/XYZ?language={language}"
+    return str(venue.call(path, token=venue.operator)[1])
+
+
+def test_tables_for_a_german_spreadsheet(tmp_path: pathlib.Path) -> None:
+    """As a German spreadsheet reads numbers: 2,50 and no 2.50, which it takes for a date."""
+    with served.served(tmp_path, DAY) as venue:
+        lesson(venue)
+        trades, members = (spreadsheet(venue, it, "de") for it in ("trades", "members"))
+        results = spreadsheet(venue, "results", "de")
+        refused = venue.call("api/download/trades/XYZ?language=fr", token=venue.operator)
+    assert trades == (
+        "\ufeffRunde;Wertpapier;Auktion;Abschluss;Käufer;Verkäufer;Menge;Preis;Betrag\n"
+        "1;XYZ;Eröffnung;1;'=Anna;Bert;10;2,00;20,00\n"
+        "2;XYZ;Eröffnung;1;'=Anna;Bert;10;2,50;25,00\n"
+    )
+    assert members == "\ufeffNummer;Name\n1;'=Anna\n2;Bert\n"
+    head, first, *others = results.splitlines()
+    assert head == (
+        "\ufeffRunde;Titel;Übung;Wertpapier;Name;Roboter;Seite;Wert;Menge;gekauft;bezahlt;verkauft;"
+        "erhalten;Gewinn;möglicher Gewinn;Effizienz;Auszahlung"
+    )
+    assert first == "1;Try it;ja;XYZ;'=Anna;;Kauf;3,00;20;10;20,00;0;0,00;10,00;15,00;1,0000;"
+    assert others[-1] == "alle;;;;Carl;;;;;;;;;0,00;;;5,00"
+    assert refused[0] == 400
+
+
+def test_tables_for_an_english_spreadsheet(tmp_path: pathlib.Path) -> None:
+    """They are those for programs, with the mark by which Excel knows UTF-8."""
+    with served.served(tmp_path, DAY) as venue:
+        lesson(venue)
+        for kind in ("trades", "members", "results"):
+            assert spreadsheet(venue, kind, "en") == "\ufeff" + download(venue, kind)
+
+
+def test_the_report_in_german(tmp_path: pathlib.Path) -> None:
+    """Its sentences, its tables and its pictures; what is of no language stays."""
+    with served.served(tmp_path, DAY) as venue:
+        lesson(venue)
+        text = str(spreadsheet(venue, "report", "de"))
+    assert text.count('<html lang="de">') == 1
+    heads = re.findall(r"<h2[^>]*>([^<]+)</h2>", text)
+    assert heads == ["Ergebnis", "Runde 1 · Try it · Übung", "Runde 2"]
+    for words in (
+        "<h3>Eröffnung: Preis 2,50 EUR, 10 Stück</h3>",
+        "Effizienz: 100 % des größten möglichen Gewinns, 15,00 EUR.",
+        "<li>Nur Limits von Orders kommen infrage: 2,50.</li>",
+        "<li>Limit 2,50 führt am meisten aus: 10.</li>",
+        '<th scope="col">Auszahlung</th>',
+        "<td>7,50</td>",
+        'alt="Nachfrage und Angebot. Die Nachfrage bei 2,50,',
+    ):
+        assert words in text, words
+    assert text.count("Die Aufzeichnung von 3 Einträgen ist regelgemäß.") == 2
+    plain = re.sub(r"<style>.*?</style>|base64,[^\"]*", "", text, flags=re.DOTALL)
+    assert not re.search(r"\b(the|price|limit|gain|shares|reference|buyer)\b", plain)
+    assert not re.search(r"\d\.\d", plain)

@@ -1,0 +1,320 @@
+"""What a stranger may try at the FIX front, and a member who means no good: bytes that are no
+message, Logons of others, gaps that are asked for again and again and never read.
+"""
+import contextlib
+import pathlib
+import re
+import socket
+import ssl
+import subprocess
+import time
+from collections.abc import Callable, Iterator
+
+import fixing
+import psutil
+import pytest
+import served
+from callauction.venue.gates import STUCK_SECONDS
+from fixing import SOH, Closed, Pairs, Peer
+from served import Served
+from test_operations import certificate
+
+MEGABYTE = 1 << 20
+MOST_WAIT = 1.0
+"""Seconds that the order of another member waits meanwhile, at most, half of the time."""
+MOST_MORE = 96 * MEGABYTE
+"""How much more memory a venue may have for a member who reads nothing."""
+SMALL = 2048
+ORDERS, REQUESTS = 1500, 400
+"""Orders of a member, and how often it asks for all reports of them again."""
+
+
+class Fronted:
+    """A venue with a FIX front, and what its folder has."""
+
+    def __init__(self, venue: Served, port: int, folder: pathlib.Path) -> None:
+        self.venue, self.port, self.folder = venue, port, folder
+
+    def peer(self, member: str) -> Peer:
+        """A member who has logged on."""
+        found = Peer(self.port, member)
+        found.logon(self.password(member))
+        return found
+
+    def password(self, member: str) -> str:
+        """The password of a member."""
+        return fixing.token_of(self.folder, member)
+
+    def stores(self) -> dict[str, bytes]:
+        """The files of all sessions' stores."""
+        return {it.name: it.read_bytes() for it in sorted(self.folder.glob("FIX.4.4-*"))}
+
+    def answered(self, *said: bytes, seconds: float = 5.0) -> bytes:
+        """All that is answered to these bytes, until the connection is ended. Raises
+        TimeoutError.
+        """
+        found = b""
+        with socket.create_connection(("127.0.0.1", self.port), seconds) as peer:
+            with contextlib.suppress(ConnectionError):
+                for data in said:
+                    peer.sendall(data)
+                while block := peer.recv(1 << 16):
+                    found += block
+        return found
+
+
+@pytest.fixture
+def front(tmp_path: pathlib.Path) -> Iterator[Fronted]:
+    """A venue in a call, with two members by FIX, of whom ALICE was on and is off."""
+    port = served.free_port()
+    with served.served(tmp_path, fixing.day_of(port, "ALICE", "BOB")) as venue:
+        found = Fronted(venue, port, tmp_path / "venue")
+        venue.do("start")
+        first = found.peer("ALICE")
+        first.enter("a1", "1", 10, "2.00")
+        assert first.take(lambda it: it[35] == "8")[150] == "0"
+        first.close()
+        yield found
+
+
+def logon(member: str, *more: tuple[int, str], number: int = 3) -> bytes:
+    """A Logon."""
+    return fixing.written("A", number, member, [(98, "0"), (108, "30"), *more])
+
+
+def waits(peer: Peer, count: int = 20) -> float:
+    """How long the orders of a member take, half of them no longer."""
+    found = []
+    for _ in range(count):
+        begin = time.monotonic()
+        client = f"{peer.member}-{peer.number}"
+        peer.enter(client, "2", 1, "3.00")
+        peer.take(lambda it: it.get(11) == client)
+        found.append(time.monotonic() - begin)
+    return sorted(found)[count // 2]
+
+
+RESET = (141, "Y")
+HALVES = (b"8=FIX.4.4" + SOH + b"9=", b"\xff" * 999, b"GET / HTTP/1.1\r\n\r\n")
+STRANGERS: dict[str, Callable[[str], bytes]] = {
+    "no password": lambda password: logon("ALICE"),
+    "wrong password": lambda password: logon("ALICE", (554, "guess")),
+    "no text": lambda password: logon("ALICE", (554, "\xff\xfe\x80")),
+    "password of another": lambda password: logon("BOB", (554, password)),
+    "reset, wrong password": lambda password: logon("ALICE", RESET, (554, "guess"), number=1),
+    "reset, right password": lambda password: logon("ALICE", RESET, (554, password), number=1),
+    "unknown CompID": lambda password: logon("EVE", (554, password)),
+    "no Logon": lambda password: fixing.written("D", 3, "ALICE", [(554, password)]),
+    "another version": lambda password: logon("ALICE", (554, password)).replace(b"4.4", b"4.2"),
+    "wrong sum": lambda password: logon("ALICE", (554, password))[:-4] + b"999" + SOH,
+    "too long a body": lambda password: b"8=FIX.4.4" + SOH + b"9=99999999" + SOH + b"x" * 99_999,
+    "no end": lambda password: b"8=FIX.4.4" + SOH + b"9=5" * 40_000,
+    "no number": lambda password: b"8=FIX.4.4" + SOH + b"9=x" + SOH + b"35=A" + SOH + b"10=1" + SOH,
+}
+
+
+@pytest.mark.parametrize("kind", STRANGERS)
+def test_strangers_are_sent_nothing(front: Fronted, kind: str) -> None:
+    before = front.stores()
+    data = STRANGERS[kind](front.password("ALICE"))
+    assert front.answered(data, seconds=30.0) == b""
+    assert front.stores() == before
+    assert waits(front.peer("BOB"), 3) < MOST_WAIT
+
+
+def test_garbage_is_ended_in_time(front: Fronted) -> None:
+    beside = front.peer("BOB")
+    half = [socket.create_connection(("127.0.0.1", front.port)) for _ in range(40)]
+    for number, each in enumerate(half):
+        each.sendall(HALVES[number % 3])
+    assert waits(beside) < MOST_WAIT
+    for each in half:
+        each.settimeout(30)
+        with contextlib.suppress(ConnectionError):
+            assert each.recv(1) == b""
+        each.close()
+    assert waits(beside) < MOST_WAIT
+
+
+def test_a_session_is_on_one_connection(front: Fronted) -> None:
+    first = front.peer("BOB")
+    assert front.answered(logon("BOB", (554, front.password("BOB")), number=2)) == b""
+    assert waits(first, 3) < MOST_WAIT
+    first.close()
+    again = Peer(front.port, "BOB")
+    again.number, again.expected, again.sent = first.number, first.expected, first.sent
+    again.logon(front.password("BOB"))
+    assert waits(again, 3) < MOST_WAIT
+
+
+def refused(front: Fronted, more: Pairs) -> dict[int, str]:
+    """What a member is answered to an order with these fields."""
+    peer = front.peer("BOB")
+    peer.enter("b1", "1", 10, "2.00", *more)
+    return peer.take(lambda it: it[35] in "389j")
+
+
+@pytest.mark.parametrize("tag", [18, 110, 126, 99, 20000])
+def test_a_tag_that_is_unknown_is_refused(front: Fronted, tag: int) -> None:
+    found = refused(front, [(tag, "1")])
+    assert (found[35], found[45], found[371]) == ("3", "2", str(tag))
+
+
+@pytest.mark.parametrize("pair", [(59, "3"), (111, "x"), (111, "1.5"), (54, "5")])
+def test_values_that_are_not_taken_are_refused(front: Fronted, pair: tuple[int, str]) -> None:
+    peer = front.peer("BOB")
+    fields = [(11, "b1"), (55, "XYZ"), (54, "1"), (38, "9"), (40, "1"), (60, fixing.stamp())]
+    peer.say("D", [it for it in fields if it[0] != pair[0]] + [pair])
+    found = peer.take(lambda it: it[35] in "38")
+    assert found[35] == "3" or (found[150], found[39], found[37]) == ("8", "8", "NONE")
+
+
+@pytest.mark.parametrize("kind", ["8", "9", "W", "Y", "E", "AE", "q", "BE"])
+def test_other_types_are_refused(front: Fronted, kind: str) -> None:
+    peer = front.peer("BOB")
+    report: Pairs = [(37, "1"), (17, "x"), (150, "0"), (39, "0"), (55, "XYZ"), (54, "1")]
+    report += [(151, "0"), (14, "0"), (6, "0")]
+    others: dict[str, Pairs] = {
+        "8": report,
+        "9": [(37, "1"), (11, "x"), (41, "y"), (39, "0"), (434, "1")],
+        "W": [(55, "XYZ"), (268, "1"), (269, "0")],
+        "Y": [(262, "x")],
+    }
+    peer.say(kind, others.get(kind, [(58, "x")]))
+    found = peer.take(lambda it: it[35] in "3j")
+    assert (found[35], found[45], found[372], found[380]) == ("j", "2", kind, "3")
+    assert waits(peer, 3) < MOST_WAIT
+
+
+def test_a_refusal_is_not_refused(front: Fronted) -> None:
+    peer = front.peer("BOB")
+    peer.say("j", [(45, "1"), (372, "8"), (380, "0")])
+    assert peer.all() == []
+    assert waits(peer, 3) < MOST_WAIT
+
+
+def test_a_long_id_is_refused(front: Fronted) -> None:
+    peer = front.peer("BOB")
+    peer.enter("b" * 65, "1", 10, "2.00")
+    assert peer.take(lambda it: it[35] == "8")[58] == "ClOrdID has at most 64 letters"
+    peer.enter("\xff" * 64, "1", 10, "2.00")
+    assert peer.take(lambda it: it[35] == "8")[11] == "\xff" * 64
+
+
+def test_a_wrong_sum_is_passed_over_and_asked_for_again(front: Fronted) -> None:
+    peer = front.peer("BOB")
+    number = peer.number
+    spoiled = fixing.written("D", number, "BOB", [(11, "b1")])
+    peer.socket.sendall(spoiled[:-4] + b"%03d" % ((int(spoiled[-4:-1]) + 1) % 256) + SOH)
+    kind: Pairs = [(11, "b1"), (55, "XYZ"), (54, "1"), (60, fixing.stamp()), (38, "5"), (40, "1")]
+    peer.number, peer.sent[number] = number + 1, ("D", kind)
+    peer.enter("b2", "1", 6, "2.00")
+    assert peer.take(lambda it: it[35] == "8")[11] == "b1"
+    assert peer.take(lambda it: it[35] == "8")[11] == "b2"
+
+
+def test_a_removed_member_is_off(front: Fronted) -> None:
+    peer = front.peer("BOB")
+    front.venue.do("remove", member="BOB")
+    assert peer.take(lambda it: it[35] == "5")[58] == "this token is nobody's here"
+    with pytest.raises(Closed):
+        peer.take(lambda it: False, 20.0)
+    number = peer.number
+    assert front.answered(logon("BOB", (554, front.password("BOB")), number=number)) == b""
+    code = front.venue.do("readmit", member="BOB")["code"]
+    again = Peer(front.port, "BOB")
+    again.number, again.expected, again.sent = number, peer.expected, peer.sent
+    again.logon(front.venue.join("", code))
+    assert waits(again, 3) < MOST_WAIT
+
+
+def test_who_reads_nothing_holds_up_nobody(front: Fronted) -> None:
+    slow, beside = front.peer("BOB"), Peer(front.port, "ALICE")
+    for number in range(ORDERS):
+        slow.enter(f"b{number}", "2", 1, "3.00")
+        if number % 50 == 49:
+            slow.take(lambda it: it.get(11) == f"b{number}")
+    beside.number, beside.expected = 3, 3
+    beside.logon(front.password("ALICE"))
+    process = psutil.Process(front.venue.child.pid)
+    before, most = process.memory_info().rss, 0
+    slow.socket.setsockopt(socket.SOL_SOCKET, socket.SO_RCVBUF, SMALL)
+    asked = b"".join(
+        fixing.written("2", slow.number + it, "BOB", [(7, "1"), (16, "0")])
+        for it in range(REQUESTS)
+    )
+    slow.socket.settimeout(2 * STUCK_SECONDS)
+    slow.socket.sendall(asked)
+    last = time.monotonic() + 2 * STUCK_SECONDS
+    while is_on(process, front.port, slow.socket):
+        assert waits(beside, 5) < MOST_WAIT and time.monotonic() < last
+        most = max(most, process.memory_info().rss)
+        time.sleep(0.5)
+    assert most < before + MOST_MORE
+    assert waits(beside) < MOST_WAIT
+
+
+def is_on(process: psutil.Process, port: int, peer: socket.socket) -> bool:
+    """Whether the venue still has this connection."""
+    own = peer.getsockname()
+    return any(
+        it.laddr.port == port and it.raddr and it.raddr[:2] == own and it.status == "ESTABLISHED"
+        for it in process.connections()
+    )
+
+
+def test_tls(tmp_path: pathlib.Path) -> None:
+    port, words = served.free_port(), certificate(tmp_path, "first")
+    context = ssl.create_default_context(cafile=words[1])
+    context.check_hostname = False
+    with served.served(tmp_path, fixing.day_of(port, "ALICE"), *words):
+        password = fixing.token_of(tmp_path / "venue", "ALICE")
+        plain = Peer(port, "ALICE")
+        with pytest.raises((Closed, TimeoutError)):
+            plain.logon(password)
+        assert Peer(port, "ALICE", context).logon(password)[35] == "A"
+
+
+def said_of(folder: pathlib.Path, day: str, **more: str) -> tuple[int, str]:
+    """The status and the standard error of a venue that can't begin."""
+    (folder / "day.toml").write_text(day, "utf-8")
+    words = served.words_of("--day", folder / "day.toml", "--port", 0)
+    environment = served.environment(**more)
+    ran = subprocess.run(words, env=environment, capture_output=True, text=True, timeout=60)
+    return ran.returncode, ran.stderr
+
+
+def test_others_could_read_along(tmp_path: pathlib.Path) -> None:
+    day = fixing.day_of(9878, "ALICE").replace("127.0.0.1", "0.0.0.0")
+    text = "fix: 0.0.0.0 is reached from other machines: --tls-cert and --tls-key"
+    assert said_of(tmp_path, day) == (2, f"venue: {text}\n")
+
+
+def test_the_module_is_missing(tmp_path: pathlib.Path) -> None:
+    status, text = said_of(tmp_path, fixing.day_of(9878, "ALICE"), CALLAUCTION_FIX=str(tmp_path))
+    assert status == 2
+    assert re.fullmatch(
+        r"venue: \[fix\] needs the module of QuickFIX: apt-get install [a-z0-9 +-]+, then "
+        r"python3 -m callauction\.fix\.build\n",
+        text,
+    )
+
+
+@pytest.mark.parametrize(
+    "old, new, text",
+    [
+        ("ALICE =", '"A B" =', "fix: sessions: 'A B' is no CompID"),
+        ("ALICE =", "VENUE =", "fix: sessions: 'VENUE' is no CompID"),
+        ('= "ALICE"', '= ""', "fix: sessions: names '' is no name"),
+        ('= "ALICE"', '= "Teacher"', "fix: names 'Teacher' can't be read, or is a role's name"),
+        ('= "ALICE"', '= "BOB"', "fix: sessions: names isn't a list in which each name is once"),
+        ('ALICE = "ALICE"\nBOB = "BOB"', "", "fix: sessions has no CompID"),
+        ("127.0.0.1:9878", "9878", "fix: address '9878' isn't a text that may be here"),
+        ("127.0.0.1:9878", "127.0.0.1:99999", "fix: address is none such as \"127.0.0.1:9878\""),
+    ],
+)
+def test_bad_tables(tmp_path: pathlib.Path, old: str, new: str, text: str) -> None:
+    day = fixing.day_of(9878, "ALICE", "BOB")
+    assert old in day
+    status, found = said_of(tmp_path, day.replace(old, new))
+    assert status == 1 and text in found, found

@@ -1,0 +1,260 @@
+"""The FIX front among what else a venue has: pages and WebSocket of the same member, rounds,
+groups, interrupted uncrosses, limits, and an engine of QuickFIX as the client.
+"""
+import contextlib
+import pathlib
+import select
+import socket
+import time
+from collections.abc import Callable, Iterator
+
+import fixing
+import pytest
+import served
+from callauction.fix._quickfix import Engine
+from callauction.fix.tags import pairs_of
+from callauction.venue import Client
+from fixing import Message, Peer
+
+DICTIONARY = served.PACKAGE / "callauction/fix/FIX44.xml"
+SETTINGS = """[DEFAULT]
+ConnectionType=initiator
+HeartBtInt=30
+StartTime=00:00:00
+EndTime=00:00:00
+FileStorePath={store}
+DataDictionary={dictionary}
+[SESSION]
+BeginString=FIX.4.4
+SenderCompID={member}
+TargetCompID=VENUE
+"""
+
+
+class Initiator:
+    """A session of QuickFIX's initiator, whose bytes go by a socket of the test."""
+
+    def __init__(self, port: int, member: str, password: str, folder: pathlib.Path) -> None:
+        folder.mkdir(exist_ok=True)
+        text = SETTINGS.format(store=folder, dictionary=DICTIONARY, member=member)
+        self.session = f"FIX.4.4:{member}->VENUE"
+        self._engine, self._port, self._password = Engine(text), port, password
+        self.got: list[Message] = []
+        self.socket: socket.socket | None = None
+
+    def connect(self) -> None:
+        """Connects, and logs on."""
+        self.socket = socket.create_connection(("127.0.0.1", self._port))
+        self._number = self._engine.begin(self.session, self._password)
+        self.until(lambda: self._engine.is_logged_on(self.session))
+
+    def close(self) -> None:
+        """Ends the connection without a word."""
+        assert self.socket is not None
+        self.socket.close()
+        self._engine.lost(self._number)
+
+    def send(self, kind: str, pairs: fixing.Pairs) -> None:
+        """Sends a message, or leaves it to the next Logon."""
+        self._engine.send(self.session, kind, [*pairs, (60, fixing.stamp())])
+
+    def until(self, is_done: Callable[[], bool]) -> None:
+        """Goes on until something holds. Raises AssertionError where it doesn't in time."""
+        last = time.monotonic() + fixing.SECONDS
+        while not is_done():
+            assert time.monotonic() < last
+            self.step()
+
+    def step(self) -> None:
+        """Sends what waits to be sent, and takes what comes."""
+        assert self.socket is not None
+        for number, data, _ in self._engine.outgoing():
+            self.socket.sendall(data)
+        if select.select([self.socket], [], [], 0.05)[0]:
+            self._engine.feed(self._number, self.socket.recv(1 << 16))
+        for what, _, text in self._engine.drain():
+            if what == "message":
+                self.got.append(dict(pairs_of(text)))
+
+
+def order(client: str, side: str, shares: int, price: str) -> fixing.Pairs:
+    """A NewOrderSingle."""
+    pairs = [(11, client), (55, "XYZ"), (54, side), (38, str(shares)), (40, "2"), (44, price)]
+    return [(int(tag), value) for tag, value in pairs]
+
+
+def test_an_engine_of_quickfix(tmp_path: pathlib.Path) -> None:
+    """It is sent each report once, also what came while it was off; it goes on from its store."""
+    port, folder = served.free_port(), tmp_path / "venue"
+    with served.served(tmp_path, fixing.day_of(port, "ALICE", "BOB")) as venue:
+        venue.do("start")
+        passwords = {it: fixing.token_of(folder, it) for it in ("ALICE", "BOB")}
+        peer = Peer(port, "BOB")
+        peer.logon(passwords["BOB"])
+        mine = Initiator(port, "ALICE", passwords["ALICE"], tmp_path / "client")
+        mine.connect()
+        mine.send("D", order("a1", "1", 100, "2.00"))
+        mine.until(lambda: any(it[11] == "a1" for it in mine.got))
+        mine.close()
+        mine.send("D", order("a2", "1", 50, "2.01"))  # waits for the next Logon
+        peer.enter("b1", "2", 70, "1.99")
+        assert peer.take(lambda it: it[35] == "8")[150] == "0"
+        venue.do("uncross")
+        first = mine.got
+        del mine  # a process has a session once
+        mine = Initiator(port, "ALICE", passwords["ALICE"], tmp_path / "client")
+        mine.connect()
+        mine.until(lambda: len(mine.got) == 2)
+        venue.do("start")
+        mine.send("G", [(41, "a1"), *order("a3", "1", 120, "2.00")])
+        mine.until(lambda: len(mine.got) == 3)
+    kinds = [(it[11], it[150], it.get(32), it[151]) for it in first + mine.got]
+    assert kinds[0] == ("a1", "0", None, "100") and kinds[3] == ("a3", "5", None, "50")
+    assert sorted(kinds[1:3]) == [("a1", "F", "70", "30"), ("a2", "8", None, "0")]
+
+
+@contextlib.contextmanager
+def on(
+    folder: pathlib.Path, day: str, port: int, *members: str
+) -> Iterator[tuple[served.Served, list[Peer]]]:
+    """A venue of a day, and its members by FIX."""
+    with served.served(folder, day) as venue:
+        peers = [Peer(port, it) for it in members]
+        for it in peers:
+            it.logon(fixing.token_of(folder / "venue", it.member))
+        yield venue, peers
+
+
+def reports(peer: Peer) -> list[tuple[str, str, str, str]]:
+    """What comes of an instrument: ids, what happened, what is open."""
+    return [(it[17], it.get(11, ""), it[150], it[151]) for it in peer.all() if it[35] == "8"]
+
+
+def test_a_member_may_use_the_pages_too(tmp_path: pathlib.Path) -> None:
+    port = served.free_port()
+    with on(tmp_path, fixing.day_of(port, "ALICE"), port, "ALICE") as (venue, [peer]):
+        venue.do("start")
+        peer.enter("a1", "1", 100, "2.00")
+        assert reports(peer) == [("XYZ.1", "a1", "0", "100")]
+        with Client(venue.url, fixing.token_of(tmp_path / "venue", "ALICE")) as me:
+            assert me.enter("bid", 7, "2.02").reply == "entered 2"
+            assert me.delete(1).reply == "deleted"
+        assert reports(peer) == [("XYZ.2", "", "0", "7"), ("XYZ.3", "a1", "4", "0")]
+        peer.cancel("a1", "a2", "1")
+        found = peer.take(lambda it: it[35] == "9")
+        assert [found[it] for it in (37, 39, 102)] == ["1", "4", "0"]
+        assert found[58] == "refused 5 UnknownOrder"
+
+
+def test_the_next_round_ends_the_orders_of_the_last(tmp_path: pathlib.Path) -> None:
+    port = served.free_port()
+    with on(tmp_path, fixing.day_of(port, "ALICE"), port, "ALICE") as (venue, [peer]):
+        venue.do("start")
+        peer.enter("a1", "1", 100, "2.00")
+        assert reports(peer) == [("XYZ.1", "a1", "0", "100")]
+        venue.do("uncross")
+        venue.do("next", round=2)
+        found = peer.take(lambda it: it[35] == "8")
+        assert (found[17], found[150], found[151]) == ("XYZ.end.x1", "C", "0")
+        venue.do("start")
+        peer.enter("a2", "2", 9, "2.10")
+        assert reports(peer) == [("XYZ.round2.1", "a2", "0", "9")]
+
+
+def test_an_interrupted_uncross_ends_nothing(tmp_path: pathlib.Path) -> None:
+    port = served.free_port()
+    day = fixing.day_of(port, "ALICE") + '[[instrument]]\nname = "XYZ"\nrange = "0.10"\n'
+    with on(tmp_path, day, port, "ALICE") as (venue, [peer]):
+        venue.do("start")
+        peer.enter("a1", "1", 10, "3.00", (59, "2"))
+        peer.enter("a2", "2", 10, "3.00", (59, "2"))
+        assert [it[2] for it in reports(peer)] == ["0", "0"]
+        assert venue.do("uncross")["reply"].startswith("interrupted")
+        assert reports(peer) == []
+        venue.do("uncross")
+        assert reports(peer) == [("XYZ.4.1b", "a1", "F", "0"), ("XYZ.4.1a", "a2", "F", "0")]
+
+
+def test_a_member_of_a_group_has_its_board(tmp_path: pathlib.Path) -> None:
+    port = served.free_port()
+    names = ("ALICE", "BOB", "CAROL")
+    day = fixing.day_of(port, *names).replace("burst", "group = 2\nburst")
+    with on(tmp_path, day, port, *names) as (venue, peers):
+        venue.do("start")
+        found = []
+        for peer in peers:
+            peer.enter("1", "1", 10, "2.00")
+            found.append(peer.take(lambda it: it[35] == "8"))
+        assert {it[55] for it in found} == {"XYZ"}
+        assert {it[17].rpartition(".")[0] for it in found} == {"XYZ", "XYZ.2"}
+
+
+def test_no_session_begins_before_all_journals_are_known(tmp_path: pathlib.Path) -> None:
+    """A journal that was put back: what became of a member's messages isn't known then."""
+    port, folder = served.free_port(), tmp_path / "venue"
+    day = fixing.day_of(port, "ALICE")
+    with on(tmp_path, day, port, "ALICE") as (venue, [first]):
+        venue.do("start")
+        first.enter("a1", "1", 10, "2.00")
+        first.take(lambda it: it[35] == "8")
+        before = (folder / "XYZ.journal.csv").read_bytes().split(b"\0")[0]
+        first.enter("a2", "1", 20, "2.00")
+        first.take(lambda it: it.get(11) == "a2")
+    whole = (folder / "XYZ.journal.csv").read_bytes()
+    (folder / "XYZ.journal.csv").write_bytes(before)
+    with served.served(tmp_path, day) as venue:
+        with pytest.raises(fixing.Closed):
+            first.logon(fixing.token_of(folder, "ALICE"))
+        first.number -= 1
+        (folder / "XYZ.journal.csv").write_bytes(whole)
+        venue.do("resume")
+        last = time.monotonic() + fixing.SECONDS
+        while not is_taken(first, fixing.token_of(folder, "ALICE")):
+            assert time.monotonic() < last
+            time.sleep(0.2)
+        first.replace("a2", "a3", "1", 30, "2.01")
+        assert first.take(lambda it: it.get(11) == "a3")[17] == "XYZ.3"
+
+
+def is_taken(peer: Peer, password: str) -> bool:
+    """Whether a session takes a Logon now."""
+    try:
+        peer.logon(password)
+        return True
+    except fixing.Closed:
+        peer.number -= 1
+        return False
+
+
+def test_a_venue_for_members_by_fix_alone(tmp_path: pathlib.Path) -> None:
+    port = served.free_port()
+    day = fixing.day_of(port, "ALICE").replace("[members]", "[members]\nopen = false")
+    with on(tmp_path, day, port, "ALICE") as (venue, [peer]):
+        assert not venue.code
+        venue.do("start")
+        peer.enter("a1", "1", 10, "2.00")
+        assert reports(peer) == [("XYZ.1", "a1", "0", "10")]
+
+
+def test_who_is_too_fast_is_read_later(tmp_path: pathlib.Path) -> None:
+    port = served.free_port()
+    day = fixing.day_of(port, "ALICE").replace("100000\nburst = 100000", "20\nburst = 10")
+    with on(tmp_path, day, port, "ALICE") as (venue, [peer]):
+        venue.do("start")
+        begin = time.monotonic()
+        for number in range(30):
+            peer.enter(f"a{number}", "1", 1, "2.00")
+        peer.take(lambda it: it.get(11) == "a29")
+        assert 0.8 < time.monotonic() - begin < 20
+        assert [it[150] for it in peer.got] == ["0"] * 30
+
+
+@pytest.mark.parametrize("side", ["1", "2"])
+def test_limits_of_a_round_hold(tmp_path: pathlib.Path, side: str) -> None:
+    port = served.free_port()
+    day = fixing.day_of(port, "ALICE") + '[[round]]\nshares = 0\nmoney = "1.00"\n'
+    with on(tmp_path, day, port, "ALICE") as (venue, [peer]):
+        venue.do("start")
+        peer.enter("a1", side, 10, "2.00")
+        found = peer.take(lambda it: it[35] == "8")
+        assert (found[150], found[39], found[17]) == ("8", "8", "R.ALICE.2")

@@ -1,0 +1,380 @@
+"""Floods: half requests, bad messages, guessed codes. Each is bounded by what the others notice of
+it.
+"""
+import asyncio
+import contextlib
+import json
+import pathlib
+import resource
+import socket
+import sys
+import time
+from collections.abc import AsyncIterator, Iterator
+from typing import Any
+
+import aiohttp
+import psutil
+import pytest
+import pytest_asyncio
+import served
+from aiohttp import web
+from callauction.venue import AsyncClient, Client, VenueError, gates, rates
+from callauction.venue.gates import Gate, Gates, Stage
+from callauction.venue.rates import Guesses
+from conftest import FAST
+from served import Served
+from test_doors import hello, said
+
+HALF = b"GET / HTTP/1.1\r\nHost: 127.0.0.1\r\nX-Half: "
+HALF_BODY = (
+    b"POST /api/join HTTP/1.1\r\nHost: 127.0.0.1\r\nContent-Type: application/json\r\n"
+    b"Content-Length: 60000\r\n\r\n{"
+)
+FLOOD = 1024
+MOST_WAIT = 2.0
+"""Seconds that somebody else waits meanwhile, at most, half of the time."""
+MOST_SAID = 20
+"""Lines on standard error in the seconds of a flood."""
+
+
+# ---- half requests
+
+
+def few_files() -> None:
+    """Lets a process open as few files as many hosts do."""
+    resource.setrlimit(resource.RLIMIT_NOFILE, (FLOOD, FLOOD))
+
+
+@contextlib.contextmanager
+def flooded(venue: Served, text: bytes, count: int = FLOOD) -> Iterator[list[socket.socket]]:
+    """Connections that say this and nothing more."""
+    port = int(venue.url.rpartition(":")[2].rstrip("/"))
+    found: list[socket.socket] = []
+    soft, hard = resource.getrlimit(resource.RLIMIT_NOFILE)
+    resource.setrlimit(resource.RLIMIT_NOFILE, (min(hard, max(soft, 4 * count)), hard))
+    try:
+        for _ in range(count):
+            each = socket.create_connection(("127.0.0.1", port))
+            found.append(each)
+            with contextlib.suppress(OSError):
+                each.sendall(text)
+        yield found
+    finally:
+        for each in found:
+            each.close()
+        resource.setrlimit(resource.RLIMIT_NOFILE, (soft, hard))
+
+
+def calls_of(venue: Served, count: int = 20) -> list[float]:
+    """How long the teacher's calls take, each by a connection of its own."""
+    found = []
+    for _ in range(count):
+        begin = time.monotonic()
+        assert venue.call("api/operator", {"do": "show", "shows": "all"}, venue.operator)[0] == 200
+        found.append(time.monotonic() - begin)
+    return sorted(found)
+
+
+@pytest.mark.parametrize("text", [HALF, HALF_BODY, b""], ids=["heads", "bodies", "silence"])
+def test_half_requests_shut_out_nobody(tmp_path: pathlib.Path, text: bytes) -> None:
+    with served.served(tmp_path, FAST, before=few_files) as venue:
+        token = venue.join("Anna")
+        venue.do("start")
+        with Client(venue.url, token) as me, flooded(venue, text):
+            waits = calls_of(venue)
+            assert waits[len(waits) // 2] < MOST_WAIT and waits[-1] < 5 * MOST_WAIT, waits
+            assert me.enter("bid", 1, "2.00").entry == 1
+            assert venue.join("Bert")
+            files = psutil.Process(venue.child.pid).num_fds()
+            assert files < FLOOD - 100, files
+        venue.child.terminate()
+        _, error = venue.child.communicate(timeout=served.SECONDS)
+        assert served.unexpected(error) == [] and len(error.splitlines()) < MOST_SAID, error
+
+
+@pytest_asyncio.fixture
+async def slow(monkeypatch: pytest.MonkeyPatch) -> AsyncIterator[tuple[int, Gates]]:
+    """A page behind gates that wait for a fifth of a second, its port and its gates."""
+    for name in ("HEAD_SECONDS", "BODY_SECONDS", "IDLE_SECONDS"):
+        monkeypatch.setattr(gates, name, 0.2)
+    monkeypatch.setattr(gates, "SWEEP_SECONDS", 0.02)
+    application, found = web.Application(), Gates()
+
+    async def page(request: web.Request) -> web.Response:
+        with found.served(request.transport):
+            await asyncio.sleep(float(request.query.get("seconds", "0")))
+            return web.Response(text="x" * int(request.query.get("count", "2")))
+
+    application.router.add_get("/", page)
+    runner = web.AppRunner(application, access_log=None)
+    await runner.setup()
+    sockets = gates.listening("127.0.0.1", 0)
+    assert runner.server is not None
+    listener = gates.Listener(found, sockets, runner.server, None)
+    yield sockets[0].getsockname()[1], found
+    listener.close()
+    await runner.cleanup()
+
+
+@pytest.mark.asyncio
+@pytest.mark.parametrize("text", [HALF, b"", b"GET / HTTP/1.1\r\nHost: a\r\n\r\n"])
+async def test_who_says_nothing_more_is_sent_away(slow: tuple[int, Gates], text: bytes) -> None:
+    port, found = slow
+    begin = time.monotonic()
+    reader, writer = await asyncio.open_connection("127.0.0.1", port)
+    writer.write(text)
+    async with asyncio.timeout(served.SECONDS):
+        with contextlib.suppress(ConnectionError):
+            await reader.read()
+            while await reader.read():
+                pass
+    assert 0.1 < time.monotonic() - begin < 3
+    assert len(found) == 0
+    writer.close()
+
+
+@pytest.mark.asyncio
+async def test_who_waits_for_an_answer_is_not_sent_away(slow: tuple[int, Gates]) -> None:
+    port, _ = slow
+    async with aiohttp.ClientSession() as browser:
+        async with browser.get(f"http://127.0.0.1:{port}/?seconds=0.6") as answer:
+            assert await answer.text() == "xx"
+
+
+@pytest.mark.asyncio
+async def test_who_takes_a_long_answer_slowly_is_not_sent_away(slow: tuple[int, Gates]) -> None:
+    port, _ = slow
+    reader, writer = await asyncio.open_connection("127.0.0.1", port, limit=1 << 16)
+    writer.write(b"GET /?count=30000000 HTTP/1.1\r\nHost: a\r\nConnection: close\r\n\r\n")
+    taken = 0
+    async with asyncio.timeout(served.SECONDS):
+        while block := await reader.read(1 << 20):
+            taken += len(block)
+            await asyncio.sleep(0.002)
+    assert taken > 30_000_000
+    writer.close()
+
+
+@pytest.mark.asyncio
+async def test_a_network_of_ipv6_is_one_address() -> None:
+    found = Gates()
+    try:
+        sockets = gates.listening("::1", 0)
+    except OSError:
+        print("this host has no IPv6")
+        return
+    listener = gates.Listener(found, sockets, asyncio.Protocol, None)
+    _, writer = await asyncio.open_connection("::1", sockets[0].getsockname()[1])
+    async with asyncio.timeout(served.SECONDS):
+        while not len(found):
+            await asyncio.sleep(0.01)
+    assert [it.address for it in found._all] == ["::/64"]
+    writer.close()
+    listener.close()
+
+
+class Ended(Gate):
+    """A connection that isn't there."""
+
+    def close(self) -> None:
+        self.stage = Stage.SERVED
+
+
+def gate(address: str, stage: Stage = Stage.WAITING) -> Gate:
+    return Ended(address, socket.socket(), 0.0, stage)
+
+
+def test_the_oldest_of_the_same_address_gives_way() -> None:
+    found = Gates(10, 3)
+    own = [gate("a") for _ in range(3)]
+    others = [gate("b", Stage.KNOWN) for _ in range(5)]
+    for each in [*own, *others]:
+        assert found.enter(each)
+    last = gate("a")
+    assert found.enter(last) and len(found) == 8
+    assert found._all.keys() == {*own[1:], *others, last}
+    for each in (*own[1:], last):
+        each.stage = Stage.SERVED
+    assert not found.enter(gate("a"))
+    assert found.enter(gate("c"))
+
+
+def test_of_too_many_the_address_with_most_gives_way() -> None:
+    found = Gates(5, 4)
+    few, many = gate("few"), [gate("many") for _ in range(4)]
+    for each in (few, *many):
+        assert found.enter(each)
+    assert found.enter(gate("new"))
+    assert few in found._all and many[0] not in found._all
+
+
+# ---- codes
+
+
+@pytest.mark.asyncio
+async def test_a_right_code_waits_for_few_wrong_ones(monkeypatch: pytest.MonkeyPatch) -> None:
+    now = [0.0]
+    monkeypatch.setattr(rates, "TURNS", 200.0)
+    guesses = Guesses(lambda: now[0])
+    for place in range(rates.WRONG_BURST):
+        assert await guesses.turn(f"10.0.0.{place}", str(place))
+        guesses.wrong(f"10.0.0.{place}", str(place))
+    guesses.wrong("10.0.0.1", "1")
+    order: list[str] = []
+
+    async def guess(address: str, connection: str) -> None:
+        assert await guesses.turn(address, connection)
+        order.append(connection)
+
+    later = [asyncio.create_task(guess("10.0.0.1", "1")) for _ in range(20)]
+    await asyncio.sleep(0)
+    later.append(asyncio.create_task(guess("10.0.0.1", "of the same address")))
+    later.append(asyncio.create_task(guess("10.9.9.9", "of another")))
+    begin = time.monotonic()
+    await asyncio.gather(*later)
+    assert order[:2] == ["of another", "of the same address"]
+    assert time.monotonic() - begin >= 0.9 * len(later) / 200.0
+    now[0] = 100.0
+    assert await guesses.turn("10.0.0.1", "1")
+
+
+@pytest.mark.asyncio
+async def test_who_guesses_most_gives_way(monkeypatch: pytest.MonkeyPatch) -> None:
+    monkeypatch.setattr(rates, "TURNS", 1000.0)
+    monkeypatch.setattr(rates, "MOST_WAITING", 3)
+    guesses = Guesses(lambda: 0.0)
+    for _ in range(rates.WRONG_BURST + 1):
+        guesses.wrong("10.0.0.1", "guesser")
+    waiting = [asyncio.create_task(guesses.turn("10.0.0.1", "guesser")) for _ in range(3)]
+    await asyncio.sleep(0)
+    assert await guesses.turn("10.0.0.2", "student")
+    assert sorted(await asyncio.gather(*waiting)) == [False, True, True]
+
+
+def test_networks() -> None:
+    assert rates.network_of("10.0.0.1") == "10.0.0.1"
+    assert rates.network_of("2001:db8::1:2%eth0") == rates.network_of("2001:db8::9")
+    assert rates.network_of("2001:db8::9") == "2001:db8::/64"
+    assert rates.network_of("nothing") == "nothing"
+
+
+GUESSES, GUESSERS, STUDENTS = 400, 20, 60
+
+
+async def guess(web: aiohttp.ClientSession, url: str, code: str, name: str) -> int:
+    """The status of a try to join."""
+    async with web.post(f"{url}api/join", json={"code": code, "name": name}) as answer:
+        await answer.read()
+        return answer.status
+
+
+async def lesson(venue: Served) -> tuple[list[int], list[int], float]:
+    """What students and guessers of one address are answered, and how long the students took."""
+    own = aiohttp.TCPConnector(limit=0)
+    async with aiohttp.ClientSession() as bad, aiohttp.ClientSession(connector=own) as good:
+        stop = asyncio.Event()
+        wrong: list[int] = []
+
+        async def guesser() -> None:
+            while not stop.is_set():
+                wrong.append(await guess(bad, venue.url, "WRONGS", "x"))
+
+        guessers = [asyncio.create_task(guesser()) for _ in range(GUESSERS)]
+        while len(wrong) < rates.WRONG_BURST + 10:
+            await asyncio.sleep(0.05)
+        begin = time.monotonic()
+        right = await asyncio.gather(
+            *(guess(good, venue.url, venue.code, f"student {it}") for it in range(STUDENTS))
+        )
+        took = time.monotonic() - begin
+        stop.set()
+        await asyncio.gather(*guessers)
+        return right, wrong, took
+
+
+def test_a_class_joins_beside_guessers_of_its_address(tmp_path: pathlib.Path) -> None:
+    begin = time.monotonic()
+    with served.served(tmp_path, FAST) as venue:
+        right, wrong, took = asyncio.run(lesson(venue))
+        assert right == [200] * STUDENTS
+        assert took < STUDENTS / rates.TURNS + 5, took
+        seconds = time.monotonic() - begin
+        most = rates.WRONG_BURST + (rates.TURNS + rates.WRONG_RATE) * seconds
+        assert wrong.count(403) <= most, (wrong.count(403), seconds)
+    text = (tmp_path / "venue/venue.log").read_text()
+    lines = [json.loads(line) for line in text.splitlines()]
+    logged = [line for line in lines if line["kind"] == "wrong_code"]
+    assert len(logged) == wrong.count(403)
+    assert {line["from"] for line in logged} == {"127.0.0.1"} and "WRONGS" not in text
+
+
+# ---- messages
+
+
+BAD = """
+import asyncio, json, sys, aiohttp
+async def main(url, hello, text):
+    async with aiohttp.ClientSession() as web, web.ws_connect(url) as socket:
+        await socket.send_str(hello)
+        async def say():
+            while True:
+                await socket.send_str(text)
+        async def hear():
+            count = 0
+            async for message in socket:
+                count += json.loads(message.data)["type"] == "error"
+                print(count, flush=True)
+        await asyncio.gather(say(), hear())
+asyncio.run(main(*sys.argv[1:]))
+"""
+
+
+@pytest.mark.parametrize(
+    "text", ["no JSON", '{"type":"nothing"}', '{"type":"enter","number":1,"side":"x"}']
+)
+def test_bad_messages_count(tmp_path: pathlib.Path, text: str) -> None:
+    day = "sync = false\n[phases]\ncall = 0\n[members]\nrate = 20\nburst = 40"
+    with served.served(tmp_path, day) as venue:
+        bad, good = venue.join("Bad"), venue.join("Good")
+        venue.do("start")
+
+        async def talk() -> tuple[float, int, list[float]]:
+            words = ["-c", BAD, f"{venue.url}api/socket", hello(bad), text]
+            pipe = asyncio.subprocess.PIPE
+            child = await asyncio.create_subprocess_exec(sys.executable, *words, stdout=pipe)
+            assert child.stdout is not None
+            first = time.monotonic()
+            await child.stdout.readline()
+            waits = []
+            async with AsyncClient(venue.url, good) as me:
+                for _ in range(20):
+                    begin = time.monotonic()
+                    await me.enter("bid", 1, "2.00")
+                    waits.append(time.monotonic() - begin)
+                    await asyncio.sleep(0.15)
+            child.kill()
+            answers = (await child.stdout.read()).split()
+            await child.wait()
+            return time.monotonic() - first, int(answers[-1]), sorted(waits)
+
+        seconds, answers, waits = asyncio.run(talk())
+        assert answers < 60 + (20 + 10) * seconds, (answers, seconds)
+        assert waits[len(waits) // 2] < MOST_WAIT / 4, waits
+
+
+def test_what_the_operator_says_by_a_socket_counts(venue: Served) -> None:
+    text = json.dumps({"type": "enter", "number": 1})
+    heard: Any = asyncio.run(said(venue, hello(venue.beamer), *[text] * 45, count=46))
+    errors = [it["error"] for it in heard[1:]]
+    assert errors[0] == "not_allowed" and "too_fast" in errors
+
+
+def test_a_member_that_is_too_fast_is_told_so(tmp_path: pathlib.Path) -> None:
+    with served.served(tmp_path, "sync = false\n[members]\nrate = 1\nburst = 2") as venue:
+        token = venue.join("Anna")
+        venue.do("start")
+        with Client(venue.url, token) as me:
+            with pytest.raises(VenueError) as found:
+                for _ in range(4):
+                    me.enter("bid", 1, "2.00")
+            assert found.value.code == "too_fast"

@@ -1,0 +1,190 @@
+"""More members than one board has numbers for: groups with boards of their own."""
+import asyncio
+import collections
+import pathlib
+from typing import Any
+
+import aiohttp
+import judged
+import pytest
+import served
+from callauction.venue import AsyncClient, Client, VenueError
+from conftest import FAST
+from served import Served
+from test_doors import hello
+from test_rounds import cut, sees, value_of
+
+SMALL = FAST + "group = 3\n"
+
+
+def joined(venue: Served, count: int) -> list[str]:
+    """The tokens of new members."""
+    return [venue.join(f"member {place}") for place in range(count)]
+
+
+def groups_of(venue: Served) -> dict[str, int]:
+    """The groups of the members."""
+    return {it["name"]: it["group"] for it in sees(venue, "members")["members"]}
+
+
+def sizes(venue: Served) -> list[int]:
+    """How many members each group has."""
+    return sorted(collections.Counter(groups_of(venue).values()).values())
+
+
+async def orders(venue: Served, tokens: list[str]) -> list[str]:
+    """The replies to the first order of each of these members, and the names of their boards."""
+    found = []
+    for token in tokens:
+        async with AsyncClient(venue.url, token) as me:
+            answer = await me.enter("bid", 1, "2.00")
+            found.append(f"{me.instruments[0]['name']}: {answer.reply.split()[0]}")
+    return found
+
+
+def test_more_members_than_a_board_has_numbers(tmp_path: pathlib.Path) -> None:
+    with served.served(tmp_path, FAST) as venue:
+        tokens = joined(venue, 65)
+        assert sizes(venue) == [32, 33]
+        venue.do("start")
+        replies = collections.Counter(asyncio.run(orders(venue, tokens)))
+        assert sorted(replies) == ["XYZ.2: entered", "XYZ: entered"]
+        assert sorted(replies.values()) == [32, 33]
+        assert set(venue.do("uncross")["replies"]) == {"XYZ", "XYZ.2"}
+        for name in ("XYZ", "XYZ.2"):
+            journal = venue.call(f"api/download/journal/{name}", token=venue.operator)[1]
+            assert judged.is_lawful(journal) and len(judged.entries(journal)) in (33, 34)
+
+
+def test_several_instruments_have_no_groups_by_themselves(tmp_path: pathlib.Path) -> None:
+    day = FAST + '[[instrument]]\nname = "A"\n[[instrument]]\nname = "B"\n'
+    with served.served(tmp_path, day) as venue:
+        joined(venue, 64)
+        assert sizes(venue) == [64]
+
+
+def test_each_group_has_its_own_board(tmp_path: pathlib.Path) -> None:
+    with served.served(tmp_path, SMALL) as venue:
+        tokens = joined(venue, 4)
+        assert groups_of(venue) == {
+            "member 0": 1, "member 1": 2, "member 2": 1, "member 3": 2
+        }
+        venue.do("start")
+        with Client(venue.url, tokens[0]) as me, Client(venue.url, tokens[1]) as other:
+            me.enter("bid", 10, "2.50")
+            other.enter("ask", 10, "1.50")
+            assert me.look("state")["indication"]["ask"] is None
+            assert other.look("state", "XYZ")["instrument"] == "XYZ.2"
+            assert sees(venue, "welcome", tokens[1])["instruments"][0]["title"] == "XYZ · 2"
+            with pytest.raises(VenueError):
+                me.look("state", "XYZ.2")
+        replies = venue.do("uncross")["replies"]
+        assert replies == {"XYZ": "opening no price", "XYZ.2": "opening no price"}
+
+
+async def boards_shown(venue: Served, token: str, name: str) -> list[str]:
+    """The titles of the boards that somebody who was there before is shown once one more joins."""
+    async with aiohttp.ClientSession() as web, asyncio.timeout(served.SECONDS):
+        async with web.ws_connect(f"{venue.url}api/socket") as socket:
+            await socket.send_str(hello(token))
+            joining = None
+            while True:
+                message = await socket.receive_json()
+                if message["type"] != "welcome":
+                    continue
+                if joining is not None and len(message["instruments"]) > 1:
+                    await joining
+                    return [it["title"] for it in message["instruments"]]
+                joining = joining or asyncio.create_task(asyncio.to_thread(venue.join, name))
+
+
+@pytest.mark.parametrize("role", ["operator", "beamer"])
+def test_a_new_group_is_shown_to_who_is_there(tmp_path: pathlib.Path, role: str) -> None:
+    with served.served(tmp_path, SMALL) as venue:
+        joined(venue, 3)
+        titles = asyncio.run(boards_shown(venue, getattr(venue, role), "late"))
+        assert titles == ["XYZ · 1", "XYZ · 2"]
+
+
+def test_a_latecomer_finds_room(tmp_path: pathlib.Path) -> None:
+    with served.served(tmp_path, SMALL) as venue:
+        tokens = joined(venue, 3)
+        venue.do("start")
+        assert asyncio.run(orders(venue, tokens)) == ["XYZ: entered"] * 3
+        tokens += [venue.join("late")]
+        assert groups_of(venue)["late"] == 2
+        venue.do("uncross")
+        venue.do("start")
+        assert asyncio.run(orders(venue, tokens))[-1] == "XYZ.2: entered"
+
+
+def test_members_take_their_values_along(tmp_path: pathlib.Path) -> None:
+    """Also after a kill."""
+    with served.served(tmp_path, SMALL) as venue:
+        tokens = joined(venue, 3)
+        venue.do("give", low="1.00", high="3.00", quantity=7)
+        before = [value_of(venue, token) for token in tokens]
+        tokens.append(venue.join("late"))
+        assert sizes(venue) == [2, 2]
+        assert [value_of(venue, token) for token in tokens] == [*before, None]
+        groups = groups_of(venue)
+        venue.child.kill()
+        venue.child.wait()
+    with served.served(tmp_path, SMALL) as venue:
+        assert groups_of(venue) == groups
+        assert [value_of(venue, token) for token in tokens] == [*before, None]
+        sides = collections.Counter(
+            (groups[f"member {place}"], value["side"])
+            for place, value in enumerate(before) if value
+        )
+        assert max(sides.values()) == 1 + (len(sides) < 3)
+
+
+def test_one_press_goes_on_with_all_groups(tmp_path: pathlib.Path) -> None:
+    """A group that was interrupted is uncrossed alone."""
+    day = SMALL + '[[instrument]]\nrange = "0.10"\n'
+    with served.served(tmp_path, day) as venue:
+        tokens = joined(venue, 4)
+        venue.do("start")
+        with Client(venue.url, tokens[0]) as me, Client(venue.url, tokens[2]) as other:
+            me.enter("bid", 10, "3.00")
+            other.enter("ask", 10, "3.00")
+            replies: dict[str, Any] = venue.do("uncross")["replies"]
+            assert replies["XYZ"].startswith("interrupted")
+            assert replies["XYZ.2"] == "opening no price"
+            assert me.look("state")["phase"] == "extended"
+        assert set(venue.do("uncross", phase="extended")["replies"]) == {"XYZ"}
+
+
+def test_a_kill_while_a_group_opens(tmp_path: pathlib.Path) -> None:
+    with served.served(tmp_path, SMALL) as venue:
+        joined(venue, 4)
+        venue.child.kill()
+        venue.child.wait()
+        cut(tmp_path / "venue/venue.log", '"kind":"group"')
+    with served.served(tmp_path, SMALL) as venue:
+        assert sizes(venue) == [1, 3]
+        assert [venue.join(name) for name in ("Eve", "Fay")]
+        assert sizes(venue) == [3, 3]
+
+
+def test_groups_of_the_next_round(tmp_path: pathlib.Path) -> None:
+    """As many as the members need, who keep their values."""
+    with served.served(tmp_path, SMALL) as venue:
+        tokens = joined(venue, 6)
+        venue.do("give", low="1.00", high="3.00", quantity=7)
+        before = [value_of(venue, token) for token in tokens]
+        venue.do("remove", members=["member 0", "member 1"])
+        venue.do("next", round=2)
+        assert [value_of(venue, token) for token in tokens[2:]] == before[2:]
+        venue.do("remove", members=["member 2"])
+        venue.do("next", round=3)
+        assert sees(venue, "round")["groups"] == 1
+        assert [value_of(venue, token) for token in tokens[3:]] == before[3:]
+        venue.do("start")
+        replies = asyncio.run(orders(venue, tokens[3:]))
+        assert replies == ["XYZ: entered"] * 3
+        venue.child.kill()
+        venue.child.wait()
+    with served.served(tmp_path, SMALL) as venue:
+        assert asyncio.run(orders(venue, tokens[3:])) == replies

@@ -1,0 +1,230 @@
+"""Programs and disks that hang: the day halts and says so, others go on, and a signal ends the
+venue in time.
+"""
+import asyncio
+import contextlib
+import pathlib
+import signal
+import subprocess
+import sys
+import time
+from collections.abc import Iterator
+from typing import Any
+
+import judged
+import psutil
+import pytest
+import served
+from callauction.venue import AsyncClient, Client
+from callauction.venue.process import Process
+from conftest import FAST
+from served import Served
+
+TWO = FAST + '[[instrument]]\nname = "HUNG"\n[[instrument]]\nname = "SOUND"\n'
+ANSWER_SECONDS, END_SECONDS = 10.0, 5.0
+"""What a program may take to answer, and a venue to end."""
+LATE = 3.0
+"""How much later it may be seen on a machine that does much else."""
+MOST_WAIT = 1.0
+"""Seconds that an order of another instrument may wait meanwhile, half of the time."""
+HALTED = "the program hasn't answered for 10 s"
+
+
+def program_of(venue: Served, name: str) -> psutil.Process:
+    """The process of an instrument's program."""
+    [found] = [
+        child
+        for child in psutil.Process(venue.child.pid).children()
+        if f"{name}.journal.csv" in " ".join(child.cmdline())
+    ]
+    return found
+
+
+@contextlib.contextmanager
+def two(folder: pathlib.Path) -> Iterator[tuple[Served, str]]:
+    """A venue of two instruments in their calls, and a member's token."""
+    with served.served(folder, TWO) as venue:
+        token = venue.join("Anna")
+        for name in ("HUNG", "SOUND"):
+            venue.do("start", instrument=name)
+        yield venue, token
+
+
+async def hang(venue: Served, token: str) -> tuple[float, list[float], str]:
+    """An order to a program that hangs: when the day has halted, how long orders to the other one
+    waited until then, and why it halted.
+    """
+    async with AsyncClient(venue.url, token) as me, asyncio.timeout(served.SECONDS):
+        assert (await me.enter("bid", 1, "2.00", instrument="HUNG")).entry == 1
+        program_of(venue, "HUNG").suspend()
+        begin = time.monotonic()
+        late = asyncio.create_task(me.enter("bid", 2, "2.00", instrument="HUNG"))
+        waits = []
+        while (halted := (await me.look("state", "HUNG"))["halted"]) is None:
+            sent = time.monotonic()
+            await me.enter("bid", 1, "2.00", instrument="SOUND")
+            waits.append(time.monotonic() - sent)
+            await asyncio.sleep(0.1)
+        took = time.monotonic() - begin
+        assert not late.done()
+        await asyncio.to_thread(venue.do, "resume")
+        assert (await late).entry == 2
+        assert (await me.enter("bid", 3, "2.00", instrument="HUNG")).entry == 3
+        return took, waits, str(halted)
+
+
+def test_a_program_that_hangs(tmp_path: pathlib.Path) -> None:
+    with two(tmp_path) as (venue, token):
+        took, waits, halted = asyncio.run(hang(venue, token))
+        assert halted == HALTED
+        assert ANSWER_SECONDS - 1 < took < ANSWER_SECONDS + LATE, took
+        assert len(waits) > 20 and sorted(waits)[len(waits) // 2] < MOST_WAIT, waits
+        text = venue.call("api/download/journal/HUNG", token=venue.operator)[1]
+        assert judged.is_lawful(text) and len(judged.entries(text)) == 3
+
+
+def ends_in_time(child: "subprocess.Popen[str]") -> tuple[float, int, str]:
+    """How long a venue takes to end by a signal, its status, and what it says."""
+    begin = time.monotonic()
+    child.send_signal(signal.SIGTERM)
+    _, error = child.communicate(timeout=served.SECONDS)
+    return time.monotonic() - begin, child.returncode, error
+
+
+@pytest.mark.parametrize("is_asked", [False, True], ids=["idle", "with an order"])
+def test_a_venue_ends_while_its_program_hangs(tmp_path: pathlib.Path, is_asked: bool) -> None:
+    with two(tmp_path) as (venue, token):
+
+        async def ask() -> None:
+            async with AsyncClient(venue.url, token) as me:
+                assert (await me.enter("bid", 1, "2.00", instrument="HUNG")).entry == 1
+                program_of(venue, "HUNG").suspend()
+                if is_asked:
+                    task = asyncio.create_task(me.enter("bid", 2, "2.00", instrument="HUNG"))
+                    await asyncio.wait({task}, timeout=1)
+                    assert not task.done()
+                    task.cancel()
+
+        asyncio.run(ask())
+        child = program_of(venue, "HUNG")
+        took, status, error = ends_in_time(venue.child)
+        assert (status, error) == (0, "") and took < END_SECONDS, took
+        assert not child.is_running()
+    with served.served(tmp_path, TWO) as venue:
+        text = venue.call("api/download/journal/HUNG", token=venue.operator)[1]
+        assert judged.entries(text)[0] == ("1,enter,bid,1,200", "entered 1")
+
+
+HANGING = """
+import sys, threading
+from callauction.venue import log
+from callauction.venue.__main__ import main
+
+write = log.Log._write
+def hangs(self, data):
+    if b'"record":"1,enter,bid,77,' in data:
+        threading.Event().wait()
+    write(self, data)
+log.Log._write = hangs
+log.WRITE_SECONDS = 1.0
+sys.argv[0] = "venue"
+sys.exit(main())
+"""
+"""A venue whose log's disk hangs for good at an order of 77 shares."""
+
+
+def test_a_venue_ends_while_its_disk_hangs(tmp_path: pathlib.Path) -> None:
+    (tmp_path / "day.toml").write_text(FAST)
+    words = [sys.executable, "-c", HANGING, "--day", str(tmp_path / "day.toml")]
+    words += ["--folder", str(tmp_path / "venue"), "--port", str(served.free_port())]
+    pipe = subprocess.PIPE
+    with subprocess.Popen(
+        words, env=served.environment(), stdout=pipe, stderr=pipe, text=True
+    ) as child:
+        try:
+            venue = served.begun(child)
+            token = venue.join("Anna")
+            venue.do("start")
+            with Client(venue.url, token) as me:
+                assert me.enter("bid", 1, "2.00").entry == 1
+            halted = asyncio.run(until_halted(venue, token))
+            assert halted == (
+                "the venue's log can't be written: it waits for the disk for more than 1 s"
+            )
+            took, status, error = ends_in_time(child)
+            assert took < END_SECONDS, took
+            assert (status, error.splitlines()[-1]) == (
+                3, "venue: something didn't end within 4.5 s"
+            )
+        finally:
+            child.kill()
+
+
+async def until_halted(venue: Served, token: str) -> Any:
+    """Why the day halts at an order of 77 shares, to those who look."""
+    async with AsyncClient(venue.url, token) as me, asyncio.timeout(served.SECONDS):
+        task = asyncio.create_task(me.enter("bid", 77, "2.00"))
+        while (halted := (await me.look("state"))["halted"]) is None:
+            await asyncio.sleep(0.05)
+        task.cancel()
+        return halted
+
+
+NEVER_BEGINS = "#!/bin/sh\nexec sleep 1000\n"
+
+
+@pytest.mark.asyncio
+async def test_a_file_that_is_too_long_is_no_signal(tmp_path: pathlib.Path) -> None:
+    """A write that fails says to the program that a file may not be longer."""
+    program = tmp_path / "program"
+    look = f"grep SigIgn /proc/$$/status > {tmp_path}/ignored"
+    program.write_text(f"#!/bin/sh\n{look}\necho journal 0 entries >&2\ncat > /dev/null\n")
+    program.chmod(0o755)
+    process = Process([str(program)], lambda fault: None)
+    assert await process.start() == 0
+    await process.stop()
+    ignored = int((tmp_path / "ignored").read_text().split()[1], 16)
+    assert ignored >> (signal.SIGXFSZ - 1) & 1
+
+
+def test_a_program_that_never_begins(tmp_path: pathlib.Path) -> None:
+    path = tmp_path / "never"
+    path.write_text(NEVER_BEGINS)
+    path.chmod(0o755)
+    words = served.words_of("--folder", tmp_path / "venue", "--port", 0)
+    pipe = subprocess.PIPE
+    with subprocess.Popen(
+        words, env=served.environment(CALLBOARD=str(path)), stdout=pipe, stderr=pipe, text=True
+    ) as child:
+        while not (programs := psutil.Process(child.pid).children()):
+            time.sleep(0.05)
+        time.sleep(0.5)
+        took, status, error = ends_in_time(child)
+        assert took < END_SECONDS and (status, error) == (0, ""), (took, status, error)
+        assert not any(it.is_running() for it in programs)
+
+
+ENDING = """#!/bin/sh
+[ -e "{folder}/torn" ] && {{ echo "$(cat "{folder}/torn")" >&2; exit 1; }}
+exec "{program}" "$@"
+"""
+
+
+@pytest.mark.parametrize("text", ["journal changed by others", "journal X: not a journal"])
+def test_a_program_that_refuses_its_journal(tmp_path: pathlib.Path, text: str) -> None:
+    path = tmp_path / "ending"
+    path.write_text(ENDING.format(folder=tmp_path, program=served.program()))
+    path.chmod(0o755)
+    with served.served(tmp_path, FAST, CALLBOARD=str(path)) as venue:
+        token = venue.join("Anna")
+        venue.do("start")
+        with Client(venue.url, token) as me:
+            assert me.enter("bid", 1, "2.00").entry == 1
+            (tmp_path / "torn").write_text(text)
+            for child in psutil.Process(venue.child.pid).children():
+                child.kill()
+            last = time.monotonic() + served.SECONDS
+            while me.look("state")["halted"] is None:
+                assert time.monotonic() < last
+                time.sleep(0.02)
+            assert me.look("state")["halted"] == text

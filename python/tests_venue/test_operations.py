@@ -1,0 +1,606 @@
+"""What operations do: check a day, look at a venue, take certificates anew, copy a day and put it
+back.
+"""
+import asyncio
+import contextlib
+import json
+import logging
+import os
+import pathlib
+import random
+import re
+import shutil
+import signal
+import socket
+import ssl
+import subprocess
+import sys
+import time
+import urllib.error
+import urllib.request
+from collections.abc import Iterator
+from typing import Any
+
+import judged
+import psutil
+import pytest
+import served
+from callauction.venue import AsyncClient, Client, checking, copies, notices, process, serving
+from callauction.venue.__main__ import arguments
+from callauction.venue.latency import Times
+from callauction.venue.serving import Address, AddressError
+from conftest import FAST
+from prometheus_client.parser import text_string_to_metric_families
+from served import Served
+from test_doors import ended
+from test_robots import until
+
+# ---- --check
+
+
+def checked(*words: object) -> tuple[int, str, str]:
+    """The status of `--check`, and what it prints."""
+    ran = subprocess.run(
+        served.words_of("--check", *words),
+        env=served.environment(),
+        capture_output=True,
+        text=True,
+        timeout=served.SECONDS,
+    )
+    return ran.returncode, ran.stdout, ran.stderr
+
+
+def contents(folder: pathlib.Path) -> dict[str, bytes]:
+    return {it.name: it.read_bytes() for it in folder.iterdir()}
+
+
+def day_before(folder: pathlib.Path) -> list[object]:
+    """A day with ten orders, which has ended: the words that go on with it."""
+    with served.served(folder, FAST) as venue:
+        token = venue.join("Anna")
+        venue.do("start")
+        with Client(venue.url, token) as me:
+            for _ in range(10):
+                me.enter("bid", 1, "2.00")
+    return ["--day", folder / "day.toml", "--folder", folder / "venue"]
+
+
+@pytest.mark.parametrize("words", [("--port", "70000"), ("--metrics", "127.0.0.1:-1")])
+def test_a_port_that_is_none(words: tuple[str, str]) -> None:
+    status, _, error = checked(*words)
+    assert status == 2 and f"argument {words[0]}: invalid" in error
+
+
+def test_a_day_that_has_no_fault(tmp_path: pathlib.Path) -> None:
+    words = day_before(tmp_path)
+    before = contents(tmp_path / "venue")
+    status, printed, error = checked(*words)
+    assert (status, error) == (0, "")
+    lines = printed.splitlines()
+    assert lines[0] == "XYZ: 0.01 to 10.00 EUR by 0.01, 65536 commands"
+    assert lines[1] == "address: 127.0.0.1, without TLS"
+    assert lines[-1] == "XYZ: 10 entries"
+    assert contents(tmp_path / "venue") == before
+    status, printed, _ = checked("--folder", tmp_path / "new")
+    assert (status, printed.splitlines()[-1]) == (0, f"{tmp_path}/new: not there yet")
+    assert not (tmp_path / "new").exists()
+
+
+def test_each_fault_of_a_day(tmp_path: pathlib.Path) -> None:
+    words = day_before(tmp_path)
+    journal, token = tmp_path / "venue/XYZ.journal.csv", tmp_path / "venue/beamer.token"
+    right = journal.read_text()
+    journal.write_text("".join(right.splitlines(keepends=True)[:6]))
+    older = "XYZ: the journal is an older one: it has 5 entries, and the log knows of 10"
+    assert checked(*words) == (1, "", f"venue: {older}\n")
+    journal.write_text(right)
+    token.write_text("")
+    assert checked(*words)[::2] == (
+        1, f"venue: {token} holds no token: remove it, and the next start makes one\n"
+    )
+    token.unlink()
+    (tmp_path / "venue").chmod(0o770)
+    assert checked(*words)[0] == 2
+    (tmp_path / "day.toml").write_text("call = 3")
+    assert checked(*words)[0] == 1
+    (tmp_path / "day.toml").write_text("[[instrument]]\nhigh = 1000.00")
+    status, _, error = checked("--day", tmp_path / "day.toml", "--folder", tmp_path / "other")
+    assert status == 1 and "--high 100000 " in error and error.endswith(": bad bounds\n"), error
+    assert checked("--listen", "0.0.0.0")[0] == 2
+    assert not token.exists()
+
+
+# ---- certificates
+
+
+def certificate(folder: pathlib.Path, name: str, days: int = 2) -> list[str]:
+    """A certificate and its key, as words of a venue."""
+    cert, key = folder / "cert.pem", folder / "key.pem"
+    words = "openssl req -x509 -newkey ec -pkeyopt ec_paramgen_curve:prime256v1 -nodes"
+    files = ["-subj", f"/CN={name}", "-keyout", str(key), "-out", str(cert), "-days", str(days)]
+    named = ["-addext", "subjectAltName=IP:127.0.0.1"]
+    subprocess.run([*words.split(), *files, *named], check=True, capture_output=True)
+    return ["--tls-cert", str(cert), "--tls-key", str(key)]
+
+
+def seen(venue: Served) -> bytes:
+    """The certificate by which a venue is reached now."""
+    port = int(venue.url.rpartition(":")[2].rstrip("/"))
+    return ssl.PEM_cert_to_DER_cert(ssl.get_server_certificate(("127.0.0.1", port)))
+
+
+def test_a_certificate_is_taken_anew(tmp_path: pathlib.Path) -> None:
+    words = certificate(tmp_path, "first")
+    with served.served(tmp_path, FAST, *words, "--log", "json") as venue:
+        first = seen(venue)
+        certificate(tmp_path, "second")
+        assert seen(venue) == first
+        venue.child.send_signal(signal.SIGHUP)
+        until(lambda: seen(venue) != first)
+        second = seen(venue)
+        (tmp_path / "cert.pem").write_text("none")
+        venue.child.send_signal(signal.SIGHUP)
+        venue.child.send_signal(signal.SIGHUP)
+        assert seen(venue) == second
+        venue.child.terminate()
+        _, error = venue.child.communicate(timeout=served.SECONDS)
+        texts = [json.loads(line)["text"] for line in error.splitlines()]
+        assert "the certificate was taken anew" in texts
+        assert any(it.startswith("the certificate stays as it was: ") for it in texts)
+
+
+def test_an_ended_certificate(tmp_path: pathlib.Path, monkeypatch: pytest.MonkeyPatch) -> None:
+    words = certificate(tmp_path, "first", 30)
+    status, printed, _ = checked("--folder", tmp_path / "venue", *words)
+    assert status == 0 and "address: 127.0.0.1, by a certificate that ends in 30 days" in printed
+    now = time.time()
+    monkeypatch.setattr("callauction.venue.checking.time.time", lambda: now + 31 * checking.DAY)
+    with pytest.raises(AddressError, match="the certificate .*/cert.pem has ended"):
+        [*checking.checked_address(Address(cert=words[1], key=words[3]))]
+
+
+# ---- the unit
+
+
+UNIT = served.PACKAGE.parent / "packaging/debian/callboard-venue@.service"
+HARDENED = {
+    "NoNewPrivileges": "yes",
+    "ProtectSystem": "strict",
+    "ProtectHome": "yes",
+    "PrivateTmp": "yes",
+    "CapabilityBoundingSet": "",
+    "RestrictAddressFamilies": "AF_INET AF_INET6 AF_UNIX AF_NETLINK",
+    "User": "callboard",
+    "UMask": "0077",
+    "Type": "notify",
+}
+
+
+def test_the_unit_runs_a_venue(tmp_path: pathlib.Path) -> None:
+    """Its command lines are a venue's, which writes below its own folder alone."""
+    lines = [line.partition("=") for line in UNIT.read_text().splitlines() if "=" in line]
+    keys = {name: value for name, _, value in lines}
+    assert {name: keys[name] for name in HARDENED} == HARDENED
+    document = (UNIT.parents[2] / "docs/OPERATIONS.md").read_text()
+    options = re.findall("OPTIONS=(--[^'\n]*)", document)
+    assert len(options) == 2
+    for name in ("ExecStartPre", "ExecStart"):
+        python, words = keys[name].split(" -P -m callauction.venue ")
+        assert python == "/usr/bin/python3"
+        for option in options:
+            asked = arguments().parse_args(words.replace("$OPTIONS", option).split())
+            assert str(asked.folder).startswith(f"/var/lib/{keys['StateDirectory']}/")
+            assert asked.check == (name == "ExecStartPre") and asked.day.suffix == ".toml"
+    ends = int(keys["TimeoutStopSec"])
+    assert ends > serving.END_SECONDS and int(keys["TimeoutStartSec"]) > process.START_SECONDS
+
+
+def analyzed(*words: object) -> str:
+    """What systemd-analyze prints."""
+    command = ["systemd-analyze", *map(str, words)]
+    return subprocess.run(command, check=True, capture_output=True, text=True).stdout
+
+
+def test_systemd_takes_the_unit() -> None:
+    if shutil.which("systemd-analyze") is None:
+        print("there is no systemd here that could look at the unit")
+        return
+    analyzed("verify", UNIT)
+    analyzed("security", "--offline=true", "--threshold=20", UNIT)  # 2.0 of 10
+
+
+def calls_of(name: str) -> set[str]:
+    """The calls of the system in a set that systemd names."""
+    lines = (line.strip() for line in analyzed("syscall-filter", name).splitlines()[1:])
+    words = [line.split()[0] for line in lines if line and not line.startswith("#")]
+    sets = [calls_of(word) for word in words if word.startswith("@")]
+    return {word for word in words if not word.startswith("@")}.union(*sets)
+
+
+def test_the_unit_allows_what_a_venue_does(tmp_path: pathlib.Path) -> None:
+    if not (shutil.which("systemd-analyze") and shutil.which("strace")):
+        print("there is no systemd here, or no strace")
+        return
+    (tmp_path / "day.toml").write_text("")
+    words = ["--day", tmp_path / "day.toml", "--folder", tmp_path / "venue", "--log", "json"]
+    words += [*certificate(tmp_path, "venue"), "--port", served.free_port()]
+    words += ["--listen", "0.0.0.0", "--metrics", f"127.0.0.1:{served.free_port()}"]
+    trace = ["strace", "-f", "-qq", "-o", tmp_path / "trace"]
+    child = subprocess.Popen(
+        [*map(str, trace), *served.words_of(*words)],
+        env=served.environment(),
+        stdout=subprocess.PIPE,
+        stderr=subprocess.PIPE,
+        text=True,
+    )
+    served.begun(child)
+    [venue] = psutil.Process(child.pid).children()
+    venue.send_signal(signal.SIGHUP)
+    [program] = venue.children()
+    program.kill()
+    until(lambda: venue.children() not in ([], [program]))
+    venue.terminate()
+    child.communicate(timeout=served.SECONDS)
+    text = (tmp_path / "trace").read_text()
+    asked = {*re.findall(r"^\d+ +(\w+)\(", text, re.M)}
+    assert len(asked) > 30 and asked <= calls_of("@system-service") - calls_of("@privileged")
+    families = {*re.findall(r"\bsocket\((AF_\w+)", text)}
+    assert "AF_INET" in families and families <= {*HARDENED["RestrictAddressFamilies"].split()}
+
+
+# ---- what is looked at
+
+
+def looked(url: str) -> tuple[int, str]:
+    """The status and the text of a page."""
+    try:
+        with urllib.request.urlopen(url, timeout=served.SECONDS) as answer:
+            return answer.status, answer.read().decode()
+    except urllib.error.HTTPError as fault:
+        with fault:
+            return fault.code, fault.read().decode()
+
+
+def measured(url: str) -> dict[str, dict[tuple[str, ...], float]]:
+    """The samples of /metrics, by their names and the values of their labels."""
+    found: dict[str, dict[tuple[str, ...], float]] = {}
+    families: Any = text_string_to_metric_families
+    for family in families(looked(f"{url}/metrics")[1]):
+        for sample in family.samples:
+            found.setdefault(sample.name, {})[tuple(sample.labels.values())] = sample.value
+    return found
+
+
+def test_health_and_metrics(tmp_path: pathlib.Path) -> None:
+    port = served.free_port()
+    url = f"http://127.0.0.1:{port}"
+    with served.served(tmp_path, FAST, "--metrics", f"127.0.0.1:{port}") as venue:
+        anna, bert = venue.join("Anna"), venue.join("Bert")
+        assert looked(f"{url}/healthz") == (200, '{"status": "ok", "halted": {}}')
+        with urllib.request.urlopen(f"{url}/metrics") as answer:
+            assert answer.headers["X-Content-Type-Options"] == "nosniff"
+        venue.do("start")
+        with Client(venue.url, anna) as me, Client(venue.url, bert) as other:
+            for _ in range(5):
+                me.enter("bid", 10, "2.00")
+            other.enter("ask", 10, "2.00")
+            venue.do("uncross")
+            until(lambda: measured(url)["callboard_trades_total"][("XYZ",)] == 1)
+            found = measured(url)
+            assert found["callboard_up"] == {(): 1}
+            assert found["callboard_orders_total"] == {("XYZ",): 7}
+            assert found["callboard_phase"][("XYZ", "waiting")] == 1
+            assert sum(found["callboard_phase"].values()) == 1
+            assert found["callboard_halted"] == {("XYZ",): 0}
+            assert found["callboard_waiting"] == {("XYZ",): 0}
+            assert found["callboard_members"] == {(): 2}
+            assert found["callboard_members_connected"] == {(): 2}
+            assert found["callboard_answer_seconds_count"] == {("XYZ",): 7}
+            assert 0 < found["callboard_answer_seconds_sum"][("XYZ",)] < 60
+            room = os.statvfs(tmp_path)
+            assert found["callboard_disk_free_bytes"][()] == pytest.approx(
+                room.f_bavail * room.f_frsize, rel=0.1
+            )
+        assert venue.call("metrics")[0] == venue.call("healthz")[0] == 404
+        journal = tmp_path / "venue/XYZ.journal.csv"
+        journal.rename(tmp_path / "away")
+        for child in psutil.Process(venue.child.pid).children():
+            child.kill()
+        until(lambda: looked(f"{url}/healthz")[0] == 503)
+        why = {"XYZ": "the journal is missing, and the log knows of 7 entries"}
+        assert json.loads(looked(f"{url}/healthz")[1]) == {"status": "halted", "halted": why}
+        assert measured(url)["callboard_halted"] == {("XYZ",): 1}
+
+
+def test_times() -> None:
+    times = Times()
+    for seconds in (0.0005, 0.001, 0.0011, 0.2, 99.0):
+        times.add(seconds)
+    found = dict(times.buckets())
+    assert (found["0.001"], found["0.0025"], found["0.25"], found["10.0"]) == (2, 3, 4, 4)
+    assert found["+Inf"] == 5 and abs(times.total - 99.2026) < 1e-9
+
+
+def test_signs_of_life(tmp_path: pathlib.Path) -> None:
+    path = tmp_path / "notify"
+    with socket.socket(socket.AF_UNIX, socket.SOCK_DGRAM) as heard:
+        heard.bind(str(path))
+        heard.settimeout(served.SECONDS)
+        told = {"NOTIFY_SOCKET": str(path), "WATCHDOG_USEC": "200000"}
+        with served.served(tmp_path, FAST, before=None, **told) as venue:
+            assert [heard.recv(100) for _ in range(3)] == [b"READY=1", b"WATCHDOG=1", b"WATCHDOG=1"]
+            venue.child.terminate()
+            while (text := heard.recv(100)) == b"WATCHDOG=1":
+                pass
+            assert text == b"STOPPING=1"
+
+
+def test_what_is_said_as_json(tmp_path: pathlib.Path) -> None:
+    with served.served(tmp_path, FAST, "--log", "json", "--hide-tokens") as venue:
+        assert venue.operator == venue.beamer == "TOKEN"
+        secret = (tmp_path / "venue/operator.token").read_text().strip()
+        assert venue.call("api/join", {"code": venue.code, "name": "Anna"})[0] == 200
+        assert venue.call("api/join", {"code": "WRONGS", "name": "Eve"})[0] == 403
+        venue.child.terminate()
+        printed, error = venue.child.communicate(timeout=served.SECONDS)
+        assert secret not in printed + error
+    lines = [json.loads(line) for line in error.splitlines()]
+    assert all({"time", "level", "text"} <= it.keys() for it in lines)
+    [joined] = [it for it in lines if it.get("member")]
+    assert (joined["level"], joined["member"]) == ("info", "Anna")
+    assert "a wrong code, from 127.0.0.1" in [it["text"] for it in lines]
+
+
+def test_a_fault_that_comes_again_is_one_line_a_second() -> None:
+    now = [10.0]
+    sparing = notices.Sparing(lambda: now[0])
+    form = notices.Plain()
+    written = []
+    for second in range(3):
+        for number in range(1000):
+            record = logging.LogRecord("a", 40, "", 1, "no %s\nhere", (number,), None)
+            if sparing.filter(record):
+                written.append(form.format(record))
+        other = logging.LogRecord("a", 40, "", 1, "another", (), None)
+        assert sparing.filter(other)
+        now[0] += 1.0
+    again = " (and 999 times more)"
+    assert written == ["venue: no 0 here", f"venue: no 0 here{again}", f"venue: no 0 here{again}"]
+    for place in range(notices.MOST_KINDS * 2):
+        assert sparing.filter(logging.LogRecord("a", 40, "", 1, f"kind {place}", (), None))
+
+
+# ---- copies
+
+
+def copied(folder: pathlib.Path, to: pathlib.Path) -> str:
+    """What `backup` prints."""
+    return ran("backup", folder, to)
+
+
+def ran(name: str, *words: object, status: int = 0) -> str:
+    """What a command for copies prints."""
+    done = subprocess.run(
+        [sys.executable, "-P", "-m", f"callauction.venue.{name}", *map(str, words)],
+        env=served.environment(),
+        capture_output=True,
+        text=True,
+        timeout=served.SECONDS,
+    )
+    assert done.returncode == status, done.stderr
+    return done.stdout + done.stderr
+
+
+async def trade(url: str, token: str, answered: list[int], stop: asyncio.Event) -> None:
+    """Sends orders until it is to stop; the entries that were answered."""
+    async with AsyncClient(url, token) as me:
+        while not stop.is_set():
+            answered.append((await me.enter("bid", 1, "2.00")).entry)
+
+
+TWO = FAST + '[[instrument]]\nname = "XYZ"\n[[instrument]]\nname = "ABC"\n'
+COPIES = 6
+
+
+def test_copies_of_a_day_that_runs(tmp_path: pathlib.Path) -> None:
+    """Each copy has what was answered before it began, is lawful, and is gone on with."""
+    known: list[int] = []
+    with served.served(tmp_path, FAST) as venue:
+        token = venue.join("Anna")
+        venue.do("start")
+
+        async def copy_often() -> None:
+            answered: list[int] = []
+            stop = asyncio.Event()
+            robot = asyncio.create_task(trade(venue.url, token, answered, stop))
+            for place in range(COPIES):
+                await asyncio.sleep(random.random())
+                known.append(len(answered))
+                await asyncio.to_thread(copied, tmp_path / "venue", tmp_path / f"copy{place}")
+            stop.set()
+            await robot
+
+        asyncio.run(copy_often())
+    assert known[-1] > 10
+    for place, least in enumerate(known):
+        copy, again = tmp_path / f"copy{place}", tmp_path / f"again{place}"
+        printed = ran("restore", copy, again)
+        journal = (again / "XYZ.journal.csv").read_text()
+        entries = judged.entries(journal)
+        assert f"1 journals with {len(entries)} entries" in printed
+        assert len(entries) >= least and judged.is_lawful(journal)
+        assert {it.stat().st_mode & 0o777 for it in again.iterdir()} == {0o600}
+    with goes_on(tmp_path, again) as restored:
+        with Client(restored.url, token) as me:
+            assert me.enter("bid", 1, "2.00").entry == len(entries) + 1
+
+
+@contextlib.contextmanager
+def goes_on(folder: pathlib.Path, place: pathlib.Path) -> Iterator[Served]:
+    """A venue that goes on in this folder."""
+    words = ["--day", folder / "day.toml", "--folder", place, "--port", served.free_port()]
+    found = served.started(*words)
+    try:
+        yield found
+        found.end()
+    finally:
+        found.child.kill()
+        found.child.communicate()
+
+
+def test_a_copy_that_was_changed_is_refused(tmp_path: pathlib.Path) -> None:
+    day_before(tmp_path)
+    copy, place = tmp_path / "copy", tmp_path / "place"
+    assert copied(tmp_path / "venue", copy).startswith("1 journals with 10 entries, ")
+    journal = copy / "XYZ.journal.csv"
+    right = journal.read_text()
+    journal.write_text(right.replace("entered 3", "entered 4"))
+    text = ran("restore", copy, place, status=1)
+    assert text == f"restore: {copy} isn't the copy that was made: its SHA256SUMS says otherwise\n"
+    files = {it.name: it.read_bytes() for it in copy.iterdir() if it.name != copies.SUMS}
+    (copy / copies.SUMS).write_bytes(copies.sums_of(files))
+    assert "XYZ.journal.csv" in ran("restore", copy, place, status=1)
+    journal.write_text(right)
+    assert not place.exists()
+    files["XYZ.journal.csv"] = right.encode()
+    (copy / copies.SUMS).write_bytes(copies.sums_of(files))
+    ran("restore", copy, place)
+    assert "is there already" in ran("restore", copy, place, status=1)
+    (copy / copies.SUMS).unlink()
+    assert "isn't the copy" in ran("restore", copy, tmp_path / "other", status=1)
+
+
+def hostile(copy: pathlib.Path, what: str) -> None:
+    """Changes a copy, and its sums, as somebody may who wants harm."""
+    log = copy / "venue.log"
+    if what == "link":
+        (copy / "x").symlink_to("/etc/passwd")
+    elif what == "linked log":
+        log.rename(copy.with_name("log"))
+        log.symlink_to(copy.with_name("log"))
+    elif what == "endless":
+        (copy / "x").symlink_to("/dev/zero")
+    elif what == "pipe":
+        os.mkfifo(copy / "x")
+    elif what == "folder":
+        (copy / "x").mkdir()
+    elif what == "name":
+        (copy / "a\nb").touch()
+    elif what == "large":
+        with open(copy / "x", "wb") as large:
+            large.truncate(copies.MOST_BYTES + 1)
+    elif what == "token":
+        (copy / "operator.token").write_text("known\n")
+    elif what == "no log":
+        log.unlink()
+    else:
+        log.write_text(f"{log.read_text()}{what}\n")
+    plain = [it for it in copy.iterdir() if it.is_file() and not it.is_symlink()]
+    rows = {it.name: it.read_bytes() for it in plain if it.name not in (copies.SUMS, "x")}
+    (copy / copies.SUMS).write_bytes(copies.sums_of(rows))
+
+
+HOSTILE = {
+    "link": "is a link",
+    "linked log": "is a link",
+    "endless": "is a link",
+    "pipe": "is no regular file",
+    "folder": "is no regular file",
+    "name": "is no name that a file of a day has",
+    "large": "has more than 1073741824 bytes",
+    "token": "holds no token",
+    "no log": "has no venue.log",
+    '{"kind":' + "[" * 100_000: "is no line of a log",
+    '{"kind":"start"}': "is no line of a log",
+    '{"kind":"mark","instrument":"XYZ","entries":"x"}': "is no line of a log",
+    '{"kind":"mark","instrument":[1],"entries":9}': "is no line of a log",
+    '{"kind":"mark","instrument":"XYZ","entries":' + "9" * 5000 + "}": "is no line of a log",
+}
+
+
+def test_a_hostile_copy_is_refused(tmp_path: pathlib.Path) -> None:
+    day_before(tmp_path)
+    copied(tmp_path / "venue", tmp_path / "copy")
+    for what, text in HOSTILE.items():
+        copy, place = tmp_path / "hostile", tmp_path / "place"
+        shutil.copytree(tmp_path / "copy", copy)
+        hostile(copy, what)
+        words = [sys.executable, "-m", "callauction.venue.restore", str(copy), str(place)]
+        done = subprocess.run(
+            words, env=served.environment(), capture_output=True, text=True, timeout=60
+        )
+        assert done.returncode in (1, 3) and text in done.stderr, (what[:80], done.stderr)
+        assert done.stderr.count("\n") == 1
+        assert not place.exists() and not (tmp_path / "place.new").exists()
+        shutil.rmtree(copy)
+        (tmp_path / "log").unlink(missing_ok=True)
+    assert "is there already" in ran("restore", tmp_path / "copy", "/", status=1)
+
+
+@pytest.mark.parametrize(
+    "line",
+    [
+        {"kind": "removed", "name": "nobody"},
+        {"kind": "rename", "name": "nobody", "title": "x"},
+        {"kind": "round", "round": 2, "groups": 1, "treatment": {}},
+        {"kind": "dealt", "round": 9},
+        {"kind": "sent", "instrument": "XYZ", "member": "Anna", "number": "1", "record": ""},
+        {"kind": "code", "name": 5, "code": "ABC"},
+        {"kind": ["start"]},
+    ],
+)
+def test_a_log_that_says_what_cant_be(tmp_path: pathlib.Path, line: dict[str, Any]) -> None:
+    words = day_before(tmp_path)
+    with open(tmp_path / "venue/venue.log", "a", encoding="utf-8") as log:
+        log.write(json.dumps(line) + "\n")
+    before = contents(tmp_path / "venue")
+    status, error = ended(*words, "--port", 0)
+    assert status == 1 and error.startswith("venue: ") and error.count("\n") == 1, error
+    assert "line" in error and "of a log" in error or "of the log" in error
+    after = contents(tmp_path / "venue")
+    assert after["venue.log"].startswith(before["venue.log"])
+    assert after["XYZ.journal.csv"] == before["XYZ.journal.csv"]
+
+
+def test_a_day_whose_journal_was_put_back_isnt_copied(tmp_path: pathlib.Path) -> None:
+    day_before(tmp_path)
+    journal = tmp_path / "venue/XYZ.journal.csv"
+    right = journal.read_text()
+    journal.write_text("".join(right.splitlines(keepends=True)[:5]))
+    text = ran("backup", tmp_path / "venue", tmp_path / "copy", status=1)
+    assert text == (
+        "backup: XYZ.journal.csv is missing, or older than what venue.log knows of it\n"
+    )
+    journal.write_text(right.replace("enter,bid,1,200,entered 3", "enter,bid,2,200,entered 3"))
+    text = ran("backup", tmp_path / "venue", tmp_path / "copy", status=1)
+    assert text == "backup: XYZ.journal.csv isn't the journal of which venue.log knows\n"
+    assert "no folder of a venue" in ran("backup", tmp_path, tmp_path / "copy", status=1)
+    assert not (tmp_path / "copy").exists()
+
+
+def lines_of(*lines: dict[str, Any]) -> bytes:
+    return "".join(json.dumps(line) + "\n" for line in lines).encode()
+
+
+def sent(name: str, number: int) -> dict[str, Any]:
+    return {"kind": "sent", "instrument": name, "member": "Anna", "number": number,
+            "record": f"1,delete,{number}"}
+
+
+def test_a_copy_is_of_one_moment() -> None:
+    """Of a log that is ahead of one journal, and another journal that is ahead of that log."""
+    first = [{"kind": "start", "instrument": name, "entries": 0} for name in "AB"]
+    log = [*first, sent("A", 1), sent("B", 1), sent("A", 2),
+           {"kind": "mark", "instrument": "A", "entries": 2}, sent("B", 2)]
+    day = b"day,1,2,1,4,9,9,\n"
+    files = {
+        "venue.log": lines_of(*log),
+        "A.journal.csv": day + b"1,delete,1,deleted\n",
+        "B.journal.csv": day + b"1,delete,1,deleted\n1,delete,2,deleted\n",
+    }
+    found = copies.consistent(files, begun=2)
+    assert found["venue.log"] == lines_of(*log[:5])
+    assert found["A.journal.csv"] == files["A.journal.csv"]
+    assert found["B.journal.csv"] == day + b"1,delete,1,deleted\n"
+    with pytest.raises(copies.CopyError):
+        copies.consistent(files)

@@ -1,0 +1,271 @@
+"""What the teacher does on its page beside the auction: rounds, messages, payoffs, members, the
+door, robots; and what members and the screen see of it.
+"""
+import contextlib
+import pathlib
+from collections.abc import Iterator
+from typing import Any
+
+import pytest
+import served
+from browsing import SCREEN, Page, enters, joins, opened
+from callauction.venue import Client
+from conftest import FAST
+
+DAY = f"""
+title = "Rounds"
+{FAST}
+[[round]]
+title = "Warming up"
+practice = true
+values = "none"
+[[round]]
+title = "Open book"
+book = "open"
+covered = true
+"""
+
+
+@pytest.fixture(scope="module")
+def lesson(tmp_path_factory: pytest.TempPathFactory) -> Iterator[dict[str, Any]]:
+    """A venue with a member on its page, another one, the teacher and the beamer."""
+    folder = tmp_path_factory.mktemp("lesson")
+    with contextlib.ExitStack() as stack:
+        venue = stack.enter_context(served.served(folder, DAY))
+        found: dict[str, Any] = {"venue": venue}
+        for name, path, size in (("anna", "", (390, 844)),
+                                 ("teacher", f"teacher#{venue.operator}", SCREEN),
+                                 ("beamer", f"beamer#{venue.beamer}", SCREEN)):
+            found[name] = stack.enter_context(opened(folder / name, venue.url + path, size))
+        joins(found["anna"], venue.code, "Anna")
+        found["bert"] = venue.join("Bert")
+        yield found
+
+
+def answers(page: Page, written: str = "") -> None:
+    """Says yes to a question, perhaps with what it asks for."""
+    page.waits(lambda it: it.shows("asking"))
+    if written:
+        page.types(**{"asking-field": written})
+    page.clicks("#asking-yes")
+    page.waits(lambda it: not it.shows("asking"))
+
+
+def row_of(page: Page, name: str) -> list[str]:
+    """The row of a member, empty where it has none."""
+    return next((row for row in page.rows("members") if row[1] == name), [])
+
+
+def test_what_a_round_is(lesson: dict[str, Any]) -> None:
+    anna, beamer = lesson["anna"], lesson["beamer"]
+    wanted = "Round 1 · Warming up · practice, it doesn't count. The book is closed."
+    anna.waits(lambda it: it.text("round") == wanted)
+    beamer.waits(lambda it: it.text("round").endswith("practice, it doesn't count"))
+
+
+def test_a_message_to_all(lesson: dict[str, Any]) -> None:
+    teacher = lesson["teacher"]
+    teacher.clicks("#tab-settings")
+    teacher.types(announced="Harvest is bad: fewer apples.")
+    teacher.clicks("#announcing button")
+    for name in ("anna", "beamer"):
+        lesson[name].waits(lambda it: it.text("message") == "Harvest is bad: fewer apples.")
+    teacher.types(announced="")
+    teacher.clicks("#announcing button")
+    lesson["anna"].waits(lambda it: not it.shows("message"))
+
+
+def test_values_are_taken_away_after_a_question(lesson: dict[str, Any]) -> None:
+    venue, teacher, anna = lesson["venue"], lesson["teacher"], lesson["anna"]
+    teacher.clicks("#tab-values")
+    teacher.types(low="4.00", high="3.00")
+    teacher.clicks("#giving button")
+    teacher.waits(lambda it: it.text("give-said") == "Low is above high.")
+    teacher.types(low="3.00", high="3.00", quantity="1,000")
+    teacher.clicks("#giving button")
+    teacher.waits(lambda it: it.text("give-said") == "Values handed out: 2.")
+    anna.waits(lambda it: "1,000 shares" in it.text("value"))
+    teacher.types(quantity="50")
+    teacher.clicks("#giving button")
+    teacher.waits(lambda it: it.shows("asking"))
+    teacher.clicks("#asking-no")
+    assert venue.call("api/look/fills", token=lesson["bert"])[1]["value"]["quantity"] == 1000
+    teacher.clicks("#giving button")
+    answers(teacher)
+    anna.waits(lambda it: "50 shares" in it.text("value"))
+    venue.join("Carl")
+    teacher.find("#whom").send_keys("those who have no value")
+    teacher.clicks("#giving button")
+    teacher.waits(lambda it: it.text("give-said") == "Values handed out: 1.")
+    assert "50 shares" in anna.text("value")
+
+
+def test_the_next_round(lesson: dict[str, Any]) -> None:
+    venue, teacher, anna = lesson["venue"], lesson["teacher"], lesson["anna"]
+    teacher.clicks("[data-do=start]")
+    anna.waits(lambda it: not it.is_off("#send"))
+    assert teacher.is_off("#next-round")
+    enters(anna, "bid", "10", "3.00")
+    teacher.clicks("[data-do=uncross]")
+    teacher.waits(lambda it: not it.is_off("#next-round"))
+    teacher.clicks("#next-round")
+    answers(teacher)
+    anna.waits(lambda it: it.text("round") == (
+        "Round 2 · Open book. Everybody sees the book. Orders beyond one's value are refused."))
+    anna.waits(lambda it: it.rows("orders") == [] and "50 shares" in it.text("value"))
+    venue.do("give", values=[
+        {"member": "Anna", "side": "bid", "price": "3.00", "quantity": 50},
+        {"member": "Bert", "side": "ask", "price": "1.00", "quantity": 50}], to="all", replace=True)
+    teacher.clicks("[data-do=start]")
+    anna.waits(lambda it: not it.is_off("#send"))
+    with Client(venue.url, lesson["bert"]) as bert:
+        bert.enter("ask", 20, "2.00")
+    anna.waits(lambda it: it.shows("booking") and "supply" in it.text("book"))
+    anna.clicks("input[value=bid]")
+    anna.types(quantity="51", price="3.00")
+    anna.clicks("#send")
+    anna.waits(lambda it: it.text("said").startswith("Your value doesn't cover these shares"))
+    enters(anna, "bid", "30", "2.50")
+    teacher.clicks("[data-do=uncross]")
+    anna.waits(lambda it: it.text("own-result") == "You bought 20 at 2.50.")
+    anna.waits(lambda it: "30 of them are left. Your gain: 10.00 EUR" in it.text("value"))
+
+
+def test_payoffs(lesson: dict[str, Any]) -> None:
+    teacher, anna, beamer = lesson["teacher"], lesson["anna"], lesson["beamer"]
+    beamer.waits(lambda it: it.rows("ranking")[:2] == [
+        ["1", "Bert", "30.00"], ["2", "Anna", "10.00"]])
+    assert beamer.text("predicted") == "By the values: price 1.00 to 3.00, volume 50"
+    assert not anna.shows("payoff")
+    teacher.clicks("#tab-settings")
+    teacher.clicks("input[name=payoffs][value=own]")
+    anna.waits(lambda it: it.text("paid") == "You are paid 10.00 EUR")
+    assert anna.text("place") == ""
+    teacher.clicks("input[name=payoffs][value=ranking]")
+    anna.waits(lambda it: it.text("place") == "Place 2 of 3")
+    assert "Round 2 · Open book: 10.00" in anna.text("gains")
+    beamer.waits(lambda it: "Ranking" in it.text("placing"))
+
+
+def test_members_are_renamed_and_removed(lesson: dict[str, Any]) -> None:
+    teacher, anna = lesson["teacher"], lesson["anna"]
+    teacher.clicks("#tab-class")
+    teacher.clicks("[aria-label='Rename: Anna']")
+    answers(teacher, "Anna B.")
+    anna.waits(lambda it: it.text("who") == "Anna B.")
+    teacher.clicks("[aria-label='Remove: Anna B.']")
+    answers(teacher)
+    anna.waits(lambda it: it.shows("join"))
+    assert anna.text("join-said").startswith("You aren't known here any more")
+    teacher.waits(lambda it: row_of(it, "Anna B.")[2:3] == ["removed"])
+    teacher.clicks("[aria-label='Readmit: Anna B.']")
+    teacher.waits(lambda it: len(row_of(it, "Anna B.")[5]) == 6)
+    joins(anna, row_of(teacher, "Anna B.")[5], "Anna B.")
+    anna.waits(lambda it: "50 shares" in it.text("value"))
+
+
+SCREEN_COUNTS = """
+return ["count", "robots"].map((id) => document.getElementById(id).textContent.trim())
+"""
+"""How many have joined, as the screen says it, and how many robots there are."""
+
+
+def test_the_door_and_robots(lesson: dict[str, Any]) -> None:
+    venue, teacher = lesson["venue"], lesson["teacher"]
+    code = venue.code
+    teacher.clicks("#door")
+    teacher.waits(lambda it: it.text("door") == "Open joining")
+    status, found = venue.call("api/join", {"code": code, "name": "Dora"})
+    assert (status, found["error"]) == (403, "joining_closed")
+    teacher.clicks("#door")
+    teacher.waits(lambda it: it.text("door") == "Close joining")
+    teacher.clicks("#day-code")
+    teacher.waits(lambda it: code not in it.text("codes"))
+    teacher.types(robots="3")
+    teacher.clicks("#robot-form button")
+    teacher.waits(lambda it: len(it.rows("members")) == 6)
+    assert teacher.text("count") == "3 members, 1 here, 3 robots"
+    lesson["beamer"].waits(lambda it: it.runs(SCREEN_COUNTS) == ["3", "· 3 robots"])
+    assert not teacher.shows("robots-help"), "they bid by chance"
+    teacher.find("#robot-kind").send_keys("their values")
+    teacher.clicks("#robot-form button")
+    teacher.waits(lambda it: it.shows("robots-help"))
+    teacher.clicks("#no-robots")
+    teacher.waits(lambda it: teacher.text("count") == "3 members, 1 here")
+    assert len(teacher.rows("members")) == 3 and not teacher.shows("robots-help")
+    assert all(lesson[name].errors() == [] for name in ("anna", "teacher", "beamer"))
+
+
+def test_numbers_stay_where_the_language_changes(lesson: dict[str, Any]) -> None:
+    teacher = lesson["teacher"]
+    written = {"low": "1,234.500", "quantity": "1,000", "demand": "5.125 1,000;4", "high": "x.5"}
+    german = {"low": "1234,500", "quantity": "1000", "demand": "5,125 1000;4", "high": "x.5"}
+    fill = "for (const id in arguments[0]) document.getElementById(id).value = arguments[0][id]"
+    read = "return arguments[0].map((id) => document.getElementById(id).value)"
+    before = teacher.runs(read, [*written])
+    teacher.runs(fill, written)
+    teacher.clicks("#language")
+    assert teacher.runs(read, [*written]) == [*german.values()]
+    teacher.clicks("#language")
+    assert teacher.runs(read, ["low", "demand"]) == ["1234.500", "5.125 1000;4"]
+    teacher.runs(fill, dict(zip(written, before)))
+
+
+def test_a_round_of_ones_own(lesson: dict[str, Any]) -> None:
+    teacher, anna = lesson["teacher"], lesson["anna"]
+    teacher.clicks("#tab-rounds")
+    assert teacher.text("next-head") == "Round 3, the next one"
+    teacher.types(**{
+        "next-title": "Shock", "next-reference": "4.50", "next-message": "Prices rise.",
+        "next-call": "1,000", "next-shares": "1.000"})
+    teacher.clicks("#begin-next")
+    teacher.waits(lambda it: it.text("next-said").startswith("Shares of each at first: “1.000”"))
+    teacher.types(**{"next-shares": "1,000"})
+    teacher.clicks("#begin-next")
+    answers(teacher)
+    anna.waits(lambda it: it.text("round").startswith("Round 3 · Shock."))
+    assert "Each may sell 1,000 shares at most." in anna.text("round")
+    anna.waits(lambda it: "Reference\n4.50" in it.text("figures"))
+    assert anna.text("message") == "Prices rise."
+
+
+def test_the_side_of_a_new_value(lesson: dict[str, Any]) -> None:
+    """It is chosen, whatever was chosen for the value before; and stays what is chosen then."""
+    venue, anna = lesson["venue"], lesson["anna"]
+    value = {"member": "Anna B.", "price": "3.00", "quantity": 50}
+    for side, other, price in (("ask", "bid", "3.00"), ("bid", "ask", "2.00")):
+        venue.do("give", values=[value | {"side": side, "price": price}], replace=True)
+        anna.waits(lambda it, price=price: f"{price} EUR" in it.text("value"))
+        assert anna.find(f"input[value={side}]").is_selected()
+        anna.clicks(f"input[value={other}]")
+        venue.do("give", values=[value | {"side": side, "price": "4.00"}], replace=True)
+        anna.waits(lambda it: "4.00 EUR" in it.text("value"))
+        assert anna.find(f"input[value={other}]").is_selected()
+
+
+def test_all_who_are_away_are_removed(lesson: dict[str, Any]) -> None:
+    """As names that somebody has made up."""
+    venue, teacher, anna = lesson["venue"], lesson["teacher"], lesson["anna"]
+    code = venue.do("code")["code"]
+    for number in range(20):
+        venue.join(f"Nobody {number}", code)
+    venue.do("robots", kind="zero", count=1)
+    teacher.clicks("#tab-class")
+    teacher.waits(lambda it: it.text("count").startswith("23 members, 1 here"))
+    teacher.clicks("#remove-away")
+    answers(teacher)
+    teacher.waits(lambda it: it.text("count") == "1 members, 1 here, 1 robots")
+    assert not teacher.shows("remove-away") and anna.text("who") == "Anna B."
+
+
+def test_a_file_of_values(lesson: dict[str, Any], tmp_path: pathlib.Path) -> None:
+    """One in other letters than UTF-8 is refused: its names would be wrong."""
+    venue, teacher, path = lesson["venue"], lesson["teacher"], tmp_path / "values.csv"
+    venue.join("Jürgen", venue.do("code")["code"])
+    teacher.clicks("#tab-values")
+    teacher.find("#how").send_keys("from a file with names")
+    for letters, said in (("cp1252", "The file isn't UTF-8"), ("utf-8", "Values handed out: 1.")):
+        path.write_bytes("name;side;price;quantity\nJürgen;bid;4,10;3\n".encode(letters))
+        teacher.find("#file").send_keys(str(path))
+        teacher.clicks("#giving button")
+        teacher.waits(lambda it, said=said: it.text("give-said").startswith(said))
