@@ -128,9 +128,9 @@ def client(program: str, keys: Keys) -> Iterator[Client]:
         yield found
 
 
-@pytest.fixture(scope="session", params=["threads", "Dask"])
+@pytest.fixture(scope="session", params=["processes", "Dask"])
 def crew(request: pytest.FixtureRequest, program: str) -> Client | None:
-    """Who does the work: the threads of this process, or workers of Dask."""
+    """Who does the work: processes of this machine, or workers of Dask."""
     return request.getfixturevalue("client") if request.param == "Dask" else None
 
 

@@ -128,10 +128,10 @@ def test_the_default_memory_is_enough(program: str, tmp_path: pathlib.Path) -> N
 
 
 def test_a_killed_workers_task_runs_again_elsewhere(
-    client: Client, harmful: pathlib.Path, tmp_path: pathlib.Path
+    crew: Client | None, harmful: pathlib.Path, tmp_path: pathlib.Path
 ) -> None:
     texts = TEXTS | {"kills its worker once": EMPTY_DAY}
-    found = market.audit(write(tmp_path / "journals", texts), client, program=harmful)
+    found = market.audit(write(tmp_path / "journals", texts), crew, workers=2, program=harmful)
     assert columns(found) == rules.rows_of(texts)
     workers = [worker for name, worker in runs_of(harmful) if name == "kills its worker once"]
     assert len(workers) == 2 and workers[0] != workers[1]  # killed, and run again elsewhere
@@ -152,6 +152,14 @@ def test_results_that_are_lost_with_their_worker_are_found_again(
         until(lambda: address not in client.scheduler_info()["workers"])
         found += [each for some in results for each in some]
     assert columns(rows.frame(each.row for each in found)) == rules.rows_of(TEXTS)
+
+
+def test_who_kills_each_process_is_told(harmful: pathlib.Path, tmp_path: pathlib.Path) -> None:
+    paths = write(tmp_path / "journals", TEXTS | {"kills its worker": EMPTY_DAY})
+    found = market.audit(paths, workers=2, program=harmful)
+    assert columns(found) == rows_with({"kills its worker": "its worker ended each time"})
+    tries = [worker for name, worker in runs_of(harmful) if name == "kills its worker"]
+    assert len(tries) == len({*tries}) == 2
 
 
 def test_who_kills_each_worker_is_told(

@@ -252,7 +252,7 @@ def test_an_interrupted_run(name: str, harmful: pathlib.Path, tmp_path: pathlib.
     words = ["audit", tmp_path / "journals", "--workers", 1, "-o", output]
     with started(*words, program=harmful) as child:
         wait_for(log, 1)
-        those = psutil.Process(child.pid).children()
+        those = psutil.Process(child.pid).children(recursive=True)
         child.send_signal(getattr(signal, f"SIG{name}"))
         _, error = child.communicate(timeout=SECONDS)
         if name == "INT":

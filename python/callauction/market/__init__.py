@@ -10,13 +10,17 @@ of a Dask client.
 The proved program `callboard` decides everything; what it prints is only read here. `python3 -m
 callauction.market` is the command line. docs/MARKET.md has the files, the columns and the faults.
 """
+from typing import TYPE_CHECKING
+
 from callauction.market.files import InUse
 from callauction.market.names import file_of, instrument_of, name_of
 from callauction.market.rows import COLUMNS, Found, Row, frame, read_rows
 from callauction.market.runs import audit, run
 from callauction.market.splitting import TableError, split
 from callauction.market.workers import MarketError
-from callauction.verdict.instruments import audit_instruments as audit_events
+
+if TYPE_CHECKING:
+    from callauction.verdict.instruments import audit_instruments as audit_events
 
 __all__ = [
     "COLUMNS",
@@ -35,3 +39,15 @@ __all__ = [
     "run",
     "split",
 ]
+
+
+def __getattr__(name: str) -> object:
+    """audit_events, imported when it is first used: it needs pandas, which takes longer to start
+    than the program on many files. Raises AttributeError for another name.
+    """
+    if name != "audit_events":
+        raise AttributeError(f"module {__name__!r} has no attribute {name!r}")
+    from callauction.verdict.instruments import audit_instruments
+
+    globals()[name] = audit_instruments
+    return audit_instruments

@@ -16,12 +16,13 @@ from callauction.market.expected import compared_with, read_list
 from callauction.market.files import InUse, locked, with_end
 from callauction.market.log import Log
 from callauction.market.names import SUFFIX, line_of
+from callauction.market.processes import Processes
 from callauction.market.rows import Row, write_rows
 from callauction.market.runs import AUDIT, files_of
 from callauction.market.splitting import TableError, split
 from callauction.market.summary import Summary
 from callauction.market.task import MIB, Request
-from callauction.market.workers import MarketError, Threads, Workers, connected
+from callauction.market.workers import MarketError, Workers, connected
 from callauction.statuses import BAD_DAY, BAD_FILE, BROKEN_OFF, DONE, FAILED
 
 if TYPE_CHECKING:
@@ -111,7 +112,7 @@ def workers_of(asked: argparse.Namespace) -> Iterator[Workers]:
     """The workers that are asked for. Raises MarketError, and OSError where there are none."""
     security = security_of(asked)
     if not asked.scheduler:
-        yield Threads(asked.workers)
+        yield Processes(asked.workers)
         return
     with connected(asked.scheduler, security) as cluster:
         yield cluster

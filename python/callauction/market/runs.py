@@ -7,9 +7,10 @@ from callauction import finder
 from callauction.market.expected import compared_with
 from callauction.market.forms import FORMS
 from callauction.market.names import instrument_of, line_of
+from callauction.market.processes import Processes
 from callauction.market.rows import frame
 from callauction.market.task import Request
-from callauction.market.workers import Cluster, MarketError, Threads, Workers
+from callauction.market.workers import Cluster, MarketError, Workers
 
 if TYPE_CHECKING:
     import pandas
@@ -47,9 +48,9 @@ def forms_of(what: str | Sequence[str]) -> tuple[str, ...]:
 
 
 def _crew_of(client: "Client | None", workers: int | None) -> Workers:
-    """Who does the work: the workers of a client, or this many threads of this process."""
+    """Who does the work: the workers of a client, or this many processes of this machine."""
     if client is None:
-        return Threads(workers)
+        return Processes(workers)
     return Cluster(client)
 
 
@@ -75,7 +76,7 @@ def run(
     of the program, whose path is `program`, or what the worker finds, may have `memory` bytes of
     address space and take `seconds`, or what goes by its file's size (task.Request.for_size).
 
-    The work is done by `workers` threads of this process, one for each core where it isn't said,
+    The work is done by `workers` processes of this machine, one for each core where it isn't said,
     or by the workers of `client`, which have to see the files by the same paths. Raises
     MarketError, ValueError for another `what`, and FileNotFoundError where this machine is to do it
     and has no program. Whatever is wrong with a file, or ends the program or its worker, is the

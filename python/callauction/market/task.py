@@ -75,45 +75,24 @@ class ProgramFault(Exception):
     """The program refused a file, or couldn't be run to its end: the text of a row's fault."""
 
 
-class Children:
-    """The runs of the program in this process, which can be ended together."""
-
-    def __init__(self) -> None:
-        self.lock = threading.Lock()
-        self.running: set[subprocess.Popen[bytes]] = set()
-        self.is_over = False
-
-    @contextlib.contextmanager
-    def started(
-        self, words: list[str], file: IO[bytes], errors: IO[bytes]
-    ) -> Iterator[subprocess.Popen[bytes]]:
-        """The program on an open file. It is killed where the block is left before it ends. Raises
-        ProgramFault where it can't be started.
-        """
+@contextlib.contextmanager
+def started(
+    words: list[str], file: IO[bytes], errors: IO[bytes]
+) -> Iterator[subprocess.Popen[bytes]]:
+    """The program on an open file. It is killed where the block is left before it ends. Raises
+    ProgramFault where it can't be started.
+    """
+    try:
+        child = subprocess.Popen(
+            words, stdin=file, stdout=subprocess.PIPE, stderr=errors, bufsize=0
+        )
+    except OSError as fault:
+        raise ProgramFault(f"the program can't be started: {fault.strerror}") from fault
+    with child:
         try:
-            child = subprocess.Popen(
-                words, stdin=file, stdout=subprocess.PIPE, stderr=errors, bufsize=0
-            )
-        except OSError as fault:
-            raise ProgramFault(f"the program can't be started: {fault.strerror}") from fault
-        with child:
-            try:
-                with self.lock:
-                    self.running.add(child)
-                    if self.is_over:
-                        child.kill()
-                yield child
-            finally:
-                child.kill()  # says nothing to one that has ended and was waited for
-                with self.lock:
-                    self.running.discard(child)
-
-    def end(self) -> None:
-        """Ends those that run, and those that are still to be started."""
-        with self.lock:
-            self.is_over = True
-            for child in self.running:
-                child.kill()
+            yield child
+        finally:
+            child.kill()  # says nothing to one that has ended and was waited for
 
 
 class Output:
@@ -193,14 +172,14 @@ def words_of(form: Form, request: Request) -> list[str]:
 
 
 def run_form(
-    form: Form, file: IO[bytes], keep: IO[bytes] | None, request: Request, children: Children
+    form: Form, file: IO[bytes], keep: IO[bytes] | None, request: Request
 ) -> Columns:
     """Runs the program on an open file: what its output says. Raises ProgramFault, OutputFault,
     and OSError where its output can't be kept.
     """
     file.seek(0)
     with tempfile.TemporaryFile() as errors:
-        with children.started(words_of(form, request), file, errors) as child:
+        with started(words_of(form, request), file, errors) as child:
             output = Output(child, request.seconds or LEAST_SECONDS)
             found, status = read_run(output, form, keep)
         if status not in GOOD:
@@ -243,7 +222,7 @@ def stamp(file: IO[bytes]) -> tuple[int, int, int]:
     return found.st_size, found.st_mtime_ns, found.st_ctime_ns
 
 
-def examine_file(path: str, request: Request, worker: str, children: Children) -> Found:
+def examine_file(path: str, request: Request, worker: str) -> Found:
     """What the program says of a file. Raises OSError, OutputFault, ProgramFault."""
     with opened(path) as file:
         before = stamp(file)
@@ -255,7 +234,7 @@ def examine_file(path: str, request: Request, worker: str, children: Children) -
             form = FORMS[name]
             limited = request.for_size(size, form)
             with keeper(path, form, request) as keep:
-                found = run_form(form, file, keep, limited, children)
+                found = run_form(form, file, keep, limited)
             if any(columns.get(column, value) != value for column, value in found.items()):
                 raise OutputFault("the program's forms don't agree")
             columns |= found
@@ -265,9 +244,7 @@ def examine_file(path: str, request: Request, worker: str, children: Children) -
     return Found(Row(instrument_of(path), seconds=seconds, **columns), worker, size, digest)
 
 
-def examine(
-    paths: list[str], request: Request, children: Children | None = None
-) -> list[Found]:
+def examine(paths: list[str], request: Request) -> list[Found]:
     """What the program says of each of these files, in their order: a bad one gives a row with its
     fault. Raises FileNotFoundError where this machine has no program.
     """
@@ -276,7 +253,7 @@ def examine(
     found = []
     for path in paths:
         try:
-            found.append(examine_file(path, request, worker, children or Children()))
+            found.append(examine_file(path, request, worker))
         except (ProgramFault, OutputFault) as fault:
             found.append(Found(Row(instrument_of(path), fault=str(fault)), worker))
         except OSError as fault:

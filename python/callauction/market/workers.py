@@ -1,9 +1,6 @@
-"""Who runs the program on the files: threads of this process, or the workers of a Dask client.
-
-On one machine nothing listens: each thread starts the program and reads its output through a pipe.
-Dask is imported where a client is given, or a scheduler named.
+"""Who runs the program on the files: processes of this machine (callauction.market.processes), or
+the workers of a Dask client. Dask is imported where a client is given, or a scheduler named.
 """
-import concurrent.futures
 import contextlib
 import os
 from collections.abc import Iterator
@@ -12,7 +9,7 @@ from typing import TYPE_CHECKING, Protocol
 from callauction import finder
 from callauction.market.names import instrument_of, line_of
 from callauction.market.rows import Found, Row
-from callauction.market.task import Children, Request, examine
+from callauction.market.task import Request, examine
 
 if TYPE_CHECKING:
     from distributed import Client, Future, Security
@@ -23,6 +20,8 @@ together.
 """
 START = 1 << 18
 """How many bytes of a journal take as long as starting the program once or twice."""
+WORKERS_ENDED = "its worker ended each time"
+"""The fault of a file whose workers ended before they had found anything."""
 CONNECT_SECONDS, WORKER_SECONDS = 20, 60
 """How long a scheduler, and then its first worker, is waited for."""
 
@@ -58,34 +57,6 @@ def size_of(path: str) -> int:
 def largest_first(files: list[str]) -> list[tuple[int, str]]:
     """The files with their bytes, the largest first."""
     return sorted(((size_of(path), path) for path in files), key=lambda it: (-it[0], it[1]))
-
-
-class Threads:
-    """Threads of this process, one for each core where their number isn't given."""
-
-    def __init__(self, count: int | None = None) -> None:
-        self.count = count or len(os.sched_getaffinity(0))
-
-    def digest(self, path: str | None) -> str:
-        """The digest of the program. Raises MarketError where there is none."""
-        try:
-            return finder.digest(path)
-        except FileNotFoundError as fault:
-            raise MarketError(f"there is no program: {fault}") from fault
-
-    def results(self, files: list[str], request: Request) -> Iterator[list[Found]]:
-        """What was found of the files, one by one as they are done."""
-        children = Children()
-        pool = concurrent.futures.ThreadPoolExecutor(self.count)
-        try:
-            tasks = [
-                pool.submit(examine, [path], request, children) for _, path in largest_first(files)
-            ]
-            for task in concurrent.futures.as_completed(tasks):
-                yield task.result()
-        finally:
-            children.end()
-            pool.shutdown(cancel_futures=True)
 
 
 def batches_of(files: list[str], threads: int) -> list[list[str]]:
@@ -166,7 +137,7 @@ def blamed(path: str, fault: BaseException) -> Found:
     from distributed import KilledWorker
 
     if isinstance(fault, KilledWorker):
-        return Found(Row(instrument_of(path), fault="its worker ended each time"))
+        return Found(Row(instrument_of(path), fault=WORKERS_ENDED))
     return Found(Row(instrument_of(path), fault=line_of(f"{type(fault).__name__}: {fault}")))
 
 
