@@ -1,6 +1,7 @@
 """What the measures share: the files, what a command takes, tables."""
 import argparse
 import dataclasses
+import os
 import pathlib
 import re
 import shlex
@@ -202,6 +203,30 @@ def printed(
 def middle(numbers: list[float]) -> float:
     """The middle one, the lower of two."""
     return statistics.median_low(numbers)
+
+
+def model_of_processor() -> str:
+    """What the processor calls itself, empty where nobody says."""
+    try:
+        text = pathlib.Path("/proc/cpuinfo").read_text(encoding="utf-8", errors="replace")
+    except OSError:
+        return ""
+    found = re.search(r"^model name\s*: (.*)$", text, re.MULTILINE)
+    return found[1] if found else ""
+
+
+def governor() -> str:
+    """How the first core's clock is governed, `unknown` where the machine doesn't say."""
+    path = pathlib.Path("/sys/devices/system/cpu/cpu0/cpufreq/scaling_governor")
+    return path.read_text(encoding="ascii").strip() if path.is_file() else "unknown"
+
+
+def state_of_machine() -> str:
+    """A line on the machine at this moment: cores, load of the last minute, governor, model."""
+    cores = len(os.sched_getaffinity(0))
+    load, _, _ = os.getloadavg()
+    model = model_of_processor() or "a processor without a name"
+    return f"{cores} cores, load {load:.1f}, governor {governor()}, {model}"
 
 
 def row(*cells: str) -> None:
