@@ -1,7 +1,7 @@
 """What the parts of the test command need, and the tasks that build it.
 
-Where the gate is among the parts, the program and its tests are those that it proved and built, and
-nothing else is taken for them; the library is built over the crates that it proved. Else each is
+Where the gate is among the parts, the program, its tests and the clock of bench/ are those that it
+proved and built, and nothing else is taken for them; the library is built over the crates that it proved. Else each is
 taken as it is, where it is newer than all sources, or built.
 """
 import functools
@@ -15,18 +15,27 @@ import built
 import gate
 from beside import Fault, Product, Task
 
-PROGRAM, TESTS, LIBRARY = "PROGRAM", "TESTS", "LIBRARY"
+PROGRAM, TESTS, CLOCK, LIBRARY = "PROGRAM", "TESTS", "CLOCK", "LIBRARY"
 """Words of a command that mean what is built."""
 PROVED = "PROVED"
 """The crates below the library's, as the gate proved them."""
 KEPT = built.TOP / "out/check/gate"
 """Where what the gate built is kept for the parts, and for a run that goes on."""
-LINES = {PROGRAM: "rt: callboard proved", TESTS: "rt: callboard: its tests are proved"}
+LINES = {
+    PROGRAM: "rt: callboard proved",
+    TESTS: "rt: callboard: its tests are proved",
+    CLOCK: "rt: clock proved",
+}
 """What the gate prints once these are built."""
 
 
+def usual_files() -> dict[str, pathlib.Path]:
+    """Where what the gate builds lies when it is built elsewhere."""
+    return {PROGRAM: built.PROGRAM, TESTS: built.TESTS, CLOCK: built.CLOCK}
+
+
 class Builds:
-    """What of the program, its tests and the library is there, and what builds the rest."""
+    """What of the program, its tests, the clock and the library is there, and what builds the rest."""
 
     def __init__(
         self, needed: set[str], has_gate: bool, is_gate_done: bool, rooms: pathlib.Path
@@ -37,7 +46,7 @@ class Builds:
         self.begin = time.time()
         self.needed, self.has_gate = needed, has_gate
         self.gate = rooms / ".gate"  # no part has such a name
-        self.files = {PROGRAM: built.PROGRAM, TESTS: built.TESTS, LIBRARY: built.ARCHIVE}
+        self.files = {**usual_files(), LIBRARY: built.ARCHIVE}
         by_gate = {name: KEPT / self.files[name].name for name in LINES}
         if has_gate or is_gate_done and all(file.is_file() for file in by_gate.values()):
             self.files |= by_gate
@@ -65,7 +74,7 @@ class Builds:
         """Keeps a file that the gate built, where the parts look, and where ./callboard does.
         Raises OSError.
         """
-        usual = built.PROGRAM if name == PROGRAM else built.TESTS
+        usual = usual_files()[name]
         for to in (self.files[name], usual):
             to.parent.mkdir(parents=True, exist_ok=True)
             begun = to.with_name(f".{to.name}.{os.getpid()}")
@@ -81,7 +90,7 @@ class Builds:
                 yield self.task(LIBRARY, words, frozenset({PROVED}))
             return
         before: frozenset[str] = frozenset()
-        for name in (PROGRAM, TESTS, LIBRARY):
+        for name in (PROGRAM, TESTS, CLOCK, LIBRARY):
             if name in self.needed - self.there:
                 yield self.task(name, built.words_of(self.files[name]), before)
                 before = frozenset({name})

@@ -9,6 +9,7 @@ TOP = pathlib.Path(__file__).resolve().parent.parent
 FOLDER = TOP / "crates/callboard"
 PROGRAM = FOLDER / "out/callboard"
 TESTS = FOLDER / "out/callboard_tests"
+CLOCK = TOP / "crates/clock/out/clock"
 LIBRARY = TOP / "out/library"
 ARCHIVE = LIBRARY / "libcallauction.a"
 
@@ -33,11 +34,13 @@ def is_current(file: pathlib.Path) -> bool:
 
 
 def words_of(file: pathlib.Path) -> list[str]:
-    """The command that proves and builds PROGRAM, TESTS or ARCHIVE."""
+    """The command that proves and builds PROGRAM, TESTS, CLOCK or ARCHIVE."""
     if file == ARCHIVE:
         return [str(TOP / "library/build"), str(LIBRARY)]
     if file == TESTS:
         return ["env", "-C", str(FOLDER), "rt", "test"]
+    if file == CLOCK:
+        return ["env", "-C", str(CLOCK.parent.parent), "rt", "run"]
     return [sys.executable, str(TOP / "build/program.py")]
 
 
@@ -51,7 +54,7 @@ def made(file: pathlib.Path, begin: float) -> None:
 
 
 def ensure(file: pathlib.Path) -> str:
-    """The path of PROGRAM, TESTS or ARCHIVE, which is proved and built here unless a build newer
+    """The path of PROGRAM, TESTS, CLOCK or ARCHIVE, which is proved and built here unless a build newer
     than all sources is there. Raises NotBuilt where that fails.
     """
     if not is_current(file):

@@ -39,7 +39,7 @@ import gate  # noqa: E402
 import machine  # noqa: E402
 import proved_binaries  # noqa: E402
 from beside import Ended, Product, Schedule, Task, Viewer  # noqa: E402
-from builds import LIBRARY, PROGRAM, TESTS, Builds  # noqa: E402
+from builds import CLOCK, LIBRARY, PROGRAM, TESTS, Builds  # noqa: E402
 from package import PACKAGE, Package  # noqa: E402
 from passes import Passes, Seconds, sum_of  # noqa: E402
 
@@ -76,7 +76,7 @@ class Part:
     def needs(self) -> frozenset[str]:
         """What has to be built or installed before it can begin."""
         words = frozenset(re.split("[ =]", self.command))
-        return words & {PROGRAM, TESTS, LIBRARY, PACKAGE}
+        return words & {PROGRAM, TESTS, CLOCK, LIBRARY, PACKAGE}
 
 
 FEW = " -p checks.one_of_each"
@@ -95,6 +95,8 @@ OF_VENUES = (
 LAYOUT = f"{PYTEST} checks/parts/test_layout.py"
 RUNNER = f"{PYTEST} checks/parts/test_runner.py"
 REPORT = f"checks/report {LIBRARY} {PROGRAM}"
+BENCH = f"{PYTEST} checks/parts/test_bench.py"
+BENCH += f" --program {PROGRAM} --clock {CLOCK} --library {LIBRARY}"
 RELEASE = f"{PYTEST} checks/parts/test_release.py --program {PROGRAM} --library {LIBRARY}"
 
 
@@ -206,6 +208,14 @@ PARTS = [
         short=f"{FLOODS} -p one_of_each",
     ),
     Part(
+        "bench",
+        "each measure once, in its smallest form",
+        BENCH,
+        "cc parallel time xargs",
+        "aiohttp cffi numpy Python.h pandas pytest tqdm",
+        short=BENCH + FEW,
+    ),
+    Part(
         "release",
         "packages, wheel and tarball, installed and removed",
         RELEASE,
@@ -232,7 +242,7 @@ INSTALLED = {
     "floods": f"{ON_PACKAGE} {FLOODS}",
 }
 """The commands on an installed package that are others."""
-NOT_INSTALLED = {"layout", GATE, BODIES, "release"}
+NOT_INSTALLED = {"layout", GATE, BODIES, "bench", "release"}
 """The parts that need the toolchain, or that make packages."""
 PACKAGES = {
     "ar": "binutils",
@@ -253,11 +263,14 @@ PACKAGES = {
     "mmdebstrap": "mmdebstrap",
     "nsenter": "util-linux",
     "openssl": "openssl",
+    "parallel": "parallel",
     "pkg-config": "pkgconf",
     "prlimit": "util-linux",
     "readelf": "binutils",
     "setpriv": "util-linux",
     "strace": "strace",
+    "time": "time",
+    "xargs": "findutils",
     "setsid": "util-linux",
     "unshare": "util-linux",
     "valgrind": "valgrind",

@@ -24,8 +24,8 @@ sys.path.insert(0, str(measuring.TOP / "bench"))
 import debian  # noqa: E402
 import write_extract  # noqa: E402
 
-ROWS, MANY_ROWS, MANY = 950_000, 975_000, 500
-"""Rows of orders, to which come those of trades, and how many the instruments are."""
+MANY = 500
+"""How many instruments there are, where there are many; they have a 38th more rows."""
 REFERENCE = "20.050"
 TERMS = ["--reference", REFERENCE, "--tick-size", "0.005"]
 LAWFUL, UNLAWFUL = 0, 4
@@ -88,8 +88,8 @@ def measure(asked: argparse.Namespace) -> bool:
         subprocess.run(build, check=True, stdout=sys.stderr)
         environment = os.environ | {"PYTHONPATH": package, "CALLBOARD": program.words[0]}
         one, many = pathlib.Path(folder, "one.csv"), pathlib.Path(folder, "many.csv")
-        write_extract.write(one, ROWS)
-        write_extract.write(many, MANY_ROWS, MANY)
+        write_extract.write(one, asked.extract)
+        write_extract.write(many, asked.extract + asked.extract // 38, MANY)
         files = {"one": one, "changed": with_a_changed_trade(one), "many": many}
         return compared(files, interpreter, environment, asked.runs)
 

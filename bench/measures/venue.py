@@ -32,7 +32,7 @@ sys.path.insert(0, str(measuring.TOP / "build"))
 import debian  # noqa: E402
 
 BENCH = measuring.TOP / "bench"
-INSTRUMENTS, MEMBERS, ORDERS, ROBOTS = 4, 200, 50_000, 3
+INSTRUMENTS, ROBOTS = 4, 3
 DAY = """
 sync = {sync}
 [phases]
@@ -70,6 +70,11 @@ class Task:
     interpreter: str
     orders: list[list[str]]
 
+    @property
+    def count(self) -> int:
+        """How many orders there are."""
+        return sum(map(len, self.orders))
+
 
 @contextlib.contextmanager
 def started(words: list[str], environment: dict[str, str], pattern: str) -> Iterator[Started]:
@@ -100,10 +105,10 @@ def call(url: str, body: dict[str, Any], token: str = "") -> dict[str, Any]:
         return found
 
 
-def joined(url: str, code: str) -> list[str]:
-    """The tokens of all members, who join no faster than they may."""
+def joined(url: str, code: str, members: int) -> list[str]:
+    """The tokens of this many members, who join no faster than they may."""
     tokens: list[str] = []
-    while len(tokens) < MEMBERS:
+    while len(tokens) < members:
         try:
             found = call(f"{url}api/join", {"code": code, "name": f"member {len(tokens)}"})
             tokens.append(found["token"])
@@ -112,13 +117,11 @@ def joined(url: str, code: str) -> list[str]:
     return tokens
 
 
-def texts() -> list[list[str]]:
-    """The orders of each member."""
+def texts(members: int, orders: int) -> list[list[str]]:
+    """The orders of each of these members, as many in all."""
     chance = random.Random(46)
-    found = []
-    for member in range(MEMBERS):
-        found.append([order(chance, member, it) for it in range(1, ORDERS // MEMBERS + 1)])
-    return found
+    numbers = range(1, orders // members + 1)
+    return [[order(chance, member, it) for it in numbers] for member in range(members)]
 
 
 def order(chance: random.Random, member: int, number: int) -> str:
@@ -186,7 +189,7 @@ def echo(task: Task) -> None:
     words = [task.interpreter, "-c", ECHO]
     with started(words, dict(os.environ), "^echo") as (child, said):
         before = processor_seconds(child.pid)
-        played = robots(task, said.split()[1], [""] * MEMBERS)
+        played = robots(task, said.split()[1], [""] * len(task.orders))
         print_row("echo", played, processor_seconds(child.pid) - before)
 
 
@@ -206,7 +209,7 @@ def venue(task: Task, is_synced: bool, waits: list[list[str]]) -> bool:
         words += ["--day", str(folder / "day.toml"), "--folder", str(folder / "venue")]
         name = "venue" if is_synced else "venue, sync = false"
         with started(words, environment, "^beamer") as (child, said):
-            url, hellos = opened(said)
+            url, hellos = opened(said, len(task.orders))
             before = processor_seconds(child.pid)
             played = robots(task, f"{url}api/socket", hellos)
             print_row(name, played, processor_seconds(child.pid) - before)
@@ -221,7 +224,7 @@ def venue(task: Task, is_synced: bool, waits: list[list[str]]) -> bool:
             seconds.append(time.monotonic() - begin)
         waits.append([name, *(f"{it:.1f}" for it in seconds), f"{memory:.0f}"])
         journals = [folder / f"venue/I{it}.journal.csv" for it in range(INSTRUMENTS)]
-        return all(is_right(task.program, it) for it in journals)
+        return all(is_right(task, it) for it in journals)
 
 
 def ended(child: "subprocess.Popen[str]") -> float:
@@ -232,29 +235,29 @@ def ended(child: "subprocess.Popen[str]") -> float:
     return time.monotonic() - begin
 
 
-def opened(said: str) -> tuple[str, list[str]]:
-    """The address of a venue that has printed this, once its calls have begun, and what each member
-    says first. Raises OSError.
+def opened(said: str, members: int) -> tuple[str, list[str]]:
+    """The address of a venue that has printed this, once its calls have begun, and what each of
+    these members says first. Raises OSError.
     """
     found = dict(re.findall(r"^(\w+) +(\S+)$", said, re.M))
     url, token = found["members"], found["teacher"].partition("#")[2]
-    tokens = joined(url, found["code"])
+    tokens = joined(url, found["code"], members)
     for number in range(INSTRUMENTS):
         call(f"{url}api/operator", {"do": "start", "instrument": f"I{number}"}, token)
     return url, [json.dumps({"type": "hello", "token": it, "topics": []}) for it in tokens]
 
 
-def is_right(program: str, journal: pathlib.Path) -> bool:
+def is_right(task: Task, journal: pathlib.Path) -> bool:
     """Whether a journal has its share of the orders, and is lawful by the program."""
     with open(journal, "rb") as given:
-        ran = subprocess.run([program, "--audit"], stdin=given, capture_output=True, text=True)
+        ran = subprocess.run([task.program, "--audit"], stdin=given, capture_output=True, text=True)
     is_lawful = ran.returncode == 0 and ran.stdout.endswith("audit legal\n")
-    return is_lawful and f"compared {ORDERS // INSTRUMENTS}\n" in ran.stdout
+    return is_lawful and f"compared {task.count // INSTRUMENTS}\n" in ran.stdout
 
 
 def measure(asked: argparse.Namespace) -> bool:
     program = os.path.abspath(measuring.our_program(asked.program).words[0])
-    task = Task(program, debian.python_with(("aiohttp",)), texts())
+    task = Task(program, debian.python_with(("aiohttp",)), texts(asked.members, asked.orders))
     is_lawful = True
     waits: list[list[str]] = []
     head("server", "orders a second", "middle, ms", "99th of 100, ms", "processor, s")
@@ -263,7 +266,7 @@ def measure(asked: argparse.Namespace) -> bool:
         for is_synced in (True, False):
             is_lawful &= venue(task, is_synced, waits)
     print()
-    head(f"after {ORDERS:,} orders", "copy, s", "end, s", "return, s", "start, s", "memory, MiB")
+    head(f"after {task.count:,} orders", "copy, s", "end, s", "return, s", "start, s", "memory, MiB")
     for each in waits:
         row(*each)
     print("\njournals: " + ("whole and lawful" if is_lawful else "NOT whole and lawful"))

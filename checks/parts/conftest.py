@@ -23,6 +23,7 @@ def pytest_addoption(parser: pytest.Parser) -> None:
     """Takes the options of these tests."""
     parser.addoption("--program", help="the built program")
     parser.addoption("--library", help="what library/build wrote")
+    parser.addoption("--clock", help="the built program of crates/clock")
     parser.addoption("--tests", action="append", default=[], help="built tests of a crate")
 
 

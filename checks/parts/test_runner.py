@@ -527,30 +527,34 @@ def test_the_gates_copy(plant: Plant, monkeypatch: pytest.MonkeyPatch) -> None:
 def built_files(tmp_path: pathlib.Path, monkeypatch: pytest.MonkeyPatch) -> pathlib.Path:
     """A repository in which a program, its tests and a library are built, and the gate's are kept.
     """
-    for name in ("PROGRAM", "TESTS", "ARCHIVE"):
+    for name in ("PROGRAM", "TESTS", "CLOCK", "ARCHIVE"):
         monkeypatch.setattr(built, name, tmp_path / "usual" / name)
     monkeypatch.setattr(builds, "KEPT", tmp_path / "kept")
     monkeypatch.setattr(built, "newest_source", lambda: time.time() - 1000)
-    for folder, names in {"usual": ("PROGRAM", "ARCHIVE"), "kept": ("PROGRAM", "TESTS")}.items():
+    for folder, names in {
+        "usual": ("PROGRAM", "ARCHIVE"),
+        "kept": ("PROGRAM", "TESTS", "CLOCK"),
+    }.items():
         (tmp_path / folder).mkdir()
         for name in names:
             (tmp_path / folder / name).write_text("")
     return tmp_path
 
 
-EVERY = {"PROGRAM", "TESTS", "LIBRARY"}
+EVERY = {"PROGRAM", "TESTS", "CLOCK", "LIBRARY"}
 
 
 def test_what_is_built_without_the_gate(three: pathlib.Path) -> None:
     found = builds.Builds(EVERY, False, False, three)
     assert found.there == {"PROGRAM", "LIBRARY"}
     assert found.path("PROGRAM") == str(three / "usual/PROGRAM")
-    assert [task.name for task in found.tasks()] == ["build_tests"]
+    assert [task.name for task in found.tasks()] == ["build_tests", "build_clock"]
     os.utime(three / "usual/PROGRAM", (1, 1))  # older than the sources
     later = [*builds.Builds(EVERY, False, False, three).tasks()]
     assert [(task.name, *task.needs) for task in later] == [
         ("build_program",),
         ("build_tests", "PROGRAM"),
+        ("build_clock", "TESTS"),
     ]
 
 
