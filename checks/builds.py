@@ -1,8 +1,8 @@
 """What the parts of the test command need, and the tasks that build it.
 
 Where the gate is among the parts, the program, its tests and the clock of bench/ are those that it
-proved and built, and nothing else is taken for them; the library is built over the crates that it proved. Else each is
-taken as it is, where it is newer than all sources, or built.
+proved and built, and nothing else is taken for them; the library is built over the crates that it
+proved. Else each is taken as it is, where it is newer than all sources, or built.
 """
 import functools
 import os
@@ -35,7 +35,8 @@ def usual_files() -> dict[str, pathlib.Path]:
 
 
 class Builds:
-    """What of the program, its tests, the clock and the library is there, and what builds the rest."""
+    """What of the program, its tests, the clock and the library is there, and what builds the rest.
+    """
 
     def __init__(
         self, needed: set[str], has_gate: bool, is_gate_done: bool, rooms: pathlib.Path

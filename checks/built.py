@@ -54,8 +54,8 @@ def made(file: pathlib.Path, begin: float) -> None:
 
 
 def ensure(file: pathlib.Path) -> str:
-    """The path of PROGRAM, TESTS, CLOCK or ARCHIVE, which is proved and built here unless a build newer
-    than all sources is there. Raises NotBuilt where that fails.
+    """The path of PROGRAM, TESTS, CLOCK or ARCHIVE, which is proved and built here unless a build
+    newer than all sources is there. Raises NotBuilt where that fails.
     """
     if not is_current(file):
         begin = time.time()

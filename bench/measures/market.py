@@ -4,10 +4,11 @@ Each file is audited with its results, by a plain loop of the shell over bench/m
 one that audits it without them before (`two-runs`), by GNU parallel and by xargs over the first,
 and by `python3 -m callauction.market audit`, from its start to its end, and without its start
 (`run`; the processor's time is the whole's). The market is to take at most so many times what the
-faster of the shells' ways takes with as many workers. Prints a table of these, what was wanted, and a table
-of the splits with their peak memory. All is right where each found what bench/write_market.py
-changed, and all is as wanted. --entries and --instruments name the market, which is written to
---keep where it isn't there. Needs Debian's python3-pandas, python3-tqdm and parallel.
+faster of the shells' ways takes with as many workers. Prints a table of these, what was wanted, and
+a table of the splits with their peak memory. All is right where each found what
+bench/write_market.py changed, and all is as wanted. --entries and --instruments name the market,
+which is written to --keep where it isn't there. Needs Debian's python3-pandas, python3-tqdm and
+parallel.
 """
 import argparse
 import csv

@@ -257,7 +257,8 @@ def is_right(task: Task, journal: pathlib.Path) -> bool:
 
 def measure(asked: argparse.Namespace) -> bool:
     program = os.path.abspath(measuring.our_program(asked.program).words[0])
-    task = Task(program, debian.python_with(("aiohttp",)), texts(asked.members, asked.orders))
+    interpreter = debian.python_with(("aiohttp",))
+    task = Task(program, interpreter, texts(asked.members, asked.orders))
     is_lawful = True
     waits: list[list[str]] = []
     head("server", "orders a second", "middle, ms", "99th of 100, ms", "processor, s")
@@ -266,7 +267,8 @@ def measure(asked: argparse.Namespace) -> bool:
         for is_synced in (True, False):
             is_lawful &= venue(task, is_synced, waits)
     print()
-    head(f"after {task.count:,} orders", "copy, s", "end, s", "return, s", "start, s", "memory, MiB")
+    columns = ["copy, s", "end, s", "return, s", "start, s", "memory, MiB"]
+    head(f"after {task.count:,} orders", *columns)
     for each in waits:
         row(*each)
     print("\njournals: " + ("whole and lawful" if is_lawful else "NOT whole and lawful"))

@@ -1,5 +1,5 @@
-"""Each measure of bench/ once, in its smallest form, so that none is broken unseen: it ends well, each
-table has rows, and each row as many cells as the head. What it measured says nothing.
+"""Each measure of bench/ once, in its smallest form, so that none is broken unseen: it ends well,
+each table has rows, and each row as many cells as the head. What it measured says nothing.
 
 `python3 -m pytest checks/parts/test_bench.py --program P --clock C --library FOLDER`; what isn't
 named is proved and built first, where it isn't current.

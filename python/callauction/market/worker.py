@@ -1,8 +1,8 @@
-"""A worker of a market on one machine: `python3 -m callauction.market.worker`, started by Processes.
+"""A worker of a market on one machine: `python3 -m callauction.market.worker`.
 
 It reads pickles from standard input, a request and then the path of one file after another, and
-writes what was found of each to standard output, until its input ends. Whoever starts it is the
-process that asked for the market, so both trust each other.
+writes what was found of each to standard output, until its input ends. Processes starts it, in
+the process that asked for the market, so both trust each other.
 """
 import os
 import pickle
