@@ -516,9 +516,14 @@ def append(file: pathlib.Path) -> None:
         end.write(f"1,ask,{ASK}\n")
 
 
-@pytest.mark.parametrize(
-    "change", [pathlib.Path.unlink, cut_off, replace, move, append], ids=lambda it: it.__name__
+by_each_change = pytest.mark.parametrize(
+    "change",
+    [pathlib.Path.unlink, cut_off, replace, move, append],
+    ids=["unlink", "cut_off", "replace", "move", "append"],
 )
+
+
+@by_each_change
 @pytest.mark.parametrize("words", [[], ["--sync", "none"]], ids=["each", "none"])
 def test_changed_by_others(
     program: str,
@@ -534,6 +539,22 @@ def test_changed_by_others(
         session.hears(f"1: {ASK}\n", "")
         change(file)
         session.send(b"1,ask\n")
+        session.hears("", "journal changed by others\n")
+        session.ends(3)
+    finally:
+        session.close()
+
+
+@by_each_change
+def test_changed_before_the_end(
+    program: str, tmp_path: pathlib.Path, change: Callable[[pathlib.Path], None]
+) -> None:
+    file = tmp_path / "day.journal"
+    session = Session([program, "--live", "--journal", str(file)], False)
+    try:
+        session.hears("", "journal 0 entries\n")
+        change(file)
+        session.end_input()
         session.hears("", "journal changed by others\n")
         session.ends(3)
     finally:
@@ -597,6 +618,18 @@ def test_what_was_read_is_written_and_synced_before_an_answer(
     assert first + 1 < [name for name, _ in names].index("write 2")
 
 
+def test_what_is_cut_off_is_on_the_disk_first(program: str, tmp_path: pathlib.Path) -> None:
+    file = tmp_path / "day.journal"
+    file.write_text(f"{DAY}1,ask,{ASK}\n1,as")
+    calls = traced(program, file, [], "")
+    names = [name for name, _ in calls]
+    aside = calls.index(("pwrite64 4", len("1,as")))
+    # the new file, and the folder with its name
+    assert names[aside + 1 : aside + 3] == ["fsync 4", "fsync 5"]
+    assert aside + 2 < names.index("ftruncate 3")
+    assert (tmp_path / "day.journal.cut-1").read_text() == "1,as"
+
+
 @pytest.fixture(name="as_nobody")
 def nobodys_program(program: str) -> Iterator[list[str]]:
     """The command of the program, by somebody who may write only where modes say so. Root may write
@@ -639,6 +672,7 @@ def test_read_only(as_nobody: list[str], of_folder: int, of_file: int | None) ->
         )
         folder.chmod(0o755)
         left = file.read_text() if file.exists() else None
+    said: tuple[int, str, str, str | None]
     if goes_on:
         said = (0, f"1: {ASK}\n", "journal 0 entries\n", f"{DAY}1,ask,{ASK}\n")
     else:
@@ -654,6 +688,19 @@ def limited(most: int) -> Callable[[], None]:
         resource.setrlimit(resource.RLIMIT_FSIZE, (most, most))
 
     return set_limit
+
+
+def test_no_room_for_what_is_cut_off(program: str, tmp_path: pathlib.Path) -> None:
+    file = tmp_path / "day.journal"
+    file.write_text(f"{DAY}1,ask,{ASK}\n1,as")
+    refused(program, file, [], 3, "journal failed\n", limited(2))
+    again = subprocess.run(
+        [program, "--live", "--journal", str(file)], input="", capture_output=True, text=True
+    )
+    said = "journal cut off after its last line: 4 bytes, kept in (.*)\njournal 1 entries\n"
+    kept = re.fullmatch(said, again.stderr)
+    assert again.returncode == 0 and kept is not None
+    assert pathlib.Path(kept[1]).read_text() == "1,as"
 
 
 def test_no_room_at_first(program: str, tmp_path: pathlib.Path) -> None:
