@@ -2,10 +2,11 @@
 
 ghost use Rattle.std.specs.Prelude.{◌≡◌, IfOk, IfErr, codes, false, map, pos};
 ghost use Rattle.clap.specs.Walk.{rule_of};
-ghost use Rattle.clap.specs.Simple.{app_of};
+ghost use Rattle.clap.specs.Simple.{app_of, with_rule};
 ghost use Rattle.clap.specs.Values.{kind_of};
 ghost use Rattle.settings.specs.Options.{callboard, flag, word};
-ghost use Rattle.settings.specs.Table.{rule_for, with_rules};
+ghost use Rattle.settings.specs.Table.{rule_for, with_audit_options, with_live_options, with_rules, with_run_options};
+ghost use Rattle.settings.specs.Table.{without_options};
 
 use auction_terms::{MAX_CALLS, MAX_MEMBERS, MAX_OPEN_ORDERS, MAX_TICK};
 use clap::builder::ValueParser;
@@ -185,6 +186,35 @@ fn word_option<'a>(alloc: Global, name: &'a str, value: &'a str, help: &'a str) 
         .action(ArgAction::Set)
 }
 
+/// The command with this flag too. The error is that memory is refused.
+fn with_flag<'a>(
+    alloc: Global,
+    command: Command<'a>,
+    name: &'a str,
+    help: &'a str,
+) -> Result<Command<'a>, Error>
+    ensures options { IfOk result (λ c. app_of c ≡ with_rule (app_of command.entry) (flag name.entry.now)) }
+    ensures memory { IfErr result (λ e. kind_of e ≡ ErrorKind.OutOfMemory) }
+{
+    let command = command.arg(flag_option(alloc, name, help))?;
+    Ok(command)
+}
+
+/// The command with this option with a word too. The error is that memory is refused.
+fn with_word<'a>(
+    alloc: Global,
+    command: Command<'a>,
+    name: &'a str,
+    value: &'a str,
+    help: &'a str,
+) -> Result<Command<'a>, Error>
+    ensures options { IfOk result (λ c. app_of c ≡ with_rule (app_of command.entry) (word name.entry.now)) }
+    ensures memory { IfErr result (λ e. kind_of e ≡ ErrorKind.OutOfMemory) }
+{
+    let command = command.arg(word_option(alloc, name, value, help))?;
+    Ok(command)
+}
+
 /// The command with these options too. The error is that memory is refused.
 fn with_numbers<'a>(
     alloc: Global,
@@ -201,6 +231,46 @@ fn with_numbers<'a>(
     Ok(command)
 }
 
+/// The command with what is done with a run too. The error is that memory is refused.
+fn with_run_options<'a>(alloc: Global, command: Command<'a>) -> Result<Command<'a>, Error>
+    ensures options { IfOk result (λ c. app_of c ≡ with_run_options (app_of command.entry)) }
+    ensures memory { IfErr result (λ e. kind_of e ≡ ErrorKind.OutOfMemory) }
+{
+    let command = with_flag(alloc, command, "floor", FLOOR_HELP)?;
+    let command = with_flag(alloc, command, "history", HISTORY_HELP)?;
+    with_word(alloc, command, "print", "WHAT", PRINT_HELP)
+}
+
+/// The command with the audit and its results too. The error is that memory is refused.
+fn with_audit_options<'a>(alloc: Global, command: Command<'a>) -> Result<Command<'a>, Error>
+    ensures options { IfOk result (λ c. app_of c ≡ with_audit_options (app_of command.entry)) }
+    ensures memory { IfErr result (λ e. kind_of e ≡ ErrorKind.OutOfMemory) }
+{
+    let command = with_flag(alloc, command, "audit", AUDIT_HELP)?;
+    with_flag(alloc, command, "results", RESULTS_HELP)
+}
+
+/// The command with the answers as records come too, and where and how these are kept. The error is that memory is
+/// refused.
+fn with_live_options<'a>(alloc: Global, command: Command<'a>) -> Result<Command<'a>, Error>
+    ensures options { IfOk result (λ c. app_of c ≡ with_live_options (app_of command.entry)) }
+    ensures memory { IfErr result (λ e. kind_of e ≡ ErrorKind.OutOfMemory) }
+{
+    let command = with_flag(alloc, command, "live", LIVE_HELP)?;
+    let command = with_word(alloc, command, "journal", "FILE", JOURNAL_HELP)?;
+    with_word(alloc, command, "sync", "HOW", SYNC_HELP)
+}
+
+/// The command with its texts and no option.
+fn without_options<'a>(alloc: Global) -> Command<'a>
+    ensures { app_of result ≡ without_options }
+{
+    Command::new(alloc, "callboard")
+        .version(VERSION)
+        .about(ABOUT)
+        .after_help(AFTER_HELP)
+}
+
 /// The command with all its options: the numbers in ticks, orders, calls and members, each with its range, the two
 /// flags of the members' floor, what is printed, the audit and its results, the answers as records come, and where and
 /// how these are kept. The error is that memory is refused.
@@ -208,28 +278,8 @@ pub fn callboard<'a>(alloc: Global) -> Result<Command<'a>, Error>
     ensures options { IfOk result (λ c. app_of c ≡ callboard) }
     ensures memory { IfErr result (λ e. kind_of e ≡ ErrorKind.OutOfMemory) }
 {
-    let command = Command::new(alloc, "callboard")
-        .version(VERSION)
-        .about(ABOUT)
-        .after_help(AFTER_HELP);
-    let command = with_numbers(alloc, command, NUMBERS.as_slice())?;
-    let floor = flag_option(alloc, "floor", FLOOR_HELP);
-    let history = flag_option(alloc, "history", HISTORY_HELP);
-    let print = word_option(alloc, "print", "WHAT", PRINT_HELP);
-    let audit = flag_option(alloc, "audit", AUDIT_HELP);
-    let results = flag_option(alloc, "results", RESULTS_HELP);
-    let live = flag_option(alloc, "live", LIVE_HELP);
-    let journal = word_option(alloc, "journal", "FILE", JOURNAL_HELP);
-    let sync = word_option(alloc, "sync", "HOW", SYNC_HELP);
-    Ok(
-        command
-            .arg(floor)?
-            .arg(history)?
-            .arg(print)?
-            .arg(audit)?
-            .arg(results)?
-            .arg(live)?
-            .arg(journal)?
-            .arg(sync)?,
-    )
+    let command = with_numbers(alloc, without_options(alloc), NUMBERS.as_slice())?;
+    let command = with_run_options(alloc, command)?;
+    let command = with_audit_options(alloc, command)?;
+    with_live_options(alloc, command)
 }
