@@ -105,9 +105,10 @@ class Installed:
         finally:
             begun.unlink(missing_ok=True)
 
-    def install(self, items: list[Item]) -> None:
-        """Installs items in place of what was installed before. Nothing is written where something
-        is in the way. Raises Refused, OSError.
+    def install(self, items: list[Item]) -> list[str]:
+        """Installs items in place of what was installed before: the places of that which are no
+        item's, and were taken away. Nothing is written where something is in the way. Raises
+        Refused, OSError.
         """
         places = [item.place for item in items]
         old = [place for place in self.marks if place not in places]
@@ -122,6 +123,7 @@ class Installed:
         for place in old:
             self.take(place)
         self.write()
+        return old
 
     def take(self, place: str) -> None:
         """Takes away what is at a place, and what Python compiled of it. Raises OSError."""

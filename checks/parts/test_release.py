@@ -251,7 +251,32 @@ def test_what_was_changed_stays(built: dict[str, str], tmp_path: pathlib.Path) -
 
 @pytest.mark.parametrize("words", [["here"], [], ["/a", "/b"], ["--other", "/a"]])
 def test_wrong_words(words: list[str]) -> None:
-    assert run(TOP / "install", *words).returncode == 2
+    ran = run(TOP / "install", *words)
+    assert ran.returncode == 2
+    assert words != ["here"] or "'here' doesn't begin with /" in ran.stderr
+
+
+@pytest.mark.parametrize("variable", ["CALLBOARD_PROGRAM", "CALLBOARD_LIBRARY"])
+def test_a_wrong_path_is_named_with_its_variable(variable: str, tmp_path: pathlib.Path) -> None:
+    env = {"CALLBOARD_PROGRAM": "/bin/true", variable: "/nowhere"}
+    ran = run(TOP / "install", tmp_path / "own", env=env)
+    what = variable.removeprefix("CALLBOARD_").lower()
+    assert ran.returncode == 1 and not (tmp_path / "own").exists()
+    assert ran.stderr == f"install: {variable} names no {what}: /nowhere\n"
+
+
+def test_a_second_run_says_what_it_takes_away(
+    built: dict[str, str], tmp_path: pathlib.Path
+) -> None:
+    done(TOP / "install", tmp_path, env=built)
+    before = files_below(tmp_path)
+    ran = run(TOP / "install", "--without-python", tmp_path, env=built)
+    gone = [place for place in before if place not in files_below(tmp_path)]
+    said = [line for line in ran.stderr.splitlines() if "taken away" in line]
+    assert ran.returncode == 0 and len(gone) > 10
+    assert sorted(said) == [
+        f"install: {place}: taken away, as this run doesn't install it" for place in sorted(gone)
+    ]
 
 
 # ---- pip
