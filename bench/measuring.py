@@ -174,8 +174,9 @@ def our_library(path: str | None) -> pathlib.Path:
 
 def compiled(source: str, library: pathlib.Path, folder: str) -> str:
     """Compiles a program of this folder with the library. Raises CalledProcessError."""
-    made = str(pathlib.Path(folder) / source.removesuffix(".c"))
-    words = ["cc", "-std=c11", "-D_POSIX_C_SOURCE=200809L", "-O2", "-Wall", "-Wextra"]
+    made = str(pathlib.Path(folder) / pathlib.Path(source).stem)
+    words = ["cc", "-std=c11"] if source.endswith(".c") else ["c++", "-std=c++17"]
+    words += ["-D_POSIX_C_SOURCE=200809L", "-O2", "-Wall", "-Wextra"]
     words += [f"-I{library}", str(TOP / "bench" / source), str(library / "libcallauction.a")]
     subprocess.run([*words, "-pthread", "-o", made], check=True)
     return made
