@@ -211,7 +211,7 @@ PARTS = [
         "bench",
         "each measure once, in its smallest form",
         BENCH,
-        "cc parallel time xargs",
+        "cc g++ parallel time xargs",
         "aiohttp cffi numpy Python.h pandas pytest tqdm",
         short=BENCH + FEW,
     ),
