@@ -331,6 +331,11 @@ def test_a_day_goes_on(tmp_path: pathlib.Path) -> None:
 def test_a_journal_of_another_day(tmp_path: pathlib.Path) -> None:
     words = day_before(tmp_path)
     (tmp_path / "day.toml").write_text(FAST + '[[instrument]]\nlow = "0.02"\n')
+    status, error = ended(*words)
+    assert status == 2 and "another day: low of XYZ was 0.01, and is 0.02;" in error
+    log = tmp_path / "venue/venue.log"
+    lines = log.read_text().splitlines(keepends=True)
+    log.write_text("".join(line for line in lines if '"kind":"day"' not in line))
     assert ended(*words) == (2, "venue: journal of another day: low\n")
 
 

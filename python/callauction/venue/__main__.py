@@ -9,6 +9,7 @@ from callauction import finder
 from callauction.fix.build import MISSING
 from callauction.statuses import BAD_DAY, BAD_FILE, DONE, FAILED, UNLAWFUL
 from callauction.venue import notices, owned
+from callauction.venue.begun import OtherDayError
 from callauction.venue.checking import checked
 from callauction.venue.config import Day
 from callauction.venue.fields import ConfigError
@@ -22,9 +23,9 @@ from callauction.venue.venue import Venue
 
 FOLDER = "class.venue"
 EPILOG = """statuses: 0 ended by SIGINT or SIGTERM; 1 a bad day file, or a log, a token or a journal
-with a fault; 2 wrong words, an address that can't be listened on, a folder or journal in use, or
-one that other users own or may write; 3 no program, a read or a write failed, or something didn't
-end in time; 4 a journal with an unlawful reply"""
+with a fault; 2 wrong words, an address that can't be listened on, a folder or journal in use, of
+another day, or one that other users own or may write; 3 no program, a read or a write failed, or
+something didn't end in time; 4 a journal with an unlawful reply"""
 
 
 def arguments() -> argparse.ArgumentParser:
@@ -156,7 +157,7 @@ def main() -> int:
         program = finder.program()
         run(asked, address, program)
         return DONE
-    except (AddressError, LogInUse, OwnerError) as fault:
+    except (AddressError, LogInUse, OtherDayError, OwnerError) as fault:
         text, status = str(fault), BAD_DAY
     except (ConfigError, LogError, RecoveryError, TokenError) as fault:
         text, status = str(fault), BAD_FILE

@@ -5,7 +5,7 @@ import subprocess
 import time
 from collections.abc import Iterator
 
-from callauction.venue import config, owned, tokens
+from callauction.venue import begun, config, owned, tokens
 from callauction.venue.fields import ConfigError
 from callauction.venue.log import Line, read_lines
 from callauction.venue.recovery import RecoveryError, entries_of, settled
@@ -76,12 +76,15 @@ def version_of(program: str) -> str:
 
 
 def checked_log(day: config.Day, folder: pathlib.Path) -> Iterator[str]:
-    """What is found of a day that has begun. Raises LogError, OwnerError, RecoveryError, OSError.
+    """What is found of a day that has begun. Raises LogError, OtherDayError, OwnerError,
+    RecoveryError, OSError.
     """
     path = folder / LOG
     owned.check_file(path)
     text = path.read_bytes()
     lines = read_lines(text[: text.rfind(b"\n") + 1], str(path))
+    if changed := begun.changes(day, lines, folder):
+        yield f"changed since it was last opened: {', '.join(changed)}"
     boards = [*(it.name for it in day.instruments), *(line.get("instrument") for line in lines)]
     for key in dict.fromkeys(filter(None, boards)):
         own = [line for line in lines if line.get("instrument") == key]

@@ -31,6 +31,7 @@ FIELDS: dict[str, dict[str, type]] = {
     "door": {"open": bool},
     "rename": {"name": str, "title": str},
     "removed": {"name": str},
+    "day": {"instruments": dict, "parts": dict},
     "round": {"round": int, "groups": int, "treatment": dict},
     "group": {"round": int, "group": int},
 }

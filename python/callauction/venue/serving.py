@@ -10,6 +10,7 @@ import socket
 import ssl
 import sys
 import threading
+import time
 from collections.abc import AsyncIterator, Sequence
 from typing import Protocol
 
@@ -127,8 +128,11 @@ def lines_of_address(
     url, *others = venue.urls()
     lines = [f"{venue.day.title}: {venue.folder}, {entries} entries so far"]
     if count := len(venue.members.all):
-        goes_on = f"goes on in round {venue.round.number} with {count} members"
-        lines.append(f"{goes_on}; --folder NEW begins anew")
+        begun = time.strftime("%Y-%m-%d", time.localtime(venue.began))
+        goes_on = f"goes on with what was begun on {begun}: round {venue.round.number}"
+        lines.append(f"{goes_on}, members: {count}; --folder NEW begins anew")
+    if venue.changes:
+        lines.append(f"the day has changed since it was last opened: {', '.join(venue.changes)}")
     lines.append(f"members  {url}")
     lines += [f"or       {other}" for other in others]
     lines += fronts

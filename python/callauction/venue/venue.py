@@ -7,9 +7,10 @@ import dataclasses
 import functools
 import logging
 import pathlib
+import time
 from collections.abc import Callable, Iterable, Mapping
 
-from callauction.venue import audience, config, downloads, owned, tokens
+from callauction.venue import audience, begun, config, downloads, owned, tokens
 from callauction.venue.audience import PAYOFFS, SHOWN, Audience
 from callauction.venue.engine import Settled
 from callauction.venue.gains import Value
@@ -54,6 +55,8 @@ class Venue(Audience):
         self.members = Members(day.members, self.log)
         self.rounds = [self._round(1, day.treatment(1))]
         self.halted: str | None = None
+        self.changes: list[str] = []
+        self.began = time.time()
         self.on_entry: Heard = lambda board, message, entry: None
         self.secrets = {role: tokens.secret_of(folder, role) for role in ("operator", "beamer")}
         self._waiting: dict[str, list[Line]] = {}
@@ -107,7 +110,7 @@ class Venue(Audience):
 
     async def open(self) -> int:
         """Goes on from the log and the journals: how many entries they have. Raises LogError,
-        ProcessError, RecoveryError, OSError.
+        OtherDayError, ProcessError, RecoveryError, OSError.
         """
         lines = self.log.lines()
         self._log_task = asyncio.create_task(self.log.run())
@@ -115,6 +118,7 @@ class Venue(Audience):
             self.log.note(kind="venue", version=VERSION)
         elif lines[0].get("version") != VERSION:
             raise LogError(f"{self.log.path} is the log of another version")
+        self._learn_day(lines)
         if not any(line["kind"] == "round" for line in lines):
             self._note_round(self.round)
         self._learn_rounds(lines)
@@ -214,6 +218,16 @@ class Venue(Audience):
             watcher.leave("halted")
 
     # ---- what the log says
+
+    def _learn_day(self, lines: list[Line]) -> None:
+        """Learns when the folder was begun, and what of its day is another since. Raises
+        OtherDayError, and LogError.
+        """
+        changes = begun.changes(self.day, lines, self.folder)
+        if changes is None or changes:
+            self.log.note(kind="day", **begun.kept(self.day))
+        self.changes = changes or []
+        self.began = next((line["time"] for line in lines if "time" in line), self.began)
 
     def _note_round(self, round_: Round) -> None:
         """Writes a round to the log."""
