@@ -344,3 +344,4 @@ def test_members_see_an_open_book(venue: Served) -> None:
         until(lambda: bool(me.look("ladder")["levels"] == [level]))
         RECEIVED.validate(me.look("ladder"))
     until(lambda: bool(sees(venue, "ladder", token)["levels"] == [level]))
+    until(lambda: bool(sees(venue, "ladder", venue.beamer)["levels"] == [level]))

@@ -120,7 +120,10 @@ def test_the_next_round(lesson: dict[str, Any]) -> None:
     anna.waits(lambda it: not it.is_off("#send"))
     with Client(venue.url, lesson["bert"]) as bert:
         bert.enter("ask", 20, "2.00")
-    anna.waits(lambda it: it.shows("booking") and "supply" in it.text("book"))
+    for name in ("anna", "beamer"):
+        lesson[name].waits(lambda it: it.shows("booking") and "supply" in it.text("book"))
+    teacher.clicks("#tab-settings")
+    assert teacher.text("shows-open").startswith("In this round everybody sees the book")
     anna.clicks("input[value=bid]")
     anna.types(quantity="51", price="3.00")
     anna.clicks("#send")

@@ -85,13 +85,18 @@ class Audience:
     def has_viewers(self) -> bool:
         """Whether somebody may see the book."""
         roles = {it.role for it in self.watchers}
-        is_shown = "beamer" in roles and self.beamer_shows == "all"
+        is_shown = "beamer" in roles and self.is_book_on_screen
         return "operator" in roles or is_shown or (self.is_open_book and "member" in roles)
 
     @property
     def is_open_book(self) -> bool:
         """Whether members see the book."""
         return self.round.treatment.book == "open"
+
+    @property
+    def is_book_on_screen(self) -> bool:
+        """Whether the beamer shows the book: where the operator wants it, or where all see it."""
+        return self.beamer_shows == "all" or self.is_open_book
 
     # ---- a board
 
@@ -148,7 +153,7 @@ class Audience:
                 watcher.offer(f"ladder {name}", shown.ladder_of(instrument))
             return
         watcher.offer(f"course {name}", shown.course_of(instrument))
-        if watcher.role == "operator" or self.beamer_shows == "all":
+        if watcher.role == "operator" or self.is_book_on_screen:
             watcher.offer(f"ladder {name}", shown.ladder_of(instrument))
         if is_all:
             last = instrument.trades[-shown.MOST_SHOWN :]

@@ -74,7 +74,7 @@ function drawJoin(scene) {
 // ---- the call
 
 function drawCall(state) {
-  const showsBook = screen.shows === "all";
+  const showsBook = screen.shows === "all" || round?.book === "open";
   figures(find("figures"), indicationFigures(state));
   hide(find("booking"), !showsBook);
   find("scene-call").className = showsBook ? "scene even" : "scene";

@@ -52,6 +52,7 @@ function drawRound(state) {
   put(find("round"), roundText(round));
   hide(find("message"), !round.message);
   put(find("message"), round.message);
+  hide(find("shows-open"), round.book !== "open");
   roundForm.draw(["waiting", "over"].includes(state.phase));
 }
 
