@@ -50,6 +50,8 @@ MOST_SHORT = 15
 NARROW = 44
 """How many letters a telephone shows side by side."""
 SCROLLS = " (scrolls sideways)"
+FIRST = " (the first {} of {})"
+"""What a caption says of a table of which as many rows are shown."""
 SIZE = (5.0, 4.2)
 """The inches of a picture, whose texts are still readable on a telephone."""
 
@@ -102,7 +104,7 @@ def html_table(
     are parted, first cells are links by `links`, and `most` rows are shown. A wide one scrolls, and
     says so on a narrow screen; a short one is kept on one page of paper.
     """
-    more = f" (the first {most} of {len(frame):,})" if len(frame) > most else ""
+    more = FIRST.format(f"{most:,}", f"{len(frame):,}") if len(frame) > most else ""
     columns = [str(column) for column in frame.columns]
     kinds = [_kind(frame[name]) for name in frame]
     heads = "".join(f'<th scope="col"{kind}>{name}</th>' for name, kind in zip(columns, kinds))

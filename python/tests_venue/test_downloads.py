@@ -3,8 +3,16 @@ import csv
 import io
 import pathlib
 import re
+import time
+import urllib.parse
+import urllib.request
 
+import pandas
+import pytest
 import served
+from callauction.pages import html_table
+from callauction.venue import config, downloads, instrument, log, report
+from callauction.venue.members import Members
 from conftest import FAST
 from served import Served
 from test_rounds import trade
@@ -141,6 +149,48 @@ def test_tables_for_an_english_spreadsheet(tmp_path: pathlib.Path) -> None:
         lesson(venue)
         for kind in ("trades", "members", "results"):
             assert spreadsheet(venue, kind, "en") == "\ufeff" + download(venue, kind)
+
+
+@pytest.mark.parametrize("kind, language, wanted", [
+    ("results", "", "Märkte-1-Stunde-2-{}-results.csv"),
+    ("results", "de", "Märkte-1-Stunde-2-{}-Ergebnisse.csv"),
+    ("trades", "de", "Märkte-1-Stunde-2-{}-Abschlüsse.csv"),
+    ("report", "en", "Märkte-1-Stunde-2-{}-report.html"),
+    ("journal", "de", "Märkte-1-Stunde-2-{}-XYZ-journal.csv"),
+    ("members", "de", "Märkte-1-Stunde-2-{}-XYZ-Namen.csv"),
+])
+def test_the_name_of_a_file(
+    tmp_path: pathlib.Path, kind: str, language: str, wanted: str
+) -> None:
+    """It has the lesson and its day, and no letter that a file system doesn't take."""
+    day = config.Day(title=' Märkte 1: "Stunde/2" ')
+    terms, began = day.instruments[0], 1_764_288_000.0
+    kept = log.Log(tmp_path / "venue.log")
+    board = instrument.opened(
+        instrument.Board("XYZ"), terms, day.rounds[0], day, tmp_path, "none", kept
+    )
+    lesson = downloads.Lesson(day, [], Members(day.members, kept), "none", began)
+    name = downloads.file_of(kind, lesson, board, language)
+    assert name == wanted.format(time.strftime("%Y-%m-%d", time.localtime(began)))
+    head = downloads.disposition(name)
+    head.encode("ascii")
+    assert urllib.parse.unquote(head.partition("UTF-8''")[2]) == name
+    assert re.search(r'filename="([^"]+)"', head)[1] == re.sub("[äü]", "_", name)  # type: ignore
+
+
+def test_the_download_has_that_name(venue: Served) -> None:
+    path = f"{venue.url}api/download/results/XYZ"
+    asked = urllib.request.Request(path, headers={"Authorization": f"Bearer {venue.operator}"})
+    with urllib.request.urlopen(asked, timeout=served.SECONDS) as answer:
+        name = answer.headers["Content-Disposition"]
+    assert re.search(r"UTF-8''Call-auction-\d{4}-\d\d-\d\d-results\.csv$", name)
+
+
+def test_a_long_table_in_german() -> None:
+    page = html_table(pandas.DataFrame({"Menge": range(12_345)}), "Abschlüsse", "trades")
+    assert "(the first 300 of 12,345)" in page
+    found = report.in_german(page)
+    assert found.count("Abschlüsse (die ersten 300 von 12.345)") == 2 and "the first" not in found
 
 
 def test_the_report_in_german(tmp_path: pathlib.Path) -> None:

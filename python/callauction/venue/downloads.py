@@ -7,10 +7,13 @@ import dataclasses
 import io
 import json
 import pathlib
+import re
 import sys
 import tempfile
+import time
 from collections.abc import Callable, Iterator, Sequence
 from typing import Any
+from urllib.parse import quote
 
 from callauction.venue import config, results
 from callauction.venue.instrument import Instrument
@@ -20,13 +23,17 @@ from callauction.venue.rounds import Round
 from callauction.venue.sheets import PLAIN, Row, table
 
 KINDS = {
-    "journal": ("journal.csv", "text/csv"),
-    "members": ("members.csv", "text/csv"),
-    "results": ("results.csv", "text/csv"),
-    "trades": ("trades.csv", "text/csv"),
-    "report": ("report.html", "text/html"),
+    "journal": ("csv", "text/csv"),
+    "members": ("csv", "text/csv"),
+    "results": ("csv", "text/csv"),
+    "trades": ("csv", "text/csv"),
+    "report": ("html", "text/html"),
 }
 """By its name, how the file of a download ends, and its type."""
+GERMAN = {"members": "Namen", "results": "Ergebnisse", "trades": "Abschlüsse", "report": "Bericht"}
+"""What downloads are called in German, where that is another word."""
+MOST_LETTERS = 40
+"""The letters of a lesson's title in the name of a file."""
 OF_BOARD = ("journal", "members")
 """The downloads that are of one board, and not of all rounds."""
 RESULTS = (
@@ -49,12 +56,15 @@ class DownloadError(Exception):
 
 @dataclasses.dataclass(frozen=True)
 class Lesson:
-    """What a venue has of all rounds, and the program that prints its journals."""
+    """What a venue has of all rounds, the program that prints its journals, and when it was begun,
+    in seconds of the epoch.
+    """
 
     day: config.Day
     rounds: Sequence[Round]
     members: Members
     program: str
+    began: float = 0.0
 
     def boards(self) -> Iterator[tuple[Round, Instrument]]:
         """Each board of each round."""
@@ -81,6 +91,21 @@ async def made(kind: str, lesson: Lesson, board: Instrument, language: str = PLA
         asked = json.dumps(await asked_of(lesson, paths, language)).encode("utf-8")
         words = [sys.executable, "-m", "callauction.venue.report"]
         return await output(words, asked)
+
+
+def file_of(kind: str, lesson: Lesson, board: Instrument, language: str = PLAIN) -> str:
+    """The name of a download's file, by which those of many lessons are told apart."""
+    title = re.sub(r"\W+", "-", lesson.day.title)[:MOST_LETTERS].strip("-")
+    day = time.strftime("%Y-%m-%d", time.localtime(lesson.began))
+    word = GERMAN.get(kind, kind) if language == "de" else kind
+    words = [title, day, *([board.board.key] if kind in OF_BOARD else []), word]
+    return f"{'-'.join(filter(None, words))}.{KINDS[kind][0]}"
+
+
+def disposition(name: str) -> str:
+    """The head of a file's answer, with its name for programs that know ASCII alone, too."""
+    plain_name = re.sub(r"[^ -~]", "_", name)
+    return f"attachment; filename=\"{plain_name}\"; filename*=UTF-8''{quote(name)}"
 
 
 def journal_of(board: Instrument) -> bytes:

@@ -324,14 +324,14 @@ class Site:
         language = request.query.get("language", sheets.PLAIN)
         if language not in sheets.LANGUAGES:
             raise MessageError("bad_message", "language is none of en, de")
-        ending, content_type = downloads.KINDS[kind]
         lesson = self._venue.lesson(self._program)
         try:
             body = await downloads.made(kind, lesson, board, language)
         except downloads.DownloadError as fault:
             raise MessageError("bad_message", str(fault)) from None
-        name = f"{board.board.key}.{ending}" if kind in downloads.OF_BOARD else ending
-        headers = {"Content-Disposition": f'attachment; filename="{name}"'}
+        name = downloads.file_of(kind, lesson, board, language)
+        headers = {"Content-Disposition": downloads.disposition(name)}
+        content_type = downloads.KINDS[kind][1]
         return web.Response(
             body=body, content_type=content_type, charset="utf-8", headers=headers
         )

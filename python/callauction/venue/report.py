@@ -18,7 +18,7 @@ from typing import Any
 import pandas
 
 from callauction import plot
-from callauction.pages import html_image, html_page, html_table, new_figure
+from callauction.pages import FIRST, html_image, html_page, html_table, new_figure
 from callauction.program import Day
 from callauction.reasons import explain
 from callauction.tables import audit_of, book_at, books_of
@@ -79,6 +79,8 @@ MARKUP = (
      '<span class="hint"> (seitlich schieben)</span>'),
 )  # fmt: skip
 """What the markup of a page has in English, and in German."""
+FIRST_ROWS = re.compile(re.escape(FIRST).replace(r"\{\}", r"([\d,]+)"))
+"""What the caption of a table says that isn't whole."""
 
 
 class Number:
@@ -105,9 +107,14 @@ def html_of(asked: Json) -> str:
     for board in asked["boards"]:
         parts += board_of(asked, board)
     page = html_page(asked["title"], parts)
-    for english, other in MARKUP if asked["language"] == "de" else ():
+    return in_german(page) if asked["language"] == "de" else page
+
+
+def in_german(page: str) -> str:
+    """A page whose markup is in German too."""
+    for english, other in MARKUP:
         page = page.replace(english, other)
-    return page
+    return FIRST_ROWS.sub(lambda it: german.number(f" (die ersten {it[1]} von {it[2]})"), page)
 
 
 def paid_of(asked: Json) -> list[Part]:

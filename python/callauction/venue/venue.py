@@ -766,7 +766,7 @@ class Venue(Audience):
     def lesson(self, program: str) -> downloads.Lesson:
         """What the operator may take home."""
         rounds = [it for it in self.rounds if it.has_begun]
-        return downloads.Lesson(self.day, rounds, self.members, program)
+        return downloads.Lesson(self.day, rounds, self.members, program, self.began)
 
     def show_all(self) -> None:
         """Shows everybody everything."""

@@ -192,7 +192,7 @@ async function download(kind) {
   }
   const link = document.createElement("a");
   link.href = URL.createObjectURL(await answer.blob());
-  link.download = answer.headers.get("Content-Disposition").split('"')[1];
+  link.download = decodeURIComponent(answer.headers.get("Content-Disposition").split("UTF-8''")[1]);
   link.click();
   say(text("done"));
   setTimeout(() => URL.revokeObjectURL(link.href), 10000);
