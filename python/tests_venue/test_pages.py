@@ -188,10 +188,10 @@ def test_a_market_order_leaves_the_price_free(lesson: dict[str, Any]) -> None:
     anna.waits(lambda it: it.find("#price").is_enabled() and not it.find("#market").is_selected())
     enters(anna, "bid", "10", "4.00")
     anna.waits(lambda it: [row[2] for row in it.rows("orders")] == ["market", "4.00"])
-    for _ in range(2):
+    for left in (1, 0):
         anna.clicks("#orders tbody [data-name=delete]")
         anna.waits(lambda it: not it.text("said") or it.text("said").endswith("deleted"))
-    anna.waits(lambda it: it.rows("orders") == [])
+        anna.waits(lambda it, left=left: len(it.rows("orders")) == left)
 
 
 REFUSED = [
@@ -266,6 +266,9 @@ def test_a_member_comes_again_and_speaks_german(lesson: dict[str, Any]) -> None:
     anna.waits(lambda it: "5,40" in it.text("figures"))
     anna.types(quantity="1.000", price="4.50")
     assert anna.text("preview") == "Sie geben ein: Kauf von 1.000 zu 4,50, zusammen 4.500,00 EUR"
+    anna.clicks("#market")
+    assert anna.text("preview") == "Sie geben ein: Kauf von 1.000 ohne Limit"
+    anna.clicks("#market")
     anna.clicks("#language")
     anna.types(quantity="", price="")
 
@@ -306,6 +309,60 @@ def test_a_page_without_its_token_says_how_it_is_opened(
     with opened(tmp_path, f"{lesson['venue'].url}{page}") as found:
         found.waits(lambda it: f"the line that begins with “{page}”" in it.text("closed"))
         assert not found.shows("open") and found.errors() == []
+
+
+HOLDS = """
+const held = [], kinds = ["fills", "trades", "efficiency"];
+window.isHeld = false;
+window.letGo = () => { window.isHeld = false; for (const hear of held.splice(0)) hear(); };
+window.WebSocket = class extends WebSocket {
+  set onmessage(heard) {
+    super.onmessage = (event) => {
+      const isLate = window.isHeld && kinds.includes(JSON.parse(event.data).type);
+      if (isLate) held.push(() => heard(event));
+      else heard(event);
+    };
+  }
+};
+"""
+"""Holds back what comes of trades, as on a busy machine, until it is let go."""
+
+
+def test_nothing_is_said_of_trades_before_they_have_come(
+    tmp_path: pathlib.Path, venue: served.Served
+) -> None:
+    """The result of an uncross is shown at once, and who traded a little later."""
+    bert = venue.join("Bert")
+    with contextlib.ExitStack() as stack:
+        pages = []
+        for name, path in ("anna", ""), ("beamer", f"beamer#{venue.beamer}"):
+            page = stack.enter_context(opened(tmp_path / name, venue.url + path))
+            driver: Any = page.driver
+            script = {"source": HOLDS}
+            driver.execute_cdp_cmd("Page.addScriptToEvaluateOnNewDocument", script)
+            driver.refresh()
+            pages.append(page)
+        anna, beamer = pages
+        joins(anna, venue.code, "Anna")
+        venue.do("give", values=[
+            {"member": "Anna", "side": "bid", "price": "3.00", "quantity": 10},
+            {"member": "Bert", "side": "ask", "price": "1.00", "quantity": 10}])
+        venue.do("start")
+        anna.waits(lambda it: not it.is_off("#send"))
+        enters(anna, "bid", "5", "2.00")
+        with Client(venue.url, bert) as me:
+            me.enter("ask", 5, "2.00")
+        for page in pages:
+            page.runs("window.isHeld = true")
+        venue.do("uncross")
+        anna.waits(lambda it: it.text("result") == "Opening auction: price 2.00, volume 5")
+        beamer.waits(lambda it: it.text("result") == "2.00" and bool(it.text("why")))
+        assert (anna.text("own-result"), beamer.text("efficiency")) == ("", "")
+        assert "You didn't trade" not in anna.text("trading")
+        for page in pages:
+            page.runs("window.letGo()")
+        anna.waits(lambda it: it.text("own-result") == "You bought 5 at 2.00.")
+        beamer.waits(lambda it: it.text("efficiency").startswith("Efficiency 50 %"))
 
 
 VALUES = [("bid", 7.2), ("bid", 6.6), ("bid", 6.1), ("bid", 5.7), ("bid", 5.2), ("bid", 4.6),

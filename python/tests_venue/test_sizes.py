@@ -149,6 +149,7 @@ def test_after_the_uncross(lesson: dict[str, Any]) -> None:
     check_sizes(lesson, phase_is("Opening auction · over", "Eröffnungsauktion · beendet"))
     beamer.resizes((1920, 1080))
     beamer.waits(lambda it: bool(it.text("why")))
+    assert len(beamer.rows("ranking")) > 3, "a ranking has all the room that there is"
     assert beamer.runs(SMALL, 20) == []
 
 

@@ -232,6 +232,40 @@ def test_a_round_of_ones_own(lesson: dict[str, Any]) -> None:
     assert anna.text("message") == "Prices rise."
 
 
+def test_no_earlier_crossing_stays(lesson: dict[str, Any]) -> None:
+    """Until the books of an auction have come, which may take a while on a busy machine."""
+    venue, beamer = lesson["venue"], lesson["beamer"]
+    driver: Any = beamer.driver
+    driver.execute_cdp_cmd("Network.enable", {})
+    driver.execute_cdp_cmd("Network.setBlockedURLs", {"urls": ["*/api/replay/*"]})
+    venue.do("start")
+    with Client(venue.url, lesson["bert"]) as bert:
+        bert.enter("ask", 5, "4.40")
+    lesson["anna"].waits(lambda it: not it.is_off("#send"))
+    enters(lesson["anna"], "bid", "5", "4.40")
+    venue.do("uncross")
+    beamer.waits(lambda it: it.text("result") == "4.40")
+    assert beamer.text("crossing") == "It is being made …"
+    driver.execute_cdp_cmd("Network.setBlockedURLs", {"urls": []})
+    beamer.waits(lambda it: "4.40" in it.text("crossing"))
+
+
+def test_an_auction_without_a_price_is_no_success(lesson: dict[str, Any]) -> None:
+    """By its colour, for the teacher as for members."""
+    venue, looks = lesson["venue"], []
+    colour = "return getComputedStyle(document.getElementById('result')).color"
+    lesson["teacher"].clicks("#tab-auction")
+    for name in ("teacher", "anna"):
+        lesson[name].waits(lambda it: it.text("result").startswith("Opening auction: price 4.40"))
+        looks.append(lesson[name].runs(colour))
+    venue.do("start")
+    venue.do("uncross")
+    said = "Intraday auction: no price, nothing was executed"
+    for name, before in zip(("teacher", "anna"), looks):
+        lesson[name].waits(lambda it: it.text("result") == said)
+        assert lesson[name].runs(colour) != before
+
+
 def test_the_side_of_a_new_value(lesson: dict[str, Any]) -> None:
     """It is chosen, whatever was chosen for the value before; and stays what is chosen then."""
     venue, anna = lesson["venue"], lesson["anna"]

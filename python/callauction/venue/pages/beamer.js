@@ -8,7 +8,9 @@ import { bookPicture, coursePicture, drawCode } from "./pictures.js";
 import { lastBook, Replay } from "./replay.js";
 import { roundText } from "./rounds.js";
 import { fill } from "./rows.js";
-import { Clock, indicationFigures, isCall, nextText, phaseText, resultOf, showInterruption } from "./states.js";
+import {
+  Clock, indicationFigures, isCall, nextText, phaseText, resultOf, showInterruption, tradesOf,
+} from "./states.js";
 import { reasonsOf } from "./why.js";
 
 const MOST_GAINS = 3, MOST_ROWS = 12;
@@ -90,7 +92,8 @@ const endedOf = (state) => state.results.filter((it) => it.auction !== "interrup
 
 function drawResult(state) {
   const ended = endedOf(state), place = chosenPlace(ended);
-  const result = ended[place], isLast = place === ended.length - 1;
+  const result = ended[place], last = said.trades[chosen]?.trades.at(-1)?.trade ?? 0;
+  const isLast = place === ended.length - 1 && last >= tradesOf(ended);
   const hasPrice = result.price !== null, words = hasPrice ? price(result.price) : text("no_price");
   put(find("result"), words, hasPrice ? "price-large" : "price-large none");
   put(find("why-head"), text(hasPrice ? "why" : "why_not"));
@@ -99,9 +102,10 @@ function drawResult(state) {
   put(find("predicted"), isLast ? predictedText() : "");
   fetchReplay(place + 1);
   drawCrossing(place + 1);
-  const before = ended.slice(0, place).reduce((sum, it) => sum + it.trades, 0);
+  const before = tradesOf(ended.slice(0, place));
   fit((count) => {
-    const gains = isLast ? drawGains(Math.min(MOST_GAINS, Math.ceil(count / 2))) : drawGains(0);
+    const most = showsRanking() ? count : Math.min(MOST_GAINS, Math.ceil(count / 2));
+    const gains = drawGains(isLast ? most : 0);
     drawTrades(before, result.trades, count - gains);
   });
 }
@@ -125,9 +129,11 @@ function fit(draw) {
   }
 }
 
+const showsRanking = () => screen.payoffs === "ranking" && ranking.length > 0;
+
 // Who gained most of all rounds, where the teacher shows that, else of this one: how many rows.
 function drawGains(most) {
-  const isRanking = screen.payoffs === "ranking" && ranking.length > 0;
+  const isRanking = showsRanking();
   const gains = (said.efficiency[chosen]?.gains ?? []).map((it, place) => ({ rank: place + 1, ...it }));
   const rows = (isRanking ? ranking : gains).slice(0, most);
   hide(find("placing"), !rows.length);
@@ -171,7 +177,10 @@ async function fetchReplay(number) {
   try {
     Object.assign(found, await ask(`/api/replay/${chosen}?auction=${number}`, token));
   } catch {
-    setTimeout(() => { delete replays[key]; }, 5000);
+    setTimeout(() => {
+      delete replays[key];
+      draw();
+    }, 5000);
   }
   draw();
 }
@@ -184,7 +193,11 @@ function drawCrossing(number) {
   hide(find("replay"), !frames.length);
   put(find("replay"), text(replay.isGoing ? "stop" : "replay"));
   find("why").replaceChildren(...(book ? reasonsOf(book) : []).map((words) => make("p", words)));
-  if (!book || replay.isGoing) return;
+  if (replay.isGoing) return;
+  if (!book) {
+    find("crossing").replaceChildren(make("p", text("preparing"), "soft"));
+    return;
+  }
   const volume = book.levels.find((it) => it.price === book.price)?.volume ?? 0;
   bookPicture(find("crossing"), lastBook(book), { price: book.price, volume }, term());
 }

@@ -10,7 +10,7 @@ const FIELD_OF_REFUSAL = { BadQuantity: "quantity", BadLimit: "price", BadPeak: 
 
 export const limitText = (limit) => (limit === "market" ? text("at_market") : price(limit));
 export const orderText = ({ side, quantity, price: limit }) =>
-  text(`order_${side}`, shares(quantity), limitText(limit));
+  text(`order_${side}${limit === "market" ? "_market" : ""}`, shares(quantity), limitText(limit));
 
 // What a message that is sent asks for, in words.
 export function sentText(sent) {

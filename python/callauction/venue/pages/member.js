@@ -11,7 +11,7 @@ import { roundText, treatmentTexts } from "./rounds.js";
 import { fill } from "./rows.js";
 import {
   Clock, indicationFigures, interruptionOf, nextText, phaseText, resultOf, resultText, showInterruption,
-  takesOrders,
+  takesOrders, tradesOf,
 } from "./states.js";
 
 const KEPT = "venue.token";
@@ -98,9 +98,11 @@ function drawPayoff() {
   put(find("gains"), gains.map((it) => `${roundText(it)}: ${price(it.gain)}`).join("\n"), "soft lines");
 }
 
-// What the last auction brought, by the trades that it added to those before it.
+// What the last auction brought, by the trades that it added to those before it; nothing as long as
+// these haven't come: own ones come before all.
 function ownResult({ results }) {
-  const before = results.slice(0, -1).reduce((sum, it) => sum + (it.trades ?? 0), 0);
+  const before = tradesOf(results.slice(0, -1)), known = shown("trades")?.trades.at(-1)?.trade ?? 0;
+  if (known < tradesOf(results)) return "";
   const fills = (shown("fills")?.fills ?? []).filter((it) => it.trade > before);
   const of = (side) => fills.filter((it) => it.side === side).reduce((sum, it) => sum + it.quantity, 0);
   const found = [["bid", "bought"], ["ask", "sold"]].filter(([side]) => of(side))

@@ -32,6 +32,9 @@ export class Clock {
   }
 }
 
+// How many trades auctions had.
+export const tradesOf = (results) => results.reduce((sum, it) => sum + (it.trades ?? 0), 0);
+
 export const isCall = (state) => ["call", "extended"].includes(state.phase);
 export const takesOrders = (state) => isCall(state) && !state.frozen && !state.halted;
 

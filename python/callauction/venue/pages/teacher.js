@@ -70,7 +70,7 @@ function drawOutcome(state) {
   const result = resultOf(state), found = said.efficiency[chosen];
   showInterruption(find("interruption"), state);
   hide(find("outcome"), !result);
-  if (result) put(find("result"), resultText(result));
+  if (result) put(find("result"), resultText(result), result.price === null ? "large none" : "large");
   put(find("efficiency"), efficiencyText(found));
   figures(find("figures"), [...indicationFigures(state), [text("left"), shares(state.left)]]);
   put(find("next"), state.phase === "over" ? text("over_next") : nextText(state));
@@ -156,11 +156,13 @@ function close() {
 // Does what the operator asks for: what is answered, or nothing where it isn't done. What would take
 // values away is done after a question alone.
 async function act(body) {
+  say(text("one_moment"));
   try {
     const found = await ask("/api/operator", token, { instrument: chosen, ...body });
     say(text("done"));
     return found;
   } catch (fault) {
+    say("");
     if (fault.code !== "has_values") refuse(fault);
     else if (await asks(text("give_asks"), text("give_asks_help"), text("give_now"))) {
       return act({ ...body, replace: true });
