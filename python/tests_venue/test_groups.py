@@ -5,6 +5,7 @@ import pathlib
 from typing import Any
 
 import aiohttp
+import browsing
 import judged
 import pytest
 import served
@@ -104,6 +105,17 @@ def test_a_new_group_is_shown_to_who_is_there(tmp_path: pathlib.Path, role: str)
         joined(venue, 3)
         titles = asyncio.run(boards_shown(venue, getattr(venue, role), "late"))
         assert titles == ["XYZ · 1", "XYZ · 2"]
+
+
+def test_a_member_reads_in_which_group_it_is(tmp_path: pathlib.Path) -> None:
+    """The screen may show the price of another one."""
+    with served.served(tmp_path, SMALL) as venue:
+        joined(venue, 2)
+        with browsing.joined(tmp_path / "anna", venue, "Anna") as anna:
+            anna.waits(lambda it: it.text("round") == "The book is closed.")
+            venue.join("late")
+            wanted = f"The book is closed. You are in the group XYZ · {groups_of(venue)['Anna']}."
+            anna.waits(lambda it: it.text("round") == wanted)
 
 
 def test_a_latecomer_finds_room(tmp_path: pathlib.Path) -> None:

@@ -81,7 +81,9 @@ function drawRound() {
   hide(find("booking"), round?.book !== "open");
   if (!round) return;
   const isPlain = round.round === 1 && !round.title && !round.practice;
-  put(find("round"), [isPlain ? "" : `${roundText(round)}.`, ...treatmentTexts(round, term())].join(" ").trim());
+  const group = round.groups > 1 ? text("your_group", term()?.title) : "";
+  const parts = [isPlain ? "" : `${roundText(round)}.`, ...treatmentTexts(round, term()), group];
+  put(find("round"), parts.filter(Boolean).join(" "));
   put(find("message"), round.message);
   if (round.book === "open") {
     bookPicture(find("book"), shown("ladder")?.levels ?? [], shown("states").indication, term());
