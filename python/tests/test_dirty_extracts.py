@@ -175,6 +175,39 @@ def test_two_instruments_are_refused_without_by(
     assert audited(text_of(rows), ["--ignore", "*", "--by", column], tmp_path) == 0
 
 
+@pytest.mark.parametrize("words", [[], ["--json"]])
+def test_a_file_of_which_no_instrument_can_be_judged_is_a_bad_one(
+    words: list[str], tmp_path: Path, capsys: Printed
+) -> None:
+    """Each has two days in it; where it isn't said what these were opened with, that is it."""
+    rows = with_date(base_rows(), "2026-11-25") + with_date(base_rows(), "2026-11-26")
+    text = text_of([{**row, "isin": name} for row in rows for name in ("DE1", "DE2")])
+    assert audited(text, ["--by", "isin", *words], tmp_path) == 1
+    line = capsys.readouterr().err
+    assert "are results of two days" in line and line.endswith(" (and 1 more can't be judged)\n")
+    (tmp_path / "day.csv").write_text(text)
+    assert main(["audit", str(tmp_path / "day.csv"), "--by", "isin", *words]) == 2
+    assert "say --reference and --tick-size" in capsys.readouterr().err
+
+
+def test_trades_that_a_condition_leaves_out_are_counted(tmp_path: Path, capsys: Printed) -> None:
+    """By hand: 500 of A and 100 of C trade with B's 600, and 400 are left of C."""
+    (tmp_path / "day.csv").write_text(
+        "event,order,side,price,quantity,auction,surplus,trades,bid,ask\n"
+        "new,A,bid,10.02,500,,,,,\nnew,C,bid,10.02,500,,,,,\nnew,B,ask,10.02,600,,,,,\n"
+        "uncross,,bid,10.02,600,opening,400,2,,\ntrade,,,10.02,500,,,,A,B\n"
+        "trade,,,10.02,100,,,,C,B\n"
+    )
+    words = ["--reference", "10", "--tick-size", "0.01", "--auctions", "opening"]
+    assert main(["audit", str(tmp_path / "day.csv"), *words]) == 0
+    capsys.readouterr()
+    given = [*words, "--where", "quantity >= 500"]
+    assert main(["audit", str(tmp_path / "day.csv"), *given]) == 5
+    printed = capsys.readouterr()
+    assert "C ask B: 100 at 10.02: a trade of such an order doesn't meet --where\n" in printed.out
+    assert "trades, fills and results that don't meet --where: 1\n" in printed.err
+
+
 @pytest.mark.parametrize("tag, name", [(48, "SecurityID (48)"), (55, "Symbol (55)")])
 def test_a_log_of_two_instruments_is_refused_without_by(
     tag: int, name: str, tmp_path: Path, capsys: Printed
@@ -258,12 +291,67 @@ def test_a_corrected_result_of_the_one_auction_needs_no_name(tmp_path: Path) -> 
     assert audited(text_of(rows), ["--auctions", "opening"], tmp_path) == 4
 
 
-def test_a_corrected_result_with_a_range_leaves_a_doubt(tmp_path: Path, capsys: Printed) -> None:
+@pytest.mark.parametrize("later", [True, False])
+@pytest.mark.parametrize("words", [["--range", "5.00"], ["--range", "2%"]])
+def test_a_corrected_result_with_a_range_leaves_a_doubt(
+    words: list[str], later: bool, tmp_path: Path, capsys: Printed
+) -> None:
     """There the first result may be an interruption."""
     rows = base_rows()
-    corrected(rows, "right", False)
-    assert audited(text_of(rows), ["--range", "5.00"], tmp_path) == 5
+    corrected(rows, "right", later)
+    assert audited(text_of(rows), words, tmp_path) == 5
     assert "the later one may correct the other" in capsys.readouterr().out
+    rows[places(rows, UNCROSS)[-1]]["quantity"] = "7"
+    assert audited(text_of(rows), words, tmp_path) == 4
+
+
+def test_an_interruption_that_has_the_name_of_its_auction_is_no_corrected_result() -> None:
+    """By hand: 10.10 is beyond the range of 0.05, and 10.04, at which it ends, isn't."""
+    rows: Rows = [
+        dict(event="new", order="A", side="bid", price="10.10", quantity="10", time="09:00"),
+        dict(event="new", order="S", side="ask", price="10.10", quantity="10", time="09:01"),
+        dict(event="uncross", price="10.10", quantity="10", auction="interrupted", time="09:02"),
+        dict(event="new", order="B", side="bid", price="10.04", quantity="50", time="09:03"),
+        dict(event="new", order="T", side="ask", price="10.04", quantity="50", time="09:04"),
+        dict(event="uncross", price="10.04", quantity="50", auction="opening", time="09:05"),
+        dict(event="trade", bid="A", ask="T", quantity="10", price="10.04", time="09:05"),
+        dict(event="trade", bid="B", ask="T", quantity="40", price="10.04", time="09:05"),
+    ]  # fmt: skip
+    terms = dict(reference="10", tick_size="0.01", auctions=["opening"], range="0.05")
+    assert not judged_rows(rows, terms).findings, str(judged_rows(rows, terms))
+    rows[2]["auction"] = "opening"
+    [finding] = judged_rows(rows, terms).findings
+    assert (finding.recorded, finding.lawful) == ("opening", "interrupted")
+
+
+@pytest.mark.parametrize("number", range(3))
+@pytest.mark.parametrize("later", [True, False])
+def test_four_results_without_names_condemn_no_day(
+    number: int, later: bool, tmp_path: Path, capsys: Printed
+) -> None:
+    """One is a later result of an auction; a fault in another auction is found."""
+    rows = base_rows()
+    ends = places(rows, UNCROSS)
+    wrong = dict(rows[ends[number]], price=f"{float(rows[ends[number]]['price']) + 0.02:.2f}")
+    right, rows[ends[number]] = rows[ends[number]], wrong
+    rows.insert([*ends, len(rows)][number + 1] if later else ends[number] + 1, right)
+    for row in rows:
+        row.pop("auction", None)
+    assert audited(text_of(rows), [], tmp_path) == 5
+    assert "none says which auction it is of" in capsys.readouterr().out
+    other = places(rows, UNCROSS)[0 if number == 2 else -1]
+    rows[other]["quantity"] = str(int(rows[other]["quantity"]) + 1)
+    assert audited(text_of(rows), [], tmp_path) == 4
+
+
+def test_an_interruption_without_a_name_condemns_no_day(tmp_path: Path, capsys: Printed) -> None:
+    """Of results without names one more is an interruption; the range isn't said."""
+    rows = [dict(row) for row in base_day(True).rows]
+    words = ["--reference", base_day(True).reference]
+    for row in rows:
+        row.pop("auction", None)
+    assert audited(text_of(rows), words, tmp_path) == 5
+    assert "none says which auction it is of" in capsys.readouterr().out
 
 
 def test_an_earlier_result_of_an_auction_is_none_of_its_end(

@@ -106,6 +106,8 @@ class Audited:
     records: tuple[Mapping[str, object], ...] = ()
     """The findings (RECORD)."""
     ranges: tuple[str, ...] = ()
+    is_unread: bool = False
+    """Whether the fault is one of the file, and not of what the day was opened with."""
 
     def plain(self) -> dict[str, object]:
         """What a machine reads of it."""
@@ -179,7 +181,8 @@ class Market:
     def one_by_one(self, workers: int | None, watch: Watch = iter) -> Iterator[Audited]:
         """The verdicts in the order of the names; first what belongs to no instrument."""
         if len(self._lost):
-            yield Audited("", FAULT, fault=f"{len(self._lost):,} rows have no {self.by}")
+            why = f"{len(self._lost):,} rows have no {self.by}"
+            yield Audited("", FAULT, fault=why, is_unread=True)
         for name in sorted({*self.rules} - {*self.names}):
             yield Audited(name, FAULT, fault="it is among the days, and no row is of it")
         order = sorted(range(len(self.names)), key=self.names.__getitem__)
@@ -207,7 +210,7 @@ class Market:
             return [*map(self._audited, numbers, self._rows_of(numbers))]
         except ExtractError as fault:
             if len(numbers) == 1:
-                return [Audited(self.names[numbers[0]], FAULT, fault=str(fault))]
+                return [_unread(self.names[numbers[0]], fault)]
             return [each for number in numbers for each in self.part([number])]
 
     def _rows_of(self, numbers: list[int]) -> list[Rows]:
@@ -247,6 +250,8 @@ class Market:
             return Audited(name, FAULT, fault=rules)
         try:
             return audited(name, self._judged(rows, rules), self.is_explained)
+        except ExtractError as fault:
+            return _unread(name, fault)
         except (ValueError, ProgramError) as fault:
             return Audited(name, FAULT, fault=str(fault))
 
@@ -275,6 +280,11 @@ class Market:
 
 _MARKETS: list[Market] = []
 """What the processes that are forked work on: its cells are in memory that all share."""
+
+
+def _unread(name: str, fault: ExtractError) -> Audited:
+    """An instrument whose rows can't be judged."""
+    return Audited(name, FAULT, fault=str(fault), is_unread=True)
 
 
 def _part(numbers: list[int]) -> list[Audited]:

@@ -2,7 +2,8 @@
 results, a result and its correction.
 """
 import dataclasses
-from collections.abc import Sequence
+import itertools
+from collections.abc import Iterator, Sequence
 
 import numpy
 
@@ -124,22 +125,38 @@ def _untimed(rows: Rows, orders: Ints, ends: Ints) -> Ints:
 # ---- a result and its correction
 
 
-def corrected(rows: Rows, due: Sequence[int], is_close: bool = False) -> Rows:
+def corrected(rows: Rows, due: Sequence[int]) -> Rows:
     """The rows, where there are more results than auctions with the last one of an auction in the
-    place of the one above its trades, else of the first, and the others as bad rows; with
-    `is_close` only where no row of an order is between them.
+    place of the one above its trades, else of the first, and the others as bad rows.
     """
     results = _results(rows)
     names = rows.state[results] - 1
     names[(names < 0) & (len(due) == 1)] = due[0]
     for number in due if len(results) > len(due) else ():
         those = results[names == number]
-        kind = rows.kind[those.min(initial=len(rows.kind)) : those.max(initial=0)]
-        is_apart = bool(((kind >= NEW) & (kind <= CANCEL)).any())
-        if len(those) > 1 and due.count(number) == 1 and not (is_close and is_apart):
-            others = results[(results > those[0]) & ~numpy.isin(results, those)]
-            end = int(others.min(initial=len(rows.kind)))
-            rows = _corrected(rows, those, _moment(rows, those, end), AUCTIONS[number])
+        if len(those) > 1 and due.count(number) == 1:
+            rows = _corrected(rows, results, those, f"the {AUCTIONS[number]}")
+    return rows
+
+
+def unnamed(rows: Rows, due: Sequence[int]) -> Iterator[list[Ints]]:
+    """Where results that name no auction are more than the auctions: in each way in which some are
+    of one auction with the next one, the results of each such auction.
+    """
+    results = _results(rows)
+    more = len(results) - len(due)
+    if more < 1 or len(due) < 2 or (rows.state[results] > 0).any():
+        return
+    for joined in itertools.combinations(range(1, len(results)), more):
+        begins = [place for place in range(1, len(results)) if place not in joined]
+        yield [those for those in numpy.split(results, begins) if len(those) > 1]
+
+
+def as_one(rows: Rows, groups: Sequence[Ints]) -> Rows:
+    """The rows with the last one of these results of an auction in the place of all of them."""
+    results = _results(rows)
+    for those in groups:
+        rows = _corrected(rows, results, those, "its auction")
     return rows
 
 
@@ -152,11 +169,13 @@ def _moment(rows: Rows, those: Ints, end: int) -> int:
     return int(those[those < made[0]][-1] if len(made) else those[0])
 
 
-def _corrected(rows: Rows, those: Ints, at: int, auction: str) -> Rows:
-    """The rows with the last of these results of an auction alone, at a place."""
+def _corrected(rows: Rows, results: Ints, those: Ints, auction: str) -> Rows:
+    """The rows with the last of these results of an auction alone, at their moment."""
+    others = results[(results > those[0]) & ~numpy.isin(results, those)]
+    at = _moment(rows, those, int(others.min(initial=len(rows.kind))))
     bad, kind, last = [*rows.bad], rows.kind.copy(), int(those[-1])
     for place in those[:-1].tolist():
-        why = f"row {rows.labels[last]} is a later result of the {auction}, read in its place"
+        why = f"row {rows.labels[last]} is a later result of {auction}, read in its place"
         bad.append(BadRow(place, rows.labels[place], why, Doubt.ITEM, place))
     kind[those] = BAD
     kind[at] = UNCROSS

@@ -6,6 +6,7 @@ import os
 import pathlib
 import re
 import zlib
+from collections import Counter
 from collections.abc import Callable, Collection, Mapping
 from decimal import Decimal
 from typing import BinaryIO, Literal, NamedTuple
@@ -16,6 +17,7 @@ import pandas
 from callauction.prices import BadCellError, decimal_of
 from callauction.verdict import fix, times
 from callauction.verdict.cells import (
+    Codes,
     Ints,
     MadeSource,
     Mask,
@@ -39,6 +41,9 @@ from callauction.verdict.columns import (
 GZIP = b"\x1f\x8b"
 ROW = "row"
 """The name of the index: a row of a file is named by its line, one of a frame by its label."""
+UNCROSS = EVENTS.index("uncross")
+"""The first event that isn't of an order."""
+LEFT_OUT = "trades, fills and results that don't meet --where"
 _ARCHIVE = b"PK\3\4"
 _CONDITION = re.compile(r"\s*(?P<name>.+?)\s*(?P<sign>==|!=|<=|>=|<|>)\s*(?P<value>.*?)\s*")
 _INSTRUMENT = re.compile(
@@ -183,7 +188,12 @@ def read_table(
     kept = found if dropped is None else found.take(numpy.flatnonzero(met))
     if by is None:
         _refuse_several(kept, columns, reading.format == "fix")
-    return dataclasses.replace(table, source=kept, dropped=dropped, names=names, end=end)
+    notes = Counter(table.notes)
+    if dropped is not None:
+        notes[LEFT_OUT] = int((_kinds(dropped, names["event"], reading) >= UNCROSS).sum())
+    return dataclasses.replace(
+        table, source=kept, dropped=dropped, names=names, end=end, notes=+notes
+    )
 
 
 def _refuse_several(source: Source, columns: Collection[str], has_tags: bool) -> None:
@@ -250,19 +260,26 @@ def _with_kinds(
     of_kinds = kinds_of(reading.columns)
     if not of_kinds:
         return source, names
-    codes, texts = source.cells(names["event"]).texts()
-    words = reading.values.get("event", {})
-    kinds = {word: place for place, word in enumerate(EVENTS)}
-    found = [kinds.get(words.get(text, text).casefold(), len(EVENTS)) for text in texts]
-    kind = numpy.array([*found, len(EVENTS)], "i4")[codes]
-    made, all_names = {}, dict(names)
+    kind, made, all_names = _kinds(source, names["event"], reading), {}, dict(names)
     for ours, theirs in of_kinds.items():
         other = names.get(ours, "")
         name = "; ".join(filter(None, [other, *(f"{it} {theirs[it] or 'none'}" for it in theirs)]))
-        made[name] = by_kind(source, kind, {kinds[it]: theirs[it] for it in theirs}, other)
+        numbers = {EVENTS.index(it): theirs[it] for it in theirs}
+        made[name] = by_kind(source, kind, numbers, other)
         all_names[ours] = name
     columns = (*source.names, *made)
     return MadeSource(columns, source.labels, base=source, made=made), all_names
+
+
+def _kinds(source: Source, theirs: str, reading: Reading) -> Codes:
+    """The place in EVENTS of each row's event, below 0 for another one; `theirs` is the name of
+    its column.
+    """
+    codes, texts = source.cells(theirs).texts()
+    words = reading.values.get("event", {})
+    kinds = {word: place for place, word in enumerate(EVENTS)}
+    found = [kinds.get(words.get(text, text).casefold(), -len(EVENTS)) for text in texts]
+    return numpy.array([*found, -len(EVENTS)], "i4")[codes]
 
 
 def _is_blank(source: Source, name: str) -> bool:

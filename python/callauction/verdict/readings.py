@@ -12,15 +12,17 @@ from callauction.verdict import clocks
 from callauction.verdict.cells import Codes, Ints
 from callauction.verdict.comparing import doubted
 from callauction.verdict.judging import Judge, Judged, Judgement, Rules
-from callauction.verdict.mixed import corrected, refuse_parts
+from callauction.verdict.mixed import as_one, corrected, refuse_parts, unnamed
 from callauction.verdict.reading import End
 from callauction.verdict.rows import (
     BAD,
     CANCEL,
     FILL,
+    INTERRUPTED,
     MARKET,
     NEW,
     REPLACE,
+    STOPPED,
     TRADE,
     UNCROSS,
     Bytes,
@@ -32,6 +34,7 @@ TWICE = "each trade has two rows: is there one for each side?"
 UNCHANGED = "replaces have no price: is it unchanged? --market says the word for market orders"
 PERCENT = "the range may be a percentage"
 CORRECTED = "an auction has two results: the later one may correct the other"
+UNNAMED = "there are more results than auctions, and none says which auction it is of"
 MOST_READINGS = 64
 """How many readings are tried."""
 Day = tuple[Rows, Rules]
@@ -54,7 +57,7 @@ def judged_day(rows: Rows, rules: Rules, watch: Watch = iter) -> Judgement:
     if not found.unlawful:
         return found
     refuse_parts(rows, rules.due)
-    ways = [*_changes(rows, rules), _orders_of_ties(judge)]
+    ways = [*_changes(found, rows, rules), _orders_of_ties(judge)]
     if falls:
         ways.append([(lambda day: (_by_time(day[0]), day[1]), falls)])
     combined = itertools.product(*([None, *those] for those in ways if those))
@@ -106,15 +109,20 @@ def _doubted(found: Judgement, other: Judgement, why: str) -> Judgement:
     return dataclasses.replace(found, uncrosses=uncrosses)
 
 
-def _changes(rows: Rows, rules: Rules) -> Iterator[list[Change]]:
+def _changes(found: Judgement, rows: Rows, rules: Rules) -> Iterator[list[Change]]:
     """What may be read otherwise in rows of this order."""
     again = _second_trades(rows)
     if len(again):
         kind = rows.kind.copy()
         kind[again] = BAD
         yield [(functools.partial(_of_kinds, kind), TWICE)]
-    if corrected(rows, rules.due, True) is not rows:
-        yield [(lambda day: (corrected(day[0], day[1].due, True), day[1]), CORRECTED)]
+    if corrected(rows, rules.due) is not rows and not _has_stops(found):
+        yield [(lambda day: (corrected(day[0], day[1].due), day[1]), CORRECTED)]
+    joined = [functools.partial(_as_one, groups) for groups in unnamed(rows, rules.due)]
+    if joined and rules.range is rules.second is None:
+        stops = numpy.flatnonzero(rows.kind == UNCROSS).tolist()
+        joined += [functools.partial(_stopped, place) for place in stops]
+    yield [(change, UNNAMED) for change in joined]
     copies = _copies(rows)
     if len(copies):
         why = f"row {rows.labels[copies[0]]} is there twice: is it one?"
@@ -131,6 +139,26 @@ def _changes(rows: Rows, rules: Rules) -> Iterator[list[Change]]:
         span = dataclasses.replace(rules.range, whole=rules.reference)
         percent = dataclasses.replace(rules, range=span)
         yield [(lambda day: (day[0], percent), PERCENT)]
+
+
+def _has_stops(found: Judgement) -> bool:
+    """Whether a result is one of an uncross that the range interrupts, so that a later one of its
+    auction is that of the extended call phase.
+    """
+    those = (it for each in found.uncrosses for it in each.differences)
+    return any(it.item == "auction" and it.lawful == INTERRUPTED for it in those)
+
+
+def _as_one(groups: list[Ints], day: Day) -> Day:
+    """The day with these results as one each."""
+    return as_one(day[0], groups), day[1]
+
+
+def _stopped(place: int, day: Day) -> Day:
+    """The day with a result as an interruption."""
+    state = day[0].state.copy()
+    state[place] = STOPPED
+    return dataclasses.replace(day[0], state=state), day[1]
 
 
 def _orders_of_ties(judge: Judge) -> list[Change]:

@@ -11,13 +11,13 @@ from callauction.verdict.coverage import Coverage
 from callauction.verdict.evidence import facts_of, write_findings, write_rows
 from callauction.verdict.findings import MOST_BAD_ROWS, STATUSES, counts_of
 from callauction.verdict.instruments import Audited, Days, market_of, worst_of
-from callauction.verdict.reading import Reading, Table
+from callauction.verdict.reading import ExtractError, Reading, Table
 from callauction.verdict.rows import Rows
 
 
 def show(found: list[Audited], asked: argparse.Namespace, contents: Sequence[bytes]) -> int:
     """Prints verdicts on what was read, and writes the files that are asked for: the status. Raises
-    ValueError where no instrument can be judged, and OSError.
+    ExtractError and ValueError where no instrument can be judged, and OSError.
     """
     facts = facts_of(contents, asked.words)
     if asked.findings is not None:
@@ -26,10 +26,9 @@ def show(found: list[Audited], asked: argparse.Namespace, contents: Sequence[byt
         write_rows(found, asked.output, facts)
     if asked.json:
         print("\n".join(json.dumps({**each.plain(), **facts}) for each in found))
+    _refuse_faults(found)
+    if asked.json:
         return STATUSES[worst_of(each.word for each in found)]
-    faults = [each for each in found if each.fault]
-    if len(faults) == len(found) and faults:
-        raise ValueError(_named(faults[0].name, faults[0].fault))
     for each in found:
         for line in each.remarks or [each.fault] * bool(each.fault):
             remark(each.name, line)
@@ -37,6 +36,16 @@ def show(found: list[Audited], asked: argparse.Namespace, contents: Sequence[byt
         for line in (*each.lines, *ranges):
             print(line if line.startswith(" ") else _named(each.name, line))
     return _print_end(found)
+
+
+def _refuse_faults(found: Sequence[Audited]) -> None:
+    """Raises ExtractError, or ValueError where the file is no fault, where all instruments have a
+    fault.
+    """
+    if found and all(each.fault for each in found):
+        line, more = _named(found[0].name, found[0].fault), len(found) - 1
+        line += f" (and {more:,} more can't be judged)" * bool(more)
+        raise ExtractError(line) if any(each.is_unread for each in found) else ValueError(line)
 
 
 def remark(name: str, line: str) -> None:
