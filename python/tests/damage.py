@@ -106,16 +106,17 @@ def unread_result(chance: random.Random, rows: Rows) -> int | None:
 
 def missing_uncross(chance: random.Random, rows: Rows) -> int | None:
     """A row uncross is missing, with its trades or without."""
-    place = some(chance, places(rows, "uncross"))
+    ended = [at for at in places(rows, "uncross") if rows[at].get("auction") in AUCTIONS]
+    place = some(chance, ended)
     if place is None:
         return None
-    auction, time = rows[place]["auction"], rows[place]["time"]
+    time = rows[place]["time"]
     has_trades = chance.random() < 0.5
     rows[:] = [
         row for at, row in enumerate(rows)
         if at != place and not (has_trades and row["event"] == "trade" and row["time"] == time)
     ]  # fmt: skip
-    return place if auction in AUCTIONS else None
+    return place
 
 
 # ---- the order of rows
@@ -202,10 +203,50 @@ def sent_again_with_sequences(chance: random.Random, rows: Rows) -> int | None:
 def trades_of_both_sides(chance: random.Random, rows: Rows) -> int | None:
     """Each trade has a row for each side."""
     those = places(rows, "trade")
-    if len(those) < 2:
+    if sum(rows[at]["quantity"].isdigit() for at in those) < 2:
         return None
-    rows[:] = [row for it in rows for row in [it] * (2 if it["event"] == "trade" else 1)]
+    made = ("trade", "bust")
+    rows[:] = [row for it in rows for row in [it] * (2 if it["event"] in made else 1)]
     return those[0]
+
+
+def copied_trade(chance: random.Random, rows: Rows) -> int | None:
+    """A trade, or a cancel of some shares, is once more somewhere below it."""
+    those = [at for at, row in enumerate(rows[:-2]) if row["event"] == "trade"
+             or row["event"] == "cancel" and "quantity" in row]  # fmt: skip
+    place = some(chance, those)
+    if place is not None:
+        rows.insert(chance.randint(place + 2, len(rows)), dict(rows[place]))
+    return place
+
+
+def corrected_result(chance: random.Random, rows: Rows) -> int | None:
+    """A result has another price, and the right one is below it, at once or later; its name is that
+    of its auction, or no result has one.
+    """
+    ends = [at for at in places(rows, "uncross") if rows[at].get("trades", "0") != "0"]
+    place = some(chance, ends)
+    if place is None or any(row.get("auction") == "interrupted" for row in rows):
+        return None
+    right = dict(rows[place])
+    rows[place]["price"] = f"{float(right['price']) + 0.02:.2f}"
+    later = [at for at in places(rows, "uncross") if at > place]
+    rows.insert(later[0] if later and chance.random() < 0.5 else place + 1, right)
+    if chance.random() < 0.5:
+        for row in rows:
+            row.pop("auction", None)
+    return 0 if "auction" not in right else place
+
+
+def busted(chance: random.Random, rows: Rows) -> int | None:
+    """A trade was made by mistake, and a bust took it out."""
+    place = some(chance, places(rows, "trade"))
+    if place is not None:
+        wrong = {**rows[place], "bid": rows[place]["ask"], "ask": rows[place]["bid"]}
+        at = chance.randint(place + 1, len(rows))
+        rows.insert(at, {**wrong, "event": "bust"})
+        rows.insert(place + 1, wrong)
+    return place
 
 
 # ---- what is no law
@@ -215,7 +256,7 @@ def paired_otherwise(chance: random.Random, rows: Rows) -> int | None:
     """The same shares of each order, but bids trade with asks from the other end."""
     first = None
     for auction in AUCTIONS:
-        those = [at for at in places(rows, "trade") if rows[at]["auction"] == auction]
+        those = [at for at in places(rows, "trade") if rows[at].get("auction") == auction]
         made = [rows[at] for at in those]
         is_whole = len(those) > 1 and those[-1] - those[0] == len(those) - 1
         if not is_whole or not all(row["quantity"].isdigit() for row in made):
@@ -224,8 +265,8 @@ def paired_otherwise(chance: random.Random, rows: Rows) -> int | None:
         asks = [[row["ask"], int(row["quantity"]), row["ask_member"]] for row in made][::-1]
         rows[those[0] : those[-1] + 1] = _laid(made, asks)
         for row in rows:
-            if row["event"] == "uncross" and row["auction"] == auction:
-                count = sum(it["event"] == "trade" and it["auction"] == auction for it in rows)
+            if row["event"] == "uncross" and row.get("auction") == auction:
+                count = sum(it["event"] == "trade" and it.get("auction") == auction for it in rows)
                 row["trades"] = str(count)
     return first
 
@@ -259,12 +300,49 @@ def unchanged_prices(chance: random.Random, rows: Rows) -> int | None:
     first = None
     for place, row in enumerate(rows):
         if row["event"] in ("new", "replace"):
-            if row["event"] == "replace" and row.get("price") == prices[row["order"]]:
+            if row["event"] == "replace" and row.get("price") == prices.get(row["order"], ""):
                 first = place if first is None and "price" in row else first
                 row.pop("price", None)
             else:
                 prices[row["order"]] = row.get("price")
     return first
+
+
+def trades_between(chance: random.Random, rows: Rows) -> int | None:
+    """Two orders of a call phase trade at once, as in continuous trading."""
+    ends = places(rows, "uncross")
+    those = [at for at in places(rows, *ORDERS)[:-1]
+             if ends[0] < at < ends[-1] and rows[at + 1]["event"] in ORDERS]  # fmt: skip
+    place = some(chance, those)
+    if place is not None:
+        time = rows[place]["time"]
+        pair = (("X", "bid", "10.30"), ("Y", "ask", "9.80"))
+        made: Rows = [
+            dict(event="new", order=order, side=side, quantity="5000", price=price, time=time)
+            for order, side, price in pair
+        ]
+        word = chance.choice(["", "continuous"])
+        made.append(dict(event="trade", bid="X", ask="Y", quantity="5000", price="10.30",
+                         time=time, auction=word))  # fmt: skip
+        rows[place + 1 : place + 1] = made
+    return place
+
+
+def beyond_the_program(chance: random.Random, rows: Rows) -> int | None:
+    """An order has more shares than the program takes, at a limit at which it isn't executed."""
+    place = some(chance, places(rows, *ORDERS))
+    if place is not None:
+        side, price = chance.choice([("bid", "9.00"), ("ask", "11.00")])
+        rows.insert(place, dict(event="new", order="HUGE", side=side, quantity="2500000000",
+                                price=price, time=rows[place]["time"]))  # fmt: skip
+    return place
+
+
+def interruptions_without_names(chance: random.Random, rows: Rows) -> int | None:
+    """No row says of which auction it is, or that it was interrupted."""
+    for row in rows:
+        row.pop("auction", None)
+    return 0
 
 
 DAMAGES: dict[str, Damage] = {
@@ -281,8 +359,14 @@ DAMAGES: dict[str, Damage] = {
     "times fall": times_fall,
     "sent again": sent_again,
     "sent again with sequences": sent_again_with_sequences,
-    "trades of both sides": trades_of_both_sides,
     "paired otherwise": paired_otherwise,
+    "copied trade": copied_trade,
+    "corrected result": corrected_result,
+    "busted": busted,
+    "trades between": trades_between,
+    "trades of both sides": trades_of_both_sides,
+    "beyond the program": beyond_the_program,
+    "no names": interruptions_without_names,
     "peaks of all": peaks_of_all,
     "unchanged prices": unchanged_prices,
 }

@@ -1,19 +1,26 @@
 """What is certain and what is in doubt, on random days that are damaged: a lawful one is never
 unlawful, and a fault before the damage is always found (docs/AUDIT.md, "What leaves a doubt").
 """
+import collections
 import itertools
+import os
 import random
 
 import pytest
-from callauction.verdict import Verdict
+from callauction.verdict import ExtractError, Verdict
 from damage import DAMAGES, ORDERS, places, stray_cancel, ties, timed_day, trades_of_both_sides
-from extracts import Extract
+from extracts import Extract, random_day
+from faults import FAULTS
 from test_verdict import judged
 
 SEEDS = range(40)
 NEVER_LAWFUL = ("unread order", "missing entry", "missing head", "stray cancel", "unread trade",
                 "unread result", "missing uncross")  # fmt: skip
-NEVER_IN_DOUBT = ("sent again", "sent again with sequences", "peaks of all")
+NEVER_IN_DOUBT = ("sent again", "sent again with sequences", "busted", "peaks of all")
+OF_THE_DAY = ("missing head", "missing entry", "stray cancel", "ties")
+"""Damages that may leave a doubt from the day's begin on."""
+DAYS = int(os.environ.get("DAMAGED_DAYS", "120"))
+"""How many days are damaged in several ways; by hand more, as DAMAGED_DAYS=5000 says."""
 
 
 @pytest.mark.parametrize("name", DAMAGES)
@@ -48,7 +55,7 @@ def test_a_fault_before_the_damage_is_found(name: str) -> None:
         extract = timed_day(seed)
         touched = extract.copy()
         first = DAMAGES[name](random.Random(seed), touched.rows)
-        if first is None or name in ("missing head", "missing entry", "stray cancel", "ties"):
+        if first is None or name in OF_THE_DAY:
             continue
         fault = planted(touched, first)
         if fault is None:
@@ -83,6 +90,67 @@ def test_two_damages_leave_a_lawful_day(names: tuple[str, str]) -> None:
         for name in names:
             DAMAGES[name](chance, extract.rows)
         assert judged(extract).word != "unlawful", f"{seed}\n{judged(extract)}"
+
+
+def damaged(seed: int, extract: Extract, most: int) -> list[int]:
+    """Damages a day in up to so many ways; answers the first places that are touched."""
+    chance = random.Random(seed * 7919 + 1)
+    names = sorted(chance.sample([*DAMAGES], chance.randint(1, most)), key=[*DAMAGES].index)
+    if "sent again with sequences" in names:  # they would say that all else is right
+        names = ["sent again with sequences"]
+    if {"missing uncross", "corrected result"} <= {*names}:  # names may be wrong ones then
+        names.remove("corrected result")
+    found = [DAMAGES[name](chance, extract.rows) for name in names]
+    whole = (*OF_THE_DAY, "missing uncross")  # it isn't known which one is missing, or when it was
+    return [0 if name in whole else it for it, name in zip(found, names) if it is not None]
+
+
+def test_a_lawful_day_with_several_damages_is_never_unlawful() -> None:
+    """With rows of one time too, and where the range or the tick size isn't said."""
+    words = collections.Counter[str]()
+    for seed in range(DAYS):
+        chance = random.Random(seed)
+        extract = (random_day if seed % 3 == 0 else timed_day)(seed, chance.choice([4, 8, 14]))
+        damaged(seed, extract, 3)
+        unsaid = {name: None for name in ("range", "tick_size") if chance.random() < 0.1}
+        try:
+            verdict = judged(extract, **unsaid)
+        except ExtractError as fault:
+            assert "say --sort" in str(fault) or "keep one by" in str(fault)
+            continue
+        assert verdict.word != "unlawful", f"{seed}\n{verdict}"
+        words[verdict.word] += 1
+    assert words["lawful"] > DAYS / 20 and words["incomplete"] > DAYS / 3
+
+
+def test_any_fault_before_the_damage_is_found() -> None:
+    """Its auction is over before the first row that is damaged."""
+    count = 0
+    for seed in range(3 * DAYS):
+        extract = timed_day(seed, 8)
+        fault = random.Random(seed).choice([*FAULTS])
+        found = FAULTS[fault](random.Random(seed), extract)
+        if found is None or fault in ("uncross behind the end", "trade missing"):
+            continue  # a trade may be missing by an unread one
+        marked, end = extract.rows[found[1]], _end_of_auction(extract, fault, found[1])
+        if min(damaged(seed, extract, 1), default=0) > end:
+            count += 1
+            verdict = judged(extract)
+            assert verdict.word == "unlawful", f"{seed} {fault}\n{verdict}"
+            own = [at for at, row in enumerate(extract.rows) if row is marked]
+            rows = {row for finding in verdict.findings for row in finding.rows}
+            assert rows & {*own}, f"{seed} {fault}\n{verdict}"
+    assert count > DAYS / 10
+
+
+def _end_of_auction(extract: Extract, fault: str, place: int) -> int:
+    """The place of the last row of a fault's auctions."""
+    rows = extract.rows
+    if fault in ("wrong place kept", "trade of another auction"):
+        place = min([at for at in places(rows, "uncross") if at > place] or [len(rows) - 1])
+    while place + 1 < len(rows) and rows[place + 1]["event"] not in ORDERS:
+        place += 1
+    return place
 
 
 # ---- certain whatever wasn't read

@@ -57,8 +57,8 @@ class Certain:
             return [*self._interruption(place, auction)]
         these = numpy.concatenate([traded, filled])
         own = these[~numpy.isin(these, self.doubts.outside(these, place))]
-        if not self.has_all:
-            state = self.rows.state
+        state = self.rows.state
+        if not self.has_all or 0 < state[place] != 1 + auction:
             own = own[(state[own] > 0) & (state[own] == state[place])]
         found = [*self._limits(place, traded)]
         if len(own):

@@ -39,6 +39,7 @@ MOST_FALLS = 10
 DAY = times.DAY_SECONDS * clocks.SECOND
 MOST_CUTS, MOST_ORDERS = 64, 24
 """How many moments of one time, and how many orders of the rows of one order, are tried."""
+NO_NAMES = "it isn't said which auctions the rows are of: --auctions says it"
 IN_A_PHASE = "is a trade within a call phase: audit-auction judges days with continuous trading"
 OUTSIDE = "rows of orders are before it, so it may be a trade outside of the auctions"
 
@@ -108,12 +109,20 @@ class Doubts:
         if first is None or len(names) >= len(due):
             return None
         if max(names) < 0:
-            return 0, "it isn't said which auctions the rows are of: --auctions says it"
+            return 0, NO_NAMES
         rest = iter(due[first:])
         if not all(name in rest for name in names[first:]):
             return None
         above = int(places[first - 1]) + 1 if first else 0
         return above, f"the {AUCTIONS[due[first]]} has no row: --auctions says which are held"
+
+    def lacks_names(self) -> bool:
+        """Whether no row says of which auction it is, which is a gap from the day's begin on where
+        one is missing, as some are of an uncross that was interrupted.
+        """
+        is_new = self.gap is None and bool((self.rows.state[self.uncrosses] <= 0).all())
+        self.gap = (0, NO_NAMES) if is_new else self.gap
+        return is_new
 
     def above(self, place: int, refused: Iterable[BadRow]) -> Reason | None:
         """Why the book at a place is in doubt: an uncross above it, or a row, is missing, or orders
@@ -151,8 +160,20 @@ class Doubts:
         after = numpy.concatenate([ends, [last]])[numpy.searchsorted(ends, at, "right")]
         began = numpy.searchsorted(orders, at) > numpy.searchsorted(orders, before, "right")
         goes_on = numpy.searchsorted(orders, after) > numpy.searchsorted(orders, at, "right")
+        if is_timed and len(orders):
+            above, below = self._beside(made)
+            began |= above & (at > before)
+            goes_on |= below & (at < after)
         found: Ints = made[began & goes_on & (after < last)]
         return found
+
+    def _beside(self, made: Ints) -> tuple[Mask, Mask]:
+        """Whether the row of an order above each trade or fill, and that below it, has its time."""
+        orders, time = self.orders, self.rows.time
+        place = numpy.searchsorted(orders, made)
+        above, below = orders[numpy.maximum(place - 1, 0)], orders[place % len(orders)]
+        is_above = (above < made) & (time[above] == time[made])
+        return is_above, (below > made) & (time[below] == time[made])
 
     def _unknown(self) -> Reason | None:
         """Why all books of the day are in doubt: a trade or a fill, which may be a bad row, names
@@ -161,12 +182,16 @@ class Doubts:
         rows, named = self.rows, []
         if (self.entered < 0).all():
             return Reason("no row enters an order")
-        unread = numpy.zeros(len(rows.kind), bool)
+        unread, own = numpy.zeros(len(rows.kind), bool), self.entered.copy()
         bad = (row.place for row in rows.bad if row.doubt is Doubt.TRADES)
         unread[[place for place in bad if place >= 0]] = True
+        for row in rows.bad:
+            if row.doubt is Doubt.ORDER and row.place >= 0:  # its row, which isn't read, enters it
+                own[rows.key[row.place]] = row.place
         for event, keys in ((TRADE, rows.bid), (TRADE, rows.ask), (FILL, rows.key)):
             these = numpy.flatnonzero(((rows.kind == event) | unread) & (keys >= 0))
-            named += these[self.entered[keys[these]] < 0][:1].tolist()
+            at = own[keys[these]]
+            named += these[(at < 0) | (self.entered[keys[these]] < 0) & (at > these)][:1].tolist()
         if not named:
             return None
         why = f"row {rows.labels[min(named)]} is a trade of an order that no row enters"

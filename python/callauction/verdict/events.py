@@ -220,7 +220,10 @@ def rows_of(
     _drop_sent_again(rows, columns, sequence, lead)
     make_keys(rows, ids_unread)
     take_busted(rows)
-    rows.notes[NO_TIME] += int((time[_has(columns, "time")] == clocks.NONE).sum())
+    unread_times = numpy.flatnonzero((time == clocks.NONE) & _has(columns, "time"))
+    if len(unread_times):
+        cell = columns.cells("time").text(int(unread_times[0]))
+        rows.notes[f"{NO_TIME}, such as {cell!r}"] += len(unread_times)
     return rows
 
 
@@ -365,6 +368,8 @@ def _refuse(
         is_new = rows.kind[place] == NEW
         if name == "price" and cell.isalpha() and rows.kind[place] in (NEW, REPLACE):
             text += f" (--market {cell} reads a market order)"
+        if name == "price" and re.search(r"[$€£¥]|\d ?[A-Z]{3}$", cell):
+            text += " (is it with a currency? leave that out)"
         if name == "quantity" and re.search(r"\d\D\d{3}$", cell):
             text += " (--thousands says what parts thousands)"
         rows.refuse(place, text, doubt or (Doubt.ORDER if is_new else Doubt.BOOKS))
@@ -473,7 +478,8 @@ def _drop_sent_again(rows: Rows, columns: Columns, sequence: Ints | None, lead: 
         these = numpy.concatenate([_repeatable(rows), _with_ids(rows, columns)])
         if len(these) > 1:
             content = pandas.Series(columns.content(these))
-            _drop(rows, these[content.duplicated().to_numpy()])
+            again = content.duplicated() & ~_has_others(rows, these, content)
+            _drop(rows, these[again.to_numpy()])
         return
     marks = paired_codes(paired_codes(lead, _codes(rows.time)), sequence + 1)
     twice = pandas.Series(marks).duplicated(keep=False).to_numpy()
@@ -486,6 +492,13 @@ def _drop_sent_again(rows: Rows, columns: Columns, sequence: Ints | None, lead: 
         doubt = Doubt.TRADES if rows.kind[place] in (TRADE, FILL) else Doubt.BOOKS
         cell = columns.cells("sequence").text(int(place))
         rows.refuse(place, f"sequence {cell!r} is another row's", doubt)
+
+
+def _has_others(rows: Rows, these: Ints, content: "pandas.Series") -> "pandas.Series":
+    """Which of these rows are results of an auction that has others too: the last one counts."""
+    is_result = (rows.kind[these] == UNCROSS) & (rows.state[these] != STOPPED)
+    of_auction = pandas.Series(numpy.where(is_result, rows.state[these], MISSING))
+    return (content.groupby(of_auction).transform("nunique") > 1) & (of_auction > 0)
 
 
 def _with_ids(rows: Rows, columns: Columns) -> Ints:

@@ -62,6 +62,7 @@ NO_UNCROSS = "trades and fills without any row uncross, which aren't compared"
 LATE_ORDERS = "orders and replaces after the last auction"
 BEYOND = "auctions beyond what this program holds"
 NO_STOPS = "no row can say that an uncross was interrupted before, as it may have been"
+NO_RANGE = "--range isn't said, so it isn't known what interrupts an uncross"
 NO_SEARCH = "uncrosses whose other moments are too many orders to try"
 MOST_MOMENTS = 25
 """How many moments are tried for an uncross that seems to be at a wrong one."""
@@ -244,6 +245,10 @@ class Judge:
         """All uncrosses of the day, which `watch` is given. Raises ProgramError."""
         found = self.judged_within(None, watch)
         assert found is not None
+        ended = sum(each.is_ended or bool(each.beyond) for each in found.uncrosses)
+        if found.unlawful and ended < len(self.due) and self.doubts.lacks_names():
+            found = self.judged_within(None)
+            assert found is not None
         return found
 
     def judged_within(self, places: set[int] | None, watch: Watch = iter) -> Judgement | None:
@@ -343,16 +348,19 @@ class Judge:
     def _beyond(
         self, path: Path, place: int, traded: Ints, filled: Ints, why: str
     ) -> Path:
-        """The course after an uncross of a book that the program can't hold."""
-        auction = self.due[min(path.state.ended + self._beyonds(path), len(self.due) - 1)]
+        """The course after an uncross of a book that the program can't hold: of the auction that it
+        names, else of the one that follows those above.
+        """
+        state = self.rows.state
+        ended = sum(bool(it.beyond) and state[it.place] != STOPPED for it in path.judged)
+        auction = self.due[min(path.state.ended + ended, len(self.due) - 1)]
+        if 0 < state[place] != STOPPED:
+            auction = int(state[place]) - 1
         named = self._of(NAMED + auction)
         traded, filled = (numpy.concatenate(it) for it in zip((traded, filled), named))
         found = tuple(self.contradictions.of(place, auction, traded, filled))
         judged = Judged(place, auction, found, traded=traded, filled=filled, beyond=why)
         return _longer(path, judged)
-
-    def _beyonds(self, path: Path) -> int:
-        return sum(bool(each.beyond) for each in path.judged)
 
     def _courses(self, moment: Moment, is_moved: bool | None) -> list[Path]:
         """The courses after an uncross at its row; where that differs, at another row of its time,
@@ -480,17 +488,21 @@ class Judge:
         """The course after an interruption; its trades come at the next uncross."""
         word = STOPPED if is_lawful else 1 + moment.auction
         items = compared_items(self.rows, moment.place, result, word)
-        wrong = items.get("auction")
-        why = NO_STOPS if self.rows.makes_results else ""
-        if self.rules.range is self.rules.second is None:
-            why = "--range isn't said, so it isn't known what interrupts an uncross"
-        if wrong is not None:
-            items["auction"] = dataclasses.replace(wrong, doubt=why)
+        self._doubt_stop(items, NO_STOPS if self.rows.makes_results else "")
         state = dataclasses.replace(moment.path.state, book=taken.book, is_extended=True)
         judged = self._judged(moment, taken, result, items, [])
         judged = dataclasses.replace(judged, is_interrupted=is_lawful, traded=NONE, filled=NONE)
         path = self._path(moment, judged, taken, state)
         return dataclasses.replace(path, waiting=(moment.traded, moment.filled))
+
+    def _doubt_stop(self, items: dict[str, Difference | None], why: str = "") -> None:
+        """An interruption, in whose place the auction's end is lawful, is in doubt without a range.
+        """
+        if self.rules.range is self.rules.second is None:
+            why = NO_RANGE
+        wrong = items.get("auction")
+        if wrong is not None:
+            items["auction"] = dataclasses.replace(wrong, doubt=why)
 
     def _executed(
         self, moment: Moment, taken: Taken, result: Result, wrong: Difference | None
@@ -506,6 +518,8 @@ class Judge:
         items = compared_items(rows, place, result, 1 + moment.auction)
         if wrong is not None:
             items["auction"] = wrong
+        elif rows.state[place] == STOPPED:
+            self._doubt_stop(items)
         is_wrong = items.get("price") is not None
         says_none = is_wrong and rows.price[place] == NO_PRICE
         allowed = int(rows.price[place]) if is_wrong and not says_none else MISSING
@@ -610,8 +624,9 @@ class Judge:
         """Why the name of an auction is in doubt, of which books decide nothing where all above it
         have theirs: else one above may be interrupted by a book.
         """
-        names = (it for each in above for it in each.differences if it.item == "auction")
-        return self.doubts.of_name(place) or (why if any(names) else "")
+        names = [it for each in above for it in each.differences if it.item == "auction"]
+        of_books = why or next(filter(None, (it.doubt for it in names)), "")
+        return self.doubts.of_name(place) or (of_books if names else "")
 
     def _doubted(
         self, differences: tuple[Difference, ...], why: str, place: int, above: tuple[Judged, ...]
@@ -780,8 +795,8 @@ class Judge:
 
 
 def _mark(each: Difference) -> tuple[object, ...]:
-    """What is recorded in a difference, or else lawful."""
-    return each.item, each.places, each.recorded or each.lawful
+    """What is recorded in a difference, or else lawful, and the rule of its own."""
+    return each.item, each.places, each.recorded or each.lawful, each.rule
 
 
 def _longer(path: Path, judged: Judged) -> Path:

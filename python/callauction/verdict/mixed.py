@@ -48,10 +48,13 @@ def refuse_days(rows: Rows) -> None:
     if first != last:
         condition = f"{rows.names.theirs['time']} < {last}T00:00:00"
         _refuse(rows, (one, other), "results of two days", f"--where '{condition}'")
-    for number in range(len(AUCTIONS)):
-        those = results[rows.state[results] == 1 + number]
+    of_auctions = [results[rows.state[results] == 1 + number] for number in range(len(AUCTIONS))]
+    is_single = sum(len(those) > 1 for those in of_auctions) == 1
+    for number, those in enumerate(of_auctions):
         for one, other in zip(those.tolist(), those[1:].tolist()):
             time, own = rows.time[other], rows.kind[one:other] == NEW
+            if is_single and time == rows.time[one]:  # a correction with the time of the auction
+                continue
             if time != clocks.NONE and (rows.time[one:other][own] > time).any():
                 what = f"results of one auction, the {AUCTIONS[number]}, of two days or markets"
                 _refuse(rows, (one, other), what, "--where")
@@ -130,13 +133,20 @@ def corrected(rows: Rows, due: Sequence[int]) -> Rows:
     place of the one above its trades, else of the first, and the others as bad rows.
     """
     results = _results(rows)
+    for number, those in doubled(rows, due).items():
+        rows = _corrected(rows, results, those, f"the {AUCTIONS[number]}")
+    return rows
+
+
+def doubled(rows: Rows, due: Sequence[int]) -> dict[int, Ints]:
+    """By its number the results of an auction that has several, where there are more of them than
+    auctions.
+    """
+    results = _results(rows)
     names = rows.state[results] - 1
     names[(names < 0) & (len(due) == 1)] = due[0]
-    for number in due if len(results) > len(due) else ():
-        those = results[names == number]
-        if len(those) > 1 and due.count(number) == 1:
-            rows = _corrected(rows, results, those, f"the {AUCTIONS[number]}")
-    return rows
+    those = {it: results[names == it] for it in due if due.count(it) == 1}
+    return {it: own for it, own in those.items() if len(own) > 1 and len(results) > len(due)}
 
 
 def unnamed(rows: Rows, due: Sequence[int]) -> Iterator[list[Ints]]:

@@ -44,7 +44,16 @@ ROW = "row"
 UNCROSS = EVENTS.index("uncross")
 """The first event that isn't of an order."""
 LEFT_OUT = "trades, fills and results that don't meet --where"
-_ARCHIVE = b"PK\3\4"
+_BOOKS = (b"PK\3\4", b"\xd0\xcf\x11\xe0")
+"""How an archive begins, as a workbook is one, and how an older workbook does."""
+_MARKED = re.compile(
+    rb"\s*(?:\{|\[\s*[{\[]|<\?xml|<!doctype|<html|<table|<workbook)", re.IGNORECASE
+)
+"""How JSON, XML and HTML begin."""
+_SIGNED = re.compile(rb"\A\"?sep=.\"?\r?\n")
+"""A line for Excel, which says the separator."""
+_BLANKS = " \xa0\u2009\u202f"
+"""What a program may write where a person sees a blank between thousands."""
 _CONDITION = re.compile(r"\s*(?P<name>.+?)\s*(?P<sign>==|!=|<=|>=|<|>)\s*(?P<value>.*?)\s*")
 _INSTRUMENT = re.compile(
     r"(?:financial)?(?:isin|instrument|security|symbol|wkn|wertpapier|ticker|sedol|cusip|ric)+"
@@ -107,7 +116,8 @@ class Reading:
 
     def plain(self, text: str) -> str:
         """A number's text with the signs of this reading made plain."""
-        text = text.replace(self.thousands, "") if self.thousands else text
+        for sign in _BLANKS if self.thousands in {*_BLANKS} else (self.thousands,):
+            text = text.replace(sign, "") if sign else text
         return text if self.decimal == "." else text.replace(".", "?").replace(self.decimal, ".")
 
 
@@ -283,8 +293,14 @@ def _kinds(source: Source, theirs: str, reading: Reading) -> Codes:
 
 
 def _is_blank(source: Source, name: str) -> bool:
-    """Whether a column has neither a name nor a cell, as behind a separator at the end of lines."""
-    return not name and not source.cells(name).length.any()
+    """Whether a column has neither a name nor a cell, as behind a separator at the end of lines, or
+    has only the numbers of rows, as an index that pandas wrote.
+    """
+    if name:
+        return False
+    texts = source.cells(name).texts()[1]
+    return not texts or texts == [str(int(texts[0]) + at) if texts[0].isdecimal() else ""
+                                  for at in range(len(source))]  # fmt: skip
 
 
 # ---- files
@@ -308,6 +324,9 @@ def file_of(source: str | os.PathLike[str] | BinaryIO, reading: Reading) -> Tabl
             raise ExtractError(str(fault)) from None
         end = None if log.is_ended else _end(log.source, False)
         return Table(log.source, log.short, notes=log.notes, end=end)
+    if _MARKED.match(content):
+        raise ExtractError("this is JSON, XML or HTML, and no table: save it as CSV")
+    content = _SIGNED.sub(b"\n", content)
     if reading.decimal == reading.separator:
         _say_quotes(content, reading.separator)
     try:
@@ -329,12 +348,12 @@ def _plain(content: bytes, encoding: str) -> bytes:
         plain = gzip.decompress(content) if content.startswith(GZIP) else content
     except (EOFError, gzip.BadGzipFile, zlib.error):
         raise ExtractError("the file is cut or no gzip file: fetch it again") from None
-    if plain.startswith(_ARCHIVE):
+    if plain.startswith(_BOOKS):
         raise ExtractError("this is a workbook or an archive, and no text: save the sheet as CSV")
     try:
         if encoding.casefold().replace("_", "-") not in ("utf-8", "utf8"):
-            return plain.decode(encoding).encode()
-        if not plain.isascii():
+            plain = plain.decode(encoding).encode()
+        elif not plain.isascii():
             plain.decode()
         return plain.removeprefix(b"\xef\xbb\xbf")
     except LookupError:
@@ -355,14 +374,16 @@ def _say_quotes(content: bytes, separator: str) -> None:
 
 
 def _look_at_header(header: tuple[str, ...], separator: str) -> None:
-    """Raises ExtractError for a header of one column that another separator parts."""
+    """Raises ExtractError for a header of one column that another separator parts, or a title."""
     signs = {";": "semicolons", "\t": "tabs", "|": "bars", ",": "commas"}
     for sign, name in signs.items():
         if len(header) == 1 and sign in header[0] and sign != separator:
             raise ExtractError(f"the fields are parted by {name}: say separator {sign!r}")
-    if len(header) == 1 and header[0] not in EVENT_COLUMNS:
+    is_title = len(header) == 1 and header[0] not in EVENT_COLUMNS
+    if is_title or 2 * header.count("") > len(header):
+        name = next(filter(None, header), "")[:40]
         raise ExtractError(
-            f"line 1, {header[0][:40]!r}, has no names of columns: take out what is above these"
+            f"line 1, {name!r}, has no names of columns: take out what is above these"
         )
 
 

@@ -12,7 +12,7 @@ from callauction.verdict import clocks
 from callauction.verdict.cells import Codes, Ints
 from callauction.verdict.comparing import doubted
 from callauction.verdict.judging import Judge, Judged, Judgement, Rules
-from callauction.verdict.mixed import as_one, corrected, refuse_parts, unnamed
+from callauction.verdict.mixed import as_one, corrected, doubled, refuse_parts, unnamed
 from callauction.verdict.reading import End
 from callauction.verdict.rows import (
     BAD,
@@ -116,7 +116,7 @@ def _changes(found: Judgement, rows: Rows, rules: Rules) -> Iterator[list[Change
         kind = rows.kind.copy()
         kind[again] = BAD
         yield [(functools.partial(_of_kinds, kind), TWICE)]
-    if corrected(rows, rules.due) is not rows and not _has_stops(found):
+    if corrected(rows, rules.due) is not rows and not _has_stops(found, rows, rules):
         yield [(lambda day: (corrected(day[0], day[1].due), day[1]), CORRECTED)]
     joined = [functools.partial(_as_one, groups) for groups in unnamed(rows, rules.due)]
     if joined and rules.range is rules.second is None:
@@ -124,11 +124,8 @@ def _changes(found: Judgement, rows: Rows, rules: Rules) -> Iterator[list[Change
         joined += [functools.partial(_stopped, place) for place in stops]
     yield [(change, UNNAMED) for change in joined]
     copies = _copies(rows)
-    if len(copies):
-        why = f"row {rows.labels[copies[0]]} is there twice: is it one?"
-        kind = rows.kind.copy()
-        kind[copies] = BAD
-        yield [(functools.partial(_of_kinds, kind), why)]
+    single = [copies[at : at + 1] for at in range(len(copies))] if len(copies) > 1 else []
+    yield [_without_copies(rows, those) for those in ([copies] * bool(len(copies)) + single)[:5]]
     if rows.end is not None and rows.end.is_cut:
         why = f"the file ends within a line, and row {rows.end.label} may be cut"
         yield [(functools.partial(_cut_off, rows.end), why)]
@@ -141,11 +138,20 @@ def _changes(found: Judgement, rows: Rows, rules: Rules) -> Iterator[list[Change
         yield [(lambda day: (day[0], percent), PERCENT)]
 
 
-def _has_stops(found: Judgement) -> bool:
-    """Whether a result is one of an uncross that the range interrupts, so that a later one of its
-    auction is that of the extended call phase.
+def _without_copies(rows: Rows, copies: Ints) -> Change:
+    """The change that leaves these rows out, which are there twice."""
+    kind = rows.kind.copy()
+    kind[copies] = BAD
+    why = f"row {rows.labels[copies[0]]} is there twice: is it one?"
+    return functools.partial(_of_kinds, kind), why
+
+
+def _has_stops(found: Judgement, rows: Rows, rules: Rules) -> bool:
+    """Whether the range interrupts the first of an auction's results, so that a later one is that
+    of the extended call phase.
     """
-    those = (it for each in found.uncrosses for it in each.differences)
+    firsts = {int(those[0]) for those in doubled(rows, rules.due).values()}
+    those = (it for each in found.uncrosses if each.place in firsts for it in each.differences)
     return any(it.item == "auction" and it.lawful == INTERRUPTED for it in those)
 
 

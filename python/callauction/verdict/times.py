@@ -11,6 +11,14 @@ _CLOCK = re.compile(
     r"(?: ?(?P<half>[AP]M))?(?P<zone>Z|[+-]\d\d:?\d\d)?",
     re.ASCII,
 )
+_STAMP = re.compile(
+    r"(?P<date>(?:19|20)\d{6})(?P<hour>\d\d)(?P<minute>\d\d)(?P<second>\d\d)"
+    r"(?P<part>(?:\d{3}){0,3})(?P<half>)(?P<zone>)",
+    re.ASCII,
+)
+"""A date and a time without signs."""
+_EPOCHS = ((10**17, 10**9), (10**14, 10**6), (10**11, 10**3))
+"""From which number on one is of nanoseconds, of microseconds and of milliseconds."""
 _NUMBER = re.compile(r"\d{1,30}(?:[.,]\d{1,30})?", re.ASCII)
 _DATES = {"-": "%Y-%m-%d", ".": "%d.%m.%Y", "": "%Y%m%d"}
 DAY_SECONDS = 86_400
@@ -29,16 +37,18 @@ def shown(value: object) -> str:
 
 def seconds(value: object) -> Decimal | None:
     """The seconds of a time: since its day's begin, or that of the first day where it has a date; a
-    number is what it is. None where it is no time.
+    number is what it is, a large one a part of a second. None where it is no time.
     """
     text = shown(value)
-    if _NUMBER.fullmatch(text):
-        return Decimal(text.replace(",", "."))
-    found = _CLOCK.fullmatch(text)
+    found = _STAMP.fullmatch(text)
+    if not found and _NUMBER.fullmatch(text):
+        number = Decimal(text.replace(",", "."))
+        return number / next((unit for least, unit in _EPOCHS if number >= least), 1)
+    found = found or _CLOCK.fullmatch(text)
     if not found:
         return None
     parts = [int(found[name] or 0) for name in ("hour", "minute", "second")]
-    if found["half"] is not None:
+    if found["half"]:
         parts[0] = parts[0] % 12 + 12 * (found["half"] == "PM") if 0 < parts[0] < 13 else 24
     if parts[0] > 23 or parts[1] > 59 or parts[2] > 60:
         return None
@@ -70,7 +80,7 @@ def days(date: str | None) -> int | None:
 
 def offset(zone: str | None) -> int:
     """The seconds that a zone's clocks are ahead."""
-    if zone is None or zone == "Z":
+    if not zone or zone == "Z":
         return 0
     digits = zone[1:].replace(":", "")
     ahead = int(digits[:2]) * 3600 + int(digits[2:]) * 60
