@@ -101,7 +101,7 @@ def damaged(seed: int, extract: Extract, most: int) -> list[int]:
     if {"missing uncross", "corrected result"} <= {*names}:  # names may be wrong ones then
         names.remove("corrected result")
     found = [DAMAGES[name](chance, extract.rows) for name in names]
-    whole = (*OF_THE_DAY, "missing uncross")  # it isn't known which one is missing, or when it was
+    whole = (*OF_THE_DAY, "missing uncross", "corrected result")  # which is which isn't known
     return [0 if name in whole else it for it, name in zip(found, names) if it is not None]
 
 

@@ -536,6 +536,8 @@ class Judge:
                 found, taken.book, moment.auction, result, traded, filled, place
             )
             found = self._without_outside(found, moment, result, allowed)
+        if rows.state[place] == STOPPED and self.rules.range is self.rules.second is None:
+            found = [*doubted(found, NO_RANGE)]
         self._doubt_count(moment, items, found, result)
         judged = self._judged(moment, taken, result, items, found)
         judged = dataclasses.replace(judged, is_ended=True, pairs=pairs)
