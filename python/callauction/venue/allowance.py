@@ -9,12 +9,13 @@ from callauction.venue.messages import MessageError
 
 
 def check(
-    bound: Bound, record: str, own: dict[int, Own], waiting: list[Own], calls: int, high: int
+    bound: Bound, record: str, open_: dict[int, Own], records: list[str], calls: int, high: int
 ) -> None:
-    """Raises MessageError where a member may not have this record beside its open orders, those
-    that aren't answered, and its commands so far. What takes out or lessens may always be,
+    """Raises MessageError where a member may not have this record beside its open orders, its
+    records that aren't answered, and its commands so far. What takes out or lessens may always be,
     while an order is open.
     """
+    own, waiting = asked(open_, records, high)
     word, *fields = record.split(",")
     before = own.get(int(fields[0])) if word in ("change", "delete") else None
     if calls >= bound.calls and not (word == "delete" and before):
@@ -24,6 +25,28 @@ def check(
     elif word == "change" and before:
         others = [it for number, it in own.items() if number != int(fields[0])]
         check_open(bound, changed(before, fields), before, [*others, *waiting], high)
+
+
+def asked(
+    open_: dict[int, Own], records: list[str], high: int
+) -> tuple[dict[int, Own], list[Own]]:
+    """The open orders, each as large and as dear as records that aren't answered may make it, and
+    the new ones of these records.
+    """
+    own, new = dict(open_), []
+    for record in records:
+        word, *fields = record.split(",")
+        if word == "enter":
+            new.append(entered(fields))
+        elif word == "change" and (before := own.get(int(fields[0]))):
+            own[int(fields[0])] = larger(before, changed(before, fields), high)
+    return own, new
+
+
+def larger(first: Own, second: Own, high: int) -> Own:
+    """An order with the shares and the limit of the one of two that has more of each."""
+    dear = max(first, second, key=lambda it: high if it.limit is None else it.limit)
+    return Own(first.side, max(first.quantity, second.quantity), dear.limit)
 
 
 def check_open(

@@ -113,7 +113,8 @@ class Instrument:
         self._calls: collections.Counter[int] = collections.Counter()
         self._is_book_known = False
         self._entries = 0
-        self._waiting: dict[Message, str] = {}
+        self._waiting: dict[str, dict[Message, str]] = {}
+        self._gone: set[str] = set()
         self._tasks: list[asyncio.Task[None]] = []
         self.wanted: Callable[[], Iterable[str]] = lambda: ()
         self.wants_ladder: Callable[[], bool] = lambda: False
@@ -157,15 +158,36 @@ class Instrument:
         MessageError where all are given.
         """
         if member not in self.numbers:
-            number = len(self.numbers) + 1
-            if number >= MOST_MEMBERS:
-                raise MessageError("instrument_full")
+            number = self._free_number()
             self.give_number(member, number)
             self._note("number", member=member, number=number)
         return self.numbers[member]
 
+    def _free_number(self) -> int:
+        """A number that nobody has had yet, else that of a member who was removed and left nothing.
+        Raises MessageError where there is none.
+        """
+        if len(self.names) < MOST_MEMBERS:
+            return len(self.names)
+        for member, number in self.numbers.items():
+            if not self.keeps_number(member):
+                return number
+        raise MessageError("instrument_full")
+
+    def keeps_number(self, member: str) -> bool:
+        """Whether a member has a number that nobody else may have: any but one who was removed,
+        has never traded, and whose orders are all deleted.
+        """
+        if member not in self.numbers:
+            return False
+        number, is_seen = self.numbers[member], self._is_book_known
+        has_left = member in self._gone and is_seen and not self._waiting.get(member)
+        return not has_left or number in self.fills or bool(self._book.of_member(number))
+
     def give_number(self, member: str, number: int) -> None:
-        """The member has this number in the journal."""
+        """The member has this number in the journal, from now on where it was another's."""
+        if number in self.names:
+            del self.numbers[self.names[number]], self._calls[number]
         self.numbers[member], self.names[number] = number, member
 
     def check_known(self) -> None:
@@ -193,10 +215,9 @@ class Instrument:
     def _check_bound(self, member: str, order: Order) -> None:
         """Raises MessageError where a member would have more of the day than it may."""
         number = self.numbers.get(member, -1)
-        records = [it for sent, it in self._waiting.items() if sent.member == member]
-        waiting = [entered(it.split(",")[1:]) for it in records if it.startswith("enter")]
+        records = [*self._waiting.get(member, {}).values()]
         own, calls = self._book.of_member(number), self._calls[number] + len(records)
-        allowance.check(self.bound, order.record, own, waiting, calls, self.terms.high)
+        allowance.check(self.bound, order.record, own, records, calls, self.terms.high)
 
     def withdraw(self, member: str, order: Order) -> "asyncio.Future[Entry]":
         """Sends the deletion of an order of a member who is gone, in any phase."""
@@ -207,9 +228,8 @@ class Instrument:
         record = f"{self.number_of(member)},{order.record}"
         message = Message(member, order.number, record, SOURCE.get(), order.note)
         answer = self.engine.submit(message)
-        if not self.limits.are_none:
-            self._waiting[message] = order.record
-            answer.add_done_callback(lambda _: self._waiting.pop(message, None))
+        self._waiting.setdefault(member, {})[message] = order.record
+        answer.add_done_callback(lambda _: self._waiting[member].pop(message, None))
         return answer
 
     def holding_of(self, member: str) -> Holding:
@@ -217,8 +237,8 @@ class Instrument:
         fills, since = self.fills_of(member), self.accounts.since
         waiting = [
             entered(record.split(",")[1:])
-            for message, record in self._waiting.items()
-            if message.member == member and record.startswith("enter")
+            for record in self._waiting.get(member, {}).values()
+            if record.startswith("enter")
         ]
         return Holding(
             self.accounts.values.get(member),
@@ -235,7 +255,7 @@ class Instrument:
 
     def _entered(self, message: Message, entry: Entry) -> None:
         """A message has its entry."""
-        self._waiting.pop(message, None)
+        self._waiting.get(message.member, {}).pop(message, None)
         if message.member == OPERATOR:
             self._uncrossed(entry)
             self.keep_time(time.time())
@@ -300,13 +320,23 @@ class Instrument:
 
     def leave(self, member: str) -> None:
         """A member was removed: what is left of its value no longer counts."""
-        self.accounts.leave(member)
+        self.replay_leave(member)
         self._note("left", member=member)
+
+    def replay_leave(self, member: str) -> None:
+        """A member was removed in an earlier run."""
+        self._gone.add(member)
+        self.accounts.leave(member)
 
     def come_back(self, member: str) -> None:
         """A member that was removed is there again."""
-        self.accounts.come_back(member)
+        self.replay_back(member)
         self._note("back", member=member)
+
+    def replay_back(self, member: str) -> None:
+        """A member came back in an earlier run."""
+        self._gone.discard(member)
+        self.accounts.come_back(member)
 
     # ---- the operator
 

@@ -491,8 +491,8 @@ class Venue(Audience):
         return sizes
 
     def _has_number(self, member: Member) -> bool:
-        """Whether a member has a number in a journal of this round."""
-        return any(member.name in it.numbers for it in self.instruments.values())
+        """Whether a member has a number in a journal of this round that nobody else may have."""
+        return any(it.keeps_number(member.name) for it in self.instruments.values())
 
     async def _open_group(self) -> None:
         """Opens the boards of one group more."""
@@ -809,6 +809,6 @@ def replay_instrument(instrument: Instrument, line: Line) -> None:
     elif line["kind"] == "values":
         instrument.replay_values(line)
     elif line["kind"] == "left":
-        instrument.accounts.leave(line["member"])
+        instrument.replay_leave(line["member"])
     elif line["kind"] == "back":
-        instrument.accounts.come_back(line["member"])
+        instrument.replay_back(line["member"])
