@@ -18,7 +18,7 @@ import sys
 import time
 import urllib.error
 import urllib.request
-from collections.abc import Iterator
+from collections.abc import Callable, Iterator
 from typing import Any
 
 import judged
@@ -129,6 +129,37 @@ def seen(venue: Served) -> bytes:
     return ssl.PEM_cert_to_DER_cert(ssl.get_server_certificate(("127.0.0.1", port)))
 
 
+def locked(folder: pathlib.Path) -> None:
+    """A key with a passphrase."""
+    words = f"openssl pkey -in {folder}/key.pem -out {folder}/locked -aes256 -passout pass:known"
+    subprocess.run(words.split(), check=True)
+    (folder / "locked").rename(folder / "key.pem")
+
+
+def piped(folder: pathlib.Path) -> None:
+    """A pipe in the place of a key, that nobody writes to."""
+    (folder / "key.pem").unlink()
+    os.mkfifo(folder / "key.pem")
+
+
+def mixed(folder: pathlib.Path) -> None:
+    """The key of another certificate."""
+    certificate(folder, "third")
+    key = (folder / "key.pem").read_bytes()
+    certificate(folder, "fourth")
+    (folder / "key.pem").write_bytes(key)
+
+
+SPOILED: dict[str, Callable[[pathlib.Path], object]] = {
+    "PEM lib": lambda folder: (folder / "cert.pem").write_text("none"),
+    "key values mismatch": mixed,
+    "has a passphrase": locked,
+    "is no regular file": piped,
+    "No such file": lambda folder: (folder / "key.pem").unlink(),
+}
+"""Bad certificates, by what is said of each."""
+
+
 def test_a_certificate_is_taken_anew(tmp_path: pathlib.Path) -> None:
     words = certificate(tmp_path, "first")
     with served.served(tmp_path, FAST, *words, "--log", "json") as venue:
@@ -138,15 +169,48 @@ def test_a_certificate_is_taken_anew(tmp_path: pathlib.Path) -> None:
         venue.child.send_signal(signal.SIGHUP)
         until(lambda: seen(venue) != first)
         second = seen(venue)
-        (tmp_path / "cert.pem").write_text("none")
-        venue.child.send_signal(signal.SIGHUP)
-        venue.child.send_signal(signal.SIGHUP)
-        assert seen(venue) == second
+        for spoil in SPOILED.values():
+            spoil(tmp_path)
+            venue.child.send_signal(signal.SIGHUP)
+            time.sleep(1.1)  # a fault that comes again is a line a second
+            assert seen(venue) == second
         venue.child.terminate()
         _, error = venue.child.communicate(timeout=served.SECONDS)
         texts = [json.loads(line)["text"] for line in error.splitlines()]
         assert "the certificate was taken anew" in texts
-        assert any(it.startswith("the certificate stays as it was: ") for it in texts)
+        kept = "the certificate stays as it was: "
+        found = [it.removeprefix(kept) for it in texts if it.startswith(kept)]
+        assert len(found) == len(SPOILED), found
+        for text, what in zip(found, SPOILED):
+            assert what in text, (what, text)
+
+
+def test_a_hangup_without_a_certificate(tmp_path: pathlib.Path) -> None:
+    with served.served(tmp_path, FAST) as venue:
+        venue.child.send_signal(signal.SIGHUP)
+        assert venue.call("api/day")[0] == 200
+        venue.child.terminate()
+        _, error = venue.child.communicate(timeout=served.SECONDS)
+        assert error == "venue: there is no certificate that could be taken anew\n"
+        assert venue.child.returncode == 0
+
+
+def test_a_terminal_that_ends(tmp_path: pathlib.Path) -> None:
+    ours, theirs = os.openpty()
+    words = served.words_of("--folder", tmp_path / "venue", "--port", served.free_port())
+    pipe = subprocess.PIPE
+    with subprocess.Popen(
+        words, env=served.environment(), stdin=theirs, stdout=pipe, stderr=pipe, text=True
+    ) as child:
+        try:
+            served.begun(child)
+            child.send_signal(signal.SIGHUP)
+            _, error = child.communicate(timeout=served.SECONDS)
+            assert (child.returncode, error) == (0, "")
+        finally:
+            child.kill()
+            os.close(ours)
+            os.close(theirs)
 
 
 def test_an_ended_certificate(tmp_path: pathlib.Path, monkeypatch: pytest.MonkeyPatch) -> None:
@@ -154,7 +218,7 @@ def test_an_ended_certificate(tmp_path: pathlib.Path, monkeypatch: pytest.Monkey
     status, printed, _ = checked("--folder", tmp_path / "venue", *words)
     assert status == 0 and "address: 127.0.0.1, by a certificate that ends in 30 days" in printed
     now = time.time()
-    monkeypatch.setattr("callauction.venue.checking.time.time", lambda: now + 31 * checking.DAY)
+    monkeypatch.setattr("callauction.venue.serving.time.time", lambda: now + 31 * checking.DAY)
     with pytest.raises(AddressError, match="the certificate .*/cert.pem has ended"):
         [*checking.checked_address(Address(cert=words[1], key=words[3]))]
 

@@ -1,6 +1,5 @@
 """What `--check` says of a day before it begins, or goes on: nothing is started or changed."""
 import pathlib
-import ssl
 import subprocess
 import time
 from collections.abc import Iterator
@@ -9,7 +8,7 @@ from callauction.venue import begun, config, owned, tokens
 from callauction.venue.fields import ConfigError
 from callauction.venue.log import Line, read_lines
 from callauction.venue.recovery import RecoveryError, entries_of, settled
-from callauction.venue.serving import Address, AddressError
+from callauction.venue.serving import Address, ends_of
 from callauction.venue.venue import LOG, mark_of, runs_of
 
 DAY = 86_400.0
@@ -58,15 +57,7 @@ def checked_address(address: Address) -> Iterator[str]:
         yield f"address: {address.host}, without TLS"
         return
     left = (ends_of(address.cert or "") - time.time()) / DAY
-    if left <= 0:
-        raise AddressError(f"the certificate {address.cert} has ended")
     yield f"address: {address.host}, by a certificate that ends in {left:.0f} days"
-
-
-def ends_of(cert: str) -> float:
-    """When a certificate ends, in seconds of the epoch."""
-    found = ssl._ssl._test_decode_cert(cert)  # type: ignore[attr-defined]
-    return ssl.cert_time_to_seconds(str(found["notAfter"]))
 
 
 def version_of(program: str) -> str:

@@ -13,7 +13,7 @@ from urllib.parse import urlsplit
 from aiohttp import ClientPayloadError, hdrs, web
 from aiohttp.http_exceptions import HttpProcessingError
 
-from callauction.venue import addresses, downloads, messages, replay, sheets, shown, teaching
+from callauction.venue import addresses, downloads, heads, messages, replay, sheets, shown, teaching
 from callauction.venue.connection import connect, packed
 from callauction.venue.gates import BODY_SECONDS, Gates
 from callauction.venue.instrument import Instrument
@@ -48,16 +48,6 @@ STATUSES = {
     "has_values": 409,
     "joining_closed": 403,
 }
-HEADERS = {
-    "Content-Security-Policy": "default-src 'none'; script-src 'self'; style-src 'self'; "
-    "img-src 'self' data:; connect-src 'self'; base-uri 'none'; form-action 'none'; "
-    "frame-ancestors 'none'",
-    "Referrer-Policy": "no-referrer",
-    "X-Content-Type-Options": "nosniff",
-    "Cache-Control": "no-store",
-}
-TLS_HEADERS = {"Strict-Transport-Security": "max-age=31536000"}
-"""Where it is reached by TLS: browsers take nothing else of this name for a year."""
 SOCKET = "/api/socket"
 MOST_NAME = 40
 """How much is written down of a name that came with a wrong code."""
@@ -115,6 +105,7 @@ class Site:
     def application(self) -> web.Application:
         """What aiohttp serves."""
         found = web.Application(middlewares=[self._guarded], client_max_size=MOST_BODY)
+        found.on_response_prepare.append(heads.mark)
         for path, name in PAGES.items():
             found.router.add_get(path, self._page(name))
         found.router.add_get("/pages/{name}", self._file)
@@ -132,23 +123,18 @@ class Site:
     async def _guarded(self, request: web.Request, handler: Handler) -> web.StreamResponse:
         """Checks who asks, and makes an answer of what is wrong with a request."""
         SOURCE.set(request.remote or "")
-        headers = HEADERS | (TLS_HEADERS if request.secure else {})
         try:
-            found = await self._served(request, handler)
+            return await self._served(request, handler)
         except MessageError as fault:
             body = {"error": fault.code, "text": fault.text}
-            found = web.json_response(body, status=STATUSES.get(fault.code, 400))
-        except web.HTTPException as fault:
-            fault.headers.update(headers)
+            return web.json_response(body, status=STATUSES.get(fault.code, 400))
+        except web.HTTPException:
             raise
         except ConnectionError:
-            found = web.Response(status=400)  # which nobody takes any more
+            return web.Response(status=400)  # which nobody takes any more
         except Exception:
             NOTICES.exception("a request failed")
-            found = web.Response(status=500, text="the venue failed at this request")
-        if not found.prepared:
-            found.headers.update(headers)
-        return found
+            return web.Response(status=500, text="the venue failed at this request")
 
     async def _served(self, request: web.Request, handler: Handler) -> web.StreamResponse:
         """What answers a request once all of it has come in time. Raises MessageError and

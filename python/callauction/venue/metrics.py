@@ -9,6 +9,7 @@ from prometheus_client import CONTENT_TYPE_LATEST, CollectorRegistry, generate_l
 from prometheus_client.core import CounterMetricFamily, GaugeMetricFamily, HistogramMetricFamily
 from prometheus_client.metrics_core import Metric
 
+from callauction.venue import heads
 from callauction.venue.gates import Gates
 from callauction.venue.instrument import Instrument
 from callauction.venue.phases import Phase
@@ -16,7 +17,6 @@ from callauction.venue.venue import Venue
 
 PREFIX = "callboard"
 OF_INSTRUMENTS = ("instrument",)
-HEADERS = {"X-Content-Type-Options": "nosniff", "Cache-Control": "no-store"}
 
 
 class Measures:
@@ -119,11 +119,8 @@ def application(venue: Venue, gates: Gates) -> web.Application:
             body=generate_latest(registry), headers={"Content-Type": CONTENT_TYPE_LATEST}
         )
 
-    async def mark(request: web.Request, answer: web.StreamResponse) -> None:
-        answer.headers.update(HEADERS)
-
     found = web.Application()
-    found.on_response_prepare.append(mark)
+    found.on_response_prepare.append(heads.mark)
     found.router.add_get("/healthz", healthz)
     found.router.add_get("/metrics", metrics)
     return found

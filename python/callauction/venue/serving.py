@@ -5,6 +5,7 @@ import dataclasses
 import functools
 import logging
 import os
+import pathlib
 import signal
 import socket
 import ssl
@@ -17,13 +18,14 @@ from typing import Protocol
 from aiohttp import web
 
 from callauction.statuses import FAILED
-from callauction.venue import addresses, gates, supervising
+from callauction.venue import addresses, gates, owned, supervising
+from callauction.venue.heads import GRACE, Handler
 from callauction.venue.http import Site
 from callauction.venue.process import kill_all
 from callauction.venue.venue import Venue
 
-GRACE = 1.0
-"""How long connections that end are waited for."""
+MOST_PEM = 1 << 20
+"""The bytes that a file of a certificate or of a key may have."""
 END_SECONDS = 4.5
 """How long after a signal the venue ends, whatever hangs."""
 
@@ -84,8 +86,12 @@ class Address:
         """
         tried = ssl.create_default_context(ssl.Purpose.CLIENT_AUTH)
         try:
-            for each in (tried, context):
-                each.load_cert_chain(self.cert or "", self.key)
+            for path in (self.cert, self.key):
+                owned.whole(pathlib.Path(path or ""), MOST_PEM)
+            tried.load_cert_chain(self.cert or "", self.key, refuse_to_ask)
+            if ends_of(self.cert or "") <= time.time():
+                raise AddressError(f"the certificate {self.cert} has ended")
+            context.load_cert_chain(self.cert or "", self.key, refuse_to_ask)
         except (OSError, ssl.SSLError) as fault:
             raise AddressError(f"the certificate or its key can't be read: {fault}") from None
 
@@ -108,6 +114,19 @@ class Address:
         kind = "https" if self.cert else "http"
         shown = (f"[{host}]" if ":" in host else host for host in self.reached())
         return [f"{kind}://{host}:{port}/" for host in shown]
+
+
+def refuse_to_ask() -> str:
+    """Where a key needs a passphrase: a venue that asks for it at a terminal stands still. Raises
+    AddressError.
+    """
+    raise AddressError("the key has a passphrase: openssl pkey -in KEY -out PLAIN takes it away")
+
+
+def ends_of(cert: str) -> float:
+    """When a certificate ends, in seconds of the epoch."""
+    found = ssl._ssl._test_decode_cert(cert)  # type: ignore[attr-defined]
+    return ssl.cert_time_to_seconds(str(found["notAfter"]))
 
 
 class Front(Protocol):
@@ -187,14 +206,7 @@ async def served(
     context: ssl.SSLContext | None = None,
 ) -> AsyncIterator[int]:
     """Serves pages at an address: the port. Raises AddressError."""
-    runner = web.AppRunner(
-        application,
-        access_log=None,
-        auto_decompress=False,
-        keepalive_timeout=gates.IDLE_SECONDS,
-        lingering_time=GRACE,
-        logger=NOTICES,
-    )
+    runner = web.AppRunner(application)
     await runner.setup()
     try:
         try:
@@ -202,7 +214,8 @@ async def served(
         except OSError as fault:
             raise AddressError(f"can't listen on {host}: {fault.strerror}") from None
         assert runner.server is not None
-        listener = gates.Listener(found, sockets, runner.server, context)
+        handler = functools.partial(Handler, runner.server)
+        listener = gates.Listener(found, sockets, handler, context)
         try:
             yield int(sockets[0].getsockname()[1])
         finally:
@@ -255,8 +268,11 @@ def measures(venue: Venue, found: gates.Gates) -> web.Application:
     return metrics.application(venue, found)
 
 
-def reload(address: Address, context: ssl.SSLContext) -> None:
+def reload(address: Address, context: ssl.SSLContext | None) -> None:
     """Takes the certificate anew, for connections from now on."""
+    if context is None:
+        NOTICES.warning("there is no certificate that could be taken anew")
+        return
     try:
         address.load(context)
         NOTICES.warning("the certificate was taken anew")
@@ -267,8 +283,8 @@ def reload(address: Address, context: ssl.SSLContext) -> None:
 async def serve(
     venue: Venue, program: str, address: Address, fronts: Sequence[Front] = ()
 ) -> None:
-    """Listens until SIGINT or SIGTERM; SIGHUP takes the certificate anew. Raises AddressError, and
-    what Venue.open raises.
+    """Listens until SIGINT or SIGTERM; SIGHUP takes the certificate anew, or where there is none
+    and a terminal has ended, ends too. Raises AddressError, and what Venue.open raises.
     """
     context = address.context()
     stopped = asyncio.Event()
@@ -281,7 +297,9 @@ async def serve(
 
     for number in (signal.SIGINT, signal.SIGTERM):
         loop.add_signal_handler(number, stop)
-    if context is not None:
+    if context is None and sys.stdin is not None and sys.stdin.isatty():
+        loop.add_signal_handler(signal.SIGHUP, stop)
+    else:
         loop.add_signal_handler(signal.SIGHUP, reload, address, context)
     try:
         entries = await opened(venue, stopped)
