@@ -239,6 +239,30 @@ async def test_a_right_code_waits_for_few_wrong_ones(monkeypatch: pytest.MonkeyP
 
 
 @pytest.mark.asyncio
+async def test_a_right_code_waits_for_few_of_many_addresses(
+    monkeypatch: pytest.MonkeyPatch,
+) -> None:
+    """Guessers have a new address for each guess, of some networks, and fill all places; that one
+    of their codes a second is within the rate makes nothing forgotten.
+    """
+    monkeypatch.setattr(rates, "TURNS", 500.0)
+    now = [0.0]
+    guesses = Guesses(lambda: now[0])
+    for place in range(2 * rates.MOST_COUNTED):
+        now[0] += 0.05
+        guesses.wrong(f"10.{place % 50}.{place // 250 % 250}.{place % 250}", str(place))
+    later = [
+        asyncio.create_task(guesses.turn(f"10.{place % 50}.251.{place % 250}", f"new {place}"))
+        for place in range(rates.MOST_WAITING)
+    ]
+    await asyncio.sleep(0)
+    begin = time.monotonic()
+    assert await guesses.turn("10.200.0.1", "student")
+    assert time.monotonic() - begin < 0.1
+    assert sorted(await asyncio.gather(*later)) == [False] + [True] * (rates.MOST_WAITING - 1)
+
+
+@pytest.mark.asyncio
 async def test_who_guesses_most_gives_way(monkeypatch: pytest.MonkeyPatch) -> None:
     monkeypatch.setattr(rates, "TURNS", 1000.0)
     monkeypatch.setattr(rates, "MOST_WAITING", 3)
@@ -256,6 +280,8 @@ def test_networks() -> None:
     assert rates.network_of("2001:db8::1:2%eth0") == rates.network_of("2001:db8::9")
     assert rates.network_of("2001:db8::9") == "2001:db8::/64"
     assert rates.network_of("nothing") == "nothing"
+    assert rates.names_of("10.1.2.3", "c") == ("c", "10.1.2.3", "10.1.0.0/16")
+    assert rates.names_of("2001:db8::9", "c") == ("c", "2001:db8::/64", "2001:db8::/32")
 
 
 GUESSES, GUESSERS, STUDENTS = 400, 20, 60

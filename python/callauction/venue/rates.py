@@ -1,6 +1,5 @@
 """How fast somebody may speak, and how fast codes may be guessed."""
 import asyncio
-import collections
 import ipaddress
 import itertools
 import time
@@ -23,6 +22,10 @@ class Bucket:
         self._last = now
         return self._left >= 1
 
+    def is_full(self) -> bool:
+        """Whether as many may come at once as ever."""
+        return self.has_room() and self._left >= self._burst
+
     def takes(self) -> bool:
         """Whether one more message may come now, which then counts."""
         found = self.has_room()
@@ -36,29 +39,53 @@ TURNS = 20.0
 """Codes that are looked at in a second from then on."""
 MOST_WAITING = 200
 MOST_COUNTED = 10_000
-Rank = tuple[int, int, int]
+WIDE = 16, 32
+"""The bits of a wide network of IPv4 and of IPv6: few guessers have many of them."""
+Rank = tuple[int, int, int, int]
+
+
+class Counts:
+    """How often each of some names was counted, of the last MOST_COUNTED names."""
+
+    def __init__(self) -> None:
+        self._counts: dict[str, int] = {}
+
+    def __getitem__(self, name: str) -> int:
+        return self._counts.get(name, 0)
+
+    def add(self, name: str) -> None:
+        """Counts a name once more."""
+        self._counts[name] = self._counts.pop(name, 0) + 1
+        if len(self._counts) > MOST_COUNTED:
+            del self._counts[next(iter(self._counts))]
+
+    def clear(self) -> None:
+        """Forgets all names."""
+        self._counts.clear()
 
 
 class Guesses:
     """Slows down who guesses codes, wherever they come from. While wrong codes are few, each code
     is looked at once. Else each waits for its turn: first those of connections, then those of
-    addresses that gave fewer wrong ones, so that a right code comes to its turn beside guessers.
+    addresses, then those of wide networks that gave fewer wrong ones, so that a right code comes to
+    its turn beside guessers, also where these have thousands of addresses.
     """
 
     def __init__(self, clock: Callable[[], float] = time.monotonic) -> None:
         self._wrong = Bucket(WRONG_RATE, WRONG_BURST, clock)
-        self._counts: collections.Counter[str] = collections.Counter()
+        self._counts = Counts(), Counts(), Counts()
         self._waiting: dict[Rank, asyncio.Future[bool]] = {}
         self._places = itertools.count()
         self._turns: asyncio.Task[None] | None = None
 
     def wrong(self, address: str, connection: str) -> bool:
         """A code was wrong: whether from now on each code waits for its turn."""
-        are_many = not self._wrong.takes()
-        if not are_many or len(self._counts) > MOST_COUNTED:
-            self._counts.clear()
-        self._counts.update((network_of(address), connection))
-        return are_many
+        are_few = self._wrong.is_full()
+        for counts, name in zip(self._counts, names_of(address, connection)):
+            if are_few:
+                counts.clear()
+            counts.add(name)
+        return not self._wrong.takes()
 
     async def turn(self, address: str, connection: str) -> bool:
         """Waits until a code may be looked at; False where too many wait that gave fewer wrong
@@ -66,9 +93,10 @@ class Guesses:
         """
         if not self._waiting and self._wrong.has_room():
             return True
-        counts = self._counts[connection], self._counts[network_of(address)]
+        names = names_of(address, connection)
+        first, second, third = (counts[it] for counts, it in zip(self._counts, names))
         turn: asyncio.Future[bool] = asyncio.get_running_loop().create_future()
-        self._waiting[(*counts, next(self._places))] = turn
+        self._waiting[first, second, third, next(self._places)] = turn
         if len(self._waiting) > MOST_WAITING:
             self._give(max(self._waiting), False)
         if self._turns is None or self._turns.done():
@@ -91,12 +119,18 @@ class Guesses:
         return True
 
 
-def network_of(address: str) -> str:
-    """An address, or the network of 64 bits that one has of IPv6."""
+def names_of(address: str, connection: str) -> tuple[str, str, str]:
+    """By what wrong codes are counted: the connection, its address, and the wide network of it."""
+    return connection, network_of(address), network_of(address, *WIDE)
+
+
+def network_of(address: str, bits_of_4: int = 32, bits_of_6: int = 64) -> str:
+    """An address, or the network of 64 bits that one has of IPv6; or networks of as many bits."""
     try:
         found = ipaddress.ip_address(address.partition("%")[0])
     except ValueError:
         return address
-    if found.version == 4:
+    bits = bits_of_4 if found.version == 4 else bits_of_6
+    if bits == found.max_prefixlen:
         return address
-    return str(ipaddress.ip_network((found, 64), strict=False))
+    return str(ipaddress.ip_network((found, bits), strict=False))
