@@ -9,6 +9,7 @@ import resource
 import socket
 import sys
 import time
+import urllib.request
 from collections.abc import AsyncIterator, Iterator
 from typing import Any
 
@@ -46,15 +47,18 @@ def few_files() -> None:
 
 
 @contextlib.contextmanager
-def flooded(venue: Served, text: bytes, count: int = FLOOD) -> Iterator[list[socket.socket]]:
-    """Connections that say this and nothing more."""
-    port = int(venue.url.rpartition(":")[2].rstrip("/"))
+def flooded(
+    venue: Served, text: bytes, count: int = FLOOD, port: int = 0
+) -> Iterator[list[socket.socket]]:
+    """Connections that say this and nothing more, from some addresses."""
+    port = port or int(venue.url.rpartition(":")[2].rstrip("/"))
     found: list[socket.socket] = []
     soft, hard = resource.getrlimit(resource.RLIMIT_NOFILE)
     resource.setrlimit(resource.RLIMIT_NOFILE, (min(hard, max(soft, 4 * count)), hard))
     try:
-        for _ in range(count):
-            each = socket.create_connection(("127.0.0.1", port))
+        for place in range(count):
+            own = f"127.0.0.{1 + place % 8}", 0
+            each = socket.create_connection(("127.0.0.1", port), source_address=own)
             found.append(each)
             with contextlib.suppress(OSError):
                 each.sendall(text)
@@ -90,6 +94,19 @@ def test_half_requests_shut_out_nobody(tmp_path: pathlib.Path, text: bytes) -> N
         venue.child.terminate()
         _, error = venue.child.communicate(timeout=served.SECONDS)
         assert served.unexpected(error) == [] and len(error.splitlines()) < MOST_SAID, error
+
+
+def test_a_flood_of_who_looks_at_metrics(tmp_path: pathlib.Path) -> None:
+    """It takes no files from members, nor from a program that is started again."""
+    port = served.free_port()
+    words = ["--metrics", f"127.0.0.1:{port}"]
+    with served.served(tmp_path, FAST, *words, before=few_files) as venue:
+        before = psutil.Process(venue.child.pid).num_fds()
+        with flooded(venue, HALF, port=port):
+            assert psutil.Process(venue.child.pid).num_fds() < before + FLOOD // 2
+            assert calls_of(venue)[-1] < 5 * MOST_WAIT
+            with urllib.request.urlopen(f"http://127.0.0.1:{port}/healthz") as answer:
+                assert answer.status == 200
 
 
 @pytest_asyncio.fixture
@@ -197,6 +214,27 @@ def test_the_oldest_of_the_same_address_gives_way() -> None:
         each.stage = Stage.SERVED
     assert not found.enter(gate("a"))
     assert found.enter(gate("c"))
+
+
+@pytest.mark.asyncio
+async def test_who_is_known_gives_way_to_nobody() -> None:
+    found = Gates(3, 3)
+    own = [gate("a") for _ in range(3)]
+    for each in own:
+        assert found.enter(each)
+    own[0].known()
+    assert found.enter(gate("a")) and own[0] in found._all and own[1] not in found._all
+    for each in [*found._all]:
+        found.leave(each)
+    assert len(found) == 0 and [*found._unknown.most_first()] == []
+
+
+def test_a_connection_more_costs_the_same_beside_thousands() -> None:
+    found = Gates(4096, 256)
+    begin = time.process_time()
+    for place in range(10_000):
+        assert found.enter(Ended(f"10.0.0.{place % 200}", socket.socket(), 0.0))
+    assert len(found) == 4096 and time.process_time() - begin < 4
 
 
 def test_of_too_many_the_address_with_most_gives_way() -> None:

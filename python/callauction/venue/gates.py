@@ -6,15 +6,15 @@ that has most of them. So half requests shut out nobody, however many there are.
 read no faster than what it has said is taken, a little of each in turn.
 """
 import asyncio
-import collections
 import contextlib
 import dataclasses
 import enum
+import functools
 import logging
 import resource
 import socket
 import ssl
-from collections.abc import Callable, Iterator
+from collections.abc import Callable, Collection, Iterable, Iterator
 
 from callauction.venue.rates import network_of
 
@@ -68,6 +68,7 @@ class Gate:
     unsent: int = 0
     untaken: int = 0
     is_held: bool = False
+    on_known: Callable[[], None] = lambda: None
 
     @contextlib.contextmanager
     def taking(self) -> Iterator[None]:
@@ -84,6 +85,7 @@ class Gate:
 
     def known(self) -> None:
         """It has said who it is."""
+        self.on_known()
         self.stage, self.untaken = Stage.KNOWN, 0
         self.ends = asyncio.get_running_loop().time() + STUCK_SECONDS
 
@@ -95,12 +97,57 @@ class Gate:
             self.task.cancel()
 
 
+class Crowd:
+    """Connections by their addresses, those of each in the order in which they came, and the
+    addresses by how many they have: thousands may come in a second.
+    """
+
+    def __init__(self) -> None:
+        self._by_address: dict[str, dict[Gate, None]] = {}
+        self._by_count: dict[int, dict[str, None]] = {}
+
+    def of(self, address: str) -> Collection[Gate]:
+        """Those of an address, the oldest first."""
+        return self._by_address.get(address, {}).keys()
+
+    def add(self, gate: Gate) -> None:
+        """A connection has come."""
+        self._by_address.setdefault(gate.address, {})[gate] = None
+        self._counted(gate.address, len(self._by_address[gate.address]) - 1)
+
+    def remove(self, gate: Gate) -> None:
+        """A connection is no longer one of them."""
+        own = self._by_address.get(gate.address, {})
+        if gate not in own:
+            return
+        del own[gate]
+        self._counted(gate.address, len(own) + 1)
+        if not own:
+            del self._by_address[gate.address]
+
+    def _counted(self, address: str, before: int) -> None:
+        """An address had as many before."""
+        if before:
+            del self._by_count[before][address]
+            if not self._by_count[before]:
+                del self._by_count[before]
+        if now := len(self._by_address[address]):
+            self._by_count.setdefault(now, {})[address] = None
+
+    def most_first(self) -> Iterator[Gate]:
+        """All of them, first those of the address that has most."""
+        for count in sorted(self._by_count, reverse=True):
+            for address in self._by_count[count]:
+                yield from self._by_address[address]
+
+
 class Gates:
     """All connections of a venue."""
 
     def __init__(self, most: int = MOST_CONNECTIONS, of_address: int = MOST_OF_ADDRESS) -> None:
         self._most, self._of_address = most, of_address
         self._all: dict[Gate, None] = {}
+        self._unknown = Crowd()
         self._by_transport: dict[asyncio.BaseTransport, Gate] = {}
 
     def __len__(self) -> int:
@@ -110,24 +157,23 @@ class Gates:
 
     def enter(self, gate: Gate) -> bool:
         """Whether a new connection may be; one that waits may have to give way."""
-        unknown = [it for it in self._all if it.stage is not Stage.KNOWN]
-        own = [it for it in unknown if it.address == gate.address]
+        unknown = self._unknown
+        own = unknown.of(gate.address)
         if len(own) >= self._of_address and not self._gives_way(own):
             return False
-        if len(self._all) >= self._most and not self._gives_way(unknown):
+        if len(self._all) >= self._most and not self._gives_way(unknown.most_first()):
             return False
         self._all[gate] = None
+        if gate.stage is not Stage.KNOWN:
+            unknown.add(gate)
+            gate.on_known = functools.partial(unknown.remove, gate)
         return True
 
-    def _gives_way(self, those: list[Gate]) -> bool:
-        """Whether one of these ended, the oldest that waits of the address that has most of them.
-        """
-        waiting = [it for it in those if it.stage is Stage.WAITING]
-        if not waiting:
+    def _gives_way(self, those: Iterable[Gate]) -> bool:
+        """Whether one of these ended, the first that waits."""
+        gate = next((it for it in those if it.stage is Stage.WAITING), None)
+        if gate is None:
             return False
-        counts = collections.Counter(it.address for it in waiting)
-        most = max(counts.values())
-        gate = next(it for it in waiting if counts[it.address] == most)
         NOTICES.warning("too many connections: one of %s gives way", gate.address)
         self.leave(gate)
         gate.close()
@@ -141,6 +187,7 @@ class Gates:
     def leave(self, gate: Gate) -> None:
         """A connection has ended."""
         self._all.pop(gate, None)
+        self._unknown.remove(gate)
         if gate.transport is not None:
             self._by_transport.pop(gate.transport, None)
 

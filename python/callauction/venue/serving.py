@@ -24,6 +24,10 @@ from callauction.venue.http import Site
 from callauction.venue.process import kill_all
 from callauction.venue.venue import Venue
 
+MOST_OF_METRICS = 32
+"""Connections of those who look at metrics: operations has few, and a flood there takes no files
+from members.
+"""
 MOST_PEM = 1 << 20
 """The bytes that a file of a certificate or of a key may have."""
 END_SECONDS = 4.5
@@ -236,12 +240,14 @@ async def listen(
     fronts: Sequence[Front] = (),
 ) -> None:
     """Serves an opened venue until it is stopped. Raises AddressError."""
-    own = gates.Gates(gates.most_connections(sum(it.files for it in fronts)))
+    kept = sum(it.files for it in fronts) + MOST_OF_METRICS * (address.metrics is not None)
+    own = gates.Gates(gates.most_connections(kept))
     site = Site(venue, program, address.hosts(), own)
     async with contextlib.AsyncExitStack() as stack:
         if address.metrics is not None:
             pages = measures(venue, own)
-            await stack.enter_async_context(served(pages, gates.Gates(), *address.metrics))
+            few = gates.Gates(MOST_OF_METRICS, MOST_OF_METRICS)
+            await stack.enter_async_context(served(pages, few, *address.metrics))
         where = address.host, address.port, context
         port = await stack.enter_async_context(served(site.application(), own, *where))
         venue.urls = functools.partial(address.urls, port)
