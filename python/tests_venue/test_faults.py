@@ -221,6 +221,62 @@ def test_a_program_without_views(tmp_path: pathlib.Path) -> None:
     assert (ran.returncode, ran.stderr) == (2, error)
 
 
+# ---- clocks
+
+
+JUMPING = """
+import pathlib, sys, time
+from callauction.venue.__main__ import main
+
+real, jump = time.time, pathlib.Path({path!r})
+time.time = lambda: real() + (float(jump.read_text()) if jump.exists() else 0)
+sys.exit(main())
+"""
+"""A venue on a machine whose clock is set by as many seconds as a file says, once it is there."""
+
+
+@contextlib.contextmanager
+def on_a_clock(folder: pathlib.Path, day: str) -> Iterator[Served]:
+    """A venue whose clock is set by the file `jump`."""
+    (folder / "day.toml").write_text(day)
+    words = ["--day", folder / "day.toml", "--folder", folder / "venue"]
+    words += ["--port", served.free_port()]
+    text, pipe = JUMPING.format(path=str(folder / "jump")), subprocess.PIPE
+    with subprocess.Popen(
+        [sys.executable, "-c", text, *map(str, words)],
+        env=served.environment(),
+        stdout=pipe,
+        stderr=pipe,
+        text=True,
+    ) as child:
+        try:
+            found = served.begun(child)
+            yield found
+            found.end()
+        finally:
+            child.kill()
+
+
+@pytest.mark.parametrize("call, jump, is_ended", [(900, 7200, False), (3, -7200, True)])
+def test_a_clock_that_is_set(
+    tmp_path: pathlib.Path, call: int, jump: int, is_ended: bool
+) -> None:
+    """A call ends neither sooner nor later where the machine's clock goes on or back by hours."""
+    with on_a_clock(tmp_path, f"sync = false\n[phases]\ncall = {call}\n") as venue:
+        token = venue.join("Anna")
+        venue.do("start")
+        (tmp_path / "jump").write_text(str(jump))
+        with Client(venue.url, token) as me:
+            begin = time.monotonic()
+            while time.monotonic() < begin + (60 if is_ended else 2):
+                state = me.look("state")
+                if state["phase"] == "ended":
+                    break
+                time.sleep(0.1)
+            assert (state["phase"] == "ended") == is_ended, state
+            assert is_ended or call - 60 < state["ends"] - state["now"] < call
+
+
 # ---- full disks
 
 

@@ -1,9 +1,8 @@
 """Who is connected to a venue, and what each of them sees."""
-import time
 from collections.abc import Callable, Iterator
 from typing import Any, Protocol
 
-from callauction.venue import addresses, config, results, shown
+from callauction.venue import addresses, clock, config, results, shown
 from callauction.venue.instrument import Instrument
 from callauction.venue.members import Member, Members
 from callauction.venue.rounds import Round
@@ -102,7 +101,7 @@ class Audience:
 
     def state_of(self, instrument: Instrument) -> shown.Json:
         """What everybody may see of an instrument."""
-        state = shown.state_of(instrument, time.time())
+        state = shown.state_of(instrument, clock.now())
         return state | ({"halted": self.halted} if self.halted else {})
 
     def show_state(self, instrument: Instrument) -> None:

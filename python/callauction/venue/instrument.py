@@ -13,7 +13,7 @@ from collections.abc import Callable, Iterable, Mapping
 from typing import Any, Self
 
 from callauction.limits import MOST_MEMBERS
-from callauction.venue import allowance, config, views
+from callauction.venue import allowance, clock, config, views
 from callauction.venue.accounts import Accounts, Fill
 from callauction.venue.bounds import Bounds
 from callauction.venue.gains import Predicted, Value
@@ -130,7 +130,7 @@ class Instrument:
 
     async def begin(self) -> None:
         """Looks at the program, and goes by the clock from now on. Raises ProcessError."""
-        self.keep_time(time.time())
+        self.keep_time(clock.now())
         try:
             await self.look()
         except ProcessError as fault:
@@ -258,7 +258,7 @@ class Instrument:
         self._waiting.get(message.member, {}).pop(message, None)
         if message.member == OPERATOR:
             self._uncrossed(entry)
-            self.keep_time(time.time())
+            self.keep_time(clock.now())
             self.touch(self.numbers)
         else:
             self.learn(entry)
@@ -344,7 +344,7 @@ class Instrument:
         """Begins a call. Raises PhaseError."""
         if not self._is_book_known:
             raise PhaseError("the last uncross isn't seen yet")
-        now = time.time()
+        now = clock.now()
         started = self.state.started(now, self.plan, self._random.random())
         self.began, self.course, self.has_begun = now, [], True
         self._enter(started)
@@ -357,16 +357,16 @@ class Instrument:
     def extend(self, seconds: int) -> None:
         """The call ends later. Raises PhaseError."""
         self._check_free()
-        self._enter(self.state.extended_by(time.time(), seconds))
+        self._enter(self.state.extended_by(clock.now(), seconds))
 
     def freeze(self) -> None:
         """Takes no order for a while. Raises PhaseError."""
         self._check_free()
-        self._enter(self.state.held(time.time()))
+        self._enter(self.state.held(clock.now()))
 
     def thaw(self) -> None:
         """Takes orders again. Raises PhaseError."""
-        self._enter(self.state.thawed(time.time()))
+        self._enter(self.state.thawed(clock.now()))
 
     async def uncross(self) -> str:
         """Ends the call and uncrosses: the program's reply. Raises PhaseError and MessageError."""
@@ -414,7 +414,7 @@ class Instrument:
             await asyncio.sleep(TICK)
             if self.engine.halted is not None or self._is_uncrossing:
                 continue
-            self.keep_time(time.time())
+            self.keep_time(clock.now())
             if self.plan.is_automatic and self.state.phase is Phase.ENDED:
                 with contextlib.suppress(MessageError, PhaseError):
                     await self.uncross()
@@ -492,7 +492,7 @@ class Instrument:
         """What is indicated now: a point of the course, where that ends with something else."""
         last = self.course[-1].indication if self.course else views.Indication()
         if found != last and self.state.phase in (Phase.CALL, Phase.EXTENDED):
-            point = Point(time.time(), found)
+            point = Point(clock.now(), found)
             self._keep_point(point)
             self._note("point", **point.kept())
         self.indication = found

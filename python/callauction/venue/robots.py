@@ -3,10 +3,10 @@ a time by chance from when it has one.
 """
 import asyncio
 import random
-import time
 from collections.abc import Iterator
 from typing import Protocol
 
+from callauction.venue import clock
 from callauction.venue.gains import Value
 from callauction.venue.instrument import Instrument
 from callauction.venue.members import Member, Members
@@ -57,8 +57,8 @@ class Robots:
             for member, board in self._turns():
                 turn = member.name, board.board.key, board.state.auction
                 if turn not in self._due:
-                    self._due[turn] = time.time() + CHANCE.random() * window(board)
-                if self._due[turn] <= time.time():
+                    self._due[turn] = clock.now() + CHANCE.random() * window(board)
+                if self._due[turn] <= clock.now():
                     self._due[turn] = float("inf")
                     self._play(member, board)
 
@@ -94,7 +94,7 @@ def waits(robot: Member, board: Instrument) -> bool:
 def window(board: Instrument) -> float:
     """The seconds in which the robots enter their orders."""
     ends = board.state.ends
-    return MOST_SECONDS if ends is None else min(MOST_SECONDS, MOST_SHARE * (ends - time.time()))
+    return MOST_SECONDS if ends is None else min(MOST_SECONDS, MOST_SHARE * (ends - clock.now()))
 
 
 def record_of(kind: str, board: Instrument, member: str) -> str | None:
