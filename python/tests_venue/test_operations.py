@@ -534,6 +534,51 @@ def test_a_copy_that_was_changed_is_refused(tmp_path: pathlib.Path) -> None:
     assert "isn't the copy" in ran("restore", copy, tmp_path / "other", status=1)
 
 
+def test_a_copy_isnt_put_into_its_day(tmp_path: pathlib.Path) -> None:
+    """The next copy would have it among the files of the day."""
+    day_before(tmp_path)
+    for name in ("copy", "a/../copy", ".", "../venue"):
+        place = tmp_path / "venue" / name
+        text = ran("backup", tmp_path / "venue", place, status=1)
+        assert text == f"backup: {place} is in the folder of the day itself\n"
+    copied(tmp_path / "venue", tmp_path / "venue2")
+
+
+def test_a_copy_on_a_full_disk(tmp_path: pathlib.Path) -> None:
+    day_before(tmp_path)
+    small = tmp_path / "small"
+    small.mkdir()
+    words = served.words_of()[:2] + ["callauction.venue.backup", str(tmp_path / "venue")]
+    mount = f"mount -t tmpfs -o size=8k tmpfs {small} && \"$@\"; ls -A {small}"
+    done = subprocess.run(
+        ["unshare", "-rm", "sh", "-c", mount, "sh", *words, str(small / "copy")],
+        env=served.environment(),
+        capture_output=True,
+        text=True,
+    )
+    assert (done.stdout, done.stderr) == ("", "backup: No space left on device\n")
+
+
+WHO = ("owned", "written", "file written") if os.geteuid() == 0 else ("written", "file written")
+
+
+@pytest.mark.parametrize("what", WHO)
+def test_a_copy_that_others_could_have_made(tmp_path: pathlib.Path, what: str) -> None:
+    """Its sums and its tokens are what those others say."""
+    day_before(tmp_path)
+    copy, place = tmp_path / "copy", tmp_path / "place"
+    copied(tmp_path / "venue", copy)
+    path = copy / "operator.token" if what == "file written" else copy
+    if what == "owned":
+        os.chown(path, 65_534, 65_534)
+        text = f"restore: {path} belongs to another user\n"
+    else:
+        path.chmod(path.stat().st_mode | 0o020)
+        text = f"restore: {path} may be written by other users: chmod go-w\n"
+    assert ran("restore", copy, place, status=2) == text
+    assert not place.exists()
+
+
 def hostile(copy: pathlib.Path, what: str) -> None:
     """Changes a copy, and its sums, as somebody may who wants harm."""
     log = copy / "venue.log"

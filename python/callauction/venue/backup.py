@@ -24,7 +24,8 @@ def main() -> int:
     except (copies.CopyError, LogError) as fault:
         text, status = str(fault), BAD_FILE
     except OSError as fault:
-        text, status = f"{fault.filename}: {fault.strerror}", FAILED
+        named = f"{fault.filename}: {fault.strerror}" if fault.filename else fault.strerror
+        text, status = named or str(fault), FAILED
     print(f"backup: {text}", file=sys.stderr)
     return status
 

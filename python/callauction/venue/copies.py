@@ -155,6 +155,8 @@ def write_day(files: Files, folder: pathlib.Path) -> None:
 
 def backup(folder: pathlib.Path, copy: pathlib.Path) -> Files:
     """Copies a day, which may run meanwhile: its files. Raises CopyError, LogError, OSError."""
+    if copy.resolve().is_relative_to(folder.resolve()):
+        raise CopyError(f"{copy} is in the folder of the day itself")
     files = consistent(*read_day(folder))
     write_day(files | {SUMS: sums_of(files)}, copy)
     return files
@@ -162,8 +164,12 @@ def backup(folder: pathlib.Path, copy: pathlib.Path) -> Files:
 
 def restore(copy: pathlib.Path, folder: pathlib.Path, program: str) -> Files:
     """Puts a copy to a new folder once all of it is checked: its sums, its journals beside its log,
-    and by the program each reply of them. Raises CopyError, LogError, OSError.
+    and by the program each reply of them. Raises CopyError, LogError, OSError, and OwnerError where
+    others could have changed all of that, and its tokens.
     """
+    owned.check_copy(copy, is_folder=True)
+    for it in copy.iterdir():
+        owned.check_copy(it)
     files = {it.name: read_file(it) for it in sorted(copy.iterdir())}
     sums = files.pop(SUMS, b"")
     if sums_of(files) != sums:

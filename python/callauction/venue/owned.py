@@ -55,6 +55,17 @@ def check_file(path: pathlib.Path) -> bool:
     return True
 
 
+def check_copy(path: pathlib.Path, is_folder: bool = False) -> None:
+    """Raises OwnerError where anybody but this user and root may have written what is copied from
+    here, and OSError. A link is judged by what reads it.
+    """
+    found = os.stat(path) if is_folder else os.lstat(path)
+    if found.st_uid not in (0, os.geteuid()):
+        raise OwnerError(f"{path} belongs to another user")
+    if found.st_mode & WRITES_OF_OTHERS and not stat.S_ISLNK(found.st_mode):
+        raise OwnerError(f"{path} may be written by other users: chmod go-w")
+
+
 def opened(path: pathlib.Path, flags: int) -> int:
     """An open file that is this user's and that nobody else may read or write. Raises OwnerError,
     and OSError.
@@ -86,13 +97,16 @@ def whole(path: pathlib.Path, most: int, flags: int = 0) -> bytes:
         raise OSError(errno.ELOOP, "is a link", str(path))
     file = os.open(path, os.O_RDONLY | os.O_CLOEXEC | os.O_NONBLOCK | flags)
     try:
-        if not stat.S_ISREG(os.fstat(file).st_mode):
+        about = os.fstat(file)
+        if not stat.S_ISREG(about.st_mode):
             raise OSError(errno.EINVAL, "is no regular file", str(path))
-        with open(file, "rb", closefd=False) as opened:
-            found = opened.read(most + 1)
+        found = b""
+        if about.st_size <= most:
+            with open(file, "rb", closefd=False) as opened:
+                found = opened.read(most + 1)
     finally:
         os.close(file)
-    if len(found) > most:
+    if max(about.st_size, len(found)) > most:
         raise OSError(errno.EFBIG, f"has more than {most} bytes", str(path))
     return found
 

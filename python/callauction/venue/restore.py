@@ -6,9 +6,10 @@ import pathlib
 import sys
 
 from callauction import finder
-from callauction.statuses import BAD_FILE, DONE, FAILED
+from callauction.statuses import BAD_DAY, BAD_FILE, DONE, FAILED
 from callauction.venue import copies
 from callauction.venue.log import LogError
+from callauction.venue.owned import OwnerError
 
 
 def main() -> int:
@@ -16,8 +17,8 @@ def main() -> int:
     parser = argparse.ArgumentParser(
         prog="python3 -m callauction.venue.restore",
         description="Puts a copy of a venue's folder to a new folder, once all of it is checked.",
-        epilog="statuses: 0 restored; 1 the copy isn't whole, or has an unlawful reply; 3 no "
-        "program, or a read or a write failed",
+        epilog="statuses: 0 restored; 1 the copy isn't whole, or has an unlawful reply; 2 others "
+        "own it or may write to it; 3 no program, or a read or a write failed",
     )
     parser.add_argument("copy", type=pathlib.Path, metavar="COPY", help="what backup has made")
     parser.add_argument("folder", type=pathlib.Path, metavar="FOLDER", help="a new folder")
@@ -25,11 +26,13 @@ def main() -> int:
     try:
         print(copies.summary(copies.restore(asked.copy, asked.folder, finder.program())))
         return DONE
+    except OwnerError as fault:
+        text, status = str(fault), BAD_DAY
     except (copies.CopyError, LogError) as fault:
         text, status = str(fault), BAD_FILE
     except OSError as fault:
-        named = f"{fault.filename}: {fault.strerror}" if fault.filename else str(fault)
-        text, status = named, FAILED
+        named = f"{fault.filename}: {fault.strerror}" if fault.filename else fault.strerror
+        text, status = named or str(fault), FAILED
     print(f"restore: {text}", file=sys.stderr)
     return status
 
