@@ -412,6 +412,21 @@ def test_a_log_with_a_fault(tmp_path: pathlib.Path) -> None:
     assert (status, error) == (1, f"venue: {log}: line 2 is no line of a log\n")
 
 
+@pytest.mark.parametrize("content", [b"somebody's notes", b"\x7fELF\0\0\0", b"\xff" * 5000])
+def test_another_file_in_the_place_of_the_log(tmp_path: pathlib.Path, content: bytes) -> None:
+    """It stays as it was; NULs alone, or half a line, are what a crash leaves."""
+    log = tmp_path / "venue/venue.log"
+    log.parent.mkdir(mode=0o700)
+    log.write_bytes(content)
+    log.chmod(0o600)
+    status, error = ended("--folder", tmp_path / "venue", "--port", 0)
+    assert (status, error) == (1, f"venue: {log}: its end is no line of a log\n")
+    assert log.read_bytes() == content
+    log.write_bytes(b"\0" * 300)
+    status, error = ended("--folder", tmp_path / "venue", "--listen", "127.0.0.1", "--check")
+    assert (status, error) == (0, "")
+
+
 def test_a_venue_ends_by_a_signal(venue: Served) -> None:
     token = venue.join("Anna")
     programs = psutil.Process(venue.child.pid).children()

@@ -120,10 +120,12 @@ class Log:
 
     def lines(self) -> list[Line]:
         """All lines that were written. A last line that isn't whole is taken away: nothing followed
-        from it. Raises LogError for a line that is none, and OSError.
+        from it. Raises LogError for a line that is none, also the last one, and OSError.
         """
         text = self.path.read_bytes()
         whole = text[: text.rfind(b"\n") + 1]
+        if text[len(whole) :].strip(b"\0")[:1] not in (b"", b"{"):
+            raise LogError(f"{self.path}: its end is no line of a log")
         os.ftruncate(self._file, len(whole))
         self._length = len(whole)
         return read_lines(whole, str(self.path))
