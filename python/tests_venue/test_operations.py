@@ -110,6 +110,32 @@ def test_each_fault_of_a_day(tmp_path: pathlib.Path) -> None:
     assert not token.exists()
 
 
+async def checked_beside(venue: Served, token: str, words: list[object]) -> list[str]:
+    """The last lines of `--check` beside a member who sends many orders at once."""
+    found = []
+    async with AsyncClient(venue.url, token) as me:
+        for _ in range(4):
+            checking = asyncio.create_task(asyncio.to_thread(checked, *words))
+            while not checking.done():
+                await asyncio.gather(*(me.enter("bid", 1, "2.00") for _ in range(20)))
+                await asyncio.gather(*(me.delete(1) for _ in range(20)))
+            status, printed, error = checking.result()
+            assert (status, error) == (0, ""), error
+            found.append(printed.splitlines()[-1])
+    return found
+
+
+def test_a_day_that_runs_is_checked_as_it_is_at_one_moment(tmp_path: pathlib.Path) -> None:
+    with served.served(tmp_path, FAST) as venue:
+        token = venue.join("Anna")
+        venue.do("start")
+        words: list[object] = ["--day", tmp_path / "day.toml", "--folder", tmp_path / "venue"]
+        found = asyncio.run(checked_beside(venue, token, words))
+        counts = [int(it.split()[1]) for it in found]
+        assert counts == sorted(counts) and counts[-1] > 100
+        assert {it.split(" ", 2)[2] for it in found} == {"entries, and the day runs"}
+
+
 # ---- certificates
 
 

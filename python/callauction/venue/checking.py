@@ -1,13 +1,15 @@
 """What `--check` says of a day before it begins, or goes on: nothing is started or changed."""
+import fcntl
+import os
 import pathlib
 import subprocess
 import time
 from collections.abc import Iterator
 
-from callauction.venue import begun, config, owned, tokens
+from callauction.venue import begun, config, copies, owned, tokens
 from callauction.venue.fields import ConfigError
 from callauction.venue.log import Line, read_lines
-from callauction.venue.recovery import RecoveryError, entries_of, settled
+from callauction.venue.recovery import RecoveryError, entries_in, entries_of, settled
 from callauction.venue.serving import Address, ends_of
 from callauction.venue.venue import LOG, mark_of, runs_of
 
@@ -72,6 +74,9 @@ def checked_log(day: config.Day, folder: pathlib.Path) -> Iterator[str]:
     """
     path = folder / LOG
     owned.check_file(path)
+    if is_in_use(path):
+        yield from checked_running(folder)
+        return
     text = path.read_bytes()
     lines = read_lines(text[: text.rfind(b"\n") + 1], str(path))
     if changed := begun.changes(day, lines, folder):
@@ -80,6 +85,32 @@ def checked_log(day: config.Day, folder: pathlib.Path) -> Iterator[str]:
     for key in dict.fromkeys(filter(None, boards)):
         own = [line for line in lines if line.get("instrument") == key]
         yield f"{key}: {entries_known(folder / f'{key}.journal.csv', key, own)} entries"
+
+
+def is_in_use(log: pathlib.Path) -> bool:
+    """Whether a venue has this log. Raises OSError."""
+    file = os.open(log, os.O_RDONLY | os.O_CLOEXEC | os.O_NOFOLLOW)
+    try:
+        fcntl.flock(file, fcntl.LOCK_SH | fcntl.LOCK_NB)
+    except BlockingIOError:
+        return True
+    finally:
+        os.close(file)
+    return False
+
+
+def checked_running(folder: pathlib.Path) -> Iterator[str]:
+    """What is found of a day that runs, as it is at one moment. Raises LogError, OwnerError,
+    RecoveryError, OSError.
+    """
+    try:
+        files = copies.consistent(*copies.read_day(folder))
+    except copies.CopyError as fault:
+        raise RecoveryError(str(fault)) from None
+    for name, file in copies.journals_of(files).items():
+        owned.check_file(folder / file)
+        count = len(entries_in(files[file].decode("latin-1")))
+        yield f"{name}: {count} entries, and the day runs"
 
 
 def entries_known(journal: pathlib.Path, name: str, lines: list[Line]) -> int:
