@@ -15,7 +15,7 @@ import judged
 import psutil
 import pytest
 import served
-from callauction.venue import AsyncClient, Client
+from callauction.venue import AsyncClient, Client, process
 from callauction.venue.process import Process
 from conftest import FAST
 from served import Served
@@ -81,6 +81,29 @@ def test_a_program_that_hangs(tmp_path: pathlib.Path) -> None:
         assert len(waits) > 20 and sorted(waits)[len(waits) // 2] < MOST_WAIT, waits
         text = venue.call("api/download/journal/HUNG", token=venue.operator)[1]
         assert judged.is_lawful(text) and len(judged.entries(text)) == 3
+
+
+def test_a_machine_that_stands_still(tmp_path: pathlib.Path) -> None:
+    """The venue and its program are stopped together, longer than an answer may take."""
+    with two(tmp_path) as (venue, token):
+
+        async def ask() -> int:
+            async with AsyncClient(venue.url, token) as me, asyncio.timeout(served.SECONDS):
+                assert (await me.enter("bid", 1, "2.00", instrument="HUNG")).entry == 1
+                program, own = program_of(venue, "HUNG"), psutil.Process(venue.child.pid)
+                program.suspend()
+                late = asyncio.create_task(me.enter("bid", 2, "2.00", instrument="HUNG"))
+                await asyncio.sleep(1)
+                own.suspend()
+                await asyncio.to_thread(time.sleep, ANSWER_SECONDS + process.STILL_SECONDS)
+                own.resume()
+                await asyncio.sleep(1)
+                program.resume()
+                entry = (await late).entry
+                assert (await me.look("state", "HUNG"))["halted"] is None
+                return entry
+
+        assert asyncio.run(ask()) == 2
 
 
 def ends_in_time(child: "subprocess.Popen[str]") -> tuple[float, int, str]:
@@ -180,9 +203,9 @@ async def test_a_file_that_is_too_long_is_no_signal(tmp_path: pathlib.Path) -> N
     look = f"grep SigIgn /proc/$$/status > {tmp_path}/ignored"
     program.write_text(f"#!/bin/sh\n{look}\necho journal 0 entries >&2\ncat > /dev/null\n")
     program.chmod(0o755)
-    process = Process([str(program)], lambda fault: None)
-    assert await process.start() == 0
-    await process.stop()
+    found = Process([str(program)], lambda fault: None)
+    assert await found.start() == 0
+    await found.stop()
     ignored = int((tmp_path / "ignored").read_text().split()[1], 16)
     assert ignored >> (signal.SIGXFSZ - 1) & 1
 

@@ -19,6 +19,10 @@ BLOCK = 1 << 18
 MOST_ERROR = 4096
 ANSWER_SECONDS = 10.0
 """How long the program may say nothing while something waits for its answer."""
+STILL_SECONDS = 5.0
+"""Where this process looks later than it wanted by as much, it stood still itself, perhaps with the
+program, as on a machine that was stopped: then the program has its time once more.
+"""
 START_SECONDS = 60.0
 """How long it may take to go on with a journal."""
 STOP_SECONDS, KILL_SECONDS = 2.0, 0.5
@@ -123,7 +127,7 @@ class Process:
         self._missing = 0
         self._rest = b""
         self._error = b""
-        self._since = 0.0
+        self._since = self._due = 0.0
         self._watch: asyncio.TimerHandle | None = None
         self.has_ended = False
 
@@ -189,7 +193,13 @@ class Process:
         self._answers.extend(answer)
         self._pipe.write(records)
         if self._watch is None:
-            self._watch = loop.call_later(ANSWER_SECONDS, self._look)
+            self._look_in(ANSWER_SECONDS)
+
+    def _look_in(self, seconds: float) -> None:
+        """Looks at the program in a while."""
+        loop = asyncio.get_running_loop()
+        self._due = loop.time() + seconds
+        self._watch = loop.call_at(self._due, self._look)
 
     def _look(self) -> None:
         """Gives the program up where it hasn't answered in time."""
@@ -197,9 +207,11 @@ class Process:
         self._watch = None
         if self.has_ended or not self._answers:
             return
+        if loop.time() - self._due > STILL_SECONDS:
+            self._since = loop.time()
         left = self._since + ANSWER_SECONDS - loop.time()
         if left > 0:
-            self._watch = loop.call_later(left, self._look)
+            self._look_in(left)
             return
         self.kill()  # perhaps in vain, as where it waits for a disk
         self._end(ProcessError(f"the program hasn't answered for {ANSWER_SECONDS:g} s", FAILED))
