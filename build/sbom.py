@@ -11,8 +11,9 @@ from collections.abc import Iterable, Mapping
 TOP = pathlib.Path(__file__).resolve().parent.parent
 NONE = "NOASSERTION"
 NAME = re.compile(r"[^A-Za-z0-9.-]")
-BUILDS = ("binutils", "debhelper", "dh-python", "dpkg-dev", "gcc", "libc6-dev", "python3-build",
-          "python3-cffi", "python3-dev", "python3-numpy", "python3-setuptools", "python3-wheel")
+BUILDS = ("binutils", "debhelper", "dh-python", "dpkg-dev", "g++", "gcc", "libc6-dev",
+          "libquickfix-dev", "pybind11-dev", "python3-build", "python3-cffi", "python3-dev",
+          "python3-numpy", "python3-setuptools", "python3-wheel")
 """Debian's packages by which a release is made."""
 Element = dict[str, object]
 

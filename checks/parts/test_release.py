@@ -546,7 +546,7 @@ def test_the_wheel(release: pathlib.Path, venv: pathlib.Path, tmp_path: pathlib.
 
 DEBIAN = (
     *("callboard", "libcallauction1", "libcallauction-dev"),
-    *("python3-callauction", "callboard-venue"),
+    *("python3-callauction", "callboard-venue", "callboard-fix"),
 )
 
 
@@ -589,7 +589,7 @@ def test_debians_packages(
 ) -> None:
     debs = [path for name in DEBIAN for path in release.glob(f"{name}_*.deb")]
     wanted = "gcc,libc6-dev,pkgconf,python3,python3-numpy,python3-cffi-backend"
-    wanted += ",python3-aiohttp,python3-psutil,systemd-standalone-sysusers"
+    wanted += ",python3-aiohttp,python3-psutil,systemd-standalone-sysusers,libquickfix17"
     with fresh_root(tmp_path, wanted) as root:
         where = "in a fresh root" if root else "in a folder, as no root could be made"
         tables["| packages of Debian |"] = [f"| {where} |"]
@@ -612,6 +612,8 @@ def test_debians_packages(
         assert "callboard:" in (root / "etc/passwd").read_text()
         checked = ("python3", "-P", "-m", "callauction.venue", "--check", "--folder", "/tmp/venue")
         assert "/tmp/venue: not there yet\n" in done(*in_root, *checked)
+        (root / "tmp/fix.toml").write_text('[fix]\n[fix.sessions]\nALICE = "Alice"\n')
+        assert ", 1 sessions\n" in done(*in_root, *checked, "--day", "/tmp/fix.toml")
         done(*in_root, "dpkg", "--purge", *reversed(DEBIAN))
         assert files_of(root) - before <= OF_A_USER
 

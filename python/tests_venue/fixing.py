@@ -13,8 +13,10 @@ SOH = b"\x01"
 Message = dict[int, str]
 Pairs = list[tuple[int, str]]
 SECONDS = 60.0
-QUIET = 0.4
+QUIET = 1.0
 """Seconds without a message after which nothing more is to come."""
+AGAIN = {"D", "F", "G", "H", "V", "q", "AF", "g", "x"}
+"""The types of messages that are sent again."""
 SESSION = "0124A"
 """The types of messages of the session itself that nobody has to be shown."""
 DAY = """
@@ -45,11 +47,18 @@ def stamp() -> str:
     return datetime.datetime.now(datetime.timezone.utc).strftime("%Y%m%d-%H:%M:%S.%f")[:-3]
 
 
-def written(kind: str, number: int, sender: str, pairs: Pairs, head: Pairs = []) -> bytes:
+def written(
+    kind: str,
+    number: int,
+    sender: str,
+    pairs: Pairs,
+    head: Pairs = [],
+    begin: bytes = b"FIX.4.4",
+) -> bytes:
     """The bytes of a message to the venue."""
     fields = [(35, kind), (34, str(number)), (49, sender), (52, stamp()), (56, "VENUE"), *head]
     body = b"".join(f"{tag}={value}".encode("latin-1") + SOH for tag, value in fields + pairs)
-    text = b"8=FIX.4.4" + SOH + b"9=%d" % len(body) + SOH + body
+    text = b"8=" + begin + SOH + b"9=%d" % len(body) + SOH + body
     return text + b"10=%03d" % (sum(text) % 256) + SOH
 
 
@@ -72,6 +81,8 @@ class Peer:
     """A member's connection, whose messages are numbered from `number` on; `expected` is the number
     of the next one from the venue. What came before in another connection is in `got`.
     """
+
+    begin = b"FIX.4.4"
 
     def __init__(self, port: int, member: str, context: ssl.SSLContext | None = None) -> None:
         self.port, self.member, self._context = port, member, context
@@ -98,8 +109,12 @@ class Peer:
         number = self.number
         self.number += 1
         self.sent[number] = (kind, pairs)
-        self.socket.sendall(written(kind, number, self.member, pairs, head))
+        self.socket.sendall(self.written(kind, number, pairs, head))
         return number
+
+    def written(self, kind: str, number: int, pairs: Pairs, head: Pairs) -> bytes:
+        """The bytes of a message of it."""
+        return written(kind, number, self.member, pairs, head, self.begin)
 
     def whole(self) -> bytes:
         """The next message as it came. Raises Closed, and TimeoutError."""
@@ -175,12 +190,12 @@ class Peer:
         last = self.number
         for number in range(begin, last):
             kind, pairs = self.sent.get(number, ("0", []))
-            if kind in "DFGHV":
+            if kind in AGAIN:
                 head = [(43, "Y"), (122, stamp())]
-                self.socket.sendall(written(kind, number, self.member, pairs, head))
+                self.socket.sendall(self.written(kind, number, pairs, head))
             else:
                 gap = [(123, "Y"), (36, str(number + 1))]
-                self.socket.sendall(written("4", number, self.member, gap, [(43, "Y")]))
+                self.socket.sendall(self.written("4", number, gap, [(43, "Y")]))
 
     # ---- orders
 

@@ -294,8 +294,8 @@ def test_the_module_is_missing(tmp_path: pathlib.Path) -> None:
     status, text = said_of(tmp_path, fixing.day_of(9878, "ALICE"), CALLAUCTION_FIX=str(tmp_path))
     assert status == 2
     assert re.fullmatch(
-        r"venue: \[fix\] needs the module of QuickFIX: apt-get install [a-z0-9 +-]+, then "
-        r"python3 -m callauction\.fix\.build\n",
+        r"venue: \[fix\] needs the module of QuickFIX: the package callboard-fix has it, or "
+        r"apt-get install [a-z0-9 +-]+, then python3 -m callauction\.fix\.build\n",
         text,
     )
 

@@ -18,7 +18,7 @@ EXAMPLE = served.PACKAGE.parent / "examples/fix"
 LINE = re.compile(r"(?P<member>[A-Z]+) (?P<way>[<>]) (?P<text>.*)")
 AROUND = (8, 9, 10, 43, 49, 52, 56, 60, 122)
 """What the transcript leaves out: what is around each message, and times."""
-TIMED = "DFG"
+TIMED = "DFGq"
 """The types of messages to the venue that have the time of what they ask."""
 
 

@@ -11,33 +11,41 @@ from collections.abc import Callable, Iterator
 import fixing
 import pytest
 import served
+from callauction.fix import dictionaries
 from callauction.fix._quickfix import Engine
-from callauction.fix.tags import pairs_of
+from callauction.fix.tags import FIX44, FIXT, pairs_of
 from callauction.venue import Client
 from fixing import Message, Peer
 
-DICTIONARY = served.PACKAGE / "callauction/fix/FIX44.xml"
 SETTINGS = """[DEFAULT]
 ConnectionType=initiator
 HeartBtInt=30
 StartTime=00:00:00
 EndTime=00:00:00
 FileStorePath={store}
-DataDictionary={dictionary}
 [SESSION]
-BeginString=FIX.4.4
+BeginString={begin}
 SenderCompID={member}
 TargetCompID=VENUE
 """
+DICTIONARIES = {
+    FIX44: "DataDictionary={folder}/FIX44.xml\n",
+    FIXT: "DefaultApplVerID=FIX.5.0SP2\nTransportDataDictionary={folder}/FIXT11.xml\n"
+    "AppDataDictionary={folder}/FIX50SP2.xml\n",
+}
 
 
 class Initiator:
     """A session of QuickFIX's initiator, whose bytes go by a socket of the test."""
 
-    def __init__(self, port: int, member: str, password: str, folder: pathlib.Path) -> None:
+    def __init__(
+        self, port: int, member: str, password: str, folder: pathlib.Path, begin: str = FIX44
+    ) -> None:
         folder.mkdir(exist_ok=True)
-        text = SETTINGS.format(store=folder, dictionary=DICTIONARY, member=member)
-        self.session = f"FIX.4.4:{member}->VENUE"
+        dictionaries.write(folder)
+        text = SETTINGS.format(store=folder, begin=begin, member=member)
+        text += DICTIONARIES[begin].format(folder=folder)
+        self.session = f"{begin}:{member}->VENUE"
         self._engine, self._port, self._password = Engine(text), port, password
         self.got: list[Message] = []
         self.socket: socket.socket | None = None

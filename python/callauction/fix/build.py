@@ -1,5 +1,6 @@
 """Builds the module `_quickfix`: `python3 -m callauction.fix.build`, in the folder that the
-variable CALLAUCTION_FIX names, else beside its source.
+variable CALLAUCTION_FIX names, else beside its source. With --sanitized it is one that ends where
+it errs with memory, for tests.
 """
 import os
 import pathlib
@@ -7,6 +8,7 @@ import shutil
 import subprocess
 import sys
 import sysconfig
+from collections.abc import Sequence
 
 from callauction import fix
 
@@ -17,14 +19,15 @@ HEADERS = (QUICKFIX / "Session.h", pathlib.Path("/usr/include/pybind11/functiona
 NEEDED = "g++ libquickfix-dev pybind11-dev python3-dev"
 """Debian's packages by which it is built."""
 MISSING = (
-    f"[fix] needs the module of QuickFIX: apt-get install {NEEDED}, "
-    "then python3 -m callauction.fix.build"
+    "[fix] needs the module of QuickFIX: the package callboard-fix has it, or apt-get install "
+    f"{NEEDED}, then python3 -m callauction.fix.build"
 )
 OPTIONS = (
     *("-std=c++14", "-O2", "-fPIC", "-shared", "-fvisibility=hidden", "-Wall", "-Wextra"),
     *("-Wno-deprecated", "-Wno-deprecated-declarations"),
 )
 """QuickFIX's headers have exceptions in their types, which C++17 refuses."""
+SANITIZED = ("-fsanitize=address,undefined", "-fno-sanitize-recover=all", "-g", "-O1")
 
 
 class BuildError(Exception):
@@ -43,7 +46,7 @@ def is_built() -> bool:
     return found.exists() and found.stat().st_mtime >= SOURCE.stat().st_mtime
 
 
-def build() -> pathlib.Path:
+def build(options: Sequence[str] = ()) -> pathlib.Path:
     """Builds the module, unless it is there: where it is. Raises BuildError, and OSError."""
     found = target()
     if is_built():
@@ -53,7 +56,7 @@ def build() -> pathlib.Path:
     found.parent.mkdir(parents=True, exist_ok=True)
     begun = found.with_name(f"{found.name}.{os.getpid()}.new")
     include = ["-I", sysconfig.get_path("include"), "-isystem", str(QUICKFIX)]
-    words = ["g++", *OPTIONS, *include, str(SOURCE), "-o", str(begun), "-lquickfix"]
+    words = ["g++", *OPTIONS, *options, *include, str(SOURCE), "-o", str(begun), "-lquickfix"]
     ran = subprocess.run(words, capture_output=True, text=True)
     if ran.returncode != 0:
         raise BuildError(f"{ran.stderr.strip()}\n{MISSING}")
@@ -63,8 +66,11 @@ def build() -> pathlib.Path:
 
 def main() -> int:
     """Builds the module; answers the status."""
+    if sys.argv[1:] not in ([], ["--sanitized"]):
+        print("callauction.fix.build: the one word may be --sanitized", file=sys.stderr)
+        return 2
     try:
-        print(build())
+        print(build(SANITIZED if sys.argv[1:] else ()))
         return 0
     except (BuildError, OSError) as fault:
         print(f"callauction.fix.build: {fault}", file=sys.stderr)

@@ -4,30 +4,44 @@ What a session was sent is in QuickFIX's store, in the venue's folder; what it s
 """
 import asyncio
 import contextlib
+import functools
 import logging
 import os
 import pathlib
 import ssl
+import tempfile
 from collections.abc import AsyncIterator, Coroutine, Sequence
 from typing import Any
 
+from callauction.fix import dictionaries, requests, resets
 from callauction.fix._quickfix import Engine
-from callauction.fix.orders import CLIENT, Report
-from callauction.fix.seats import Desk, Seat
+from callauction.fix.copies import CopySeat
+from callauction.fix.orders import Report
+from callauction.fix.resets import stored
+from callauction.fix.seats import Act, Desk, Seat
 from callauction.fix.streams import Stream
-from callauction.fix.tags import Pairs, Tag, event_of, now, packed
-from callauction.fix.wires import Wire
+from callauction.fix.tags import (
+    FIX44,
+    FIXT,
+    Groups,
+    Pairs,
+    Tag,
+    Type,
+    event_of,
+    now,
+    packed,
+    pairs_of,
+)
+from callauction.fix.wires import STATES, Wire
 from callauction.venue import gates, tokens
 from callauction.venue.fix_terms import VENUE, Terms
-from callauction.venue.instrument import Instrument
+from callauction.venue.instrument import OPERATOR, Instrument
 from callauction.venue.messages import MessageError
 from callauction.venue.recovery import Entry, Message
 from callauction.venue.serving import AddressError
 from callauction.venue.venue import Venue
 
 NOTICES = logging.getLogger("callauction.venue")
-DICTIONARY = pathlib.Path(__file__).with_name("FIX44.xml")
-BEGIN = "FIX.4.4"
 SETTINGS = """[DEFAULT]
 ConnectionType=acceptor
 SocketAcceptPort=0
@@ -36,13 +50,23 @@ StartTime=00:00:00
 EndTime=00:00:00
 TimestampPrecision=6
 FileStorePath={store}
-DataDictionary={dictionary}
+DataDictionary={dictionaries}/FIX44.xml
 """
 SESSION = "[SESSION]\nBeginString={begin}\nSenderCompID={venue}\nTargetCompID={member}\n"
-STORED = ("body", "header", "seqnums")
-"""The files of a session's store."""
+OF_FIXT = """DefaultApplVerID=FIX.5.0SP2
+TransportDataDictionary={dictionaries}/FIXT11.xml
+AppDataDictionary={dictionaries}/FIX50SP2.xml
+"""
 FILES_OF_SESSION = 8
 TICK, PAUSE = 1.0, 0.5
+RESET_SECONDS, RESET_PAUSE = 10.0, 0.02
+"""How long the reset of a session waits for what that has said."""
+MORE: dict[Type, Act] = {
+    Type.MASS_CANCEL: requests.cancel_all,
+    Type.MASS_STATUS: requests.show_all,
+    Type.LIST_REQUEST: requests.show_list,
+}
+"""What a member's session takes beside orders, the market and phases."""
 MOST_CONNECTIONS, MOST_OF_ADDRESS = 256, 64
 """Connections at once, and those of one address on which nobody has logged on."""
 
@@ -57,9 +81,13 @@ class Front:
     def __init__(self, venue: Venue, terms: Terms, program: str) -> None:
         self._venue, self._terms, self._program = venue, terms, program
         self.gates = gates.Gates(MOST_CONNECTIONS, MOST_OF_ADDRESS)
-        self.files = MOST_CONNECTIONS + FILES_OF_SESSION * len(terms.sessions)
-        desk = Desk(venue, self._stream, self._tell, self._send)
-        seats = [Seat(it, name, session_of(it), desk) for it, name in terms.sessions.items()]
+        self.files = MOST_CONNECTIONS + FILES_OF_SESSION * (len(terms.sessions) + 1)
+        desk = Desk(venue, self._stream, self._tell, self._send, self._watch, MORE)
+        seats = [Seat(it, name, self._begin_of(it), desk) for it, name in terms.sessions.items()]
+        if terms.copy:
+            seats.append(CopySeat(terms.copy, self._begin_of(terms.copy), desk))
+        for seat in seats:
+            seat.begin_anew(resets.count_of(venue.folder, seat))
         self._seats = {it.session: it for it in seats}
         self._by_member = {it.name: it for it in seats}
         self._streams: dict[str, Stream] = {}
@@ -67,9 +95,11 @@ class Front:
         self._files: dict[str, list[int]] = {}
         self._tasks: set[asyncio.Task[None]] = set()
         self._is_ready = False
-        self._wakes = asyncio.Event()
+        self._wakes, self._news = asyncio.Event(), asyncio.Event()
+        self._on: dict[Seat, Wire] = {}
         self._listener: gates.Listener | None = None
-        venue.on_entry = self._entered
+        self._resetting: set[Seat] = set()
+        venue.on_entry, venue.reset_session = self._entered, self._reset
 
     # ---- begin and end
 
@@ -81,7 +111,8 @@ class Front:
         except OSError as fault:
             raise AddressError(f"fix: can't listen: {fault.strerror}") from None
         try:
-            self.engine = Engine(self._settings(), self._accepts)
+            with tempfile.TemporaryDirectory() as folder:
+                self.engine = Engine(self._settings(pathlib.Path(folder)), self._accepts)
             self._open_files()
         except (RuntimeError, OSError) as fault:
             raise AddressError(f"fix: {fault}") from None
@@ -91,24 +122,37 @@ class Front:
             self._start(self._begin())
         self._start(self._write())
         self._start(self._tick())
+        self._start(self._feed())
         self._listener = gates.Listener(self.gates, sockets, lambda: Wire(self), context)
         try:
             yield f"fix      {named(self._terms.host)}:{sockets[0].getsockname()[1]}"
         finally:
             self._end()
 
-    def _settings(self) -> str:
-        """QuickFIX's settings."""
-        head = SETTINGS.format(store=self._venue.folder, dictionary=DICTIONARY)
-        names = {"begin": BEGIN, "venue": VENUE}
-        return head + "".join(SESSION.format(**names, member=it) for it in self._terms.sessions)
+    def _settings(self, folder: pathlib.Path) -> str:
+        """QuickFIX's settings, with dictionaries in a folder, which it reads as it begins."""
+        dictionaries.write(folder)
+        found = SETTINGS.format(store=self._venue.folder, dictionaries=folder)
+        for seat in self._seats.values():
+            found += SESSION.format(begin=seat.begin, venue=VENUE, member=seat.comp_id)
+            found += OF_FIXT.format(dictionaries=folder) if seat.begin == FIXT else ""
+        return found
+
+    def _begin_of(self, comp_id: str) -> str:
+        """How the messages of a session begin."""
+        return FIXT if comp_id in self._terms.fix50 else FIX44
 
     def _open_files(self) -> None:
         """Opens the files of the stores, which are synced where the day is."""
         for seat in self._seats.values() if self._venue.day.is_synced else ():
-            names = (f"{BEGIN}-{VENUE}-{seat.comp_id}.{it}" for it in STORED)
-            paths = [self._venue.folder / name for name in names]
-            self._files[seat.session] = [os.open(it, os.O_RDONLY | os.O_CLOEXEC) for it in paths]
+            self._open_files_of(seat)
+
+    def _open_files_of(self, seat: Seat) -> None:
+        """Opens the files of a session's store."""
+        for file in self._files.pop(seat.session, []):
+            os.close(file)
+        paths = stored(self._venue.folder, seat)
+        self._files[seat.session] = [os.open(it, os.O_RDONLY | os.O_CLOEXEC) for it in paths]
 
     async def _begin(self) -> None:
         """Finds what was sent and what was taken, and sends what wasn't; then sessions may begin.
@@ -118,7 +162,10 @@ class Front:
         for seat in self._seats.values():
             await self._admit(seat)
             sent = self.engine.sent(seat.session)
-            seat.told = {event for it in sent if (event := event_of(it, seat.comp_id))}
+            events = (event_of(it, seat.comp_id, seat.epoch) for it in sent)
+            seat.told = {event for event in events if event}
+            seat.cancels = has_asked(sent)
+            seat.lost()
             found = self.engine.expected(seat.session)
             if (last := seat.expected()) != found:
                 NOTICES.info("%s: message %d is expected again", seat.session, last)
@@ -131,7 +178,7 @@ class Front:
 
     async def _admit(self, seat: Seat) -> None:
         """Has the venue know the member of a session, whose password a file keeps if it is new."""
-        if self._venue.members.named(seat.name) is None:
+        if seat.name != OPERATOR and self._venue.members.named(seat.name) is None:
             token = tokens.secret_of(self._venue.folder, f"fix.{seat.comp_id}")
             try:
                 await self._venue.admit(seat.name, token)
@@ -184,10 +231,10 @@ class Front:
 
     def _accepts(self, session: str, password: bytes) -> bool:
         """Whether a session takes a Logon with this password."""
-        token = password.decode("latin-1")
-        seat, member = self._seats[session], self._venue.members.of_token(token)
-        is_own = self._is_ready and member is not None and member.name == seat.name
-        return is_own and member is not None and member.hellos.takes()
+        seat = self._seats[session]
+        if not self._is_ready or seat in self._resetting:
+            return False
+        return seat.takes(password.decode("latin-1"))
 
     def connected(self, wire: Wire) -> int:
         """A connection has come: its number."""
@@ -202,17 +249,44 @@ class Front:
 
     def begun(self, wire: Wire) -> None:
         """A connection is somebody's now."""
-        self._venue.enter(wire)
-        self._venue.show_members()
+        assert wire.seat is not None
+        self._on[wire.seat] = wire
+        if wire.member is not None:
+            self._venue.enter(wire)
+            self._venue.show_members()
+
+    def _watch(self, seat: Seat) -> None:
+        """A session hears of what changes."""
+        if (wire := self._on.get(seat)) is not None:
+            wire.topics = STATES
+            self._venue.enter(wire)
+
+    def has_news(self) -> None:
+        """Something has changed that a session asked for."""
+        self._news.set()
+
+    async def _feed(self) -> None:
+        """Sends sessions what they asked for of what has changed, as fast as they read it."""
+        while True:
+            await self._news.wait()
+            self._news.clear()
+            for seat, wire in [*self._on.items()]:
+                if not wire.is_slow:
+                    seat.feeds.send(functools.partial(self._send, seat))
 
     def lost(self, wire: Wire) -> None:
         """A connection has ended."""
         self._wires.pop(wire.number, None)
         self.engine.lost(wire.number)
         self._drain()
-        if wire.member is not None:
-            self._venue.watchers.pop(wire, None)
-            self._venue.show_members()
+        if wire.seat is None:
+            return
+        self._on.pop(wire.seat, None)
+        wire.seat.feeds.clear()
+        if self._is_ready:
+            wire.seat.lost()
+        self._venue.watchers.pop(wire, None)
+        self._venue.show_members()
 
     def _drain(self) -> None:
         """Takes what sessions say."""
@@ -220,6 +294,8 @@ class Front:
         for what, session, text in self.engine.drain():
             if what == "message":
                 self._seats[session].put(text)
+            elif what == "begins":
+                self._seats[session].cancels = text == b"Y"
             else:
                 NOTICES.info("fix: %s %s %s", what, session, text.decode("latin-1"))
 
@@ -249,10 +325,38 @@ class Front:
         sessions = {self.engine.session_on(number) for number, *_ in found if number in self._wires}
         return [file for it in sessions for file in self._files.get(it, [])]
 
-    def _send(self, seat: Seat, kind: str, pairs: Pairs, groups: Any) -> None:
+    def _send(self, seat: Seat, kind: str, pairs: Pairs, groups: Groups) -> None:
         """Stores a message, and sends it soon where its session is on."""
-        self.engine.send(seat.session, kind, packed(pairs), groups)
+        rows = [(tag, first, [packed(row) for row in rows]) for tag, first, rows in groups]
+        self.engine.send(seat.session, kind, packed(pairs), rows)
         self._wakes.set()
+
+    async def _reset(self, comp_id: str) -> None:
+        """Ends a session, and begins it anew with what its journals gave so far. Raises
+        MessageError.
+        """
+        seat = next((it for it in self._seats.values() if it.comp_id == comp_id), None)
+        if seat is None or not self._is_ready:
+            raise MessageError("bad_message", f"there is no session {comp_id}")
+        self._resetting.add(seat)
+        try:
+            if (wire := self._on.get(seat)) is not None:
+                wire.cut()
+            await asyncio.wait_for(self._ended(seat), RESET_SECONDS)
+            resets.begin_anew(self.engine, self._venue.folder, seat)
+        except (TimeoutError, RuntimeError, OSError) as fault:
+            text = f"{comp_id} couldn't be reset: {fault or 'not all is answered'}"
+            raise MessageError("halted", text) from None
+        finally:
+            self._resetting.discard(seat)
+        if self._venue.day.is_synced:
+            self._open_files_of(seat)
+
+    async def _ended(self, seat: Seat) -> None:
+        """Waits until a session is off and all that it said is answered."""
+        while seat in self._on:
+            await asyncio.sleep(RESET_PAUSE)
+        await seat.idle()
 
     # ---- what the venue says
 
@@ -269,10 +373,7 @@ class Front:
         """A message has its entry, or never had one."""
         seat = self._by_member.get(message.member)
         if seat is not None and message.number < 0:
-            number = -message.number
-            seat.numbers[number] = seat.numbers.get(number, False) or entry is not None
-            if entry is not None and CLIENT in message.note:
-                seat.clients[message.note[CLIENT]] = number
+            seat.entered(board, message, entry)
         if entry is not None:
             self._stream(board).put(message, entry)
 
@@ -281,15 +382,20 @@ class Front:
         seat = self._by_member.get(report.member)
         if seat is not None and report.event not in seat.told:
             seat.told.add(report.event)
-            self._send(seat, report.type, [*report.pairs, (Tag.TRANSACT_TIME, now())], ())
+            pairs = [*report.pairs, (Tag.TRANSACT_TIME, now())]
+            self._send(seat, report.type, pairs, report.groups)
+
+
+def has_asked(sent: Sequence[bytes]) -> bool:
+    """Whether the last Logon among what was sent says that orders end with the connection."""
+    for text in reversed(sent):
+        given = dict(pairs_of(text))
+        if given[Tag.MSG_TYPE] == Type.LOGON:
+            return given.get(Tag.CANCELS_ON_DISCONNECT) == "Y"
+    return False
 
 
 def named(host: str) -> str:
     """A host as it is before a port."""
     return f"[{host}]" if ":" in host else host
-
-
-def session_of(comp_id: str) -> str:
-    """QuickFIX's name of a session."""
-    return f"{BEGIN}:{VENUE}->{comp_id}"
 

@@ -15,14 +15,16 @@ from callauction.fix.tags import (
     NONE,
     OPENING,
     Exec,
+    Groups,
     Pairs,
     Status,
     Tag,
     Type,
+    now,
 )
 from callauction.fix.uncrosses import Seen
 from callauction.venue import views
-from callauction.venue.instrument import Instrument
+from callauction.venue.instrument import OPERATOR, Instrument
 from callauction.venue.recovery import Entry, Message
 from callauction.words import Refusal
 from callauction.words import MARKET as AT_MARKET
@@ -49,12 +51,15 @@ CLIENT, ORIGIN, TIME = (str(int(it)) for it in (Tag.CL_ORD_ID, Tag.ORIG_CL_ORD_I
 
 @dataclasses.dataclass(frozen=True, slots=True)
 class Report:
-    """A message to a member; `event` is its id, by which it is sent once."""
+    """A message to a member; `event` is its id, by which it is sent once. What is for the operator
+    has OPERATOR as its member.
+    """
 
     member: str
     type: Type
     event: str
     pairs: Pairs
+    groups: Groups = dataclasses.field(default_factory=list)
 
 
 @dataclasses.dataclass(slots=True)
@@ -97,6 +102,10 @@ class Orders:
     def of_client(self, member: str, client: str) -> Held | None:
         """The order to which a member gave this id."""
         return self._by_client.get((member, client))
+
+    def open_of(self, member: str) -> list[Held]:
+        """The open orders of a member, in the order in which they came."""
+        return [it for it in self._open.values() if it.member == member]
 
     def event(self, place: int) -> str:
         """The id of what an entry comes to."""
@@ -180,7 +189,27 @@ class Orders:
                 (Tag.TRD_MATCH_ID, f"{self._board.board.key}.{trade.number}"),
             ]
             found.append(self.report(held, f"{event}.{trade.number}{letter}", Exec.TRADE, more))
-        return found
+        return [*found, self._captured(trade, f"{event}.{trade.number}")]
+
+    def _captured(self, trade: views.Trade, event: str) -> Report:
+        """A trade with both of its sides, for the operator's copy."""
+        sides = []
+        for number in (trade.bid, trade.ask):
+            held = self._open[number]
+            side: Pairs = [(Tag.SIDE, CODES[held.side]), (Tag.ORDER_ID, str(number))]
+            side += [(Tag.CL_ORD_ID, held.client)] if held.client else []
+            sides.append([*side, (Tag.ACCOUNT, held.member)])
+        pairs: Pairs = [
+            (Tag.TRADE_REPORT_ID, event),
+            (Tag.PREVIOUSLY_REPORTED, "N"),
+            (Tag.SYMBOL, self._board.board.market),
+            (Tag.LAST_QTY, str(trade.quantity)),
+            (Tag.LAST_PX, self._board.terms.price(trade.tick)),
+            (Tag.TRADE_DATE, now()[:8]),
+            (Tag.TRD_MATCH_ID, f"{self._board.board.key}.{trade.number}"),
+        ]
+        groups = [(int(Tag.NO_SIDES), int(Tag.SIDE), sides)]
+        return Report(OPERATOR, Type.TRADE, event, pairs, groups)
 
     def _seen_after(self, held: Held, seen: Seen, event: str) -> list[Report]:
         """What became of an order that was open before an uncross: one of which something was left

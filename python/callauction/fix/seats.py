@@ -5,13 +5,25 @@ taken, and a member may use the pages too.
 """
 import asyncio
 import collections
+import contextlib
 import dataclasses
 import re
-from collections.abc import Callable
+from collections.abc import Awaitable, Callable, Mapping
 from typing import Any
 
-from callauction.fix import snapshots
 from callauction.fix.orders import CLIENT, ORIGIN, TIME, TIMES, Asked, Held, Report, refusal
+from callauction.fix.feeds import Feeds
+from callauction.fix.numbering import Number
+from callauction.fix.refusals import (
+    ALL,
+    DUPLICATE,
+    OTHER,
+    UNKNOWN,
+    UNSUPPORTED,
+    SeatError,
+    given_of,
+    refuse,
+)
 from callauction.fix.streams import Stream
 from callauction.fix.tags import (
     CLOSING,
@@ -25,6 +37,7 @@ from callauction.fix.tags import (
     SIDES,
     Exec,
     Given,
+    Groups,
     Pairs,
     Status,
     Tag,
@@ -33,11 +46,13 @@ from callauction.fix.tags import (
     refusal_of,
 )
 from callauction.venue import messages
+from callauction.venue.fix_terms import VENUE
 from callauction.venue.instrument import Instrument
 from callauction.venue.log import SOURCE
 from callauction.venue.members import Member
-from callauction.venue.messages import MessageError
-from callauction.venue.recovery import Entry
+from callauction.venue.messages import MessageError, Order
+from callauction.venue.rates import Bucket
+from callauction.venue.recovery import Entry, Message
 from callauction.venue.venue import Venue
 from callauction.words import MARKET as AT_MARKET
 
@@ -48,62 +63,55 @@ MOST_UNANSWERED = 256
 """Commands of a member that aren't answered yet."""
 ONLY = {OPENING: "opening", CLOSING: "closing", DAY: "", GOOD_TILL_CANCEL: ""}
 SHARES = re.compile(r"([0-9]{1,10})(?:\.0*)?")
-UNKNOWN_SYMBOL, CLOSED, TOO_MUCH, UNKNOWN, DUPLICATE, UNSUPPORTED = "1", "2", "3", "5", "6", "11"
-REASONS = {
-    "unknown_instrument": UNKNOWN_SYMBOL,
-    "not_now": CLOSED,
-    "frozen": CLOSED,
-    "halted": CLOSED,
-    "above_limit": TOO_MUCH,
-    "bad_message": UNSUPPORTED,
-}
-"""OrdRejReason of what the venue refuses."""
-OTHER = "99"
-CANCEL_REASONS = {UNKNOWN: "1", CLOSED: "2", DUPLICATE: "6"}
-"""CxlRejReason of an OrdRejReason."""
-
-
-class SeatError(MessageError):
-    """A message that isn't done; `reason` is its OrdRejReason."""
-
-    def __init__(self, reason: str, text: str) -> None:
-        super().__init__("bad_message", text)
-        self.reason = reason
-
-
+LOST = b""
+"""What comes in a session's queue when its connection is lost, whose orders are to end with it."""
+NOT_DONE = "it wasn't executed before its venue or program ended, and a gap came in its place"
 @dataclasses.dataclass(eq=False)
 class Desk:
     """What a seat needs of its front: the stream of a board, and how messages are sent, those that
-    are an event once.
+    are an event once; `watch` has its session hear of what changes, and `more` has what it takes
+    beside orders.
     """
 
     venue: Venue
     stream: Callable[[Instrument], Stream]
     tell: Callable[[Report], None]
-    send: Callable[["Seat", str, Pairs, Any], None]
+    send: Callable[["Seat", str, Pairs, Groups], None]
+    watch: Callable[["Seat"], None]
+    more: "Mapping[Type, Act]"
 
 
 class Seat:
     """A member's session. `told` has the events that its store has, `numbers` its messages in the
-    log, and whether they were executed; `heard` is called when all that came was taken.
+    log, and whether they were executed, both since it was last reset, for the `epoch`th time;
+    `cancels` says whether its orders end with its connection; `heard` is called when all that came
+    was taken.
     """
 
-    def __init__(self, comp_id: str, name: str, session: str, desk: Desk) -> None:
-        self.comp_id, self.name, self.session, self._desk = comp_id, name, session, desk
+    def __init__(self, comp_id: str, name: str, begin: str, desk: Desk) -> None:
+        self.comp_id, self.name, self.begin, self.desk = comp_id, name, begin, desk
+        self.session = f"{begin}:{VENUE}->{comp_id}"
         self.told: set[str] = set()
+        self.epoch, self.cancels = 0, False
         self.numbers: dict[int, bool] = {}
-        self.clients: dict[str, int] = {}
+        self.clients: dict[str, Number] = {}
+        self.deleted: collections.Counter[int] = collections.Counter()
         self.address = ""
         self.heard: Callable[[], None] = lambda: None
+        self._lost: dict[int, tuple[Instrument, Message]] = {}
+        self._parts: collections.Counter[int] = collections.Counter()
         self._came: collections.deque[bytes] = collections.deque()
         self._wakes = asyncio.Event()
         self._unanswered: set[asyncio.Future[Entry]] = set()
-        self._does = {
-            Type.ENTER: self._enter,
-            Type.CANCEL: self._edit,
-            Type.REPLACE: self._edit,
-            Type.STATUS: self._show,
-            Type.REQUEST: self._snapshot,
+        self.feeds = Feeds(desk.venue)
+        self._does: dict[Type, Act] = {
+            Type.ENTER: Seat._enter,
+            Type.CANCEL: Seat._edit,
+            Type.REPLACE: Seat._edit,
+            Type.STATUS: Seat._show,
+            Type.REQUEST: Feeds.ask_data,
+            Type.PHASE_REQUEST: Feeds.ask_phases,
+            **desk.more,
         }
 
     # ---- what came
@@ -116,22 +124,32 @@ class Seat:
     @property
     def member(self) -> Member:
         """Whose session it is. Raises MessageError where the venue hasn't it."""
-        found = self._desk.venue.members.named(self.name)
+        found = self.desk.venue.members.named(self.name)
         if found is None:
             raise MessageError("bad_token")
         return found
 
-    def refusal_of(self, number: int) -> str:
+    @property
+    def watcher(self) -> Member | None:
+        """As whom it sees boards: None is as the operator. Raises MessageError."""
+        return self.member
+
+    def takes(self, password: str) -> bool:
+        """Whether this is the password of its Logon."""
+        member = self.desk.venue.members.of_token(password)
+        return member is not None and member.name == self.name and member.hellos.takes()
+
+    def refusal_of(self, number: object) -> str:
         """The id of the answer to a message that wasn't executed."""
-        return refusal_of(self.comp_id, number)
+        return refusal_of(self.comp_id, number, self.epoch)
 
     def expected(self) -> int:
         """The number of the first message that may be missing: the first in the log that was never
         executed nor refused, else the one after the last that was taken.
         """
-        head = refusal_of(self.comp_id, "")
+        head = self.refusal_of("")
         refused = (it.removeprefix(head) for it in self.told if it.startswith(head))
-        settled = {int(it) for it in refused}
+        settled = {int(it) for it in refused if it.isdecimal()}
         settled |= {number for number, is_done in self.numbers.items() if is_done}
         missing = self.numbers.keys() - settled
         return min(missing) if missing else max(settled, default=0) + 1
@@ -140,6 +158,42 @@ class Seat:
         """It says this."""
         self._came.append(text)
         self._wakes.set()
+
+    def lost(self) -> None:
+        """Its connection has ended, or had as the venue began."""
+        if self.cancels:
+            self.put(LOST)
+
+    def entered(self, board: Instrument, message: Message, entry: Entry | None) -> None:
+        """A message of it in the log has its entry, or never had one."""
+        number = Number.of(-message.number)
+        if entry is not None and CLIENT in message.note:
+            self.clients[message.note[CLIENT]] = number
+        if number.epoch != self.epoch:
+            return
+        if number.part:
+            self._parts[number.message] = max(self._parts[number.message], number.part)
+            self.deleted[number.message] += entry is not None and entry.reply == "deleted"
+            if not number.message:
+                return
+        is_done = entry is not None and not number.part
+        self.numbers[number.message] = self.numbers.get(number.message, False) or is_done
+        if self.numbers[number.message]:
+            self._lost.pop(number.message, None)
+        else:
+            self._lost[number.message] = board, message
+
+    async def idle(self) -> None:
+        """Waits until all that came is answered."""
+        while self.is_busy or self._unanswered:
+            await asyncio.sleep(TOO_FAST_SECONDS)
+
+    def begin_anew(self, epoch: int) -> None:
+        """Its session was reset, so often so far."""
+        self.epoch = epoch
+        self.told, self.numbers, self._lost = set(), {}, {}
+        self.deleted.clear()
+        self._parts.clear()
 
     async def serve(self) -> None:
         """Takes its messages, one after the other."""
@@ -153,82 +207,95 @@ class Seat:
 
     async def _take(self, text: bytes) -> None:
         """Takes a message, unless it was taken before."""
+        if text == LOST:
+            await self._withdraw()
+            return
         pairs = pairs_of(text)
         given: Given = dict(pairs)
-        number = int(given[Tag.MSG_SEQ_NUM])
-        member, event = self.member, self.refusal_of(number)
-        if event in self.told or -number in member.done:
+        if given[Tag.MSG_TYPE] == Type.GAP:
+            self._gap(int(given[Tag.NEW_SEQ_NO]))
             return
-        while not member.bucket.takes():
-            await asyncio.sleep(TOO_FAST_SECONDS)
-        if len(self._unanswered) >= MOST_UNANSWERED:
-            await asyncio.wait(self._unanswered, return_when=asyncio.FIRST_COMPLETED)
+        number = int(given[Tag.MSG_SEQ_NUM])
+        event = self.refusal_of(number)
+        if event in self.told or await self.is_done(number):
+            return
         SOURCE.set(self.address)
         try:
-            await self._does[Type(given[Tag.MSG_TYPE])](pairs, given, number)
+            if (act := self._does.get(Type(given[Tag.MSG_TYPE]))) is None:
+                self.refuse_type(given, event)
+            else:
+                await act(self, pairs, given, number)
         except MessageError as fault:
-            self._refuse(given, event, fault)
+            refuse(self, given, event, fault)
 
-    # ---- refusals
+    def refuse_type(self, given: Given, event: str) -> None:
+        """Says that it may not do this: a member may do all that the dictionary has."""
 
-    def _refuse(self, given: Given, event: str, fault: MessageError) -> None:
-        """Says that nothing was done, and why."""
-        kind = given[Tag.MSG_TYPE]
-        reason = fault.reason if isinstance(fault, SeatError) else REASONS.get(fault.code, OTHER)
-        if kind in (Type.CANCEL, Type.REPLACE):
-            client, origin = given[Tag.CL_ORD_ID], given[Tag.ORIG_CL_ORD_ID]
-            asked = Asked(client, origin, kind == Type.CANCEL)
-            code = CANCEL_REASONS.get(reason, OTHER)
-            held = self._held(given, origin)
-            self._desk.tell(refusal(self.name, event, asked, held, code, fault.text))
-        elif kind == Type.REQUEST:
-            pairs = [(Tag.MD_REQ_ID, given[Tag.MD_REQ_ID]), (Tag.TEXT, fault.text)]
-            symbol = {UNKNOWN_SYMBOL: "0"}.get(reason, "4")
-            pairs.append((Tag.MD_REQ_REJ_REASON, symbol))
-            self._desk.send(self, Type.REQUEST_REJECT, [*pairs], [])
-        else:
-            self._reject(given, event, reason, fault.text)
+    async def turn(self, bucket: Bucket) -> None:
+        """Waits until a member may speak again."""
+        while not bucket.takes():
+            await asyncio.sleep(TOO_FAST_SECONDS)
 
-    def _reject(self, given: Given, event: str, reason: str, text: str) -> None:
-        """Says that an order wasn't taken, or that there is none of which to say anything."""
-        is_new = given[Tag.MSG_TYPE] == Type.ENTER
-        pairs: Pairs = [
-            (Tag.ORDER_ID, NONE),
-            (Tag.CL_ORD_ID, given[Tag.CL_ORD_ID]),
-            (Tag.EXEC_ID, event),
-            (Tag.EXEC_TYPE, Status.REJECTED if is_new else Exec.STATUS),
-            (Tag.ORD_STATUS, Status.REJECTED),
-            (Tag.SYMBOL, given[Tag.SYMBOL]),
-            (Tag.SIDE, given[Tag.SIDE]),
-            (Tag.ORDER_QTY, given.get(Tag.ORDER_QTY, "0")),
-            *((tag, "0") for tag in (Tag.LEAVES_QTY, Tag.CUM_QTY, Tag.AVG_PX)),
-            (Tag.ORD_REJ_REASON, reason),
-            (Tag.TEXT, text),
-        ]
-        self._desk.tell(Report(self.name, Type.REPORT, event, pairs))
+    async def is_done(self, number: int) -> bool:
+        """Whether a message was executed before; one that wasn't waits until it may be."""
+        member = self.member
+        if -self.number(number).key in member.done:
+            return True
+        await self.turn(member.bucket)
+        if len(self._unanswered) >= MOST_UNANSWERED:
+            await asyncio.wait(self._unanswered, return_when=asyncio.FIRST_COMPLETED)
+        return False
+
+    def number(self, message: int, part: int = 0) -> Number:
+        """The number in the venue of a message, or of a part of it."""
+        return Number(message, part, self.epoch)
+
+    def _gap(self, end: int) -> None:
+        """What wasn't executed before this number won't come again: says so."""
+        for number in sorted(it for it in self._lost if it < end):
+            board, message = self._lost.pop(number)
+            if self.refusal_of(number) not in self.told:
+                fault = SeatError(OTHER, NOT_DONE)
+                refuse(self, given_of(board, message, number), self.refusal_of(number), fault)
 
     # ---- orders that are there
 
-    def _board(self, given: Given) -> Instrument:
+    def board(self, given: Given) -> Instrument:
         """The board of a message. Raises MessageError."""
-        return self._desk.venue.instrument_of(given[Tag.SYMBOL], self.member)
+        return self.named_board(given[Tag.SYMBOL])
 
-    def _held(self, given: Given, client: str) -> Held | None:
+    def named_board(self, name: str) -> Instrument:
+        """The board of a name. Raises MessageError."""
+        return self.desk.venue.instrument_of(name, self.watcher)
+
+    def boards(self) -> list[Instrument]:
+        """All boards that it sees."""
+        return [*self.desk.venue.boards_of(self.watcher).values()]
+
+    def held(self, given: Given, client: str) -> Held | None:
         """The order that an id names as far as it is known now."""
         try:
-            board = self._board(given)
+            board = self.board(given)
         except MessageError:
             return None
-        return self._desk.stream(board).orders.of_client(self.name, client)
+        return self.desk.stream(board).orders.of_client(self.name, client)
+
+    async def open_orders(self, board: Instrument) -> list[Held]:
+        """Its open orders on a board, once what was sent before is answered."""
+        if self._unanswered:
+            await asyncio.wait(self._unanswered)
+        stream = self.desk.stream(board)
+        await stream.until_now()
+        return stream.orders.open_of(self.name)
 
     async def _settled(self, given: Given, client: str) -> Held | None:
         """The order that an id names, once what was sent before is answered. Raises MessageError.
         """
-        board = self._board(given)
+        board = self.board(given)
         number = self.clients.get(client)
-        if done := self.member.done.get(-number) if number else None:
+        if done := self.member.done.get(-number.key) if number else None:
             await asyncio.wait([done.answer])
-        stream = self._desk.stream(board)
+        stream = self.desk.stream(board)
         await stream.until_now()
         return stream.orders.of_client(self.name, client)
 
@@ -236,30 +303,32 @@ class Seat:
         """Whether an id was another message's, and this one is sent again as PossResend: what
         became of the order is said then. Raises MessageError where it is none.
         """
-        client = given[Tag.CL_ORD_ID]
+        client, own = given[Tag.CL_ORD_ID], self.number(number)
         if len(client) > MOST_LETTERS:
             raise SeatError(UNSUPPORTED, f"ClOrdID has at most {MOST_LETTERS} letters")
-        if self.clients.get(client, number) == number:
+        if self.clients.get(client, own) == own:
             return False
         held = await self._settled(given, client)
         if given.get(Tag.POSS_RESEND) != "Y" or held is None:
             raise SeatError(DUPLICATE, "this ClOrdID was used")
-        orders = self._desk.stream(self._board(given)).orders
-        self._desk.tell(orders.report(held, self.refusal_of(number), Exec.STATUS))
+        orders = self.desk.stream(self.board(given)).orders
+        self.desk.tell(orders.report(held, self.refusal_of(number), Exec.STATUS))
         return True
 
-    # ---- messages
+    # ---- orders that are sent
 
     def _submit(self, given: Given, number: int, asked: dict[str, Any], time: str) -> None:
         """Sends a command, with its ids beside it in the log. Raises MessageError."""
-        venue, member = self._desk.venue, self.member
-        board = self._board(given)
+        venue, member = self.desk.venue, self.member
+        board = self.board(given)
         board.check_open()
         order = messages.order_of(board.terms, asked | {"number": number})
         note = {CLIENT: given[Tag.CL_ORD_ID], ORIGIN: given.get(Tag.ORIG_CL_ORD_ID, ""), TIME: time}
         note = {name: value for name, value in note.items() if value}
-        answer, _ = venue.submit(member, dataclasses.replace(order, number=-number, note=note))
-        self.clients[given[Tag.CL_ORD_ID]] = number
+        own = self.number(number)
+        order = dataclasses.replace(order, number=-own.key, note=note)
+        answer, _ = venue.submit(member, order)
+        self.clients[given[Tag.CL_ORD_ID]] = own
         self._unanswered.add(answer)
         answer.add_done_callback(lambda it: self._answered(given, number, it))
 
@@ -269,7 +338,24 @@ class Seat:
         fault = None if answer.cancelled() else answer.exception()
         if isinstance(fault, MessageError):
             self.clients.pop(given[Tag.CL_ORD_ID], None)
-            self._refuse(given, self.refusal_of(number), fault)
+            refuse(self, given, self.refusal_of(number), fault)
+
+    def deletion(self, board: Instrument, held: Held, message: int, note: dict[str, str]) -> Order:
+        """The deletion of an order, as one more part of a message, or of none (0)."""
+        part = self._parts[message] = self._parts[message] + 1
+        key = self.number(message, part).key
+        return Order(-key, board.terms.name, f"delete,{held.order}", note)
+
+    async def _withdraw(self) -> None:
+        """Deletes the open orders that it has entered, in any phase: its connection was lost."""
+        for board in self.boards():
+            for held in await self.open_orders(board):
+                if held.client:
+                    with contextlib.suppress(MessageError):
+                        order = self.deletion(board, held, 0, {})
+                        self.desk.venue.withdraw(self.member, board, order)
+
+    # ---- messages
 
     async def _enter(self, pairs: Pairs, given: Given, number: int) -> None:
         """NewOrderSingle. Raises MessageError."""
@@ -280,8 +366,8 @@ class Seat:
             raise SeatError(UNSUPPORTED, "TimeInForce is 0, 1, 2 or 7")
         asked: dict[str, Any] = {"type": "enter", "side": side_of(given), "only": ONLY[time]}
         asked |= {"quantity": shares_of(given, Tag.ORDER_QTY), "price": price_of(given)}
-        if Tag.MAX_FLOOR in given:
-            asked["peak"] = shares_of(given, Tag.MAX_FLOOR)
+        if peak := peak_of(given):
+            asked["peak"] = int(peak)
         self._submit(given, number, asked, time)
 
     async def _edit(self, pairs: Pairs, given: Given, number: int) -> None:
@@ -305,20 +391,14 @@ class Seat:
         held = await self._settled(given, given[Tag.CL_ORD_ID])
         if held is None:
             raise SeatError(UNKNOWN, "there is no order of this ClOrdID")
-        orders = self._desk.stream(self._board(given)).orders
-        self._desk.tell(orders.report(held, self.refusal_of(number), Exec.STATUS))
+        orders = self.desk.stream(self.board(given)).orders
+        self.desk.tell(orders.report(held, self.refusal_of(number), Exec.STATUS))
 
-    async def _snapshot(self, pairs: Pairs, given: Given, number: int) -> None:
-        """MarketDataRequest for snapshots. Raises MessageError."""
-        if given[Tag.SUBSCRIPTION_REQUEST_TYPE] != snapshots.ONCE:
-            raise SeatError(UNSUPPORTED, "SubscriptionRequestType is 0: snapshots alone")
-        types = {value for tag, value in pairs if tag == Tag.MD_ENTRY_TYPE}
-        venue, names = self._desk.venue, [value for tag, value in pairs if tag == Tag.SYMBOL]
-        boards = [venue.instrument_of(name, self.member) for name in names]
-        for board in boards:
-            head, rows = await snapshots.of_board(board, given[Tag.MD_REQ_ID], types)
-            group = (int(Tag.NO_MD_ENTRIES), int(Tag.MD_ENTRY_TYPE), rows)
-            self._desk.send(self, Type.SNAPSHOT, head, [group] if rows else [])
+
+Act = Callable[[Any, Pairs, Given, int], Awaitable[None]]
+"""What takes the messages of a type: of a seat, by their fields in their order and by their tags,
+and their number. Raises MessageError.
+"""
 
 
 def side_of(given: Given) -> str:
@@ -343,9 +423,18 @@ def shares_of(given: Given, tag: Tag) -> int:
     return int(found[1])
 
 
+def peak_of(given: Given) -> str:
+    """The peak that a message asks for, empty for none. Raises SeatError."""
+    tags = [tag for tag in (Tag.MAX_FLOOR, Tag.DISPLAY_QTY) if tag in given]
+    found = {str(shares_of(given, tag)) for tag in tags}
+    if len(found) > 1:
+        raise SeatError(UNSUPPORTED, "MaxFloor and DisplayQty are two peaks")
+    return next(iter(found), "")
+
+
 def check_kept(given: Given, held: Held) -> None:
     """Raises SeatError where a message would change what an order keeps."""
     times = (held.time, TIMES.get(held.only, held.time))
-    peak = given.get(Tag.MAX_FLOOR, held.peak)
-    if peak != held.peak or given.get(Tag.TIME_IN_FORCE, held.time) not in times:
+    is_peak = peak_of(given) in ("", held.peak)
+    if not is_peak or given.get(Tag.TIME_IN_FORCE, held.time) not in times:
         raise SeatError(UNSUPPORTED, "MaxFloor and TimeInForce can't be changed")

@@ -29,24 +29,31 @@ namespace {
 const size_t most_unread = 16384;  // bytes of a message that hasn't ended
 const size_t most_unsent = 65536;  // bytes to send with which a connection is read no further
 const char* const unsupported = "3";
-const std::string taken_types = "DFGHV";  // what members may say
+const std::set<std::string> taken_types = {"D", "F", "G", "H", "V", "g", "q", "x", "AF"};  // what members may say
+const std::set<std::string> passing_types = {"W", "X", "h"};  // what isn't sent again
+const int cancels_on_disconnect = 8013;  // Y in a Logon: CancelOrdersOnDisconnect
 
 // A store that lasts as long as its folder: FileStore deletes all that was sent at the end of a session's day, and for
-// a Logon with ResetSeqNumFlag.
+// a Logon with ResetSeqNumFlag. It begins anew where the operator asks for that.
 class KeptStore : public FIX::FileStore {
  public:
   using FIX::FileStore::FileStore;
   FIX::UtcTimeStamp getCreationTime() const throw(FIX::IOException) override { return FIX::UtcTimeStamp(); }
-  void reset() throw(FIX::IOException) override { throw FIX::IOException("sequence numbers are kept for the day"); }
+  void reset() throw(FIX::IOException) override {
+    if (!may_begin_anew) throw FIX::IOException("sequence numbers are kept for the day");
+    FIX::FileStore::reset();
+  }
+  bool may_begin_anew = false;
 };
 
 class KeptStores : public FIX::MessageStoreFactory {
  public:
   explicit KeptStores(const FIX::SessionSettings& settings) : settings_(settings) {}
   FIX::MessageStore* create(const FIX::SessionID& id) override {
-    return new KeptStore(settings_.get(id).getString(FIX::FILE_STORE_PATH), id);
+    return stores[id] = new KeptStore(settings_.get(id).getString(FIX::FILE_STORE_PATH), id);
   }
   void destroy(FIX::MessageStore* store) override { delete store; }
+  std::map<FIX::SessionID, KeptStore*> stores;
 
  private:
   const FIX::SessionSettings& settings_;
@@ -189,6 +196,21 @@ class Engine : public FIX::Application, FIX::LogFactory {
   void set_expected(const std::string& session, int number) { of(session).setNextTargetMsgSeqNum(number); }
   bool is_logged_on(const std::string& session) { return of(session).isLoggedOn(); }
 
+  // Both numbers are 1 again, and the store is empty, whose old files are no longer its own. Raises where a session is
+  // on a connection.
+  void begin_anew(const std::string& session) {
+    if (taken_.count(&of(session))) throw std::runtime_error("on a connection: " + session);
+    KeptStore& store = *stores_.stores.at(ids_.at(session));
+    store.may_begin_anew = true;
+    try {
+      of(session).reset();
+    } catch (...) {
+      store.may_begin_anew = false;
+      throw;
+    }
+    store.may_begin_anew = false;
+  }
+
   // All messages of the store that were numbered, in their order.
   std::vector<py::bytes> sent(const std::string& session) {
     std::vector<std::string> found;
@@ -203,9 +225,10 @@ class Engine : public FIX::Application, FIX::LogFactory {
   void onLogout(const FIX::SessionID& id) override { put("logout", id.toString(), ""); }
 
   // A type of messages that isn't spoken here is no fault of the session: BusinessMessageReject says so.
-  void toAdmin(FIX::Message& message, const FIX::SessionID&) override {
+  void toAdmin(FIX::Message& message, const FIX::SessionID& id) override {
     const std::string type = message.getHeader().getField(FIX::FIELD::MsgType);
     if (initiator_ && type == "A") message.setField(FIX::FIELD::Password, password_);
+    if (acceptor_ && type == "A" && cancelling_.count(id)) message.setField(cancels_on_disconnect, "Y");
     const std::string unknown = std::to_string(FIX::SessionRejectReason_INVALID_MSGTYPE);
     if (type != "3" || !message.isSetField(FIX::FIELD::SessionRejectReason)) return;
     if (message.getField(FIX::FIELD::SessionRejectReason) != unknown) return;
@@ -214,18 +237,22 @@ class Engine : public FIX::Application, FIX::LogFactory {
     message.setField(FIX::FIELD::BusinessRejectReason, unsupported);
   }
 
-  // Market data of long ago isn't sent again.
+  // What a market was long ago isn't sent again.
   void toApp(FIX::Message& message, const FIX::SessionID&) throw(FIX::DoNotSend) override {
     const std::string type = message.getHeader().getField(FIX::FIELD::MsgType);
-    if (message.getHeader().isSetField(FIX::FIELD::PossDupFlag) && type == "W") throw FIX::DoNotSend();
+    if (message.getHeader().isSetField(FIX::FIELD::PossDupFlag) && passing_types.count(type)) throw FIX::DoNotSend();
   }
-  void fromAdmin(const FIX::Message&, const FIX::SessionID&)
-      throw(FIX::FieldNotFound, FIX::IncorrectDataFormat, FIX::IncorrectTagValue, FIX::RejectLogon) override {}
+  // A gap in place of messages says that they won't come again.
+  void fromAdmin(const FIX::Message& message, const FIX::SessionID& id)
+      throw(FIX::FieldNotFound, FIX::IncorrectDataFormat, FIX::IncorrectTagValue, FIX::RejectLogon) override {
+    if (acceptor_ && message.getHeader().getField(FIX::FIELD::MsgType) == "4")
+      put("message", id.toString(), message.toString());
+  }
   void fromApp(const FIX::Message& message, const FIX::SessionID& id) throw(
       FIX::FieldNotFound, FIX::IncorrectDataFormat, FIX::IncorrectTagValue, FIX::UnsupportedMessageType) override {
     const std::string type = message.getHeader().getField(FIX::FIELD::MsgType);
     if (acceptor_ && type == "j") return;  // to a refusal nothing is said
-    if (acceptor_ && taken_types.find(type) == std::string::npos) throw FIX::UnsupportedMessageType();
+    if (acceptor_ && !taken_types.count(type)) throw FIX::UnsupportedMessageType();
     put("message", id.toString(), message.toString());
   }
 
@@ -275,12 +302,19 @@ class Engine : public FIX::Application, FIX::LogFactory {
     if (type != "A" || !message.isSetField(FIX::FIELD::Password)) return refused("no Logon with a Password: " + name);
     if (!accepts_(name, py::bytes(message.getField(FIX::FIELD::Password)))) return refused("a wrong Password: " + name);
     if (taken_.count(found)) return refused("the session is on another connection: " + name);
-    if (message.isSetField(FIX::FIELD::ResetSeqNumFlag) && message.getField(FIX::FIELD::ResetSeqNumFlag) == "Y")
+    if (is_set(message, FIX::FIELD::ResetSeqNumFlag))
       return refused("ResetSeqNumFlag, and sequence numbers are kept for the day: " + name);
+    const bool cancels = is_set(message, cancels_on_disconnect);
+    cancelling_.erase(found->getSessionID());
+    if (cancels) cancelling_.insert(found->getSessionID());
+    put("begins", name, cancels ? "Y" : "N");
     found->logon();  // after a Logout of the venue too
     wire.session = acceptor_->getSession(text, wire);
     if (wire.session) taken_.insert(wire.session);
     return wire.session;
+  }
+  static bool is_set(const FIX::Message& message, int tag) {
+    return message.isSetField(tag) && message.getField(tag) == "Y";
   }
   bool refused(const std::string& why) {
     put("event", "", "a Logon is refused: " + why);
@@ -304,6 +338,7 @@ class Engine : public FIX::Application, FIX::LogFactory {
   std::vector<Kept> events_;
   std::map<std::string, FIX::SessionID> ids_;
   std::set<FIX::Session*> taken_;  // those that are on a connection
+  std::set<FIX::SessionID> cancelling_;  // those whose orders end with their connection
   int last_ = 0;
   std::map<int, std::unique_ptr<Wire>> wires_;
   std::unique_ptr<Accepting> acceptor_;
@@ -329,5 +364,6 @@ PYBIND11_MODULE(_quickfix, module) {
       .def("expected", &Engine::expected)
       .def("set_expected", &Engine::set_expected)
       .def("is_logged_on", &Engine::is_logged_on)
+      .def("begin_anew", &Engine::begin_anew)
       .def("sent", &Engine::sent);
 }

@@ -1,34 +1,23 @@
-"""What a board indicates, as MarketDataSnapshotFullRefresh."""
+"""What a board indicates, as rows of market data."""
+from collections.abc import Sequence
+
 from callauction.fix.tags import Pairs, Tag
 from callauction.venue import views
 from callauction.venue.instrument import Instrument
-from callauction.venue.messages import MessageError
-from callauction.venue.process import ProcessError
 
-ONCE = "0"
-"""The SubscriptionRequestType of a snapshot."""
-PRICE, VOLUME, IMBALANCE, BID, ASK = "Q", "B", "A", "0", "1"
+TYPES = PRICE, VOLUME, IMBALANCE, BID, ASK = "Q", "B", "A", "0", "1"
 """MDEntryType of what is indicated; Q is of FIX 5.0."""
 CONDITIONS = {"bid": "P", "ask": "Q"}
 """TradeCondition: more is bid, or more is asked."""
+Rows = dict[str, Pairs]
+"""Rows of market data by their MDEntryType, which each begins with."""
 
 
-async def of_board(board: Instrument, request: str, types: set[str]) -> tuple[Pairs, list[Pairs]]:
-    """The head of a snapshot of a board as the program has it now, and its rows of these types.
-    Raises MessageError where it doesn't run.
+def rows_of(board: Instrument, levels: Sequence[views.Level]) -> Rows:
+    """All that a board indicates: price, volume and surplus, or the best limits without a price,
+    with their shares where the levels of its book are given.
     """
-    try:
-        shown = await board.engine.show(["show"])
-    except ProcessError:
-        raise MessageError("halted", "the program doesn't answer now") from None
-    rows = [row for row in rows_of(board, views.Indication.of(shown[0][0])) if row[0][1] in types]
-    head: Pairs = [(Tag.MD_REQ_ID, request), (Tag.SYMBOL, board.board.market)]
-    return head + ([] if rows else [(Tag.NO_MD_ENTRIES, "0")]), rows
-
-
-def rows_of(board: Instrument, it: views.Indication) -> list[Pairs]:
-    """All that a board indicates: price, volume and surplus, or the best limits without a price."""
-    price = board.terms.price
+    price, it = board.terms.price, board.indication
     rows: list[Pairs] = []
     if it.price is not None:
         volume = (Tag.MD_ENTRY_SIZE, str(it.volume))
@@ -39,5 +28,8 @@ def rows_of(board: Instrument, it: views.Indication) -> list[Pairs]:
         rows.append(surplus + ([(Tag.TRADE_CONDITION, side)] if side else []))
     for kind, best in ((BID, it.bid), (ASK, it.ask)):
         if best is not None:
-            rows.append([(Tag.MD_ENTRY_TYPE, kind), (Tag.MD_ENTRY_PX, price(best))])
-    return rows
+            at = [it for it in levels if it.limit == best]
+            sizes = [str(it.bid if kind == BID else it.ask) for it in at]
+            row: Pairs = [(Tag.MD_ENTRY_TYPE, kind), (Tag.MD_ENTRY_PX, price(best))]
+            rows.append(row + [(Tag.MD_ENTRY_SIZE, size) for size in sizes])
+    return {row[0][1]: row for row in rows}

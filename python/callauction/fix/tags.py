@@ -1,4 +1,4 @@
-"""Messages of FIX 4.4 as pairs of tags and values, and the values that the venue uses."""
+"""Messages by FIX as pairs of tags and values, and the values that the venue uses."""
 import enum
 import time
 from collections.abc import Iterable
@@ -7,14 +7,17 @@ from collections.abc import Iterable
 class Tag(enum.IntEnum):
     """The tags that the venue reads or writes."""
 
+    ACCOUNT = 1
     AVG_PX = 6
     CL_ORD_ID = 11
     CUM_QTY = 14
+    CURRENCY = 15
     EXEC_ID = 17
     LAST_PX = 31
     LAST_QTY = 32
     MSG_SEQ_NUM = 34
     MSG_TYPE = 35
+    NEW_SEQ_NO = 36
     ORDER_ID = 37
     ORDER_QTY = 38
     ORD_STATUS = 39
@@ -27,22 +30,57 @@ class Tag(enum.IntEnum):
     TEXT = 58
     TIME_IN_FORCE = 59
     TRANSACT_TIME = 60
+    TRADE_DATE = 75
     POSS_RESEND = 97
     CXL_REJ_REASON = 102
     ORD_REJ_REASON = 103
     MAX_FLOOR = 111
+    NO_RELATED_SYM = 146
     EXEC_TYPE = 150
     LEAVES_QTY = 151
     MD_REQ_ID = 262
     SUBSCRIPTION_REQUEST_TYPE = 263
+    MD_UPDATE_TYPE = 265
     NO_MD_ENTRIES = 268
     MD_ENTRY_TYPE = 269
     MD_ENTRY_PX = 270
     MD_ENTRY_SIZE = 271
     TRADE_CONDITION = 277
+    MD_UPDATE_ACTION = 279
     MD_REQ_REJ_REASON = 281
+    SECURITY_REQ_ID = 320
+    SECURITY_RESPONSE_ID = 322
+    UNSOLICITED_INDICATOR = 325
+    TRAD_SES_REQ_ID = 335
+    TRADING_SESSION_ID = 336
+    TRAD_SES_STATUS = 340
+    TRAD_SES_END_TIME = 345
+    REF_MSG_TYPE = 372
+    BUSINESS_REJECT_REASON = 380
+    TOT_NO_RELATED_SYM = 393
     CXL_REJ_RESPONSE_TO = 434
+    MASS_CANCEL_REQUEST_TYPE = 530
+    MASS_CANCEL_RESPONSE = 531
+    MASS_CANCEL_REJECT_REASON = 532
+    TOTAL_AFFECTED_ORDERS = 533
+    NO_SIDES = 552
+    SECURITY_LIST_REQUEST_TYPE = 559
+    SECURITY_REQUEST_RESULT = 560
+    TRAD_SES_STATUS_REJ_REASON = 567
+    PREVIOUSLY_REPORTED = 570
+    TRADE_REPORT_ID = 571
+    MASS_STATUS_REQ_ID = 584
+    MASS_STATUS_REQ_TYPE = 585
+    TRADING_SESSION_SUB_ID = 625
     TRD_MATCH_ID = 880
+    TOT_NUM_REPORTS = 911
+    LAST_RPT_REQUESTED = 912
+    MIN_PRICE_INCREMENT = 969
+    DISPLAY_QTY = 1138
+    LOW_LIMIT_PRICE = 1148
+    HIGH_LIMIT_PRICE = 1149
+    MASS_ACTION_REPORT_ID = 1369
+    CANCELS_ON_DISCONNECT = 8013
     EVENT_ID = 20001
 
 
@@ -57,7 +95,19 @@ class Type(enum.StrEnum):
     STATUS = "H"
     REQUEST = "V"
     SNAPSHOT = "W"
+    CHANGES = "X"
     REQUEST_REJECT = "Y"
+    MASS_CANCEL = "q"
+    MASS_CANCELED = "r"
+    MASS_STATUS = "AF"
+    PHASE_REQUEST = "g"
+    PHASE = "h"
+    LIST_REQUEST = "x"
+    LIST = "y"
+    TRADE = "AE"
+    GAP = "4"
+    BUSINESS_REJECT = "j"
+    LOGON = "A"
 
 
 class Status(enum.StrEnum):
@@ -80,7 +130,11 @@ class Exec(enum.StrEnum):
     STATUS = "I"
 
 
+FIX44, FIXT = "FIX.4.4", "FIXT.1.1"
+"""How a message begins: of FIX 4.4, and of FIX 5.0SP2 over its own transport."""
 Pairs = list[tuple[int, str]]
+Groups = list[tuple[int, int, list[Pairs]]]
+"""Groups of a message: the tag that counts its rows, the first tag of each, the rows."""
 Given = dict[int, str]
 """A message by its tags, the last one of each."""
 SIDES = {"1": "bid", "2": "ask"}
@@ -89,8 +143,17 @@ MARKET, LIMIT = "1", "2"
 OPENING, CLOSING, DAY, GOOD_TILL_CANCEL = "2", "7", "0", "1"
 NONE = "NONE"
 SOH = "\x01"
-EVENTS = {"8": Tag.EXEC_ID, "9": Tag.EVENT_ID}
+EVENTS = {
+    Type.REPORT: Tag.EXEC_ID,
+    Type.CANCEL_REJECT: Tag.EVENT_ID,
+    Type.MASS_CANCELED: Tag.ORDER_ID,
+    Type.TRADE: Tag.TRADE_REPORT_ID,
+}
 """Which tag of a message is the id of what it says, by which it is sent once."""
+AROUND = (8, 9, 10, 34, 35, 43, 49, 52, 56, 97, 122)
+"""The tags around what a message says."""
+OF_SIDES = (Tag.SIDE, Tag.ORDER_ID, Tag.CL_ORD_ID, Tag.ACCOUNT)
+"""The tags of a side of a trade, which begins with the first."""
 REJECTS = ("3", "j")
 """Messages by which a session, or QuickFIX for it, refuses another one."""
 
@@ -101,18 +164,36 @@ def pairs_of(text: bytes) -> Pairs:
     return [(int(tag), value) for tag, _, value in parts if tag.isdigit()]
 
 
-def refusal_of(comp_id: str, number: object) -> str:
-    """The id of the answer to a message that wasn't executed."""
-    return f"R.{comp_id}.{number}"
+def refusal_of(comp_id: str, number: object, epoch: int) -> str:
+    """The id of the answer to a message that wasn't executed, of a session that was reset so often
+    before.
+    """
+    return f"R.{comp_id}.{f'{epoch}.' if epoch else ''}{number}"
 
 
-def event_of(text: bytes, comp_id: str) -> str:
+def event_of(text: bytes, comp_id: str, epoch: int) -> str:
     """The id of what a message to a session says, empty where it has none."""
     given: Given = dict(pairs_of(text))
     kind = given.get(Tag.MSG_TYPE, "")
     if kind in REJECTS:
-        return refusal_of(comp_id, given.get(Tag.REF_SEQ_NUM, 0))
-    return given.get(EVENTS[kind], "") if kind in EVENTS else ""
+        return refusal_of(comp_id, given.get(Tag.REF_SEQ_NUM, 0), epoch)
+    return given.get(EVENTS[Type(kind)], "") if kind in EVENTS else ""
+
+
+def body_of(pairs: Pairs) -> tuple[Pairs, Groups]:
+    """What a report says, without what is around it; the sides of a trade apart."""
+    body = [it for it in pairs if it[0] not in AROUND]
+    place = next((at for at, it in enumerate(body) if it[0] == Tag.NO_SIDES), None)
+    if place is None:
+        return body, []
+    end = place + 1
+    rows: list[Pairs] = []
+    while end < len(body) and body[end][0] in OF_SIDES:
+        if body[end][0] == Tag.SIDE:
+            rows.append([])
+        rows[-1].append(body[end])
+        end += 1
+    return body[:place] + body[end:], [(int(Tag.NO_SIDES), int(Tag.SIDE), rows)]
 
 
 def packed(pairs: Iterable[tuple[int, str]]) -> list[tuple[int, bytes]]:

@@ -15,6 +15,8 @@ MOST_UNSENT = 1 << 24
 """Bytes that a connection may leave unread; then it ends, and the store has the rest."""
 MOST_TOOK = 0.001
 """Seconds that something said may take before others have their turn first."""
+STATES = frozenset({"states"})
+"""What a connection hears of whose session asked for what changes."""
 BUSY_SHARE = 4
 """How often that time passes before more is read of it."""
 
@@ -37,19 +39,21 @@ class Host(Protocol):
     def lost(self, wire: "Wire") -> None:
         """A connection has ended."""
 
+    def has_news(self) -> None:
+        """Something has changed that a session asked for."""
+
 
 class Wire(asyncio.Protocol):
-    """A connection, whose bytes QuickFIX reads. To the venue it is a watcher who is shown nothing.
+    """A connection, whose bytes QuickFIX reads. To the venue it is a watcher who is shown nothing
+    but which boards have changed.
     """
-
-    role = "member"
-    topics: frozenset[str] = frozenset()
 
     def __init__(self, host: Host) -> None:
         self._host = host
-        self.number = 0
+        self.number, self.role = 0, "member"
         self.member: Member | None = None
         self.is_leaving = False
+        self.topics: frozenset[str] = frozenset()
         self._is_left = self._is_full = self._is_paused = False
         self._rests_until = 0.0
         self.seat: Seat | None = None
@@ -80,17 +84,22 @@ class Wire(asyncio.Protocol):
 
     def _begun(self, seat: Seat) -> None:
         """It is somebody's now."""
-        self.seat, self.member = seat, seat.member
+        self.seat, self.member = seat, seat.watcher
+        self.role = "member" if self.member is not None else "operator"
         seat.address, seat.heard = self._gate.address, self.go_on
         self._gate.known()
         self._host.begun(self)
+
+    @property
+    def is_slow(self) -> bool:
+        """Whether it has more to read than it reads."""
+        return self._is_paused or self._is_full
 
     def go_on(self) -> None:
         """Reads on, where it may."""
         is_resting = asyncio.get_running_loop().time() < self._rests_until
         is_busy = self.seat is not None and self.seat.is_busy
-        is_slow = self._is_paused or self._is_full
-        if is_slow or is_resting or is_busy or self._transport.is_closing():
+        if self.is_slow or is_resting or is_busy or self._transport.is_closing():
             return
         if self._is_left:
             self.data_received(b"")
@@ -99,7 +108,9 @@ class Wire(asyncio.Protocol):
 
     def send(self, data: bytes, is_last: bool) -> None:
         """Sends bytes; nothing more is said after the last ones."""
-        self._is_full = False
+        if self._is_full:
+            self._is_full = False
+            self._host.has_news()
         self._transport.write(data)
         if self._transport.get_write_buffer_size() > MOST_UNSENT:
             self._transport.abort()
@@ -109,7 +120,10 @@ class Wire(asyncio.Protocol):
             asyncio.get_running_loop().call_soon(self.go_on)
 
     def offer(self, key: str, message: shown.Json) -> None:
-        """Shows nothing: reports and snapshots are messages of the session."""
+        """Says that a board has changed; all else are messages of the session."""
+        if self.seat is not None and message.get("type") == "state":
+            self.seat.feeds.new.add(message["instrument"])
+            self._host.has_news()
 
     def leave(self, code: str) -> None:
         """Ends its session, for one of the ERRORS of messages."""
@@ -121,6 +135,10 @@ class Wire(asyncio.Protocol):
         """Ends once all was sent."""
         self._transport.close()
 
+    def cut(self) -> None:
+        """Ends at once."""
+        self._transport.abort()
+
     def pause_writing(self) -> None:
         """It reads too slowly for now."""
         self._is_paused = self._gate.is_held = True
@@ -128,6 +146,7 @@ class Wire(asyncio.Protocol):
     def resume_writing(self) -> None:
         """It has read what it was sent."""
         self._is_paused = False
+        self._host.has_news()
         self.go_on()
 
     def connection_lost(self, fault: Exception | None) -> None:

@@ -26,7 +26,7 @@ JOURNAL = ".journal.csv"
 TOKEN = ".token"
 SUMS = "SHA256SUMS"
 LEFT_OUT = re.compile(r".*\.new|.*\.cut-\d+|" + SUMS)
-STORE, STORED = "FIX.", (".seqnums", ".header", ".body")
+STORE, STORED = ("FIX.", "FIXT."), (".seqnums", ".header", ".body")
 """The files of a session by FIX, in the order in which they are read: what a later one hasn't,
 those before don't know of. The journals behind them have all that members were sent.
 """

@@ -15,11 +15,15 @@ HOST, PORT = "127.0.0.1", 9878
 
 @dataclasses.dataclass(frozen=True)
 class Terms:
-    """Where it listens, and the name of the member of each CompID."""
+    """Where it listens, the name of the member of each CompID, and the CompID of the operator, who
+    is sent a copy of each trade, empty for none; the CompIDs that speak FIX 5.0SP2.
+    """
 
     sessions: Mapping[str, str]
     host: str = HOST
     port: int = PORT
+    copy: str = ""
+    fix50: frozenset[str] = frozenset()
 
 
 def terms_of(table: dict[str, Any]) -> Terms:
@@ -27,8 +31,15 @@ def terms_of(table: dict[str, Any]) -> Terms:
     fields = Fields("fix", table)
     host, port = address_of(fields)
     members = sessions_of(fields, fields.table("sessions"))
+    copy = fields.text("copy", "", COMP_ID)
+    fix50 = fields.names("fix50")
     fields.ended()
-    return Terms(members, host, port)
+    if copy in (VENUE, *members):
+        raise fields.fault("copy", f"{copy!r} is a CompID of the venue or of a member")
+    for comp_id in fix50:
+        if comp_id not in (copy, *members):
+            raise fields.fault("fix50", f"{comp_id!r} is no CompID of the sessions")
+    return Terms(members, host, port, copy, frozenset(fix50))
 
 
 def address_of(fields: Fields) -> tuple[str, int]:

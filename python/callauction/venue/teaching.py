@@ -13,7 +13,7 @@
 - code (member, or none for the day's), door (open), remove (member or members), readmit (member),
   rename (member, name).
 - robots (count, kind: zero, truthful or shading): that many more; all are removed where count is 0.
-- resume: tries again what had halted.
+- resume: tries again what had halted. reset (session): a session by FIX begins anew.
 """
 import dataclasses
 from collections.abc import Awaitable, Callable, Container
@@ -343,7 +343,14 @@ async def orders_of(instrument: Instrument, member: str) -> shown.Json:
     return shown.orders_of(instrument, member)
 
 
+async def reset(venue: Venue, message: dict[str, Any]) -> shown.Json:
+    """Begins a session by FIX anew, whose client has lost its numbers. Raises MessageError."""
+    await venue.reset_session(text_of(message, "session"))
+    return {}
+
+
 WORDS: Words = {
+    "reset": reset,
     "next": begin_round,
     "treat": treat,
     "message": announce,

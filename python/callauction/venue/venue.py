@@ -8,7 +8,7 @@ import functools
 import logging
 import pathlib
 import time
-from collections.abc import Callable, Iterable, Mapping
+from collections.abc import Awaitable, Callable, Iterable, Mapping
 
 from callauction.venue import audience, begun, config, downloads, owned, tokens
 from callauction.venue.audience import PAYOFFS, SHOWN, Audience
@@ -40,6 +40,7 @@ Heard = Callable[[Instrument, Message, Entry | None], None]
 """What is called with each message of a board once it has its entry; also with those of earlier
 runs, as the venue opens, and then with None for one that was never executed.
 """
+Reset = Callable[[str], Awaitable[None]]
 OTHER_DEVICE = "this member goes on at another device"
 """What a device is told whose member came again by a new code."""
 
@@ -58,6 +59,7 @@ class Venue(Audience):
         self.changes: list[str] = []
         self.began = time.time()
         self.on_entry: Heard = lambda board, message, entry: None
+        self.reset_session: Reset = no_sessions
         self.secrets = {role: tokens.secret_of(folder, role) for role in ("operator", "beamer")}
         self._waiting: dict[str, list[Line]] = {}
         self._noticed: dict[str, str | None] = {}
@@ -399,8 +401,12 @@ class Venue(Audience):
             for order in board.open_orders(member.name) if board.engine.is_open else ():
                 sent = Order(member.last + 1, board.terms.name, f"delete,{order}")
                 if (board.board.market, sent.record) not in asked:
-                    answer = board.withdraw(member.name, sent)
-                    member.keep(sent.number, Done(board.board.market, sent.record, answer))
+                    self.withdraw(member, board, sent)
+
+    def withdraw(self, member: Member, board: Instrument, order: Order) -> None:
+        """Sends the deletion of an order of a member in any phase. Raises MessageError."""
+        answer = board.withdraw(member.name, order)
+        member.keep(order.number, Done(board.board.market, order.record, answer))
 
     async def add_robots(self, kind: str, count: int) -> list[str]:
         """More robots of a kind: their names. Raises MessageError."""
@@ -773,6 +779,11 @@ class Venue(Audience):
         for watcher in [*self.watchers]:
             watcher.offer("welcome", self.welcome_of(watcher))
             self.greet(watcher)
+
+
+async def no_sessions(name: str) -> None:
+    """There is no front that has sessions. Raises MessageError."""
+    raise MessageError("bad_message", "this day has no sessions by FIX")
 
 
 def runs_of(lines: Iterable[Line]) -> dict[str, list[Run]]:

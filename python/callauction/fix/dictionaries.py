@@ -1,0 +1,84 @@
+"""The dictionaries of the messages that the venue speaks, for QuickFIX here and at a client:
+`python3 -m callauction.fix.dictionaries FOLDER` writes FIX44.xml, FIXT11.xml and FIX50SP2.xml.
+
+FIX 5.0SP2 is FIX 4.4 in two files, those of the session and all others, with few tags more.
+"""
+import copy
+import pathlib
+import sys
+from xml.etree import ElementTree
+
+SOURCE = pathlib.Path(__file__).with_name("FIX44.xml")
+TRANSPORT, APPLICATION = "FIXT11.xml", "FIX50SP2.xml"
+VERSIONS = {
+    TRANSPORT: {"type": "FIXT", "major": "1", "minor": "1"},
+    APPLICATION: {"type": "FIX", "major": "5", "minor": "0", "servicepack": "2"},
+}
+CATEGORIES = {TRANSPORT: "admin", APPLICATION: "app"}
+"""What the messages of each are, by `msgcat`."""
+MORE = {
+    "Logon": {"DefaultApplVerID": "Y"},
+    "NewOrderSingle": {"DisplayQty": "N"},
+    "OrderCancelReplaceRequest": {"DisplayQty": "N"},
+    "OrderMassCancelReport": {"MassActionReportID": "Y"},
+}
+"""What messages of FIX 5.0SP2 have more, and whether they must."""
+FIELDS = {
+    "ApplVerID": ("1128", "STRING"),
+    "DefaultApplVerID": ("1137", "STRING"),
+    "DisplayQty": ("1138", "QTY"),
+    "MassActionReportID": ("1369", "STRING"),
+}
+"""Their tags and types."""
+
+
+def made(name: str) -> ElementTree.Element:
+    """One of the two dictionaries of FIX 5.0SP2."""
+    found = copy.deepcopy(ElementTree.parse(SOURCE).getroot())
+    found.attrib.clear()
+    found.attrib.update(VERSIONS[name])
+    messages = part(found, "messages")
+    for message in [*messages]:
+        if message.get("msgcat") != CATEGORIES[name]:
+            messages.remove(message)
+        for field, required in MORE.get(message.get("name", ""), {}).items():
+            ElementTree.SubElement(message, "field", name=field, required=required)
+    if name == TRANSPORT:
+        ElementTree.SubElement(part(found, "header"), "field", name="ApplVerID", required="N")
+    else:
+        part(found, "header").clear()
+        part(found, "trailer").clear()
+    for field, (number, kind) in FIELDS.items():
+        ElementTree.SubElement(part(found, "fields"), "field", number=number, name=field, type=kind)
+    return found
+
+
+def part(root: ElementTree.Element, name: str) -> ElementTree.Element:
+    """A part of a dictionary, which is there."""
+    found = root.find(name)
+    assert found is not None
+    return found
+
+
+def write(folder: pathlib.Path) -> None:
+    """Writes all three. Raises OSError."""
+    (folder / SOURCE.name).write_bytes(SOURCE.read_bytes())
+    for name in (TRANSPORT, APPLICATION):
+        (folder / name).write_bytes(ElementTree.tostring(made(name)))
+
+
+def main() -> int:
+    """Writes the dictionaries; answers the status."""
+    if len(sys.argv) != 2 or not pathlib.Path(sys.argv[1]).is_dir():
+        print("dictionaries: one word is needed, a folder that is there", file=sys.stderr)
+        return 2
+    try:
+        write(pathlib.Path(sys.argv[1]))
+        return 0
+    except OSError as fault:
+        print(f"dictionaries: {fault}", file=sys.stderr)
+        return 3
+
+
+if __name__ == "__main__":
+    sys.exit(main())

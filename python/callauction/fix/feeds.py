@@ -1,0 +1,225 @@
+"""What a session asks of boards as they are now and as they change, until it ends: market data, and
+the phases of auctions.
+"""
+import dataclasses
+import time
+from collections.abc import Callable, Sequence
+from typing import TYPE_CHECKING
+
+from callauction.fix import snapshots
+from callauction.fix.refusals import DUPLICATE, ENTRY_TYPE, TOO_MUCH, UNSUPPORTED, SeatError
+from callauction.fix.snapshots import Rows
+from callauction.fix.tags import Given, Groups, Pairs, Tag, Type
+from callauction.venue.instrument import Instrument
+from callauction.venue.phases import Phase
+from callauction.venue.venue import Venue
+from callauction.venue.views import Level
+from callauction.words import AUCTIONS
+
+if TYPE_CHECKING:
+    from callauction.fix.seats import Seat
+
+ONCE, ON, OFF = "0", "1", "2"
+"""SubscriptionRequestType."""
+WHOLE, CHANGES = "0", "1"
+"""MDUpdateType."""
+NEW, CHANGE, DELETE = "0", "1", "2"
+"""MDUpdateAction."""
+MOST_FEEDS = 64
+"""What a session may ask for at a time."""
+HALTED = "1"
+STATUSES = {
+    Phase.WAITING: "4",
+    Phase.CALL: "2",
+    Phase.EXTENDED: "2",
+    Phase.ENDED: "5",
+    Phase.OVER: "3",
+}
+"""TradSesStatus of a phase."""
+OF_AUCTION = dict(zip(AUCTIONS, ("2", "6", "4")))
+"""TradingSessionSubID of an auction."""
+AFTER = "5"
+"""The one of a day that is over."""
+Send = Callable[[Type, Pairs, Groups], None]
+
+
+@dataclasses.dataclass
+class Data:
+    """A subscription of market data: what it asks for, and what was sent last of each market."""
+
+    request: str
+    types: frozenset[str]
+    markets: frozenset[str]
+    is_whole: bool
+    last: dict[str, Rows] = dataclasses.field(default_factory=dict)
+
+    def changed(self, board: Instrument, rows: Rows, send: Send) -> None:
+        """Sends what has changed of a board."""
+        market = board.board.market
+        wanted = {kind: row for kind, row in rows.items() if kind in self.types}
+        before = self.last.get(market, {})
+        if market not in self.markets or wanted == before:
+            return
+        self.last[market] = wanted
+        if self.is_whole:
+            send(Type.SNAPSHOT, *snapshot(self.request, market, wanted))
+            return
+        head: Pairs = [(Tag.MD_REQ_ID, self.request)]
+        changes = changes_of(market, before, wanted)
+        send(Type.CHANGES, head, [(int(Tag.NO_MD_ENTRIES), int(Tag.MD_UPDATE_ACTION), changes)])
+
+
+@dataclasses.dataclass
+class Phases:
+    """A subscription of phases, and what was sent last of each market."""
+
+    request: str
+    markets: frozenset[str]
+    last: dict[str, Pairs] = dataclasses.field(default_factory=dict)
+
+    def changed(self, board: Instrument, phase: Pairs, send: Send) -> None:
+        """Sends a phase that has changed."""
+        market = board.board.market
+        if market in self.markets and self.last.get(market) != phase:
+            self.last[market] = phase
+            unasked = (Tag.UNSOLICITED_INDICATOR, "Y")
+            send(Type.PHASE, [(Tag.TRAD_SES_REQ_ID, self.request), unasked, *phase], [])
+
+
+def snapshot(request: str, market: str, rows: Rows) -> tuple[Pairs, Groups]:
+    """A MarketDataSnapshotFullRefresh."""
+    head: Pairs = [(Tag.MD_REQ_ID, request), (Tag.SYMBOL, market)]
+    if not rows:
+        return [*head, (Tag.NO_MD_ENTRIES, "0")], []
+    return head, [(int(Tag.NO_MD_ENTRIES), int(Tag.MD_ENTRY_TYPE), [*rows.values()])]
+
+
+def changes_of(market: str, before: Rows, after: Rows) -> list[Pairs]:
+    """What a MarketDataIncrementalRefresh has of one market: what is gone first."""
+    symbol = (Tag.SYMBOL, market)
+    gone = [before[kind][0] for kind in before if kind not in after]
+    found: list[Pairs] = [[(Tag.MD_UPDATE_ACTION, DELETE), kind, symbol] for kind in gone]
+    for kind, row in after.items():
+        if row != before.get(kind):
+            action = (Tag.MD_UPDATE_ACTION, CHANGE if kind in before else NEW)
+            found.append([action, row[0], symbol, *row[1:]])
+    return found
+
+
+def phase_of(venue: Venue, board: Instrument) -> Pairs:
+    """The phase of a board."""
+    state = board.state
+    is_halted = board.engine.halted is not None or venue.halted is not None
+    text = "halted" if is_halted else "frozen" if state.frozen is not None else str(state.phase)
+    status = STATUSES[state.phase] if text == state.phase else HALTED
+    found: Pairs = [
+        (Tag.TRADING_SESSION_ID, board.board.market),
+        (Tag.TRADING_SESSION_SUB_ID, OF_AUCTION.get(state.auction, AFTER)),
+        (Tag.TRAD_SES_STATUS, status),
+        (Tag.TEXT, text),
+    ]
+    if state.ends is None:
+        return found
+    ends = time.strftime("%Y%m%d-%H:%M:%S", time.gmtime(state.ends))
+    return [*found, (Tag.TRAD_SES_END_TIME, ends)]
+
+
+class Feeds:
+    """The subscriptions of a connection, and the boards of which something is new."""
+
+    def __init__(self, venue: Venue) -> None:
+        self._venue = venue
+        self._data: dict[str, Data] = {}
+        self._phases: dict[str, Phases] = {}
+        self.new: set[str] = set()
+
+    @property
+    def is_on(self) -> bool:
+        """Whether something is asked for."""
+        return bool(self._data or self._phases)
+
+    def clear(self) -> None:
+        """Nothing is asked for any more."""
+        self._data.clear()
+        self._phases.clear()
+        self.new.clear()
+
+    def check_room(self, request: str, those: "dict[str, Data] | dict[str, Phases]") -> None:
+        """Raises SeatError where no more may be asked for, or this was."""
+        if request in those:
+            raise SeatError(DUPLICATE, "there is a subscription of this id")
+        if len(self._data) + len(self._phases) >= MOST_FEEDS:
+            raise SeatError(TOO_MUCH, f"a session has at most {MOST_FEEDS} subscriptions")
+
+    def send(self, send: Send) -> None:
+        """Sends what is new, once for all that has changed since."""
+        new, self.new = self.new, set()
+        boards = self._venue.instruments
+        for board in (boards[name] for name in new if name in boards):
+            rows = snapshots.rows_of(board, self._levels(board))
+            for data in self._data.values():
+                data.changed(board, rows, send)
+            for phases in self._phases.values():
+                phases.changed(board, phase_of(self._venue, board), send)
+
+    def _levels(self, board: Instrument) -> Sequence[Level]:
+        """The levels of a board's book, where that is open."""
+        return board.levels if self._venue.is_open_book else []
+
+    # ---- requests
+
+    @staticmethod
+    async def ask_data(seat: "Seat", pairs: Pairs, given: Given, number: int) -> None:
+        """MarketDataRequest. Raises MessageError."""
+        await seat.feeds._ask_data(seat, pairs, given)
+
+    @staticmethod
+    async def ask_phases(seat: "Seat", pairs: Pairs, given: Given, number: int) -> None:
+        """TradingSessionStatusRequest. Raises MessageError."""
+        await seat.feeds._ask_phases(seat, given)
+
+    async def _ask_data(self, seat: "Seat", pairs: Pairs, given: Given) -> None:
+        """Answers what is asked of the market. Raises MessageError."""
+        request, how = given[Tag.MD_REQ_ID], given[Tag.SUBSCRIPTION_REQUEST_TYPE]
+        if how == OFF:
+            self._data.pop(request, None)
+            return
+        types = frozenset(value for tag, value in pairs if tag == Tag.MD_ENTRY_TYPE)
+        update = given.get(Tag.MD_UPDATE_TYPE, WHOLE)
+        if how not in (ONCE, ON) or update not in (WHOLE, CHANGES):
+            raise SeatError(UNSUPPORTED, "SubscriptionRequestType or MDUpdateType isn't 0 or 1")
+        if not types <= {*snapshots.TYPES}:
+            raise SeatError(ENTRY_TYPE, f"MDEntryType is one of {', '.join(snapshots.TYPES)}")
+        boards = [seat.named_board(value) for tag, value in pairs if tag == Tag.SYMBOL]
+        data = Data(request, types, frozenset(it.board.market for it in boards), update == WHOLE)
+        if how == ON:
+            self.check_room(request, self._data)
+            seat.desk.watch(seat)
+        for board in boards:
+            await board.refresh()
+            rows = snapshots.rows_of(board, self._levels(board))
+            data.last[board.board.market] = {it: row for it, row in rows.items() if it in types}
+        for market, rows in data.last.items():
+            seat.desk.send(seat, Type.SNAPSHOT, *snapshot(request, market, rows))
+        if how == ON:
+            self._data[request] = data
+
+    async def _ask_phases(self, seat: "Seat", given: Given) -> None:
+        """Answers what is asked of phases. Raises MessageError."""
+        request, how = given[Tag.TRAD_SES_REQ_ID], given[Tag.SUBSCRIPTION_REQUEST_TYPE]
+        if how == OFF:
+            self._phases.pop(request, None)
+            return
+        if how not in (ONCE, ON):
+            raise SeatError(UNSUPPORTED, "SubscriptionRequestType is 0, 1 or 2")
+        name = given.get(Tag.TRADING_SESSION_ID)
+        boards = seat.boards() if name is None else [seat.named_board(name)]
+        phases = Phases(request, frozenset(it.board.market for it in boards))
+        if how == ON:
+            self.check_room(request, self._phases)
+        for board in boards:
+            phase = phases.last[board.board.market] = phase_of(self._venue, board)
+            seat.desk.send(seat, Type.PHASE, [(Tag.TRAD_SES_REQ_ID, request), *phase], [])
+        if how == ON:
+            self._phases[request] = phases
+            seat.desk.watch(seat)

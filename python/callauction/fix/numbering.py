@@ -1,0 +1,28 @@
+"""The numbers of messages by FIX in the venue: a member's other ones are above 0, these below."""
+import dataclasses
+from typing import Self
+
+PART, EPOCH = 32, 64
+"""At which bit the part of a message and the epoch of a session begin."""
+MASK = (1 << (EPOCH - PART)) - 1
+
+
+@dataclasses.dataclass(frozen=True, slots=True)
+class Number:
+    """A message by its MsgSeqNum, 0 for none that came; which of the deletions that it came to,
+    from 1, else 0; and how often its session was reset before.
+    """
+
+    message: int
+    part: int = 0
+    epoch: int = 0
+
+    @property
+    def key(self) -> int:
+        """It as one number, which is the MsgSeqNum where nothing else is said."""
+        return self.message | self.part << PART | self.epoch << EPOCH
+
+    @classmethod
+    def of(cls, key: int) -> Self:
+        """The number of a key."""
+        return cls(key & MASK, key >> PART & MASK, key >> EPOCH)

@@ -1,0 +1,140 @@
+"""FIX 5.0SP2 over FIXT.1.1: the same day in another version; and the dictionaries, which are parts
+of the standard as the headers of QuickFIX have it.
+"""
+import pathlib
+import re
+import subprocess
+import sys
+from xml.etree import ElementTree
+
+import fixing
+import pytest
+import served
+from callauction.fix import dictionaries
+from callauction.fix._quickfix import Engine
+from callauction.fix.build import QUICKFIX
+from fixing import Peer
+from test_fix_venue import Initiator
+
+FIELD = re.compile(r"FIELD_SET\(\*this, FIX::(\w+)\)")
+OTHERS = {
+    *("VenueEventID", "TrdMatchID"),
+    *("MinPriceIncrement", "LowLimitPrice", "HighLimitPrice"),
+}
+"""Fields that the standard hasn't in these messages, as docs/FIX.md says."""
+PASSED_OVER = {"HandlInst", "ExDestination", "OrderCapacity", "AccountType", "Text"}
+"""Fields that clients repeat where the standard hasn't them, and that change nothing."""
+
+
+class NewPeer(Peer):
+    """A member by FIX 5.0SP2."""
+
+    begin = b"FIXT.1.1"
+
+
+def day_of(port: int) -> str:
+    """A day in which ALICE and COPY speak FIX 5.0SP2, and BOB FIX 4.4."""
+    more = 'copy = "COPY"\nfix50 = ["ALICE", "COPY"]\n[fix.sessions]'
+    return fixing.day_of(port, "ALICE", "BOB").replace("[fix.sessions]", more)
+
+
+def test_two_versions_trade_with_each_other(tmp_path: pathlib.Path) -> None:
+    port, folder = served.free_port(), tmp_path / "venue"
+    alice, bob, copy = NewPeer(port, "ALICE"), Peer(port, "BOB"), NewPeer(port, "COPY")
+    with served.served(tmp_path, day_of(port)) as venue:
+        hello = alice.logon(fixing.token_of(folder, "ALICE"), (1137, "9"))
+        assert (hello[8], hello[1137]) == ("FIXT.1.1", "9")
+        bob.logon(fixing.token_of(folder, "BOB"))
+        copy.logon(venue.operator, (1137, "9"))
+        venue.do("start")
+        alice.enter("a1", "1", 500, "2.00", (1138, "100"))
+        found = alice.take(lambda it: it.get(11) == "a1")
+        assert (found[8], found[111], found[150]) == ("FIXT.1.1", "100", "0")
+        bob.enter("b1", "2", 300, "2.00")
+        assert bob.take(lambda it: it.get(11) == "b1")[8] == "FIX.4.4"
+        venue.do("uncross")
+        assert alice.take(lambda it: it.get(150) == "F")[32] == "300"
+        assert bob.take(lambda it: it.get(150) == "F")[32] == "300"
+        assert copy.take(lambda it: it[35] == "AE")[571] == "XYZ.3.1"
+        venue.do("start")
+        alice.say("q", [(11, "c1"), (530, "7"), (60, fixing.stamp())])
+        found = alice.take(lambda it: it[35] == "r")
+        assert (found[533], found[1369], found[37]) == ("1", "R.ALICE.3", "R.ALICE.3")
+        alice.enter("a2", "1", 10, "2.00", (111, "5"), (1138, "4"))
+        found = alice.take(lambda it: it.get(11) == "a2")
+        assert found[58] == "MaxFloor and DisplayQty are two peaks"
+        alice.say("E", [(66, "list")])
+        assert alice.take(lambda it: it[35] == "j")[380] == "3"
+    with served.served(tmp_path, day_of(port)):
+        alice.logon(fixing.token_of(folder, "ALICE"), (1137, "9"))
+        assert alice.all() == []
+        alice.say("H", [(11, "a1"), (55, "XYZ"), (54, "1")])
+        assert alice.take(lambda it: it.get(150) == "I")[39] == "4"
+
+
+def test_a_session_has_its_version(tmp_path: pathlib.Path) -> None:
+    port, folder = served.free_port(), tmp_path / "venue"
+    with served.served(tmp_path, day_of(port)):
+        for peer in (Peer(port, "ALICE"), NewPeer(port, "BOB")):
+            with pytest.raises(fixing.Closed):
+                peer.logon(fixing.token_of(folder, peer.member), (1137, "9"))
+
+
+def test_quickfix_s_own_initiator(tmp_path: pathlib.Path) -> None:
+    port, folder = served.free_port(), tmp_path / "venue"
+    with served.served(tmp_path, day_of(port)) as venue:
+        venue.do("start")
+        password = fixing.token_of(folder, "ALICE")
+        mine = Initiator(port, "ALICE", password, tmp_path / "client", "FIXT.1.1")
+        mine.connect()
+        pairs = [(11, "a1"), (55, "XYZ"), (54, "1"), (38, "10"), (40, "2"), (44, "2.00")]
+        mine.send("D", pairs)
+        mine.until(lambda: any(it.get(11) == "a1" for it in mine.got))
+        assert mine.got[0][150] == "0"
+
+
+def test_a_version_of_nobody(tmp_path: pathlib.Path) -> None:
+    day = fixing.day_of(9878, "ALICE").replace("[fix.sessions]", 'fix50 = ["EVE"]\n[fix.sessions]')
+    (tmp_path / "day.toml").write_text(day, "utf-8")
+    words = served.words_of("--check", "--day", tmp_path / "day.toml")
+    ran = subprocess.run(words, env=served.environment(), capture_output=True, text=True)
+    assert (ran.returncode, ran.stderr) == (
+        1,
+        f"venue: {tmp_path}/day.toml: fix: fix50 'EVE' is no CompID of the sessions\n",
+    )
+
+
+@pytest.mark.parametrize("name, folder", [("FIX44.xml", "fix44"), ("FIX50SP2.xml", "fix50sp2")])
+def test_the_dictionaries_are_parts_of_the_standard(
+    tmp_path: pathlib.Path, name: str, folder: str
+) -> None:
+    words = [sys.executable, "-P", "-m", "callauction.fix.dictionaries", str(tmp_path)]
+    subprocess.run(words, env=served.environment(), check=True)
+    root = ElementTree.parse(tmp_path / name).getroot()
+    messages = [it for it in root.iter("message") if it.get("msgcat") == "app"]
+    assert len(messages) == 19
+    for message in messages:
+        header = QUICKFIX / folder / f"{message.get('name')}.h"
+        known = {*FIELD.findall(header.read_text("latin-1"))} | OTHERS | PASSED_OVER
+        named = {it.get("name") for kind in ("field", "group") for it in message.iter(kind)}
+        assert named <= known, (message.get("name"), named - known)
+
+
+def test_the_dictionaries_are_what_quickfix_reads(tmp_path: pathlib.Path) -> None:
+    dictionaries.write(tmp_path)
+    text = f"""[DEFAULT]
+ConnectionType=acceptor
+SocketAcceptPort=0
+HeartBtInt=30
+StartTime=00:00:00
+EndTime=00:00:00
+FileStorePath={tmp_path}
+[SESSION]
+BeginString=FIXT.1.1
+SenderCompID=HERE
+TargetCompID=THERE
+DefaultApplVerID=FIX.5.0SP2
+TransportDataDictionary={tmp_path}/FIXT11.xml
+AppDataDictionary={tmp_path}/FIX50SP2.xml
+"""
+    assert Engine(text, lambda session, password: False).expected("FIXT.1.1:HERE->THERE") == 1
