@@ -92,6 +92,14 @@ def test_the_day(tmp_path: pathlib.Path) -> None:
         walk.venue.child.communicate()
 
 
+def test_a_first_trade() -> None:
+    """What a broker sees who has just installed it. The values were worked out from the rules."""
+    words = [sys.executable, "-P", "-m", "callauction.fix.first"]
+    ran = subprocess.run(words, env=served.environment(), capture_output=True, text=True)
+    assert (ran.stdout, ran.stderr) == ((EXAMPLE / "first.txt").read_text("utf-8"), "")
+    assert ran.returncode == 0
+
+
 def test_a_copy_goes_on(tmp_path: pathlib.Path) -> None:
     """A day that runs is copied, and goes on from the copy: nothing is sent twice."""
     port, folder = served.free_port(), tmp_path / "venue"
