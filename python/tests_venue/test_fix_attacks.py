@@ -45,9 +45,9 @@ class Fronted:
         """The password of a member."""
         return fixing.token_of(self.folder, member)
 
-    def stores(self) -> dict[str, bytes]:
-        """The files of all sessions' stores."""
-        return {it.name: it.read_bytes() for it in sorted(self.folder.glob("FIX.4.4-*"))}
+    def sent(self) -> bytes:
+        """What the sessions were sent."""
+        return (self.folder / "fix.sent").read_bytes()
 
     def answered(self, *said: bytes, seconds: float = 5.0) -> bytes:
         """All that is answered to these bytes, until the connection is ended. Raises
@@ -115,10 +115,10 @@ STRANGERS: dict[str, Callable[[str], bytes]] = {
 
 @pytest.mark.parametrize("kind", STRANGERS)
 def test_strangers_are_sent_nothing(front: Fronted, kind: str) -> None:
-    before = front.stores()
+    before = front.sent()
     data = STRANGERS[kind](front.password("ALICE"))
     assert front.answered(data, seconds=30.0) == b""
-    assert front.stores() == before
+    assert front.sent() == before
     assert waits(front.peer("BOB"), 3) < MOST_WAIT
 
 

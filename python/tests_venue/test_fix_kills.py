@@ -18,7 +18,7 @@ from checks.model.day import opened
 from fixing import Closed, Message, Pairs, Peer
 from test_kills import Keeper
 
-KILLS = int(os.environ.get("VENUE_FIX_KILLS", "12"))
+KILLS = int(os.environ.get("VENUE_FIX_KILLS", "60"))
 MEMBERS = ("ALICE", "BOB", "CAROL")
 MOST_UNANSWERED = 8
 TARGETS = ("venue", "program", "connection")
@@ -76,7 +76,7 @@ class Robot:
 
     def learn(self, given: Message) -> None:
         """Takes what the venue says. Raises AssertionError where it says an event twice."""
-        event = given.get(17) or given.get(20001) or f"{given[35]} {given[34]}"
+        event = given.get(17) or given.get(20001) or given[37]
         assert event not in self.told, (given, self.told[event])
         self.told[event] = given
         if given[35] == "8" and given[39] in "01":
@@ -85,13 +85,15 @@ class Robot:
             self.open.pop(given[37], None)
 
     def act(self) -> None:
-        """Sends an order, a change or a cancel."""
+        """Sends an order, a change, a cancel, or a cancel of all."""
         client = f"{self.peer.member}-{len(self.asked) + 1}"
         self.asked.append(client)
         shares, price = self.chance.randint(1, 900), f"{self.chance.randint(180, 220) / 100:.2f}"
         held = self.chance.choice([*self.open.values()]) if self.open else None
-        kind = self.chance.choices("DGF", (6, 2, 2))[0]
-        if kind == "D" or held is None:
+        kind = self.chance.choices("DGFq", (60, 20, 20, 3))[0]
+        if kind == "q":
+            self.peer.say("q", [(11, client), (530, "7"), (60, fixing.stamp())])
+        elif kind == "D" or held is None:
             more = self.chance.choice(MORE)
             self.peer.enter(client, self.chance.choice("12"), shares, price, *more)
         elif kind == "G":
@@ -208,10 +210,18 @@ def check(folder: pathlib.Path, venue: served.Served, robots: list[Robot]) -> No
         assert not it.fault and not it.open, (it.fault, it.open)
         told = {event for event in it.told if event.startswith("XYZ.")}
         assert told == events[it.peer.member]
-        answers = [given for given in it.told.values() if given.get(150) not in ("F", "C", "3")]
+        answers = [given for given in it.told.values() if is_answer(given)]
         clients = collections.Counter(given.get(11, "") for given in answers)
-        assert clients == collections.Counter(it.asked)
+        twice = [given for given in answers if clients[given.get(11, "")] > 1]
+        assert clients == collections.Counter(it.asked), twice
         check_shares(it)
+
+
+def is_answer(given: Message) -> bool:
+    """Whether a report answers a request: no trade or end does, nor does an order that a cancel of
+    all took out.
+    """
+    return given.get(150) not in ("F", "C", "3") and not (given.get(150) == "4" and 41 not in given)
 
 
 def check_shares(robot: Robot) -> None:

@@ -131,8 +131,6 @@ def test_a_client_that_has_lost_its_numbers(tmp_path: pathlib.Path) -> None:
         number = third.say("H", [(11, "a3"), (55, "XYZ"), (54, "1")])
         found = third.take(lambda it: it.get(11) == "a3" and it[150] == "I")
         assert found[17] == f"R.ALICE.2.{number}"
-    kept = sorted(it.name for it in folder.glob("FIX.4.4-VENUE-ALICE.body*"))
-    assert kept == [f"FIX.4.4-VENUE-ALICE.body{it}" for it in ("", ".1", ".2")]
 
 
 def again(peer: Peer) -> list[tuple[str, str, str]]:

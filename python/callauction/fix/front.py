@@ -1,12 +1,11 @@
 """The FIX front of a venue: sessions of members, beside those who come by pages or WebSocket.
 
-What a session was sent is in QuickFIX's store, in the venue's folder; what it said is in the log.
+What a session was sent is in a file of the venue's folder; what it said is in the log.
 """
 import asyncio
 import contextlib
 import functools
 import logging
-import os
 import pathlib
 import ssl
 import tempfile
@@ -17,7 +16,7 @@ from callauction.fix import dictionaries, requests, resets
 from callauction.fix._quickfix import Engine
 from callauction.fix.copies import CopySeat
 from callauction.fix.orders import Report
-from callauction.fix.resets import stored
+from callauction.fix.sent import Sent
 from callauction.fix.seats import Act, Desk, Seat
 from callauction.fix.streams import Stream
 from callauction.fix.tags import (
@@ -49,7 +48,6 @@ HeartBtInt=30
 StartTime=00:00:00
 EndTime=00:00:00
 TimestampPrecision=6
-FileStorePath={store}
 DataDictionary={dictionaries}/FIX44.xml
 """
 SESSION = "[SESSION]\nBeginString={begin}\nSenderCompID={venue}\nTargetCompID={member}\n"
@@ -57,8 +55,10 @@ OF_FIXT = """DefaultApplVerID=FIX.5.0SP2
 TransportDataDictionary={dictionaries}/FIXT11.xml
 AppDataDictionary={dictionaries}/FIX50SP2.xml
 """
-FILES_OF_SESSION = 8
 TICK, PAUSE = 1.0, 0.5
+CLOSE_SECONDS, CLOSE_PAUSE = 0.5, 0.01
+"""How long the end waits for the last bytes."""
+OTHER_FILES = 8
 RESET_SECONDS, RESET_PAUSE = 10.0, 0.02
 """How long the reset of a session waits for what that has said."""
 MORE: dict[Type, Act] = {
@@ -81,20 +81,21 @@ class Front:
     def __init__(self, venue: Venue, terms: Terms, program: str) -> None:
         self._venue, self._terms, self._program = venue, terms, program
         self.gates = gates.Gates(MOST_CONNECTIONS, MOST_OF_ADDRESS)
-        self.files = MOST_CONNECTIONS + FILES_OF_SESSION * (len(terms.sessions) + 1)
+        self.files = MOST_CONNECTIONS + OTHER_FILES
+        self._sent = Sent(venue.folder, venue.day.is_synced)
+        self._sent.log.on_fault = self._failed
         desk = Desk(venue, self._stream, self._tell, self._send, self._watch, MORE)
         seats = [Seat(it, name, self._begin_of(it), desk) for it, name in terms.sessions.items()]
         if terms.copy:
             seats.append(CopySeat(terms.copy, self._begin_of(terms.copy), desk))
         for seat in seats:
-            seat.begin_anew(resets.count_of(venue.folder, seat))
+            seat.begin_anew(self._sent.resets[seat.session])
         self._seats = {it.session: it for it in seats}
         self._by_member = {it.name: it for it in seats}
         self._streams: dict[str, Stream] = {}
         self._wires: dict[int, Wire] = {}
-        self._files: dict[str, list[int]] = {}
         self._tasks: set[asyncio.Task[None]] = set()
-        self._is_ready = False
+        self._is_ready = self._is_writing = self._has_failed = False
         self._wakes, self._news = asyncio.Event(), asyncio.Event()
         self._on: dict[Seat, Wire] = {}
         self._listener: gates.Listener | None = None
@@ -113,13 +114,13 @@ class Front:
         try:
             with tempfile.TemporaryDirectory() as folder:
                 self.engine = Engine(self._settings(pathlib.Path(folder)), self._accepts)
-            self._open_files()
         except (RuntimeError, OSError) as fault:
             raise AddressError(f"fix: {fault}") from None
         if self._venue.is_known:
             await self._begin()
         else:
             self._start(self._begin())
+        self._start(self._sent.log.run())
         self._start(self._write())
         self._start(self._tick())
         self._start(self._feed())
@@ -127,12 +128,12 @@ class Front:
         try:
             yield f"fix      {named(self._terms.host)}:{sockets[0].getsockname()[1]}"
         finally:
-            self._end()
+            await self._close()
 
     def _settings(self, folder: pathlib.Path) -> str:
         """QuickFIX's settings, with dictionaries in a folder, which it reads as it begins."""
         dictionaries.write(folder)
-        found = SETTINGS.format(store=self._venue.folder, dictionaries=folder)
+        found = SETTINGS.format(dictionaries=folder)
         for seat in self._seats.values():
             found += SESSION.format(begin=seat.begin, venue=VENUE, member=seat.comp_id)
             found += OF_FIXT.format(dictionaries=folder) if seat.begin == FIXT else ""
@@ -142,18 +143,6 @@ class Front:
         """How the messages of a session begin."""
         return FIXT if comp_id in self._terms.fix50 else FIX44
 
-    def _open_files(self) -> None:
-        """Opens the files of the stores, which are synced where the day is."""
-        for seat in self._seats.values() if self._venue.day.is_synced else ():
-            self._open_files_of(seat)
-
-    def _open_files_of(self, seat: Seat) -> None:
-        """Opens the files of a session's store."""
-        for file in self._files.pop(seat.session, []):
-            os.close(file)
-        paths = stored(self._venue.folder, seat)
-        self._files[seat.session] = [os.open(it, os.O_RDONLY | os.O_CLOEXEC) for it in paths]
-
     async def _begin(self) -> None:
         """Finds what was sent and what was taken, and sends what wasn't; then sessions may begin.
         """
@@ -161,7 +150,7 @@ class Front:
             await asyncio.sleep(PAUSE)
         for seat in self._seats.values():
             await self._admit(seat)
-            sent = self.engine.sent(seat.session)
+            sent = self._sent.restore(self.engine, seat.session)
             events = (event_of(it, seat.comp_id, seat.epoch) for it in sent)
             seat.told = {event for event in events if event}
             seat.cancels = has_asked(sent)
@@ -206,26 +195,34 @@ class Front:
         task.add_done_callback(ended)
 
     def _end(self) -> None:
-        """Logs all sessions out, and takes nothing more."""
+        """Takes nothing more, and ends all connections."""
         self._is_ready = False
         for task in [*self._tasks]:
             task.cancel()
         if self._listener is not None:
             self._listener.close()
-        with contextlib.suppress(RuntimeError, OSError):  # a disk that is full
-            self._log_out()
         for wire in self._wires.values():
             wire.end()
 
-    def _log_out(self) -> None:
-        """Sends a Logout to all. Raises RuntimeError and OSError where that can't be stored."""
+    async def _close(self) -> None:
+        """Logs all sessions out, where that can be written soon, and ends."""
+        self._is_ready = False
         for number in self._wires:
-            self.engine.log_out(number, "the venue ends")
-        found = self.engine.outgoing()
-        for file in self._files_of(found):
-            os.fdatasync(file)
-        for number, data, _ in found:
-            self._wires[number].send(data, True)
+            with contextlib.suppress(RuntimeError):
+                self.engine.log_out(number, "the venue ends")
+        self._wakes.set()
+        with contextlib.suppress(TimeoutError):
+            async with asyncio.timeout(CLOSE_SECONDS):
+                while self._wakes.is_set() or self._is_writing:
+                    await asyncio.sleep(CLOSE_PAUSE)
+        self._end()
+        self._sent.log.close()
+
+    def _failed(self, fault: OSError) -> None:
+        """What sessions are sent can't be written: they are sent nothing until it can."""
+        if not self._has_failed:
+            NOTICES.error("fix halted: %s can't be written: %s", self._sent.log.path, fault.strerror)
+        self._has_failed = True
 
     # ---- bytes
 
@@ -303,27 +300,33 @@ class Front:
         """Lets sessions know the time, and ends the orders of a round that was left."""
         while True:
             await asyncio.sleep(TICK)
+            self._sent.log.retry()
             self.engine.tick()
             self._drain()
             for stream in self._streams.values():
                 stream.end_before(self._venue.round.number)
 
     async def _write(self) -> None:
-        """Sends what sessions have to send, once the store has it."""
+        """Sends what sessions have to send, once it is on the disk."""
         while True:
             await self._wakes.wait()
             self._wakes.clear()
+            self._is_writing = True
             found = self.engine.outgoing()
-            works = (asyncio.to_thread(os.fdatasync, it) for it in self._files_of(found))
-            await asyncio.gather(*works)
+            numbers = (number for number, *_ in found if number in self._wires)
+            sessions = {it for number in numbers if (it := self.engine.session_on(number))}
+            lines = (line for it in sessions for line in self._sent.lines_of(self.engine, it))
+            if text := "\n".join(lines):
+                written = asyncio.Event()
+                self._sent.log.append(text, written.set)
+                await written.wait()
+            if self._has_failed:
+                self._has_failed = False
+                NOTICES.warning("fix goes on")
             for number, data, is_last in found:
                 if wire := self._wires.get(number):
                     wire.send(data, is_last)
-
-    def _files_of(self, found: Sequence[tuple[int, bytes, bool]]) -> list[int]:
-        """The files that have to be on the disk before these bytes are sent."""
-        sessions = {self.engine.session_on(number) for number, *_ in found if number in self._wires}
-        return [file for it in sessions for file in self._files.get(it, [])]
+            self._is_writing = False
 
     def _send(self, seat: Seat, kind: str, pairs: Pairs, groups: Groups) -> None:
         """Stores a message, and sends it soon where its session is on."""
@@ -343,14 +346,13 @@ class Front:
             if (wire := self._on.get(seat)) is not None:
                 wire.cut()
             await asyncio.wait_for(self._ended(seat), RESET_SECONDS)
-            resets.begin_anew(self.engine, self._venue.folder, seat)
-        except (TimeoutError, RuntimeError, OSError) as fault:
-            text = f"{comp_id} couldn't be reset: {fault or 'not all is answered'}"
+            begin_anew = functools.partial(resets.begin_anew, self.engine, seat)
+            await self._sent.begin_anew(seat.session, begin_anew)
+        except TimeoutError:
+            text = f"{comp_id} isn't reset: not all that it said is answered"
             raise MessageError("halted", text) from None
         finally:
             self._resetting.discard(seat)
-        if self._venue.day.is_synced:
-            self._open_files_of(seat)
 
     async def _ended(self, seat: Seat) -> None:
         """Waits until a session is off and all that it said is answered."""

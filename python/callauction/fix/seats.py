@@ -217,6 +217,7 @@ class Seat:
             return
         number = int(given[Tag.MSG_SEQ_NUM])
         event = self.refusal_of(number)
+        self._lost.pop(number, None)  # it has come again
         if event in self.told or await self.is_done(number):
             return
         SOURCE.set(self.address)

@@ -33,30 +33,23 @@ const std::set<std::string> taken_types = {"D", "F", "G", "H", "V", "g", "q", "x
 const std::set<std::string> passing_types = {"W", "X", "h"};  // what isn't sent again
 const int cancels_on_disconnect = 8013;  // Y in a Logon: CancelOrdersOnDisconnect
 
-// A store that lasts as long as its folder: FileStore deletes all that was sent at the end of a session's day, and for
-// a Logon with ResetSeqNumFlag. It begins anew where the operator asks for that.
-class KeptStore : public FIX::FileStore {
+// A store in memory that nothing but the operator's wish begins anew: QuickFIX would at the end of a session's day, and
+// for a Logon with ResetSeqNumFlag. Whoever has the engine keeps what was sent, and restores it.
+class KeptStore : public FIX::MemoryStore {
  public:
-  using FIX::FileStore::FileStore;
-  FIX::UtcTimeStamp getCreationTime() const throw(FIX::IOException) override { return FIX::UtcTimeStamp(); }
-  void reset() throw(FIX::IOException) override {
+  FIX::UtcTimeStamp getCreationTime() const throw(FIX::IOException) { return FIX::UtcTimeStamp(); }
+  void reset() throw(FIX::IOException) {
     if (!may_begin_anew) throw FIX::IOException("sequence numbers are kept for the day");
-    FIX::FileStore::reset();
+    FIX::MemoryStore::reset();
   }
   bool may_begin_anew = false;
 };
 
 class KeptStores : public FIX::MessageStoreFactory {
  public:
-  explicit KeptStores(const FIX::SessionSettings& settings) : settings_(settings) {}
-  FIX::MessageStore* create(const FIX::SessionID& id) override {
-    return stores[id] = new KeptStore(settings_.get(id).getString(FIX::FILE_STORE_PATH), id);
-  }
+  FIX::MessageStore* create(const FIX::SessionID& id) override { return stores[id] = new KeptStore(); }
   void destroy(FIX::MessageStore* store) override { delete store; }
   std::map<FIX::SessionID, KeptStore*> stores;
-
- private:
-  const FIX::SessionSettings& settings_;
 };
 
 // A connection: what is to be sent on it, and whether it is to be closed then.
@@ -89,11 +82,11 @@ class Engine : public FIX::Application, FIX::LogFactory {
  public:
   // `settings` are QuickFIX's, as text. An acceptor asks `accepts` whether a session takes a Logon with this Password.
   Engine(const std::string& settings, Accepts accepts)
-      : text_(settings), settings_(text_), stores_(settings_), accepts_(std::move(accepts)) {
+      : text_(settings), settings_(text_), files_(settings_), accepts_(std::move(accepts)) {
     for (auto& id : settings_.getSessions())
       if (FIX::Session::doesSessionExist(id)) throw std::runtime_error("there is the session " + id.toString());
     if (accepts_) acceptor_.reset(new Accepting(*this, stores_, settings_, *this));
-    else initiator_.reset(new Initiating(*this, stores_, settings_, *this));
+    else initiator_.reset(new Initiating(*this, files_, settings_, *this));
   }
 
   // ---- connections
@@ -196,8 +189,7 @@ class Engine : public FIX::Application, FIX::LogFactory {
   void set_expected(const std::string& session, int number) { of(session).setNextTargetMsgSeqNum(number); }
   bool is_logged_on(const std::string& session) { return of(session).isLoggedOn(); }
 
-  // Both numbers are 1 again, and the store is empty, whose old files are no longer its own. Raises where a session is
-  // on a connection.
+  // Both numbers are 1 again, and the store is empty. Raises where a session is on a connection.
   void begin_anew(const std::string& session) {
     if (taken_.count(&of(session))) throw std::runtime_error("on a connection: " + session);
     KeptStore& store = *stores_.stores.at(ids_.at(session));
@@ -211,11 +203,18 @@ class Engine : public FIX::Application, FIX::LogFactory {
     store.may_begin_anew = false;
   }
 
-  // All messages of the store that were numbered, in their order.
-  std::vector<py::bytes> sent(const std::string& session) {
+  // All messages of the store after this number, in their order.
+  std::vector<py::bytes> sent(const std::string& session, int last) {
     std::vector<std::string> found;
-    of(session).getStore()->get(1, of(session).getExpectedSenderNum() - 1, found);
+    of(session).getStore()->get(last + 1, of(session).getExpectedSenderNum() - 1, found);
     return {found.begin(), found.end()};
+  }
+
+  // Puts a message that was sent in an earlier run back into the store.
+  void restore(const std::string& session, int number, const std::string& text) {
+    KeptStore& store = *stores_.stores.at(ids_.at(session));
+    store.set(number, text);
+    store.setNextSenderMsgSeqNum(number + 1);
   }
 
   // ---- what QuickFIX calls
@@ -333,6 +332,7 @@ class Engine : public FIX::Application, FIX::LogFactory {
   std::istringstream text_;
   FIX::SessionSettings settings_;
   KeptStores stores_;
+  FIX::FileStoreFactory files_;  // an initiator's
   Accepts accepts_;
   std::string password_;
   std::vector<Kept> events_;
@@ -365,5 +365,6 @@ PYBIND11_MODULE(_quickfix, module) {
       .def("set_expected", &Engine::set_expected)
       .def("is_logged_on", &Engine::is_logged_on)
       .def("begin_anew", &Engine::begin_anew)
-      .def("sent", &Engine::sent);
+      .def("sent", &Engine::sent, py::arg("session"), py::arg("last") = 0)
+      .def("restore", &Engine::restore);
 }

@@ -26,10 +26,8 @@ JOURNAL = ".journal.csv"
 TOKEN = ".token"
 SUMS = "SHA256SUMS"
 LEFT_OUT = re.compile(r".*\.new|.*\.cut-\d+|" + SUMS)
-STORE, STORED = ("FIX.", "FIXT."), (".seqnums", ".header", ".body")
-"""The files of a session by FIX, in the order in which they are read: what a later one hasn't,
-those before don't know of. The journals behind them have all that members were sent.
-"""
+SENT = "fix.sent"
+"""What sessions by FIX were sent, which is read first: the journals have all of it."""
 NAME = re.compile(r"[^\x00-\x1f\x7f]{1,255}")
 MOST_BYTES = 1 << 30
 """The bytes that a file of a day may have."""
@@ -63,15 +61,13 @@ def read_day(folder: pathlib.Path) -> tuple[Files, int]:
     found = {}
     for name in names:
         content = read_file(folder / name)
-        found[name] = whole_lines(content) if name.endswith((JOURNAL, LOG)) else content
+        found[name] = whole_lines(content) if name.endswith((JOURNAL, LOG, SENT)) else content
     return found, begun
 
 
-def turn_of(name: str) -> tuple[bool, int, str]:
-    """When a file of a day is read: stores first, the log last."""
-    suffix = pathlib.PurePath(name).suffix
-    is_stored = name.startswith(STORE) and suffix in STORED
-    return name == LOG, STORED.index(suffix) if is_stored else len(STORED), name
+def turn_of(name: str) -> tuple[bool, bool, str]:
+    """When a file of a day is read: what was sent first, the log last."""
+    return name == LOG, name != SENT, name
 
 
 def read_file(path: pathlib.Path) -> bytes:
