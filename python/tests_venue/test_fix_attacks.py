@@ -169,7 +169,7 @@ def test_values_that_are_not_taken_are_refused(front: Fronted, pair: tuple[int, 
     assert found[35] == "3" or (found[150], found[39], found[37]) == ("8", "8", "NONE")
 
 
-@pytest.mark.parametrize("kind", ["8", "9", "W", "Y", "E", "AE", "q", "BE"])
+@pytest.mark.parametrize("kind", [*"89WXYhryER", "AE", "BE"])
 def test_other_types_are_refused(front: Fronted, kind: str) -> None:
     peer = front.peer("BOB")
     report: Pairs = [(37, "1"), (17, "x"), (150, "0"), (39, "0"), (55, "XYZ"), (54, "1")]
@@ -179,7 +179,13 @@ def test_other_types_are_refused(front: Fronted, kind: str) -> None:
         "9": [(37, "1"), (11, "x"), (41, "y"), (39, "0"), (434, "1")],
         "W": [(55, "XYZ"), (268, "1"), (269, "0")],
         "Y": [(262, "x")],
+        "X": [(268, "1"), (279, "0")],
+        "r": [(37, "1"), (530, "7"), (531, "7")],
+        "h": [(336, "XYZ"), (340, "2")],
+        "y": [(320, "x"), (322, "y"), (560, "0")],
+        "AE": [(571, "x"), (570, "N"), (55, "XYZ"), (32, "1"), (31, "1"), (75, "20261126")],
     }
+    others["AE"] += [(60, fixing.stamp()), (552, "1"), (54, "1"), (37, "1")]
     peer.say(kind, others.get(kind, [(58, "x")]))
     found = peer.take(lambda it: it[35] in "3j")
     assert (found[35], found[45], found[372], found[380]) == ("j", "2", kind, "3")
