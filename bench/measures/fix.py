@@ -1,13 +1,13 @@
 """Members by FIX 4.4, beside the same members by WebSocket and beside QuickFIX without a venue.
 
 1, 10 and 60 sessions send 1,000, 5,000 and 6,000 orders in a call phase, each the next one once the
-last is answered. The echo is QuickFIX's sessions behind the same loop of Python, which answers each order
-with a report; the engine is QuickFIX's sessions alone, in one process without a socket. Prints the
-orders a second, the milliseconds of an answer at the middle and at the 99th of 100, and the
-processor's seconds of the server and its program. All is right where each journal has all orders
-and is lawful by the program, and the front by FIX, synced, answers at least half as many orders a
-second as the other one with as many members. Needs Debian's python3-aiohttp, libquickfix-dev and
-pybind11-dev.
+last is answered. The echo is QuickFIX's sessions behind the same loop of Python, which answers each
+order with a report; the engine is QuickFIX's sessions alone, in one process without a socket.
+Prints the orders a second, the milliseconds of an answer at the middle and at the 99th of 100, and
+the processor's seconds of the server and its program. All is right where each journal has all
+orders and is lawful by the program, and the front by FIX, synced, answers at least half as many
+orders a second as the other one with as many members. Needs Debian's python3-aiohttp,
+libquickfix-dev and pybind11-dev.
 """
 import argparse
 import contextlib
@@ -30,8 +30,7 @@ sys.path.insert(0, str(measuring.TOP / "build"))
 import debian  # noqa: E402
 
 BENCH = measuring.TOP / "bench"
-ORDERS, ROBOTS = {1: 1_000, 10: 5_000, 60: 6_000}, 2
-"""How many orders so many sessions send."""
+ROBOTS = 2
 ALONE = 10_000
 """How many QuickFIX takes alone."""
 LEAST_SHARE = 0.5
@@ -72,14 +71,15 @@ def comp_ids(count: int) -> list[str]:
     return [f"M{it}" for it in range(count)]
 
 
-def robots(task: venue.Task, port: int, passwords: dict[str, str]) -> venue.Played:
-    """Lets the robots play."""
+def robots(
+    task: venue.Task, port: int, passwords: dict[str, str], orders: int
+) -> venue.Played:
+    """Lets the robots play, each of whom sends this many orders."""
     pipe, those = subprocess.PIPE, [*passwords.items()]
     words = [task.interpreter, str(BENCH / "fix_robots.py")]
     crew = []
     for place in range(min(ROBOTS, len(those))):
         it = subprocess.Popen(words, stdin=pipe, stdout=pipe, text=True)
-        orders = ORDERS[len(those)] // len(those)
         asked = {"port": port, "sessions": those[place::ROBOTS], "orders": orders}
         assert it.stdin is not None and it.stdout is not None
         print(json.dumps(asked), file=it.stdin, flush=True)
@@ -128,7 +128,9 @@ def is_right(program: str, journal: pathlib.Path, orders: int) -> bool:
     return ran.returncode == 0 and f"compared {orders}\n" in ran.stdout
 
 
-def by_fix(task: venue.Task, count: int, is_synced: bool) -> tuple[float, bool]:
+def by_fix(
+    task: venue.Task, count: int, orders: int, is_synced: bool
+) -> tuple[float, bool]:
     """Prints what the front by FIX takes: its orders a second, and whether all is right."""
     with tempfile.TemporaryDirectory() as work:
         folder = pathlib.Path(work)
@@ -136,14 +138,16 @@ def by_fix(task: venue.Task, count: int, is_synced: bool) -> tuple[float, bool]:
             tokens = {it: folder / f"venue/fix.{it}.token" for it in comp_ids(count)}
             passwords = {name: it.read_text().strip() for name, it in tokens.items()}
             before = venue.processor_seconds(child.pid)
-            played = robots(task, port, passwords)
+            played = robots(task, port, passwords, orders)
             processor = venue.processor_seconds(child.pid) - before
         print_row("FIX", count, is_synced, played, processor)
         journal = folder / "venue/XYZ.journal.csv"
         return len(played[1]) / played[0], is_right(task.program, journal, len(played[1]))
 
 
-def by_socket(task: venue.Task, count: int, is_synced: bool) -> tuple[float, bool]:
+def by_socket(
+    task: venue.Task, count: int, orders: int, is_synced: bool
+) -> tuple[float, bool]:
     """Prints what the other front takes: its orders a second, and whether all is right."""
     with tempfile.TemporaryDirectory() as work:
         folder = pathlib.Path(work)
@@ -154,8 +158,8 @@ def by_socket(task: venue.Task, count: int, is_synced: bool) -> tuple[float, boo
                 token = venue.call(f"{url}api/join", body)["token"]
                 hellos.append(json.dumps({"type": "hello", "token": token, "topics": []}))
                 time.sleep(0.1 if count > 10 else 0)
-            orders = [[*map(order_of, range(1, ORDERS[count] // count + 1))] for _ in hellos]
-            one = venue.Task(task.program, task.interpreter, orders)
+            texts = [[*map(order_of, range(1, orders + 1))] for _ in hellos]
+            one = venue.Task(task.program, task.interpreter, texts)
             before = venue.processor_seconds(child.pid)
             played = venue.robots(one, f"{url}api/socket", hellos)
             processor = venue.processor_seconds(child.pid) - before
@@ -171,13 +175,13 @@ def order_of(number: int) -> str:
     return json.dumps(fields | {"quantity": 1 + number % 900, "price": f"{tick / 100:.2f}"})
 
 
-def echo(task: venue.Task, count: int) -> None:
+def echo(task: venue.Task, count: int, orders: int) -> None:
     """Prints what the echo takes."""
     with tempfile.TemporaryDirectory() as work:
         words = [task.interpreter, str(BENCH / "fix_echo.py"), work, *comp_ids(count)]
         with venue.started(words, environment_of(task), "^echo") as (child, said):
             before = venue.processor_seconds(child.pid)
-            played = robots(task, int(said.split()[1]), dict.fromkeys(comp_ids(count), "x"))
+            played = robots(task, int(said.split()[1]), dict.fromkeys(comp_ids(count), "x"), orders)
             processor = venue.processor_seconds(child.pid) - before
         print_row("echo", count, False, played, processor)
 
@@ -206,17 +210,18 @@ def measure(asked: argparse.Namespace) -> bool:
     task = venue.Task(program, debian.python_with(("aiohttp",)), [])
     build = [task.interpreter, "-P", "-m", "callauction.fix.build"]
     subprocess.run(build, env=environment_of(task), check=True, stdout=subprocess.DEVNULL)
-    is_good = True
+    are_whole, is_fast = True, True
     waits = ("middle, ms", "99th of 100, ms")
     head("server", "sessions", "synced", "orders a second", *waits, "processor, s")
     for _ in range(asked.runs):
         engine(task)
-        for count in ORDERS:
-            echo(task, count)
+        for each in asked.sessions.split(","):
+            count, orders = map(int, each.split(":"))
+            echo(task, count, orders // count)
             for is_synced in (True, False):
-                fix, is_right_by_fix = by_fix(task, count, is_synced)
-                other, is_right_by_socket = by_socket(task, count, is_synced)
-                is_good &= is_right_by_fix and is_right_by_socket
-                is_good &= not is_synced or fix >= LEAST_SHARE * other
-    print("\njournals and shares: " + ("as they may be" if is_good else "NOT as they may be"))
-    return is_good
+                fix, is_right_by_fix = by_fix(task, count, orders // count, is_synced)
+                other, is_right_by_socket = by_socket(task, count, orders // count, is_synced)
+                are_whole &= is_right_by_fix and is_right_by_socket
+                is_fast &= not is_synced or fix >= LEAST_SHARE * other
+    print("\njournals: " + ("whole and lawful" if are_whole else "NOT whole and lawful"))
+    return are_whole and is_fast

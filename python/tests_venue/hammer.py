@@ -1,6 +1,6 @@
 """Hammers the module of QuickFIX with messages that are right, cut, spoiled or none, from a seed:
-`hammer.py FOLDER SEED COUNT`. Prints how many were sent and taken. Whether it errs with memory is seen by
-the sanitizers of the module; what it says is of no matter.
+`hammer.py FOLDER SEED COUNT`. Prints how many were sent and taken. Whether it errs with memory is
+seen by the sanitizers of the module; what it says is of no matter.
 """
 import contextlib
 import pathlib

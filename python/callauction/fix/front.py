@@ -221,7 +221,8 @@ class Front:
     def _failed(self, fault: OSError) -> None:
         """What sessions are sent can't be written: they are sent nothing until it can."""
         if not self._has_failed:
-            NOTICES.error("fix halted: %s can't be written: %s", self._sent.log.path, fault.strerror)
+            path = self._sent.log.path
+            NOTICES.error("fix halted: %s can't be written: %s", path, fault.strerror)
         self._has_failed = True
 
     # ---- bytes
