@@ -122,6 +122,29 @@ def test_strangers_are_sent_nothing(front: Fronted, kind: str) -> None:
     assert waits(front.peer("BOB"), 3) < MOST_WAIT
 
 
+@pytest.mark.parametrize(
+    "fields, text",
+    [
+        ([(98, "0")], "Required tag missing: 108"),
+        ([(98, "0"), (108, "x")], "Incorrect data format for value: x: 108"),
+        ([(98, "0"), (108, "30"), (464, "Y")], "Invalid tag number: 464"),
+        ([(98, "0"), (108, "30"), (8013, "")], "Tag specified without a value: 8013"),
+    ],
+)
+def test_a_logon_that_can_not_be_taken_is_told_why(
+    front: Fronted, fields: Pairs, text: str
+) -> None:
+    """Where its password is right; then a right one is taken, under the next number."""
+    peer = Peer(front.port, "BOB")
+    peer.connect()
+    peer.say("A", [*fields, (554, front.password("BOB"))])
+    assert peer.take(lambda it: True)[58] == text
+    with pytest.raises(Closed):
+        peer.take(lambda it: False)
+    assert peer.logon(front.password("BOB"))[34] == "2"
+    assert waits(peer, 3) < MOST_WAIT
+
+
 def test_garbage_is_ended_in_time(front: Fronted) -> None:
     beside = front.peer("BOB")
     half = [socket.create_connection(("127.0.0.1", front.port)) for _ in range(40)]

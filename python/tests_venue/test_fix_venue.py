@@ -169,6 +169,41 @@ def test_the_next_round_ends_the_orders_of_the_last(tmp_path: pathlib.Path) -> N
         assert reports(peer) == [("XYZ.round2.1", "a2", "0", "9")]
 
 
+def test_replaces_of_a_partly_filled_order(tmp_path: pathlib.Path) -> None:
+    """The total may not be less than what was executed; an order goes by any of its ids."""
+    port = served.free_port()
+    with on(tmp_path, fixing.day_of(port, "ALICE", "BOB"), port, "ALICE", "BOB") as (
+        venue,
+        [alice, bob],
+    ):
+        venue.do("start")
+        alice.enter("a1", "1", 100, "2.00")
+        bob.enter("b1", "2", 40, "1.90")
+        bob.replace("b1", "b2", "2", 120, "1.95")
+        bob.take(lambda it: it.get(11) == "b2")
+        alice.take(lambda it: it.get(11) == "a1")
+        venue.do("uncross")
+        trade = bob.take(lambda it: it.get(150) == "F")
+        assert [trade[it] for it in (38, 32, 14, 151, 39)] == ["120", "100", "100", "20", "1"]
+        venue.do("start")
+        for client, total in (("b3", 50), ("b4", 100)):
+            bob.replace("b2", client, "2", total, "1.95")
+            found = bob.take(lambda it: it.get(11) == client)
+            assert (found[35], found[39], found[102]) == ("9", "1", "99")
+            text = "OrderQty is the total, and 100 were executed: cancel what is left"
+            assert found[58] == text
+        bob.replace("b2", "b5", "2", 101, "2.50")
+        found = bob.take(lambda it: it.get(11) == "b5")
+        expected = {150: "5", 39: "1", 38: "101", 14: "100", 151: "1", 44: "2.50", 6: "1.95"}
+        assert {tag: found[tag] for tag in expected} == expected
+        bob.cancel("b2", "b6", "2")
+        found = bob.take(lambda it: it.get(11) == "b6")
+        assert [found[it] for it in (150, 39, 14, 151, 41)] == ["4", "4", "100", "0", "b2"]
+        bob.cancel("b6", "b7", "2")
+        found = bob.take(lambda it: it.get(11) == "b7")
+        assert [found[it] for it in (35, 39, 102)] == ["9", "4", "0"]
+
+
 def test_an_interrupted_uncross_ends_nothing(tmp_path: pathlib.Path) -> None:
     port = served.free_port()
     day = fixing.day_of(port, "ALICE") + '[[instrument]]\nname = "XYZ"\nrange = "0.10"\n'

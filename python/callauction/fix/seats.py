@@ -383,7 +383,7 @@ class Seat:
         asked: dict[str, Any] = {"type": "delete", "order": held.order}
         if given[Tag.MSG_TYPE] == Type.REPLACE:
             check_kept(given, held)
-            left = max(0, shares_of(given, Tag.ORDER_QTY) - held.filled)
+            left = left_of(shares_of(given, Tag.ORDER_QTY), held)
             asked |= {"type": "change", "price": price_of(given), "quantity": left}
         self._submit(given, number, asked, "")
 
@@ -411,16 +411,18 @@ def side_of(given: Given) -> str:
 
 def price_of(given: Given) -> str:
     """The limit that a message asks for. Raises SeatError."""
-    kind = given[Tag.ORD_TYPE]
+    kind, price = given[Tag.ORD_TYPE], given.get(Tag.PRICE, AT_MARKET)
     if kind not in (MARKET, LIMIT) or (kind == LIMIT) != (Tag.PRICE in given):
         raise SeatError(UNSUPPORTED, "OrdType is 1, or 2 with a Price")
-    return given.get(Tag.PRICE, AT_MARKET)
+    if kind == LIMIT and not messages.PRICE.fullmatch(price):
+        raise SeatError(OTHER, f"Price {price} is none such as 20.05")
+    return price
 
 
 def shares_of(given: Given, tag: Tag) -> int:
     """A quantity of whole shares. Raises SeatError."""
     if not (found := SHARES.fullmatch(given[tag])):
-        raise SeatError(UNSUPPORTED, "quantities are whole shares")
+        raise SeatError(UNSUPPORTED, "quantities are whole shares, of at most 10 digits")
     return int(found[1])
 
 
@@ -431,6 +433,14 @@ def peak_of(given: Given) -> str:
     if len(found) > 1:
         raise SeatError(UNSUPPORTED, "MaxFloor and DisplayQty are two peaks")
     return next(iter(found), "")
+
+
+def left_of(total: int, held: Held) -> int:
+    """What of a new total of an order is open. Raises SeatError where that was executed."""
+    if held.filled and total <= held.filled:
+        text = f"OrderQty is the total, and {held.filled} were executed: cancel what is left"
+        raise SeatError(OTHER, text)
+    return total - held.filled
 
 
 def check_kept(given: Given, held: Held) -> None:

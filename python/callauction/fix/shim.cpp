@@ -279,14 +279,47 @@ class Engine : public FIX::Application, FIX::LogFactory {
         return false;
       }
       wire.unread = 0;
-      if (!wire.session && !begins(wire, text)) wire.is_closed = true;
+      const bool is_first = !wire.session;
+      if (is_first && !begins(wire, text)) wire.is_closed = true;
       else wire.session->next(text, FIX::UtcTimeStamp());
+      if (is_first && !wire.is_closed && wire.out.empty()) say_why(wire, text);
     } catch (FIX::InvalidMessage&) {
       wire.is_closed = !wire.session || !wire.session->isLoggedOn();
     } catch (FIX::Exception&) {
       wire.is_closed = true;
     }
     return true;
+  }
+
+  // Ends a connection whose Logon has the right password and is none that can be taken, with a Logout that says why:
+  // QuickFIX would say nothing.
+  void say_why(Wire& wire, const std::string& text) {
+    FIX::Message message;
+    message.getHeader().setField(FIX::FIELD::MsgType, "5");
+    message.setField(FIX::FIELD::Text, fault_of(*wire.session, text));
+    FIX::Session::sendToTarget(message, wire.session->getSessionID());
+    wire.is_closed = true;
+  }
+
+  // What is wrong with a message of the session, by its dictionary.
+  static std::string fault_of(const FIX::Session& session, const std::string& text) {
+    const FIX::BeginString begin(session.getSessionID().getBeginString());
+    const FIX::DataDictionary& known = session.getDataDictionaryProvider().getSessionDataDictionary(begin);
+    try {
+      known.validate(FIX::Message(text, known));
+    } catch (FIX::InvalidTagNumber& it) { return named(it, it.field);
+    } catch (FIX::RequiredTagMissing& it) { return named(it, it.field);
+    } catch (FIX::NoTagValue& it) { return named(it, it.field);
+    } catch (FIX::IncorrectTagValue& it) { return named(it, it.field);
+    } catch (FIX::IncorrectDataFormat& it) { return named(it, it.field);
+    } catch (FIX::TagOutOfOrder& it) { return named(it, it.field);
+    } catch (FIX::RepeatedTag& it) { return named(it, it.field);
+    } catch (FIX::Exception& it) { return it.what();
+    }
+    return "this Logon can't be taken";
+  }
+  static std::string named(const FIX::Exception& fault, int field) {
+    return fault.what() + std::string(": ") + std::to_string(field);
   }
 
   // Whether a first message is a Logon with the password of a session that isn't on. No other reaches its session: that
