@@ -80,6 +80,15 @@ def test_the_copy_is_the_operator_s_alone(tmp_path: pathlib.Path) -> None:
         Peer(port, "COPY").logon(venue.operator)
 
 
+FIRST = [
+    ("XYZ.1", "a1", "0"),
+    ("XYZ.2", "a2", "0"),
+    ("XYZ.3.1b", "a1", "F"),
+    ("XYZ.3.1a", "a2", "F"),
+]
+"""What the journal gave of a client's orders before it lost its numbers."""
+
+
 def reset(venue: served.Served, name: str) -> tuple[int, object]:
     """What is answered to the operator who resets a session."""
     return venue.call("api/operator", {"do": "reset", "session": name}, venue.operator)
@@ -106,12 +115,7 @@ def test_a_client_that_has_lost_its_numbers(tmp_path: pathlib.Path) -> None:
             first.all()
         second = Peer(port, "ALICE")
         second.logon(fixing.token_of(folder, "ALICE"))
-        assert again(second) == [
-            ("XYZ.1", "a1", "0"),
-            ("XYZ.2", "a2", "0"),
-            ("XYZ.3.1b", "a1", "F"),
-            ("XYZ.3.1a", "a2", "F"),
-        ]
+        assert again(second) == FIRST
         venue.do("start")
         second.enter("a3", "1", 7, "1.90")
         assert second.take(lambda it: it.get(11) == "a3")[17] == "XYZ.4"
@@ -126,8 +130,7 @@ def test_a_client_that_has_lost_its_numbers(tmp_path: pathlib.Path) -> None:
         assert reset(venue, "ALICE")[0] == 200
         third = Peer(port, "ALICE")
         third.logon(fixing.token_of(folder, "ALICE"))
-        events = ["XYZ.1", "XYZ.2", "XYZ.3.1b", "XYZ.3.1a", "XYZ.4", "XYZ.5"]
-        assert [it[0] for it in again(third)] == events
+        assert again(third) == [*FIRST, ("XYZ.4", "a3", "0"), ("XYZ.5", "a4", "0")]
         number = third.say("H", [(11, "a3"), (55, "XYZ"), (54, "1")])
         found = third.take(lambda it: it.get(11) == "a3" and it[150] == "I")
         assert found[17] == f"R.ALICE.2.{number}"

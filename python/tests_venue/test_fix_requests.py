@@ -1,8 +1,11 @@
 """What members by FIX ask beside orders: all orders deleted or shown, the list of instruments, the
 phases, the market as it changes; and orders that end with their connection.
 """
+import contextlib
+import dataclasses
 import pathlib
 import time
+from collections.abc import Iterator
 
 import fixing
 import psutil
@@ -279,17 +282,43 @@ def test_a_subscription_has_its_own_id(tmp_path: pathlib.Path) -> None:
         rows(peer, "W")
 
 
+@dataclasses.dataclass
+class Killable:
+    """A venue that is killed and begins again."""
+
+    words: list[object]
+    venue: served.Served
+
+    def again(self) -> served.Served:
+        """Kills it, and begins it again."""
+        self.venue.child.kill()
+        self.venue.child.communicate()
+        self.venue = served.started(*self.words)
+        return self.venue
+
+
+@contextlib.contextmanager
+def killable(folder: pathlib.Path, day: str) -> Iterator[Killable]:
+    """A venue of a day in a call phase."""
+    (folder / "day.toml").write_text(day, "utf-8")
+    words: list[object] = ["--day", folder / "day.toml", "--folder", folder / "venue"]
+    words += ["--port", served.free_port()]
+    found = Killable(words, served.started(*words))
+    try:
+        found.venue.do("start")
+        yield found
+        found.venue.end()
+    finally:
+        found.venue.child.kill()
+        found.venue.child.communicate()
+
+
 def test_orders_end_with_their_connection(tmp_path: pathlib.Path) -> None:
-    """Also where the venue was killed; the orders of others, of the pages and of a session that
-    didn't ask for it stay.
+    """Also where the venue was killed; the orders of others and of a session that didn't ask for it
+    stay.
     """
     port, folder = served.free_port(), tmp_path / "venue"
-    day = fixing.day_of(port, "ALICE", "BOB")
-    (tmp_path / "day.toml").write_text(day, "utf-8")
-    words = ["--day", tmp_path / "day.toml", "--folder", folder, "--port", served.free_port()]
-    venue = served.started(*words)
-    try:
-        venue.do("start")
+    with killable(tmp_path, fixing.day_of(port, "ALICE", "BOB")) as day:
         alice, bob = Peer(port, "ALICE"), Peer(port, "BOB")
         assert alice.logon(fixing.token_of(folder, "ALICE"), (8013, "Y"))[8013] == "Y"
         assert 8013 not in bob.logon(fixing.token_of(folder, "BOB"))
@@ -305,9 +334,7 @@ def test_orders_end_with_their_connection(tmp_path: pathlib.Path) -> None:
         assert {it[11] for it in seen if it[150] == "4"} == {"a1", "a2", "a3"}
         alice.enter("a4", "1", 40, "2.00")
         alice.take(lambda it: it.get(11) == "a4")
-        venue.child.kill()
-        venue.child.communicate()
-        venue = served.started(*words)
+        day.again()
         alice.logon(fixing.token_of(folder, "ALICE"))
         assert {it[11] for it in settled(alice, 4) if it[150] == "4"} == {"a1", "a2", "a3", "a4"}
         alice.say("AF", [(584, "s1"), (585, "7")])
@@ -320,10 +347,6 @@ def test_orders_end_with_their_connection(tmp_path: pathlib.Path) -> None:
         bob.logon(fixing.token_of(folder, "BOB"))
         bob.say("H", [(11, "b1"), (55, "XYZ"), (54, "2")])
         assert bob.take(lambda it: it.get(150) == "I")[39] == "0"
-        venue.end()
-    finally:
-        venue.child.kill()
-        venue.child.communicate()
 
 
 def settled(peer: Peer, count: int) -> list[Message]:
@@ -340,26 +363,21 @@ def test_a_gap_in_place_of_what_was_not_executed(tmp_path: pathlib.Path) -> None
     read them; the client has lost them, and fills the gap: it is told that nothing was done.
     """
     port, folder = served.free_port(), tmp_path / "venue"
-    (tmp_path / "day.toml").write_text(fixing.day_of(port, "ALICE"), "utf-8")
-    words = ["--day", tmp_path / "day.toml", "--folder", folder, "--port", served.free_port()]
-    venue = served.started(*words)
-    try:
-        venue.do("start")
+    with killable(tmp_path, fixing.day_of(port, "ALICE")) as day:
         peer = Peer(port, "ALICE")
         peer.logon(fixing.token_of(folder, "ALICE"))
         peer.enter("a1", "1", 10, "2.00")
         peer.take(lambda it: it.get(11) == "a1")
-        [program] = psutil.Process(venue.child.pid).children()
+        [program] = psutil.Process(day.venue.child.pid).children()
         program.suspend()
         peer.enter("a2", "2", 20, "3.00")
         peer.replace("a1", "a3", "1", 15, "2.01")
         peer.cancel("a1", "a4", "1")
         peer.say("q", [(11, "a5"), (530, "7"), (60, fixing.stamp())])
         until_logged(folder, '"11":"a4"')
-        venue.child.kill()
+        day.venue.child.kill()
         program.kill()
-        venue.child.communicate()
-        venue = served.started(*words)
+        day.again()
         peer.sent = {number: ("0", []) for number in peer.sent}
         peer.logon(fixing.token_of(folder, "ALICE"))
         found = {it[11]: it for it in peer.all()}
@@ -375,10 +393,6 @@ def test_a_gap_in_place_of_what_was_not_executed(tmp_path: pathlib.Path) -> None
         assert {found[it][58] for it in ("a2", "a3", "a4")} == {NOT_DONE}
         peer.enter("a2", "2", 20, "3.00")
         assert reports(peer)[-1] == ("XYZ.2", "a2", "0", "20")
-        venue.end()
-    finally:
-        venue.child.kill()
-        venue.child.communicate()
 
 
 def until_logged(folder: pathlib.Path, text: str) -> None:

@@ -18,7 +18,7 @@ from test_fix_venue import Initiator
 
 FIELD = re.compile(r"FIELD_SET\(\*this, FIX::(\w+)\)")
 OTHERS = {
-    *("VenueEventID", "TrdMatchID"),
+    *("VenueEventID", "TrdMatchID", "DisplayQty"),
     *("MinPriceIncrement", "LowLimitPrice", "HighLimitPrice"),
 }
 """Fields that the standard hasn't in these messages, as docs/FIX.md says."""

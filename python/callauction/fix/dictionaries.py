@@ -18,15 +18,12 @@ CATEGORIES = {TRANSPORT: "admin", APPLICATION: "app"}
 """What the messages of each are, by `msgcat`."""
 MORE = {
     "Logon": {"DefaultApplVerID": "Y"},
-    "NewOrderSingle": {"DisplayQty": "N"},
-    "OrderCancelReplaceRequest": {"DisplayQty": "N"},
     "OrderMassCancelReport": {"MassActionReportID": "Y"},
 }
 """What messages of FIX 5.0SP2 have more, and whether they must."""
 FIELDS = {
     "ApplVerID": ("1128", "STRING"),
     "DefaultApplVerID": ("1137", "STRING"),
-    "DisplayQty": ("1138", "QTY"),
     "MassActionReportID": ("1369", "STRING"),
 }
 """Their tags and types."""

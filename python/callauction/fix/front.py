@@ -257,7 +257,8 @@ class Front:
         """A session hears of what changes."""
         if (wire := self._on.get(seat)) is not None:
             wire.topics = STATES
-            self._venue.enter(wire)
+            if wire.member is None:
+                self._venue.enter(wire)
 
     def has_news(self) -> None:
         """Something has changed that a session asked for."""
