@@ -23,7 +23,7 @@
  *   moved, if its old place is set to zeros, and given to another thread.
  * - One call at a time has a handle; callauction_board_open and callauction_board_close have all handles of their
  *   board. Two calls at once on one handle are found by a flag in it, and the later one answers
- *   CALLAUCTION_ERROR_BUSY and does nothing. The flag is set in one atomic step, so calls at once are always found;
+ *   CALLAUCTION_ERROR_MISUSED and does nothing. The flag is set in one atomic step, so calls at once are always found;
  *   it doesn't find a handle that was copied, moved or freed while a call has it.
  * - No pointer is NULL, but that of an array of length 0. Each points at as many structs as the call says, aligned as
  *   their type wants, and what one pointer of a call leads to doesn't overlap what another does.
@@ -62,14 +62,16 @@ typedef enum callauction_error {
     CALLAUCTION_ERROR_FULL = 8,          /* as many commands were applied or recorded as may be */
     CALLAUCTION_ERROR_BAD_LENGTH = 9,    /* an array has another length than the call wants */
     CALLAUCTION_ERROR_NO_CONFIG = 10,    /* the struct is no config */
-    CALLAUCTION_ERROR_BUSY = 11,         /* another call has the handle, or the board: try again */
+    CALLAUCTION_ERROR_BUSY = 11,         /* another member's call has the board: try again */
     CALLAUCTION_ERROR_BEHIND = 12,       /* the member has seen or counted other calls than the board's history has */
     CALLAUCTION_ERROR_CLOSED = 13,       /* the board was closed */
     CALLAUCTION_ERROR_NO_MEMBER = 14,    /* the handle holds no member */
     CALLAUCTION_ERROR_MISSING_MEMBER = 15, /* the handles don't hold all members of a board in their order */
     CALLAUCTION_ERROR_OVERTAKEN = 16,    /* the board's story, the list of its calls, has one that its history
                                             hasn't; no run is known to meet it */
-    CALLAUCTION_ERROR_BAD_MEMBER = 17    /* the number is neither a member's nor CALLAUCTION_ALL_MEMBERS */
+    CALLAUCTION_ERROR_BAD_MEMBER = 17,   /* the number is neither a member's nor CALLAUCTION_ALL_MEMBERS */
+    CALLAUCTION_ERROR_MISUSED = 18       /* another call has the handle: two threads use one, which the caller has to
+                                            mend */
 } callauction_error;
 
 /* ---- the structs: a flag is 0 or 1, and a value whose flag is 0 is 0 ---- */
@@ -195,13 +197,26 @@ typedef struct callauction_order {
     uint64_t quantity;   /* the open shares */
     uint64_t visible;    /* those that are shown: the lesser of peak and open shares */
     uint64_t filled;     /* those that the day's trades executed of it */
+    uint64_t peak;       /* the most shares that it shows; 0 where has_peak is 0 */
     uint32_t id;
     uint32_t limit;      /* a tick; 0 where has_limit is 0, of a market order */
     uint8_t member;
     uint8_t side;        /* CALLAUCTION_SIDE_BID or CALLAUCTION_SIDE_ASK */
     uint8_t restriction; /* callauction_restriction */
     uint8_t has_limit;
+    uint8_t has_peak;
 } callauction_order;
+
+/* What an uncross did to an order of which it executed shares, or which it took out. */
+typedef struct callauction_outcome {
+    uint64_t filled; /* the shares that it executed of the order, as its trades say */
+    uint64_t left;   /* those that it left: they are open, unless expired is 1 */
+    uint32_t id;
+    uint32_t tick;   /* the auction price; 0 where there was none */
+    uint8_t member;
+    uint8_t side;    /* CALLAUCTION_SIDE_BID or CALLAUCTION_SIDE_ASK */
+    uint8_t expired; /* 1 where the order was for this auction alone, and what was left of it was taken out */
+} callauction_outcome;
 
 /* Whose orders: those of a member, 0 to 255, or of all. */
 enum { CALLAUCTION_ALL_MEMBERS = 256 };
@@ -255,66 +270,83 @@ const char *callauction_refusal_text(uint32_t refusal);
  * day wants is taken here. IN_USE where the handle holds an auction; else NO_CONFIG where has_range isn't 0 or 1, or
  * range isn't 0 without it; else the first fault of the config, BAD_BOUNDS, BAD_REFERENCE or BAD_CAPACITY; else
  * NO_MEMORY where memory is refused. */
-CALLAUCTION_RESULT uint32_t callauction_open(callauction_handle *handle, const callauction_config *config);
+CALLAUCTION_RESULT callauction_error callauction_open(callauction_handle *handle, const callauction_config *config);
 
 /* Applies a command and writes its reply. NO_COMMAND where a number of the struct that its tag needs is none of its
  * enum, a flag isn't 0 or 1, or a value isn't 0 whose flag is; FULL where max_calls commands were applied. A command
  * that the auction refuses is no error: its reply is REFUSED. */
-CALLAUCTION_RESULT uint32_t callauction_apply(callauction_handle *handle, const callauction_command *command,
-                                              callauction_reply *reply);
+CALLAUCTION_RESULT callauction_error callauction_apply(callauction_handle *handle,
+                                                       const callauction_command *command,
+                                                       callauction_reply *reply);
 
 /* Applies commands one after another, each as callauction_apply, up to the first error, which it answers, and writes
  * how many were applied, and their replies; those after stay as they were. BAD_LENGTH where the two counts differ. */
-CALLAUCTION_RESULT uint32_t callauction_apply_many(callauction_handle *handle, const callauction_command *commands,
-                                                   size_t command_count, callauction_reply *replies,
-                                                   size_t reply_count, size_t *applied);
+CALLAUCTION_RESULT callauction_error callauction_apply_many(callauction_handle *handle,
+                                                            const callauction_command *commands,
+                                                            size_t command_count, callauction_reply *replies,
+                                                            size_t reply_count, size_t *applied);
+
+/* Applies an uncross of member 0, as callauction_apply, writes its reply, and what it did to each order of which it
+ * executed shares or which it took out, in the price-time priority that they had, bids before asks: as many as there
+ * are and as fit, and how many it wrote. They are at most max_open. An uncross that was interrupted or refused did
+ * nothing to any. FULL; else NO_MEMORY, as it takes memory while it runs. */
+CALLAUCTION_RESULT callauction_error callauction_uncross(callauction_handle *handle, callauction_reply *reply,
+                                                         callauction_outcome *outcomes, size_t outcome_count,
+                                                         size_t *copied);
 
 /* Writes what is shown, PRICED or UNPRICED. It isn't counted as a call of a member, and works after the day too. */
-CALLAUCTION_RESULT uint32_t callauction_display(const callauction_handle *handle, callauction_reply *shown);
+CALLAUCTION_RESULT callauction_error callauction_display(const callauction_handle *handle,
+                                                         callauction_reply *shown);
 
 /* Copies the shares bid and offered by the orders that count, with a limit at each tick from low to high, and writes
  * those of the market orders. BAD_LENGTH where a count isn't high - low + 1. */
-CALLAUCTION_RESULT uint32_t callauction_ladder(const callauction_handle *handle, uint64_t *bids, size_t bid_count,
-                                               uint64_t *asks, size_t ask_count, callauction_market_orders *market);
+CALLAUCTION_RESULT callauction_error callauction_ladder(const callauction_handle *handle, uint64_t *bids,
+                                                        size_t bid_count, uint64_t *asks, size_t ask_count,
+                                                        callauction_market_orders *market);
 
 /* Copies the trades of the day after the first `seen`, as many as there are and as fit, and writes how many it
  * copied. */
-CALLAUCTION_RESULT uint32_t callauction_trades(const callauction_handle *handle, size_t seen,
-                                               callauction_trade *trades, size_t trade_count, size_t *copied);
+CALLAUCTION_RESULT callauction_error callauction_trades(const callauction_handle *handle, size_t seen,
+                                                        callauction_trade *trades, size_t trade_count,
+                                                        size_t *copied);
 
 /* Copies the open orders of a member, or of all, in price-time priority, as many as there are and as fit, and writes
  * how many it copied: bids before asks, also those that wait for another auction. BAD_MEMBER; NO_MEMORY, as it takes
  * memory while it runs. */
-CALLAUCTION_RESULT uint32_t callauction_orders(const callauction_handle *handle, uint32_t member,
-                                               callauction_order *orders, size_t order_count, size_t *copied);
+CALLAUCTION_RESULT callauction_error callauction_orders(const callauction_handle *handle, uint32_t member,
+                                                        callauction_order *orders, size_t order_count,
+                                                        size_t *copied);
 
 /* As callauction_orders, the orders of all that an uncross now would take out because they are for its auction alone,
  * with what would be left of them then: none after the day, and where the uncross would be interrupted. Called before
  * an uncross, it says which orders that one takes out. */
-CALLAUCTION_RESULT uint32_t callauction_expiring(const callauction_handle *handle, callauction_order *orders,
-                                                 size_t order_count, size_t *copied);
+CALLAUCTION_RESULT callauction_error callauction_expiring(const callauction_handle *handle,
+                                                          callauction_order *orders, size_t order_count,
+                                                          size_t *copied);
 
 /* Writes how many commands were applied, the refused ones among them. */
-CALLAUCTION_RESULT uint32_t callauction_calls(const callauction_handle *handle, uint32_t *calls);
+CALLAUCTION_RESULT callauction_error callauction_calls(const callauction_handle *handle, uint32_t *calls);
 
 /* Writes where the day is, which is no call of a member. */
-CALLAUCTION_RESULT uint32_t callauction_state(const callauction_handle *handle, callauction_day_state *state);
+CALLAUCTION_RESULT callauction_error callauction_state(const callauction_handle *handle,
+                                                       callauction_day_state *state);
 
 /* Writes what the auction was opened with. */
-CALLAUCTION_RESULT uint32_t callauction_config_of(const callauction_handle *handle, callauction_config *config);
+CALLAUCTION_RESULT callauction_error callauction_config_of(const callauction_handle *handle,
+                                                           callauction_config *config);
 
 /* Goes back to the opening, as if the auction had just been opened. It takes no memory. */
-CALLAUCTION_RESULT uint32_t callauction_reset(callauction_handle *handle);
+CALLAUCTION_RESULT callauction_error callauction_reset(callauction_handle *handle);
 
 /* The other handle gets an auction of its own, a copy of this one as it is now; what is done to one isn't seen in the
  * other. Where it holds an auction with the same bounds, max_open and max_calls, that one is written over, and no
  * memory is taken. NO_AUCTION where `handle` holds none; else IN_USE where `other` holds any other auction; else
- * NO_MEMORY where memory is refused. BUSY where both are one. */
-CALLAUCTION_RESULT uint32_t callauction_clone(const callauction_handle *handle, callauction_handle *other);
+ * NO_MEMORY where memory is refused. MISUSED where both are one. */
+CALLAUCTION_RESULT callauction_error callauction_clone(const callauction_handle *handle, callauction_handle *other);
 
 /* Gives up the auction and its memory; the handle then holds none, and may be opened again. On a handle that holds
  * none, as at a second close, it answers NO_AUCTION and does nothing. */
-uint32_t callauction_close(callauction_handle *handle);
+callauction_error callauction_close(callauction_handle *handle);
 
 /* ---- a board: members call at once, one thread each ---- */
 
@@ -322,8 +354,8 @@ uint32_t callauction_close(callauction_handle *handle);
  * day wants is taken here. IN_USE where a handle holds a member; else NO_CONFIG; else BAD_CAPACITY for more than 255
  * handles; else BAD_BOUNDS, BAD_REFERENCE or BAD_CAPACITY, the first of these, the last one too where there aren't 1 to
  * 64 handles; else NO_MEMORY. */
-CALLAUCTION_RESULT uint32_t callauction_board_open(callauction_member *members, size_t member_count,
-                                                   const callauction_config *config);
+CALLAUCTION_RESULT callauction_error callauction_board_open(callauction_member *members, size_t member_count,
+                                                            const callauction_config *config);
 
 /* Calls a command of the handle's member on its board; the struct's `member` isn't read. The call is recorded in the
  * board's history after all that this member has seen, and its receipt has its number there and the reply of one
@@ -331,60 +363,64 @@ CALLAUCTION_RESULT uint32_t callauction_board_open(callauction_member *members, 
  * call had the board at each of 1,000 tries (callauction_board_call_waiting waits), or CLOSED; else FULL where the
  * history has max_calls entries; else BEHIND where the member has seen more calls than the history has, or counted
  * others than it has of the member; else OVERTAKEN. */
-CALLAUCTION_RESULT uint32_t callauction_board_call(callauction_member *member, const callauction_command *command,
-                                                   callauction_receipt *receipt);
+CALLAUCTION_RESULT callauction_error callauction_board_call(callauction_member *member,
+                                                            const callauction_command *command,
+                                                            callauction_receipt *receipt);
 
 /* Calls commands one after another, each as callauction_board_call, up to the first error, which it answers, with the
  * lock held all the while: no other call comes between them, so their numbers follow one another. It writes how many
  * were recorded, and their receipts; those after stay as they were. NO_MEMBER; else BAD_LENGTH where the two counts
  * differ; else BUSY or CLOSED, and none was called. */
-CALLAUCTION_RESULT uint32_t callauction_board_apply_many(callauction_member *member,
-                                                         const callauction_command *commands, size_t command_count,
-                                                         callauction_receipt *receipts, size_t receipt_count,
-                                                         size_t *applied);
+CALLAUCTION_RESULT callauction_error callauction_board_apply_many(callauction_member *member,
+                                                                  const callauction_command *commands,
+                                                                  size_t command_count,
+                                                                  callauction_receipt *receipts,
+                                                                  size_t receipt_count, size_t *applied);
 
 /* Writes how many calls the board has had and what is shown after them. It takes no lock and waits for nobody; only a
  * board's first look takes the lock as a call does, as calls before it spend no time on what nobody looks at; where the
  * lock is BUSY all the while it shows what the member has seen. It never goes back: all that the member has seen, its
  * own calls among it, comes before. After the board was closed it shows the last. */
-CALLAUCTION_RESULT uint32_t callauction_board_look(callauction_member *member, callauction_shown *shown);
+CALLAUCTION_RESULT callauction_error callauction_board_look(callauction_member *member, callauction_shown *shown);
 
 /* As callauction_ladder, callauction_trades and callauction_state, after as many calls as they write, none of which the
  * member hasn't seen then. They take the lock as a call does: BUSY or CLOSED; else BAD_LENGTH, of a ladder; else BEHIND
  * where the member has seen more calls than the history has. */
-CALLAUCTION_RESULT uint32_t callauction_board_ladder(callauction_member *member, uint64_t *bids, size_t bid_count,
-                                                     uint64_t *asks, size_t ask_count,
-                                                     callauction_market_orders *market, uint32_t *calls);
-CALLAUCTION_RESULT uint32_t callauction_board_trades(callauction_member *member, size_t seen,
-                                                     callauction_trade *trades, size_t trade_count, size_t *copied,
-                                                     uint32_t *calls);
-CALLAUCTION_RESULT uint32_t callauction_board_state(callauction_member *member, callauction_day_state *state);
+CALLAUCTION_RESULT callauction_error callauction_board_ladder(callauction_member *member, uint64_t *bids,
+                                                              size_t bid_count, uint64_t *asks, size_t ask_count,
+                                                              callauction_market_orders *market, uint32_t *calls);
+CALLAUCTION_RESULT callauction_error callauction_board_trades(callauction_member *member, size_t seen,
+                                                              callauction_trade *trades, size_t trade_count,
+                                                              size_t *copied, uint32_t *calls);
+CALLAUCTION_RESULT callauction_error callauction_board_state(callauction_member *member,
+                                                             callauction_day_state *state);
 
 /* As callauction_orders, of the member `of` or of all, and callauction_expiring, after as many calls as they write,
  * none of which the handle's member hasn't seen then. They have the lock, and take memory, while they run: BAD_MEMBER;
  * else BUSY or CLOSED; else NO_MEMORY; else BEHIND as above. */
-CALLAUCTION_RESULT uint32_t callauction_board_orders(callauction_member *member, uint32_t of,
-                                                     callauction_order *orders, size_t order_count, size_t *copied,
-                                                     uint32_t *calls);
-CALLAUCTION_RESULT uint32_t callauction_board_expiring(callauction_member *member, callauction_order *orders,
-                                                       size_t order_count, size_t *copied, uint32_t *calls);
+CALLAUCTION_RESULT callauction_error callauction_board_orders(callauction_member *member, uint32_t of,
+                                                              callauction_order *orders, size_t order_count,
+                                                              size_t *copied, uint32_t *calls);
+CALLAUCTION_RESULT callauction_error callauction_board_expiring(callauction_member *member,
+                                                                callauction_order *orders, size_t order_count,
+                                                                size_t *copied, uint32_t *calls);
 
 /* Copies the entries of the board's history after the first `seen`, as many as there are and as fit, and writes how
  * many it copied, for a thread that writes them down while the day runs. Errors as callauction_board_trades. */
-CALLAUCTION_RESULT uint32_t callauction_board_history(callauction_member *member, size_t seen,
-                                                      callauction_entry *entries, size_t entry_count,
-                                                      size_t *copied);
+CALLAUCTION_RESULT callauction_error callauction_board_history(callauction_member *member, size_t seen,
+                                                               callauction_entry *entries, size_t entry_count,
+                                                               size_t *copied);
 
 /* As callauction_clone, of the board's auction after all calls, none of which the member hasn't seen then: NO_MEMBER;
  * else IN_USE; else BUSY or CLOSED; else NO_MEMORY; else BEHIND as above. */
-CALLAUCTION_RESULT uint32_t callauction_board_clone(callauction_member *member, callauction_handle *other);
+CALLAUCTION_RESULT callauction_error callauction_board_clone(callauction_member *member, callauction_handle *other);
 
 /* Writes how many calls of this member were recorded. */
-CALLAUCTION_RESULT uint32_t callauction_board_calls(const callauction_member *member, uint32_t *calls);
+CALLAUCTION_RESULT callauction_error callauction_board_calls(const callauction_member *member, uint32_t *calls);
 
 /* Writes what the board was opened with. */
-CALLAUCTION_RESULT uint32_t callauction_board_config_of(const callauction_member *member,
-                                                        callauction_config *config);
+CALLAUCTION_RESULT callauction_error callauction_board_config_of(const callauction_member *member,
+                                                                 callauction_config *config);
 
 /* Closes the board: writes its history, how many entries that has, and each member's count of them, by number. The
  * handles are those of all members of one board, in their order. The history's entries are those of one auction of one
@@ -395,13 +431,13 @@ CALLAUCTION_RESULT uint32_t callauction_board_config_of(const callauction_member
  * as many as the members; else BUSY, or CLOSED at a second close; else MISSING_MEMBER where the handles aren't as many
  * as the members; else the error of the first handle that has one: NO_MEMBER, MISSING_MEMBER where its member is one of
  * another board than the first or has another number than its place, BEHIND where the account doesn't agree. */
-CALLAUCTION_RESULT uint32_t callauction_board_close(callauction_member *members, size_t member_count,
-                                                    callauction_entry *entries, size_t entry_count, uint32_t *counts,
-                                                    size_t count_count, size_t *written);
+CALLAUCTION_RESULT callauction_error callauction_board_close(callauction_member *members, size_t member_count,
+                                                             callauction_entry *entries, size_t entry_count,
+                                                             uint32_t *counts, size_t count_count, size_t *written);
 
 /* Gives up the handle's member, and the board with the last of its members. On a handle that holds none it answers
  * NO_MEMBER and does nothing. */
-uint32_t callauction_board_leave(callauction_member *member);
+callauction_error callauction_board_leave(callauction_member *member);
 
 #ifdef __cplusplus
 }
@@ -412,26 +448,28 @@ uint32_t callauction_board_leave(callauction_member *member);
 
 /* As callauction_board_call, but waits while another call has the board: its thread sleeps at the mutex, one for a
  * board, which its callers share. Nothing of this function is proved, and nothing that is proved rests on it. BUSY is
- * answered where two calls at once have this handle. A thread that is ended within a call leaves the board BUSY for
- * good. */
-static inline uint32_t callauction_board_call_waiting(pthread_mutex_t *mutex, callauction_member *member,
-                                                      const callauction_command *command,
-                                                      callauction_receipt *receipt)
+ * answered where a call that doesn't wait at the mutex has the board. A thread that is ended within a call leaves the
+ * board BUSY for good. */
+static inline callauction_error callauction_board_call_waiting(pthread_mutex_t *mutex, callauction_member *member,
+                                                               const callauction_command *command,
+                                                               callauction_receipt *receipt)
 {
     pthread_mutex_lock(mutex);
-    const uint32_t answer = callauction_board_call(member, command, receipt);
+    const callauction_error answer = callauction_board_call(member, command, receipt);
     pthread_mutex_unlock(mutex);
     return answer;
 }
 
 /* The same of callauction_board_apply_many. */
-static inline uint32_t callauction_board_apply_many_waiting(pthread_mutex_t *mutex, callauction_member *member,
-                                                            const callauction_command *commands, size_t command_count,
-                                                            callauction_receipt *receipts, size_t receipt_count,
-                                                            size_t *applied)
+static inline callauction_error callauction_board_apply_many_waiting(pthread_mutex_t *mutex,
+                                                                     callauction_member *member,
+                                                                     const callauction_command *commands,
+                                                                     size_t command_count,
+                                                                     callauction_receipt *receipts,
+                                                                     size_t receipt_count, size_t *applied)
 {
     pthread_mutex_lock(mutex);
-    const uint32_t answer =
+    const callauction_error answer =
         callauction_board_apply_many(member, commands, command_count, receipts, receipt_count, applied);
     pthread_mutex_unlock(mutex);
     return answer;
@@ -500,16 +538,26 @@ CALLAUCTION_AT(trade, quantity, 0);
 CALLAUCTION_AT(trade, bid, 8);
 CALLAUCTION_AT(trade, ask, 12);
 CALLAUCTION_AT(trade, tick, 16);
-CALLAUCTION_SIZE(order, 40);
+CALLAUCTION_SIZE(order, 48);
 CALLAUCTION_AT(order, quantity, 0);
 CALLAUCTION_AT(order, visible, 8);
 CALLAUCTION_AT(order, filled, 16);
-CALLAUCTION_AT(order, id, 24);
-CALLAUCTION_AT(order, limit, 28);
-CALLAUCTION_AT(order, member, 32);
-CALLAUCTION_AT(order, side, 33);
-CALLAUCTION_AT(order, restriction, 34);
-CALLAUCTION_AT(order, has_limit, 35);
+CALLAUCTION_AT(order, peak, 24);
+CALLAUCTION_AT(order, id, 32);
+CALLAUCTION_AT(order, limit, 36);
+CALLAUCTION_AT(order, member, 40);
+CALLAUCTION_AT(order, side, 41);
+CALLAUCTION_AT(order, restriction, 42);
+CALLAUCTION_AT(order, has_limit, 43);
+CALLAUCTION_AT(order, has_peak, 44);
+CALLAUCTION_SIZE(outcome, 32);
+CALLAUCTION_AT(outcome, filled, 0);
+CALLAUCTION_AT(outcome, left, 8);
+CALLAUCTION_AT(outcome, id, 16);
+CALLAUCTION_AT(outcome, tick, 20);
+CALLAUCTION_AT(outcome, member, 24);
+CALLAUCTION_AT(outcome, side, 25);
+CALLAUCTION_AT(outcome, expired, 26);
 CALLAUCTION_SIZE(day_state, 16);
 CALLAUCTION_AT(day_state, reference, 0);
 CALLAUCTION_AT(day_state, calls, 4);

@@ -9,11 +9,15 @@
 // integers alone, so that a price in money, a truth value or a letter doesn't compile (Ticks has the tick of a
 // price). They are checked: where one doesn't fit its field of a struct, as 256 for a member, the call answers
 // Error::no_command, or Error::no_config, and does nothing.
+//
+// It wants C++17. Headers that have dynamic exception specifications, as QuickFIX's, go into one file with it under
+// clang++ -Wno-dynamic-exception-spec; under g++ they go into another file, which has callauction.h from C++11 on.
 #ifndef CALLAUCTION_HPP
 #define CALLAUCTION_HPP
 
 #include <callauction.h>
 
+#include <algorithm>
 #include <cstddef>
 #include <cstdint>
 #include <cstdlib>
@@ -75,7 +79,8 @@ enum class Error : std::uint32_t {
     no_member = CALLAUCTION_ERROR_NO_MEMBER,
     missing_member = CALLAUCTION_ERROR_MISSING_MEMBER,
     overtaken = CALLAUCTION_ERROR_OVERTAKEN,
-    bad_member = CALLAUCTION_ERROR_BAD_MEMBER
+    bad_member = CALLAUCTION_ERROR_BAD_MEMBER,
+    misused = CALLAUCTION_ERROR_MISUSED
 };
 
 enum class Side : std::uint8_t {
@@ -468,6 +473,21 @@ inline State state_of(const callauction_day_state &from) {
     return state;
 }
 
+// What an uncross did: its reply, and the orders of which it executed shares or which it took out, in the priority that
+// they had.
+struct UncrossedOrders {
+    Reply reply;
+    std::vector<callauction_outcome> orders;
+};
+
+// What is left of a day: the open orders that are for every auction, as commands in time order that enter them into the
+// next day's auction, whose ids there are 1, 2 and so on; their ids of this day; and the next day's reference.
+struct CarriedOver {
+    std::vector<callauction_command> commands;
+    std::vector<std::uint32_t> ids;
+    std::uint32_t reference;
+};
+
 // The shares bid and offered by the orders that count, with a limit at each tick from low to high, and those of the
 // market orders; after as many calls as `calls` says.
 struct Ladder {
@@ -491,6 +511,44 @@ template <typename Call> Result<std::vector<callauction_order>> listed(std::size
     std::size_t copied = 0;
     if (const auto error = error_of(call(found.data(), found.size(), &copied))) return *error;
     found.resize(copied);
+    return found;
+}
+
+// The command that enters what is left of an order. A peak above that is cut to it, as it would be refused.
+inline callauction_command entering(const callauction_order &order) {
+    callauction_command made{};
+    made.tag = CALLAUCTION_COMMAND_ENTER;
+    made.member = order.member;
+    made.side = order.side;
+    made.quantity = order.quantity;
+    made.limit = order.limit;
+    made.has_limit = order.has_limit;
+    made.peak = order.has_peak ? order.visible : 0;
+    made.has_peak = order.has_peak;
+    return made;
+}
+
+inline bool is_one_limit(const callauction_order &one, const callauction_order &other) {
+    return one.side == other.side && one.has_limit == other.has_limit && one.limit == other.limit;
+}
+
+// Of open orders in priority. Those with one limit are in time order; the ids, which were given in time order, tell how
+// these lists lie in one another, where no order lost its place in time.
+inline CarriedOver carried_over(const std::vector<callauction_order> &orders, std::uint32_t reference) {
+    std::vector<std::pair<std::uint32_t, const callauction_order *>> timed;
+    std::uint32_t time = 0;
+    for (std::size_t place = 0; place < orders.size(); place++) {
+        const bool goes_on = place > 0 && is_one_limit(orders[place - 1], orders[place]);
+        time = goes_on ? std::max(time, orders[place].id) : orders[place].id;
+        if (orders[place].restriction == CALLAUCTION_RESTRICTION_NONE) timed.emplace_back(time, &orders[place]);
+    }
+    std::stable_sort(
+        timed.begin(), timed.end(), [](const auto &one, const auto &other) { return one.first < other.first; });
+    CarriedOver found{{}, {}, reference};
+    for (const auto &each : timed) {
+        found.commands.push_back(entering(*each.second));
+        found.ids.push_back(each.second->id);
+    }
     return found;
 }
 
@@ -540,6 +598,19 @@ public:
         return {applied, detail::error_of(answer)};
     }
 
+    // Uncrosses, as apply(0, Uncross{}) does, and says what that did to the orders.
+    Result<UncrossedOrders> uncross_orders() {
+        const auto config = this->config();
+        if (!config) return config.error();
+        std::vector<callauction_outcome> orders(static_cast<std::size_t>(config->max_open));
+        callauction_reply reply;
+        std::size_t copied = 0;
+        const auto answer = callauction_uncross(&handle_, &reply, orders.data(), orders.size(), &copied);
+        if (const auto error = detail::error_of(answer)) return *error;
+        orders.resize(copied);
+        return UncrossedOrders{reply_of(reply), std::move(orders)};
+    }
+
     Result<Display> display() const {
         callauction_reply shown;
         if (const auto error = detail::error_of(callauction_display(&handle_, &shown))) return *error;
@@ -574,6 +645,15 @@ public:
         return listed([&](callauction_order *to, std::size_t room, std::size_t *copied) {
             return callauction_expiring(&handle_, to, room, copied);
         });
+    }
+
+    // What is left of the day for the next one.
+    Result<CarriedOver> carried_over() const {
+        const auto open = orders();
+        if (!open) return open.error();
+        const auto now = state();
+        if (!now) return now.error();
+        return detail::carried_over(*open, now->reference);
     }
 
     // The trades of the day after the first `seen`.
@@ -645,6 +725,26 @@ private:
     callauction_handle handle_{};
 };
 
+// What the uncross of this auction did to the orders, by a board's history: its entries are applied to an auction once
+// more. There are none where the history hasn't come to it.
+inline Result<std::vector<callauction_outcome>> uncrossed_orders(
+    const Config &config, Span<const callauction_entry> history, AuctionKind kind) {
+    std::vector<callauction_command> commands;
+    for (const auto &entry : history) {
+        if (entry.reply.tag == CALLAUCTION_REPLY_UNCROSSED && entry.reply.auction == static_cast<std::uint8_t>(kind)) {
+            auto again = Auction::open(config);
+            if (!again) return again.error();
+            std::vector<callauction_reply> replies(commands.size());
+            if (const auto error = again->apply_many(commands, replies).second) return *error;
+            auto uncrossed = again->uncross_orders();
+            if (!uncrossed) return uncrossed.error();
+            return std::move(uncrossed->orders);
+        }
+        commands.push_back(entry.command);
+    }
+    return std::vector<callauction_outcome>{};
+}
+
 // ---- a board
 
 // The number of a call in the board's history, from 1 on, and its reply.
@@ -682,13 +782,18 @@ public:
     // The same, but waits while another call has the board: its thread sleeps at a mutex of the board. This waiting
     // isn't proved.
     Result<Receipt> call_waiting(const Command &command) {
-        if (!handle_) return Error::no_member;
         const auto given = struct_of(0, command);
         if (!given) return given.error();
+        return waiting([&] { return call(*given); });
+    }
+
+    // Any other call of this member, made so: member.waiting([&] { return member.ladder(); }).
+    template <typename Call> auto waiting(Call call) -> decltype(call()) {
+        if (!handle_) return Error::no_member;
         for (;;) {
             {
                 const std::lock_guard<std::mutex> waits(*mutex_);
-                const auto found = call(*given);
+                auto found = call();
                 if (found || found.error() != Error::busy) return found;
             }
             std::this_thread::yield();
@@ -775,6 +880,20 @@ public:
         callauction_day_state found;
         if (const auto error = detail::error_of(callauction_board_state(handle_, &found))) return *error;
         return state_of(found);
+    }
+
+    // What the uncross of this auction did to the orders; none before it. It copies the board's history and applies it
+    // once more, so it takes as long as all calls of the board.
+    Result<std::vector<callauction_outcome>> uncrossed_orders(AuctionKind kind) {
+        if (!handle_) return Error::no_member;
+        callauction_config config;
+        if (const auto error = detail::error_of(callauction_board_config_of(handle_, &config))) return *error;
+        const auto now = state();
+        if (!now) return now.error();
+        std::vector<callauction_entry> entries(now->calls);
+        const auto copied = history(0, entries);
+        if (!copied) return copied.error();
+        return callauction::uncrossed_orders(detail::config_of(config), {entries.data(), *copied}, kind);
     }
 
     // Copies the entries of the board's history after the first `seen`, as many as fit: how many.

@@ -149,7 +149,7 @@ static void edges(const callauction_config *config) {
     callauction_command unflagged = {.tag = CALLAUCTION_COMMAND_ENTER, .side = 1, .quantity = 5, .limit = 200};
     WANT(callauction_board_call(&three[1], &unflagged, &receipt) == CALLAUCTION_ERROR_NO_COMMAND);
     three[1].busy_ = 1;
-    WANT(callauction_board_call(&three[1], &indicate, &receipt) == CALLAUCTION_ERROR_BUSY);
+    WANT(callauction_board_call(&three[1], &indicate, &receipt) == CALLAUCTION_ERROR_MISUSED);
     three[1].busy_ = 0;
     WANT(callauction_board_config_of(&three[2], &bad) == CALLAUCTION_DONE && memcmp(&bad, config, sizeof bad) == 0);
     for (int i = 0; i < 3; i++) WANT(callauction_board_leave(&three[i]) == CALLAUCTION_DONE);
@@ -300,7 +300,7 @@ static void clones_alike(callauction_member *member, const callauction_handle *p
     WANT(callauction_board_clone(member, &small) == CALLAUCTION_ERROR_IN_USE);
     WANT(callauction_calls(&small, &calls) == CALLAUCTION_DONE && calls == 0);
     copy.busy_ = 1;
-    WANT(callauction_board_clone(member, &copy) == CALLAUCTION_ERROR_BUSY);
+    WANT(callauction_board_clone(member, &copy) == CALLAUCTION_ERROR_MISUSED);
     copy.busy_ = 0;
     WANT(callauction_close(&copy) == CALLAUCTION_DONE && callauction_close(&small) == CALLAUCTION_DONE);
 }

@@ -309,7 +309,7 @@ static void copies(void) {
     applied(&auction, order(1, CALLAUCTION_SIDE_BID, 200, 5));
     applied(&auction, order(2, CALLAUCTION_SIDE_ASK, 200, 5));
     WANT(callauction_clone(&auction, &copy) == CALLAUCTION_DONE && calls_of(&copy) == 2);
-    WANT(callauction_clone(&auction, &auction) == CALLAUCTION_ERROR_BUSY);
+    WANT(callauction_clone(&auction, &auction) == CALLAUCTION_ERROR_MISUSED);
     WANT(applied(&copy, other(0, CALLAUCTION_COMMAND_UNCROSS, 0)).trades == 1);
     WANT(callauction_display(&auction, &here) == CALLAUCTION_DONE);
     WANT(here.tag == CALLAUCTION_REPLY_PRICED && here.volume == 5);
@@ -383,6 +383,7 @@ static void the_orders(void) {
     for (size_t i = 0; i < 6; i++) WANT(orders[i].id == all[i] && orders[i].filled == 0);
     WANT(orders[0].has_limit == 0 && orders[0].limit == 0 && orders[0].side == CALLAUCTION_SIDE_BID);
     WANT(orders[1].quantity == 50 && orders[1].visible == 8 && orders[1].has_limit == 1 && orders[1].limit == 200);
+    WANT(orders[1].has_peak == 1 && orders[1].peak == 8 && orders[0].has_peak == 0 && orders[0].peak == 0);
     WANT(orders[4].restriction == CALLAUCTION_RESTRICTION_OPENING_ONLY && orders[4].side == CALLAUCTION_SIDE_ASK);
     WANT(orders[4].member == 2 && orders[4].visible == 9);
     memset(orders, 0xAA, sizeof orders);
@@ -455,6 +456,56 @@ static void the_state(void) {
     WANT(callauction_close(&over) == CALLAUCTION_DONE);
 }
 
+static bool is_outcome(const callauction_outcome *outcome, uint32_t id, uint64_t filled, uint64_t left, bool expired) {
+    return outcome->id == id && outcome->filled == filled && outcome->left == left && outcome->expired == expired;
+}
+
+/* An uncross says of each order what it executed, what it left and what it took out, in the priority that they had. */
+static void the_outcomes(void) {
+    callauction_handle auction = {0};
+    callauction_command leaving = order(3, CALLAUCTION_SIDE_ASK, 201, 9), high = order(4, CALLAUCTION_SIDE_ASK, 210, 3);
+    callauction_outcome outcomes[8], untouched;
+    callauction_reply reply;
+    size_t copied = 77;
+    leaving.restriction = high.restriction = CALLAUCTION_RESTRICTION_OPENING_ONLY;
+    opened(&auction);
+    applied(&auction, order(1, CALLAUCTION_SIDE_BID, 201, 5));
+    applied(&auction, order(2, CALLAUCTION_SIDE_BID, 0, 6));
+    applied(&auction, order(1, CALLAUCTION_SIDE_BID, 195, 7));
+    applied(&auction, order(2, CALLAUCTION_SIDE_ASK, 200, 4));
+    applied(&auction, leaving);
+    applied(&auction, high);
+    memset(outcomes, 0xAA, sizeof outcomes);
+    memset(&untouched, 0xAA, sizeof untouched);
+    /* 11 shares are bid at 201 or above, and 13 are asked at 201 or below: two of the second ask's are left */
+    WANT(callauction_uncross(&auction, &reply, outcomes, 8, &copied) == CALLAUCTION_DONE && copied == 5);
+    WANT(reply.tag == CALLAUCTION_REPLY_UNCROSSED && reply.tick == 201 && reply.volume == 11 && reply.trades == 3);
+    WANT(is_outcome(&outcomes[0], 2, 6, 0, false) && is_outcome(&outcomes[1], 1, 5, 0, false));
+    WANT(is_outcome(&outcomes[2], 4, 4, 0, false) && is_outcome(&outcomes[3], 5, 7, 2, true));
+    WANT(is_outcome(&outcomes[4], 6, 0, 3, true) && memcmp(&outcomes[5], &untouched, sizeof untouched) == 0);
+    for (size_t i = 0; i < 5; i++) WANT(outcomes[i].tick == 201);
+    WANT(outcomes[0].member == 2 && outcomes[0].side == CALLAUCTION_SIDE_BID);
+    WANT(outcomes[3].member == 3 && outcomes[3].side == CALLAUCTION_SIDE_ASK && calls_of(&auction) == 7);
+    /* as many as fit; without a price, what is taken out alone */
+    high.restriction = CALLAUCTION_RESTRICTION_CLOSING_ONLY;
+    applied(&auction, high);
+    applied(&auction, high);
+    memset(outcomes, 0xAA, sizeof outcomes);
+    WANT(callauction_uncross(&auction, &reply, NULL, 0, &copied) == CALLAUCTION_DONE && copied == 0);
+    WANT(callauction_uncross(&auction, &reply, outcomes, 1, &copied) == CALLAUCTION_DONE && copied == 1);
+    WANT(reply.auction == CALLAUCTION_AUCTION_CLOSING && reply.has_tick == 0 && outcomes[0].tick == 0);
+    WANT(is_outcome(&outcomes[0], 7, 0, 3, true) && memcmp(&outcomes[1], &untouched, sizeof untouched) == 0);
+    WANT(callauction_uncross(&auction, &reply, outcomes, 8, &copied) == CALLAUCTION_DONE && copied == 0);
+    WANT(reply.refusal == CALLAUCTION_REFUSAL_DAY_OVER && calls_of(&auction) == 12);
+    for (int i = 12; i < 20; i++) applied(&auction, other(1, CALLAUCTION_COMMAND_INDICATE, 0));
+    reply.tag = 99;
+    copied = 77;
+    WANT(callauction_uncross(&auction, &reply, outcomes, 8, &copied) == CALLAUCTION_ERROR_FULL && copied == 0);
+    WANT(reply.tag == 99 && is_outcome(&outcomes[0], 7, 0, 3, true) && calls_of(&auction) == 20);
+    WANT(callauction_close(&auction) == CALLAUCTION_DONE);
+    WANT(callauction_uncross(&auction, &reply, outcomes, 8, &copied) == CALLAUCTION_ERROR_NO_AUCTION && copied == 0);
+}
+
 /* After a reset ids, trades, reference and auction are those of an opening. */
 static void a_reset(void) {
     callauction_handle auction = {0};
@@ -484,9 +535,11 @@ static void counts_at_errors(void) {
     callauction_member *members[] = {&busy_member, &no_member};
     for (int i = 0; i < 2; i++) {
         size_t many = 7, trades = 7, orders = 7, expiring = 7, traded = 7, entries = 7, written = 7;
-        size_t listed = 7, leaving = 7, called = 7;
+        size_t listed = 7, leaving = 7, called = 7, outcomes = 7;
+        callauction_reply reply;
         uint32_t calls = 0, all = CALLAUCTION_ALL_MEMBERS;
         WANT(callauction_apply_many(auctions[i], NULL, 0, NULL, 0, &many) != CALLAUCTION_DONE);
+        WANT(callauction_uncross(auctions[i], &reply, NULL, 0, &outcomes) != CALLAUCTION_DONE && outcomes == 0);
         WANT(callauction_trades(auctions[i], 0, NULL, 0, &trades) != CALLAUCTION_DONE);
         WANT(callauction_orders(auctions[i], CALLAUCTION_ALL_MEMBERS, NULL, 0, &orders) != CALLAUCTION_DONE);
         WANT(callauction_expiring(auctions[i], NULL, 0, &expiring) != CALLAUCTION_DONE);
@@ -514,6 +567,7 @@ int main(void) {
     copies();
     copies_over_another();
     the_orders();
+    the_outcomes();
     the_state();
     a_reset();
     puts("calls: as worked out");

@@ -128,6 +128,65 @@ void owners_are_moved() {
     WANT(second.copy_into(small).error() == ca::Error::in_use && *small.calls() == 0);
 }
 
+bool is_outcome(const callauction_outcome &outcome, std::uint32_t id, std::uint64_t filled, std::uint64_t left) {
+    return outcome.id == id && outcome.filled == filled && outcome.left == left;
+}
+
+void an_uncross_says_what_it_did() {
+    auto auction = opened(day);
+    reply<ca::Entered>(auction.apply(1, ca::Enter{ca::Side::bid, 30, 510}));
+    reply<ca::Entered>(auction.apply(2, ca::Enter{ca::Side::ask, 20, 505}));
+    reply<ca::Entered>(auction.apply(3, ca::Enter{ca::Side::ask, 9, 520, {}, ca::Restriction::opening_only}));
+    const auto done = auction.uncross_orders();
+    WANT(done && std::get<ca::Uncrossed>(done->reply).price->tick == 510 && done->orders.size() == 3);
+    WANT(is_outcome(done->orders[0], 1, 20, 10) && is_outcome(done->orders[1], 2, 20, 0));
+    WANT(is_outcome(done->orders[2], 3, 0, 9) && done->orders[2].expired == 1 && done->orders[0].expired == 0);
+    WANT(auction.uncross_orders()->orders.empty() && *auction.calls() == 5);
+}
+
+// What is left of a day is entered into the next one in time order, and has the same priority there.
+void a_day_is_carried_over() {
+    auto auction = opened(day);
+    for (int count = 0; count < 2; count++) // the orders 1 to 4
+        for (const ca::Whole limit : {490, 480})
+            reply<ca::Entered>(auction.apply(1, ca::Enter{ca::Side::bid, 50, limit, 20}));
+    reply<ca::Entered>(auction.apply(2, ca::Enter{ca::Side::ask, 90, 490}));
+    reply<ca::Entered>(auction.apply(2, ca::Enter{ca::Side::bid, 7}));
+    reply<ca::Entered>(auction.apply(2, ca::Enter{ca::Side::bid, 7, 470, {}, ca::Restriction::closing_only}));
+    WANT(!reply<ca::Changed>(auction.apply(1, ca::Change{2, 60, 480})).kept); // behind the order 4
+    WANT(auction.uncross_orders()->orders.size() == 4);
+    const auto left = auction.carried_over();
+    WANT(left && left->reference == 490 && left->ids == (std::vector<std::uint32_t>{3, 4, 2}));
+    WANT(left->commands[0].quantity == 17 && left->commands[0].peak == 17 && left->commands[0].has_peak == 1);
+    auto next = opened({1, 1000, left->reference, 10, 100, 50});
+    std::vector<callauction_reply> replies(left->commands.size());
+    WANT(next.apply_many(left->commands, replies) == std::make_pair(std::size_t{3}, std::optional<ca::Error>{}));
+    WANT(replies[2].id == 3 && next.orders()->at(0).quantity == 17 && next.orders()->at(1).quantity == 50);
+    WANT(next.orders()->at(2).quantity == 60 && next.orders()->at(2).peak == 20 && next.state()->reference == 490);
+}
+
+void a_board_says_what_an_uncross_did() {
+    auto board = ca::Board::open(3, day);
+    WANT(board.has_value());
+    auto operating = board->member(0), one = board->member(1), two = board->member(2);
+    WANT(one.call(ca::Enter{ca::Side::bid, 30, 510}) && two.call(ca::Enter{ca::Side::ask, 20, 505}));
+    WANT(one.uncrossed_orders(ca::AuctionKind::opening)->empty());
+    WANT(operating.call(ca::Uncross{}) && two.call(ca::Enter{ca::Side::ask, 10, 505}) && operating.call(ca::Uncross{}));
+    const auto opening = two.uncrossed_orders(ca::AuctionKind::opening);
+    WANT(opening && opening->size() == 2);
+    WANT(is_outcome((*opening)[0], 1, 20, 10) && is_outcome((*opening)[1], 2, 20, 0));
+    const auto intraday = one.uncrossed_orders(ca::AuctionKind::intraday);
+    WANT(intraday && intraday->size() == 2 && (*intraday)[0].left == 0 && (*intraday)[1].id == 3);
+    WANT(one.uncrossed_orders(ca::AuctionKind::closing)->empty());
+    WANT(one.waiting([&] { return one.ladder(); })->calls == 5);
+    const auto closing = board->close();
+    WANT(closing && ca::uncrossed_orders(day, closing->entries, ca::AuctionKind::opening)->size() == 2);
+    WANT(one.uncrossed_orders(ca::AuctionKind::opening).error() == ca::Error::closed);
+    WANT(one.waiting([&] { return one.state(); }).error() == ca::Error::closed);
+    WANT(board->member(3).uncrossed_orders(ca::AuctionKind::opening).error() == ca::Error::no_member);
+    WANT(board->member(3).waiting([&] { return one.state(); }).error() == ca::Error::no_member);
+}
+
 void a_board_is_closed() {
     auto result = ca::Board::open(2, {1, 1000, 500, 10, 4, {}});
     WANT(result.has_value());
@@ -191,6 +250,9 @@ int main() {
     prices_in_money_are_ticks();
     a_missing_value_throws();
     owners_are_moved();
+    an_uncross_says_what_it_did();
+    a_day_is_carried_over();
+    a_board_says_what_an_uncross_did();
     a_board_is_closed();
     return 0;
 }

@@ -3,7 +3,8 @@
  *
  * open: opens an auction, clones it and closes both; where memory is refused the call answers so, and nothing is kept.
  * day: the same, and between them commands, displays, resets and a clone over the clone, which ask for no memory.
- * list: opens an auction and lists its orders; where memory is refused, the call answers so, and writes nothing.
+ * list: opens an auction, lists its orders and uncrosses; where memory is refused, the call answers so, and does
+ * nothing.
  * board: the same on a board, of which an auction is a copy too, and the board goes on after each refusal.
  * many: opens and closes as often as asked, and prints by how many KiB the process has grown since a tenth of them. */
 #include "callauction.h"
@@ -64,6 +65,22 @@ static bool is_list(uint32_t answer, const callauction_order *orders, size_t cop
     return answer == CALLAUCTION_ERROR_NO_MEMORY && is_same;
 }
 
+/* An uncross that says what it did to all six orders, or did nothing. */
+static bool uncrosses(callauction_handle *auction, bool *is_done) {
+    callauction_outcome outcomes[8], untouched;
+    callauction_reply reply = {.tag = 99};
+    size_t copied = 77;
+    uint32_t calls = 0;
+    memset(outcomes, 0xAA, sizeof outcomes);
+    memset(&untouched, 0xAA, sizeof untouched);
+    uint32_t answer = callauction_uncross(auction, &reply, outcomes, 8, &copied);
+    if (callauction_calls(auction, &calls) != CALLAUCTION_DONE) return false;
+    *is_done = answer == CALLAUCTION_DONE;
+    if (*is_done) return calls == 7 && copied == 6 && reply.tag == CALLAUCTION_REPLY_UNCROSSED;
+    bool is_same = calls == 6 && copied == 0 && reply.tag == 99 && memcmp(outcomes, &untouched, sizeof untouched) == 0;
+    return answer == CALLAUCTION_ERROR_NO_MEMORY && is_same;
+}
+
 static int lists(void) {
     callauction_handle auction = {0};
     callauction_order all[8], some[8];
@@ -84,8 +101,10 @@ static int lists(void) {
     /* 9 shares are bid and 12 offered at market: of the orders for the opening the ask, entered last, has 3 left */
     uint32_t told = callauction_expiring(&auction, some, 8, &expiring);
     if (!is_list(told, some, expiring, 1)) return leave("another list of what expires");
+    bool is_done = false;
+    if (!uncrosses(&auction, &is_done)) return leave("another uncross");
     if (callauction_close(&auction) != CALLAUCTION_DONE) return leave("not closed");
-    return listed == CALLAUCTION_DONE && told == CALLAUCTION_DONE ? 0 : 3;
+    return listed == CALLAUCTION_DONE && told == CALLAUCTION_DONE && is_done ? 0 : 3;
 }
 
 /* Six market orders of the two members, the last two for the opening alone; calls take no memory. */

@@ -15,10 +15,11 @@ from typing import TYPE_CHECKING
 
 if TYPE_CHECKING:
     from callauction import journal, plot, report, verdict
-    from callauction.arrays import COMMAND, ENTRY, ORDER, RECEIPT, REPLY, TRADE
+    from callauction.arrays import COMMAND, ENTRY, ORDER, OUTCOME, RECEIPT, REPLY, TRADE
     from callauction.auction import Auction
     from callauction.board import Board, Member, Receipt, Shown
     from callauction.board_day import BoardDay
+    from callauction.carried import CarriedOver
     from callauction.columns import commands
     from callauction.errors import (
         AuctionError,
@@ -77,6 +78,7 @@ __all__ = [
     "BoardDay",
     "BusyError",
     "COMMAND",
+    "CarriedOver",
     "Change",
     "Changed",
     "ClosedError",
@@ -98,6 +100,7 @@ __all__ = [
     "NoPrice",
     "NotAppliedError",
     "ORDER",
+    "OUTCOME",
     "OpenOrder",
     "OrderStatus",
     "Played",
@@ -143,6 +146,7 @@ __version__ = "2026.11.26"
 _MODULES = ("journal", "plot", "report", "verdict")
 _LATER = {
     "BoardDay": "board_day",
+    "CarriedOver": "carried",
     "Gains": "gains",
     "Played": "outcomes",
     "RecordedAuction": "recording",

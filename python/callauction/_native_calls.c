@@ -91,6 +91,11 @@ uint32_t python_apply_many(python_auction *own, const callauction_command *comma
     ANSWER_TAKEN(own, callauction_apply_many(&own->handle_, commands, count, replies, count, applied));
 }
 
+uint32_t python_uncross_orders(python_auction *own, callauction_reply *reply, callauction_outcome *outcomes,
+                               size_t count, size_t *copied) {
+    ANSWER_TAKEN(own, callauction_uncross(&own->handle_, reply, outcomes, count, copied));
+}
+
 uint32_t python_display(python_auction *own, callauction_reply *shown) {
     ANSWER_TAKEN(own, callauction_display(&own->handle_, shown));
 }

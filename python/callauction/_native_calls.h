@@ -39,6 +39,9 @@ callauction_reply python_uncross(python_auction *own, uint8_t member);
 
 /* ---- the others, as those of callauction.h, with PYTHON_BUSY ---- */
 
+uint32_t python_uncross_orders(python_auction *own, callauction_reply *reply, callauction_outcome *outcomes,
+                               size_t count, size_t *copied);
+
 uint32_t python_open(python_auction *own, const callauction_config *config);
 
 /* PYTHON_OVERLAP, and no command is applied, where the two arrays share memory. */

@@ -60,17 +60,35 @@ ORDER = numpy.dtype(
         ("quantity", "u8"),
         ("visible", "u8"),
         ("filled", "u8"),
+        ("peak", "u8"),
         ("id", "u4"),
         ("limit", "u4"),
         ("member", "u1"),
         ("side", "u1"),
         ("restriction", "u1"),
         ("has_limit", "u1"),
+        ("has_peak", "u1"),
     ],
     align=True,
 )
-"""An open order of 40 bytes: its open, visible and executed shares; `side` is a Side, `restriction`
-a Restriction, and a market order has no limit.
+"""An open order of 48 bytes: its open, visible and executed shares, and its peak; `side` is a Side,
+`restriction` a Restriction, and a market order has no limit.
+"""
+
+OUTCOME = numpy.dtype(
+    [
+        ("filled", "u8"),
+        ("left", "u8"),
+        ("id", "u4"),
+        ("tick", "u4"),
+        ("member", "u1"),
+        ("side", "u1"),
+        ("expired", "u1"),
+    ],
+    align=True,
+)
+"""What an uncross did to an order, in 32 bytes: the shares that it executed at the price `tick`,
+and those that it left, which were taken out where `expired` is 1.
 """
 
 RECEIPT = numpy.dtype([("reply", REPLY), ("number", "u4")], align=True)

@@ -11,12 +11,14 @@ from callauction import words
 from callauction.arrays import (
     COMMAND,
     ORDER,
+    OUTCOME,
     REPLY,
     TRADE,
     Shares,
     Structs,
     whole,
 )
+from callauction.carried import CarriedOver, carried_over
 from callauction.errors import AuctionError, ClosedError, NotAppliedError
 from callauction.library import ffi, lib
 from callauction.limits import MOST_NUMBER
@@ -254,6 +256,22 @@ class Auction:
         reply = self._applied(lib.python_uncross, _MEMBER, (member,), check)
         return cast("words.Uncrossed | words.Interrupted | words.Refused", reply)
 
+    def uncross_orders(
+        self,
+    ) -> tuple[words.Uncrossed | words.Interrupted | words.Refused, Structs]:
+        """Uncrosses, and says what that did to the orders: the reply to member 0, and a new array
+        of OUTCOME, in the priority that the orders had, the bids before the asks. It has those of
+        which shares were executed and those that were taken out, as they were for this auction
+        alone: none of an uncross that was interrupted or refused. Raises FullError, or MemoryError
+        and then did nothing.
+        """
+        outcomes = numpy.zeros(self.config.max_open, OUTCOME)
+        written = ffi.from_buffer("callauction_outcome[]", outcomes, require_writable=True)
+        reply, copied = ffi.new("callauction_reply *"), ffi.new("size_t *")
+        self._call(lib.python_uncross_orders, reply, written, len(written), copied)
+        answer = cast("words.Uncrossed | words.Interrupted | words.Refused", read(reply))
+        return answer, outcomes[: copied[0]].copy()
+
     def read_trade(
         self, member: int, number: int, *, check: bool = False
     ) -> words.Traded | words.Refused:
@@ -358,6 +376,10 @@ class Auction:
         with what would be left of them then: a new array of ORDER. Raises MemoryError.
         """
         return self._orders(lib.python_expiring)
+
+    def carried_over(self) -> CarriedOver:
+        """What is left of the day for the next one. Raises MemoryError."""
+        return carried_over(self.orders(), self.state().reference)
 
     def _orders(self, function: Any, *of: int) -> Structs:
         """The orders that this call of the library writes."""

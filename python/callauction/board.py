@@ -33,7 +33,17 @@ from callauction.reading import (
     read,
     state_of,
 )
-from callauction.words import Command, CommandTag, Config, MarketOrders, Reply, Restriction, Side
+from callauction.replayed import uncrossed_orders
+from callauction.words import (
+    AuctionKind,
+    Command,
+    CommandTag,
+    Config,
+    MarketOrders,
+    Reply,
+    Restriction,
+    Side,
+)
 
 if TYPE_CHECKING:
     from callauction.board_day import BoardDay
@@ -262,6 +272,13 @@ class Member:
         thread that writes them down while the day runs. Raises as trades.
         """
         return self._copied(lib.python_board_history, "callauction_entry[]", ENTRY, seen)
+
+    def uncrossed_orders(self, kind: AuctionKind) -> Structs:
+        """What the uncross of this auction did to the orders, as Auction.uncross_orders says: a new
+        array of OUTCOME, empty before it. It applies the board's history once more, so it takes as
+        long as all calls of the board. Raises TypeError for a kind that is no AuctionKind.
+        """
+        return uncrossed_orders(self._board.config, self.history(), kind)
 
     def auction(self) -> Auction:
         """An auction of its own, a copy of the board's as it is now. Raises MemoryError."""

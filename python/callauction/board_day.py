@@ -3,7 +3,8 @@ from callauction.arrays import Structs
 from callauction.day_frames import DayTables, written_day
 from callauction.program import Day
 from callauction.reading import reply_of
-from callauction.words import Config
+from callauction.replayed import uncrossed_orders
+from callauction.words import AuctionKind, Config
 from callauction.written import command_of
 
 
@@ -19,6 +20,10 @@ class BoardDay(DayTables):
 
     def __repr__(self) -> str:
         return f"<day of a board: {len(self.history)} calls of {len(self.counts)} members>"
+
+    def uncrossed_orders(self, kind: AuctionKind) -> Structs:
+        """What the uncross of this auction did to the orders, as Member.uncrossed_orders."""
+        return uncrossed_orders(self.config, self.history, kind)
 
     def day(self) -> Day:
         """The history as a journal."""

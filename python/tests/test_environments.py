@@ -38,6 +38,14 @@ def episode(env: Any, seed: int, actions: list[int]) -> list[Any]:
     return answers
 
 
+def test_a_thousand_agents_share_a_board(capsys: pytest.CaptureFixture[str]) -> None:
+    loaded("board_agents").main()
+    entered, price, _ = capsys.readouterr().out.splitlines()
+    assert entered == "1000 agents entered an order each"
+    found = re.fullmatch(r"price \d+: bought (\d+), sold (\d+), volume (\d+)", price)
+    assert found is not None and int(found[1]) > 10_000 and len({*found.groups()}) == 1
+
+
 def test_an_episode_ends_after_its_steps(gym: Any) -> None:
     env = gym.AuctionEnv()
     env.action_space.seed(1)

@@ -56,8 +56,15 @@ def rows_of(orders: Structs) -> list[Row]:
     sides, auctions = ("", "bid", "ask"), ("", "opening", "closing")
     return [
         (id, member, sides[side], limit if has else None, open, visible, filled, auctions[only])
-        for open, visible, filled, id, limit, member, side, only, has in orders.tolist()
+        for open, visible, filled, _, id, limit, member, side, only, has, _ in orders.tolist()
     ]
+
+
+def peaks_of(orders: Structs) -> dict[int, int | None]:
+    """The peaks of an array of ORDER by the orders' ids."""
+    rows = orders[["id", "peak", "has_peak"]].tolist()
+    assert all(has or not peak for _, peak, has in rows)
+    return {id: peak if has else None for id, peak, has in rows}
 
 
 def rows(frame: pandas.DataFrame) -> list[Row]:
@@ -92,6 +99,8 @@ def test_the_orders_are_those_of_the_rules_after_each_command() -> None:
                 auction.apply(member, command_of(fields[1:]))
                 assert rows_of(auction.orders()) == listed(day)
                 assert rows_of(auction.orders(member)) == listed(day, member)
+                peaks = {order.id: order.peak for order in day.book.values()}
+                assert peaks_of(auction.orders()) == peaks
                 looked += len(day.book)
             assert rows_of(auction.expiring()) == taken_out(day)
     assert looked > 9_000

@@ -1,7 +1,27 @@
 -- Values written for C one by one.
 use Rattle.std.proofs.Common.{◌≡◌, sym, ◌∙◌, ap, ℕ, ◌+◌, ◌<◌, ◌++◌, List, [], ◌∷◌, length, map, take, drop, get_or, set}
-use Rattle.std.proofs.Common.{arith}
+use Rattle.std.proofs.Common.{arith, None}
 use Rattle.std.proofs.lemmas.List.{append_assoc, drop_more, take_more, map-append, length-map, length-take-le, set_at}
+use Rattle.auction_terms.specs.declared.Side.TheVariants.{Bid}
+use Rattle.auction_terms.specs.declared.Limit.TheVariants.{Market}
+use Rattle.auction_terms.specs.declared.Restriction.TheVariants.{Unrestricted}
+use Rattle.auction_terms.specs.declared.OpenOrder.{OpenOrder}
+
+-- any one
+abbrev pub no_order : OpenOrder
+no_order = record {
+  order = record {
+    id = 0;
+    member = 0;
+    side = Bid;
+    restriction = Unrestricted;
+    limit = Market;
+    quantity = 0;
+    peak = None;
+  };
+  visible = 0;
+  filled = 0;
+}
 
 -- the first i are written, and the one after them is
 pub copied_more : {X Y : Type 0} (f : X → Y) (xs : List X) (old now : List Y) (i : ℕ) (x : X) (y : Y) → i < length xs

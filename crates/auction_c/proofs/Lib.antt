@@ -8,3 +8,4 @@ pub mod LadderTicksLaws
 mod ManyLaws
 mod OpenLaws
 mod ManyCallLaws
+mod OutcomeLaws

@@ -117,12 +117,14 @@ order_out listed = record {
   quantity = listed.order.quantity;
   visible = listed.visible;
   filled = listed.filled;
+  peak = unwrap_or listed.order.peak 0;
   id = listed.order.id;
   limit = unwrap_or (tick_of listed.order.limit) 0;
   member = listed.order.member;
   side = side_out listed.order.side;
   restriction = restriction_out listed.order.restriction;
   has_limit = flag_out (is_some (tick_of listed.order.limit));
+  has_peak = flag_out (is_some listed.order.peak);
 }
 
 abbrev pub trade_out : Trade → AuctionTrade

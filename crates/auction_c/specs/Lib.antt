@@ -9,3 +9,5 @@ pub mod ReadBack
 pub mod Entries
 pub mod BoardCalls
 pub mod ManyCalls
+pub mod Outcomes
+pub mod Executed

@@ -185,12 +185,14 @@ pub(crate) fn order_out(listed: OpenOrder) -> AuctionOrder
         quantity: order.quantity,
         visible: listed.visible,
         filled: listed.filled,
+        peak: order.peak.unwrap_or(0),
         id: order.id,
         limit: tick.unwrap_or(0),
         member: order.member,
         side: side_out(order.side),
         restriction: restriction_out(order.restriction),
         has_limit: u8::from(tick.is_some()),
+        has_peak: u8::from(order.peak.is_some()),
     }
 }
 

@@ -62,6 +62,9 @@ pub const OVERTAKEN: u32 = 16;
 /// The number is neither a member's nor `ALL_MEMBERS`.
 pub const BAD_MEMBER: u32 = 17;
 
+/// Another call has the handle. No call here answers it: `library/door.c` does, before it comes to one.
+pub const MISUSED: u32 = 18;
+
 /// The number of a fault of an opening.
 pub(crate) fn fault_out(fault: OpenFault) -> u32
     ensures { result ≡ fault_number fault }

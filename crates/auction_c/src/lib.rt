@@ -26,10 +26,13 @@ mod decoding;
 mod encoding;
 mod entries;
 mod errors;
+mod executions;
 mod handle;
 mod member_box;
 mod member_handle;
 mod order_calls;
+mod outcome_calls;
+mod outcomes;
 mod structs;
 
 use applying::{apply_each, apply_one};
@@ -41,7 +44,7 @@ use encoding::{config_out, display_out, state_out};
 use errors::fault_out;
 pub use errors::{
     BAD_BOUNDS, BAD_CAPACITY, BAD_LENGTH, BAD_MEMBER, BAD_REFERENCE, BEHIND, BUSY, CLOSED, DONE,
-    FULL, IN_USE, MISSING_MEMBER, NO_AUCTION, NO_COMMAND, NO_CONFIG, NO_MEMBER, NO_MEMORY,
+    FULL, IN_USE, MISSING_MEMBER, MISUSED, NO_AUCTION, NO_COMMAND, NO_CONFIG, NO_MEMBER, NO_MEMORY,
     OVERTAKEN,
 };
 pub use handle::AuctionHandle;
@@ -49,7 +52,7 @@ pub use member_handle::AuctionMember;
 use std::alloc::Global;
 pub use structs::{
     AuctionCommand, AuctionConfig, AuctionDayState, AuctionEntry, AuctionMarketOrders,
-    AuctionOrder, AuctionReceipt, AuctionReply, AuctionShown, AuctionTrade,
+    AuctionOrder, AuctionOutcome, AuctionReceipt, AuctionReply, AuctionShown, AuctionTrade,
 };
 
 /// Opens an auction, which the handle then holds: no orders, no trades, no calls, the reference of the config.

@@ -103,6 +103,8 @@ pub struct AuctionOrder {
     pub quantity: u64,
     pub visible: u64,
     pub filled: u64,
+    /// The most shares that it shows, where `has_peak` is 1; else 0.
+    pub peak: u64,
     pub id: u32,
     /// A tick, where `has_limit` is 1; else 0, of a market order.
     pub limit: u32,
@@ -112,6 +114,24 @@ pub struct AuctionOrder {
     /// The auctions that the order is for: 0 every one, 1 the opening, 2 the closing alone.
     pub restriction: u8,
     pub has_limit: u8,
+    pub has_peak: u8,
+}
+
+/// What an uncross did to an order of which it executed shares, or which it took out.
+#[repr(C)]
+#[derive(Clone, Copy, Debug, PartialEq, Eq)]
+pub struct AuctionOutcome {
+    /// Shares that the uncross executed of it, and those that it left.
+    pub filled: u64,
+    pub left: u64,
+    pub id: u32,
+    /// The auction price; 0 where there is none.
+    pub tick: u32,
+    pub member: u8,
+    /// 1 bid, 2 ask.
+    pub side: u8,
+    /// 1 where it was for the ended auction alone and had shares left, which aren't open any more.
+    pub expired: u8,
 }
 
 /// Where the day of an auction is.

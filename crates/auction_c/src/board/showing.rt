@@ -13,8 +13,8 @@ use crate::structs::{AuctionDayState, AuctionEntry, AuctionMarketOrders, Auction
 use auction_terms::{Entry, Trade};
 use shared_board::SharedMember;
 
-// The trades after the first ones.
-fn trades_after(tape: &[Trade], seen: usize) -> &[Trade]
+/// The trades after the first ones.
+pub(crate) fn trades_after(tape: &[Trade], seen: usize) -> &[Trade]
     ensures { result.now ≡ drop seen tape.now }
 {
     &tape[seen.min(tape.len())..]

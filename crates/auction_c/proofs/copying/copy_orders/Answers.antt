@@ -1,28 +1,8 @@
 -- Answers of `copy_orders` (src/copying.rt): what the prover left open; rt looks here.
-use Rattle.std.proofs.Common.{arith, ap, ◌∙◌, slice_set, None}
-use Rattle.auction_terms.specs.declared.Side.TheVariants.{Bid}
-use Rattle.auction_terms.specs.declared.Limit.TheVariants.{Market}
-use Rattle.auction_terms.specs.declared.Restriction.TheVariants.{Unrestricted}
-use Rattle.auction_terms.specs.declared.OpenOrder.{OpenOrder}
+use Rattle.std.proofs.Common.{arith, ap, ◌∙◌, slice_set}
 use Rattle.auction_c.specs.Encoding.{order_out}
-use Rattle.auction_c.proofs.CopyLaws.{copied_more}
+use Rattle.auction_c.proofs.CopyLaws.{copied_more, no_order}
 use Rattle.auction_c.proofs.copying.copy_orders.Goals as goal
-
--- any one
-abbrev no_order : OpenOrder
-no_order = record {
-  order = record {
-    id = 0;
-    member = 0;
-    side = Bid;
-    restriction = Unrestricted;
-    limit = Market;
-    quantity = 0;
-    peak = None;
-  };
-  visible = 0;
-  filled = 0;
-}
 
 pub loop-i-preserved : goal.loop-i-preserved
 loop-i-preserved c =

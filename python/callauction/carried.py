@@ -1,0 +1,47 @@
+"""What is left of a day for the next one: see CarriedOver."""
+import dataclasses
+
+import numpy
+from numpy.typing import NDArray
+
+from callauction.arrays import COMMAND, Structs
+from callauction.words import CommandTag, Restriction
+
+
+@dataclasses.dataclass(frozen=True, slots=True, eq=False)
+class CarriedOver:
+    """The open orders that are for every auction, as what enters them into the next day's auction.
+
+    `commands` is an array of COMMAND in time order, `ids` an array of uint32 of the same length
+    with the orders' ids of this day: those of the next one are 1, 2 and so on. `reference` is the
+    next day's reference price, a tick.
+    """
+
+    commands: Structs
+    ids: NDArray[numpy.uint32]
+    reference: int
+
+
+def carried_over(orders: Structs, reference: int) -> CarriedOver:
+    """What is left of a day, by its open orders in priority, an array of ORDER.
+
+    Those with one limit are in time order. The ids, which were given in time order, tell how these
+    lists lie in one another, where no order lost its place in time. A peak above what is left of
+    its order is cut to that, as it would be refused.
+    """
+    left = orders[numpy.argsort(_times_of(orders), kind="stable")]
+    left = left[left["restriction"] == Restriction.NONE]
+    commands = numpy.zeros(len(left), COMMAND)
+    commands["tag"] = CommandTag.ENTER
+    for name in ("member", "side", "quantity", "limit", "has_limit", "has_peak"):
+        commands[name] = left[name]
+    commands["peak"] = numpy.where(left["has_peak"], left["visible"], 0)
+    return CarriedOver(commands, left["id"].copy(), reference)
+
+
+def _times_of(orders: Structs) -> NDArray[numpy.uint32]:
+    """For each order the greatest id of those of its side and limit that don't come after it."""
+    limits = orders[["side", "has_limit", "limit"]]
+    begins = numpy.flatnonzero(limits[1:] != limits[:-1]) + 1
+    parts = numpy.split(orders["id"], begins)
+    return numpy.concatenate([numpy.maximum.accumulate(part) for part in parts])
