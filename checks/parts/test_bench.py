@@ -13,8 +13,10 @@ import pytest
 from checks import built
 
 BENCH = built.TOP / "bench/bench"
-PROVES = {"build"}
-"""The measures that prove all anew, which takes half an hour."""
+LEFT_OUT = {"build", "records"}
+"""The measure that proves all anew, which takes half an hour, and the one that builds a crate by
+Debian's Rust, which nothing else here needs.
+"""
 WRONG = ("Traceback", "NOT whole", "not all found")
 """What a measure says that went wrong, or whose programs gave wrong results."""
 Tables = list[list[str]]
@@ -50,7 +52,7 @@ def words_of_what_is_built(pytestconfig: pytest.Config, program: str) -> list[st
     return [it for name, path in paths.items() for it in (name, str(pathlib.Path(path).resolve()))]
 
 
-@pytest.mark.parametrize("name", [it for it in names() if it not in PROVES])
+@pytest.mark.parametrize("name", [it for it in names() if it not in LEFT_OUT])
 def test_measure(name: str, given: list[str]) -> None:
     words = [sys.executable, str(BENCH), name, "--smallest", *given]
     ran = subprocess.run(words, capture_output=True, text=True, timeout=600)

@@ -244,19 +244,28 @@ def test_results_among_the_files(program: str, tmp_path: pathlib.Path) -> None:
     assert {file.name for file in folder.iterdir()} == {"A.csv", "B.csv"}
 
 
+def is_alive(process: psutil.Process) -> bool:
+    """Whether a process runs: one that was killed may not have been waited for yet."""
+    try:
+        return process.is_running() and process.status() != psutil.STATUS_ZOMBIE
+    except psutil.NoSuchProcess:
+        return False
+
+
 @pytest.mark.parametrize("name", ["INT", "TERM", "KILL"])
 def test_an_interrupted_run(name: str, harmful: pathlib.Path, tmp_path: pathlib.Path) -> None:
-    write(tmp_path / "journals", {f"slow {place}": LAWFUL["A"] for place in range(40)})
+    slow = {f"slow {place}": LAWFUL["A"] for place in range(40)}
+    write(tmp_path / "journals", slow | ({"never ends": LAWFUL["A"]} if name == "INT" else {}))
     output = tmp_path / "result.csv"
     log = tmp_path / "result.csv.log"
-    words = ["audit", tmp_path / "journals", "--workers", 1, "-o", output]
+    words = ["audit", tmp_path / "journals", "--workers", 2, "--seconds", 2 * SECONDS, "-o", output]
     with started(*words, program=harmful) as child:
         wait_for(log, 1)
         those = psutil.Process(child.pid).children(recursive=True)
         child.send_signal(getattr(signal, f"SIG{name}"))
         _, error = child.communicate(timeout=SECONDS)
         if name == "INT":
-            assert not any(process.is_running() for process in those)
+            until(lambda: not any(is_alive(process) for process in those))
     if name == "INT":
         assert child.returncode == 130
         assert error == f"market: broken off: {log} has what was found; --resume\n"
