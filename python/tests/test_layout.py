@@ -56,7 +56,7 @@ def names_of_the_header() -> list[str]:
 
 
 def test_no_number_of_the_header_is_left_out() -> None:
-    errors = 18
+    errors = 19  # CALLAUCTION_DONE among them
     numbers = names_of_the_header()
     assert len(numbers) == sum(len(enumeration) for enumeration, _ in NUMBERS) + errors
 
