@@ -709,8 +709,9 @@ def test_a_day_whose_journal_was_put_back_isnt_copied(tmp_path: pathlib.Path) ->
     journal.write_text(right.replace("enter,bid,1,200,entered 3", "enter,bid,2,200,entered 3"))
     text = ran("backup", tmp_path / "venue", tmp_path / "copy", status=1)
     assert text == "backup: XYZ.journal.csv isn't the journal of which venue.log knows\n"
-    assert "no folder of a venue" in ran("backup", tmp_path, tmp_path / "copy", status=1)
-    assert not (tmp_path / "copy").exists()
+    (tmp_path / "empty").mkdir()
+    text = ran("backup", tmp_path / "empty", tmp_path / "copy", status=1)
+    assert "no folder of a venue" in text and not (tmp_path / "copy").exists()
 
 
 def lines_of(*lines: dict[str, Any]) -> bytes:

@@ -20,7 +20,7 @@ NOT_BY_PAGES = re.compile(
     "|a value has a member|.* is no (list of )?texts?$|shows is one|the (body|message) "
     "|the first message|this (is|isn't|look)|a ping|first is|auction is no"
     "|there is no (\\{\\} in|such round)|side is|only is|topics are|price is no text|a token"
-    "|the book is closed"
+    "|the book is closed|this day has no sessions by FIX"
 )
 """What only programs can do wrong: no page sends it."""
 READ = """
