@@ -14,6 +14,7 @@ import fixing
 import psutil
 import pytest
 import served
+from callauction.fix.wires import ANSWER_SECONDS
 from callauction.venue.gates import STUCK_SECONDS
 from fixing import SOH, Closed, Pairs, Peer
 from served import Served
@@ -168,6 +169,41 @@ def test_a_session_is_on_one_connection(front: Fronted) -> None:
     again.number, again.expected, again.sent = first.number, first.expected, first.sent
     again.logon(front.password("BOB"))
     assert waits(again, 3) < MOST_WAIT
+
+
+def second_logon(front: Fronted, number: int) -> None:
+    """A Logon of BOB with the right password, who is on another connection: it is ended without a
+    word, as the standard has it of a second one.
+    """
+    assert front.answered(logon("BOB", (554, front.password("BOB")), number=number)) == b""
+
+
+def test_who_is_there_no_more_gives_way(front: Fronted) -> None:
+    """A connection that says nothing, as one of a machine that was switched off: it is ended soon,
+    long before two heartbeats are missed, once its member comes again.
+    """
+    gone = front.peer("BOB")
+    begin = time.monotonic()
+    second_logon(front, gone.number)
+    gone.socket.settimeout(30.0)
+    asked = dict(fixing.parsed(gone.whole()))
+    assert (asked[35], asked[34]) == ("1", "2") and asked[112]
+    with pytest.raises(Closed):
+        gone.whole()
+    assert ANSWER_SECONDS - 1.0 < time.monotonic() - begin < 30.0
+    again = Peer(front.port, "BOB")
+    again.number, again.expected = gone.number, 3
+    again.logon(front.password("BOB"))
+    assert waits(again, 3) < MOST_WAIT
+
+
+def test_who_is_there_stays(front: Fronted) -> None:
+    first = front.peer("BOB")
+    second_logon(front, first.number)
+    first.take(lambda it: it[35] == "1")  # and answers
+    with pytest.raises(TimeoutError):
+        first.take(lambda it: False, 2 * ANSWER_SECONDS)
+    assert waits(first, 3) < MOST_WAIT
 
 
 def refused(front: Fronted, more: Pairs) -> dict[int, str]:

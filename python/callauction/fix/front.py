@@ -228,11 +228,17 @@ class Front:
     # ---- bytes
 
     def _accepts(self, session: str, password: bytes) -> bool:
-        """Whether a session takes a Logon with this password."""
+        """Whether a session takes a Logon with this password. One that is on a connection takes
+        none, but that has to show that somebody is there.
+        """
         seat = self._seats[session]
         if not self._is_ready or seat in self._resetting:
             return False
-        return seat.takes(password.decode("latin-1"))
+        if not seat.takes(password.decode("latin-1")):
+            return False
+        if (wire := self._on.get(seat)) is not None and wire.is_to_answer():
+            self._send(seat, Type.TEST_REQUEST, [(Tag.TEST_REQ_ID, now())], [])
+        return True
 
     def connected(self, wire: Wire) -> int:
         """A connection has come: its number."""

@@ -35,6 +35,7 @@ class Tag(enum.IntEnum):
     CXL_REJ_REASON = 102
     ORD_REJ_REASON = 103
     MAX_FLOOR = 111
+    TEST_REQ_ID = 112
     NO_RELATED_SYM = 146
     EXEC_TYPE = 150
     LEAVES_QTY = 151
@@ -108,6 +109,7 @@ class Type(enum.StrEnum):
     GAP = "4"
     BUSINESS_REJECT = "j"
     LOGON = "A"
+    TEST_REQUEST = "1"
 
 
 class Status(enum.StrEnum):

@@ -17,6 +17,10 @@ MOST_TOOK = 0.001
 """Seconds that something said may take before others have their turn first."""
 STATES = frozenset({"states"})
 """What a connection hears of whose session asked for what changes."""
+ANSWER_SECONDS = 5.0
+"""How long the connection of a session that logs on once more may say nothing: then nobody is there
+any more, and the next Logon is taken.
+"""
 BUSY_SHARE = 4
 """How often that time passes before more is read of it."""
 
@@ -55,6 +59,7 @@ class Wire(asyncio.Protocol):
         self.is_leaving = False
         self.topics: frozenset[str] = frozenset()
         self._is_left = self._is_full = self._is_paused = False
+        self._is_asked = False
         self._rests_until = 0.0
         self.seat: Seat | None = None
 
@@ -68,6 +73,7 @@ class Wire(asyncio.Protocol):
     def data_received(self, data: bytes) -> None:
         """It says this."""
         loop = asyncio.get_running_loop()
+        self._is_asked = False
         self._gate.is_held = True
         begin = loop.time()
         self._is_left = self._is_full = self._host.engine.feed(self.number, data)
@@ -130,6 +136,21 @@ class Wire(asyncio.Protocol):
         self.is_leaving = True
         self._host.engine.log_out(self.number, ERRORS[code])
         self._host.heard(self.number)
+
+    def is_to_answer(self) -> bool:
+        """Whether it is to be asked if somebody is there; it ends where nothing is said in time."""
+        if self._is_asked:
+            return False
+        self._is_asked = True
+        asyncio.get_running_loop().call_later(ANSWER_SECONDS, self._check_answered)
+        return True
+
+    def _check_answered(self) -> None:
+        """Ends where nothing was said, and not for what is still to be taken."""
+        is_busy = self.seat is not None and self.seat.is_busy
+        if self._is_asked and not is_busy:
+            self.cut()
+        self._is_asked = False
 
     def end(self) -> None:
         """Ends once all was sent."""
