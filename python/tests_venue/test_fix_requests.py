@@ -358,6 +358,21 @@ def settled(peer: Peer, count: int) -> list[Message]:
     return peer.got
 
 
+def test_a_list_is_settled(tmp_path: pathlib.Path) -> None:
+    """It has the number of its request: begun again, the venue expects the next one, and neither
+    asks for that request again nor answers it again.
+    """
+    port = served.free_port()
+    with killable(tmp_path, fixing.day_of(port, "ALICE")) as day:
+        peer = Peer(port, "ALICE")
+        peer.logon(fixing.token_of(tmp_path / "venue", "ALICE"))
+        peer.say("x", [(320, "l1"), (559, "4")])
+        assert peer.take(lambda it: it[35] == "y")[322] == "R.ALICE.2"
+        day.again()
+        peer.logon(fixing.token_of(tmp_path / "venue", "ALICE"))
+        assert peer.all() == []
+
+
 def test_a_gap_in_place_of_what_was_not_executed(tmp_path: pathlib.Path) -> None:
     """The venue and its program are killed while messages are in the log and the program hasn't
     read them; the client has lost them, and fills the gap: it is told that nothing was done.

@@ -150,6 +150,7 @@ EVENTS = {
     Type.CANCEL_REJECT: Tag.EVENT_ID,
     Type.MASS_CANCELED: Tag.ORDER_ID,
     Type.TRADE: Tag.TRADE_REPORT_ID,
+    Type.LIST: Tag.SECURITY_RESPONSE_ID,
 }
 """Which tag of a message is the id of what it says, by which it is sent once."""
 AROUND = (8, 9, 10, 34, 35, 43, 49, 52, 56, 97, 122)
