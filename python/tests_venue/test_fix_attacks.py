@@ -127,6 +127,7 @@ def test_strangers_are_sent_nothing(front: Fronted, kind: str) -> None:
     "fields, text",
     [
         ([(98, "0")], "Required tag missing: 108"),
+        ([(98, "1"), (108, "30")], "Value is incorrect (out of range) for this tag: 98"),
         ([(98, "0"), (108, "x")], "Incorrect data format for value: x: 108"),
         ([(98, "0"), (108, "30"), (464, "Y")], "Invalid tag number: 464"),
         ([(98, "0"), (108, "30"), (8013, "")], "Tag specified without a value: 8013"),

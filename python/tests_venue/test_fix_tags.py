@@ -1,0 +1,331 @@
+"""The tables of docs/FIX.md, tag by tag, where no other test looks: which tags a message needs,
+which change nothing, which values are taken, and what is said of those that aren't. What is
+expected is from the standard and that document.
+"""
+import pathlib
+import types
+from typing import Any, cast
+
+import fixing
+import psutil
+import pytest
+import served
+from callauction.fix.feeds import phase_of
+from callauction.fix.seats import NOT_DONE
+from callauction.venue.phases import Phase
+from fixing import Message, Pairs, Peer
+from test_fix_requests import ask_data, killable, rows, until_logged
+from test_fix_venue import on
+
+TIME = "20261126-09:00:00"
+HEAD = [(50, "desk"), (57, "floor")]
+NOTHING = [(1, "a"), (21, "1"), (58, "text"), (100, "XETR"), (207, "XETR"), (528, "A"), (581, "1")]
+"""Tags that change nothing."""
+NEEDED: dict[str, list[Pairs]] = {
+    "D": [[(11, "n1")], [(55, "XYZ")], [(54, "1")], [(60, TIME)], [(38, "10")], [(40, "1")]],
+    "G": [
+        *([(41, "a1")], [(11, "n1")], [(55, "XYZ")], [(54, "1")], [(60, TIME)]),
+        *([(38, "10")], [(40, "1")]),
+    ],
+    "F": [[(41, "a1")], [(11, "n1")], [(55, "XYZ")], [(54, "1")], [(60, TIME)]],
+    "H": [[(11, "a1")], [(55, "XYZ")], [(54, "1")]],
+    "q": [[(11, "n1")], [(530, "7")], [(60, TIME)]],
+    "AF": [[(584, "n1")], [(585, "7")]],
+    "V": [
+        *([(262, "n1")], [(263, "0")], [(264, "1")]),
+        *([(267, "1"), (269, "Q")], [(146, "1"), (55, "XYZ")]),
+    ],
+    "g": [[(335, "n1")], [(263, "0")]],
+    "x": [[(320, "n1")], [(559, "4")]],
+}
+"""The tags that each message needs, a group as one."""
+OTHERS = {"D": 99, "G": 126, "F": 453, "H": 453, "q": 64, "AF": 453, "V": 286, "g": 338, "x": 167}
+"""A tag for each that the standard has, and the venue hasn't."""
+
+
+def whole(kind: str, *but: int) -> Pairs:
+    """A message that has what it needs but for these tags."""
+    return [it for group in NEEDED[kind] if group[0][0] not in but for it in group]
+
+
+def order(client: str, side: str, shares: str, *more: tuple[int, str]) -> Pairs:
+    """A NewOrderSingle."""
+    return [(11, client), (55, "XYZ"), (54, side), (60, TIME), (38, shares), *more]
+
+
+def answer(peer: Peer, kind: str, pairs: Pairs, head: Pairs = []) -> Message:
+    """What is answered to a message."""
+    peer.say(kind, pairs, head)
+    return peer.take(lambda it: it[35] not in "0124A")
+
+
+def picked(given: Message, *tags: int) -> tuple[str, ...]:
+    """These tags of a message, empty where it hasn't one."""
+    return tuple(given.get(it, "") for it in tags)
+
+
+def test_what_a_message_needs(tmp_path: pathlib.Path) -> None:
+    """Without one of its tags, or with one that the venue hasn't, it is refused, and nothing else.
+    """
+    port = served.free_port()
+    with on(tmp_path, fixing.day_of(port, "ALICE"), port, "ALICE") as (venue, [peer]):
+        venue.do("start")
+        assert answer(peer, "D", order("a1", "1", "10", (40, "1")))[150] == "0"
+        for kind, groups in NEEDED.items():
+            for tag in (group[0][0] for group in groups):
+                number = str(peer.number)
+                found = answer(peer, kind, whole(kind, tag))
+                expected = ("3", number, kind, str(tag), "1")
+                assert picked(found, 35, 45, 372, 371, 373) == expected, (kind, tag)
+            number, tag = str(peer.number), OTHERS[kind]
+            found = answer(peer, kind, [*whole(kind), (tag, "1")])
+            assert picked(found, 35, 45, 372, 371) == ("3", number, kind, str(tag))
+        assert answer(peer, "D", whole("D"))[150] == "0"  # n1 is new: no message was done
+        assert answer(peer, "H", whole("H"))[39] == "0"
+
+
+def test_tags_that_change_nothing(tmp_path: pathlib.Path) -> None:
+    port = served.free_port()
+    with on(tmp_path, fixing.day_of(port, "ALICE"), port, "ALICE") as (venue, [peer]):
+        venue.do("start")
+        limit = [(40, "2"), (44, "2.00")]
+        entered = answer(peer, "D", [*order("a1", "1", "10", *limit), *NOTHING], HEAD)
+        assert picked(entered, 150, 37, 38, 40, 44, 59) == ("0", "1", "10", "2", "2.00", "0")
+        assert not {*entered} & {1, 21, 50, 57, 58, 100, 207, 528, 581}
+        other = [(41, "a1"), *order("a2", "1", "12", *limit), *NOTHING, (37, "9")]
+        assert picked(answer(peer, "G", other, HEAD), 150, 37, 38, 44) == ("5", "1", "12", "2.00")
+        asked = [(11, "a2"), (55, "XYZ"), (54, "1"), *NOTHING, (37, "9"), (790, "s1")]
+        assert picked(answer(peer, "H", asked, HEAD), 150, 37, 39) == ("I", "1", "0")
+        found = answer(peer, "AF", [(584, "s1"), (585, "7"), (1, "a"), (207, "XETR")])
+        assert picked(found, 150, 37, 912) == ("I", "1", "Y")
+        found = answer(peer, "x", [(320, "l1"), (559, "4"), (207, "XETR"), (263, "0")])
+        assert picked(found, 35, 560, 393) == ("y", "0", "1")
+        found = answer(peer, "V", [*whole("V"), (207, "XETR")])
+        assert picked(found, 35, 262, 268) == ("W", "n1", "0")
+        gone = [(41, "a2"), *order("a3", "1", "99"), *NOTHING, (37, "9")]
+        assert picked(answer(peer, "F", gone, HEAD), 150, 37, 38) == ("4", "1", "12")
+        found = answer(peer, "q", [(11, "a4"), (530, "7"), (60, TIME), (58, "text"), (207, "XETR")])
+        assert picked(found, 35, 531, 533) == ("r", "7", "0")
+
+
+BAD_ORDERS: list[tuple[Pairs, str]] = [
+    ([(40, "2")], "11"),
+    ([(40, "1"), (44, "2.00")], "11"),
+    ([(40, "3")], "11"),
+    ([(40, "2"), (44, "2.005")], "99"),
+    ([(40, "2"), (44, "-2.00")], "99"),
+    ([(40, "1"), (54, "5")], "11"),
+    ([(40, "1"), (55, "NONE")], "1"),
+    ([(40, "1"), (59, "3")], "11"),
+    ([(40, "1"), (59, "6")], "11"),
+    ([(40, "1"), (38, "1.5")], "11"),
+    ([(40, "1"), (38, "-1")], "11"),
+    ([(40, "1"), (38, "0")], "13"),
+    ([(40, "1"), (111, "1.5")], "11"),
+    ([(40, "2"), (44, "2.00"), (111, "11")], "99"),
+    ([(40, "2"), (44, "2.00"), (1138, "11")], "99"),
+    ([(40, "1"), (111, "5"), (1138, "6")], "11"),
+]
+"""Orders that aren't entered, and OrdRejReason: 1 an unknown symbol, 11 what isn't supported, 13 a
+quantity, 99 another.
+"""
+NO_VALUES: Pairs = [(38, "x"), (44, "x"), (60, "now"), (111, "x"), (59, "00")]
+"""Values that aren't of the type of their tag: a quantity, a price, a time, a letter."""
+
+
+def changed(pairs: Pairs, other: Pairs) -> Pairs:
+    """A message with other values."""
+    tags = {tag for tag, _ in other}
+    return [it for it in pairs if it[0] not in tags] + other
+
+
+def test_orders_that_are_not_entered(tmp_path: pathlib.Path) -> None:
+    port = served.free_port()
+    with on(tmp_path, fixing.day_of(port, "ALICE"), port, "ALICE") as (venue, [peer]):
+        venue.do("start")
+        for number, (other, reason) in enumerate(BAD_ORDERS):
+            client = f"a{number}"
+            found = answer(peer, "D", changed(order(client, "1", "10"), other))
+            expected = ("8", client, "8", "8", "0", "0", "NONE", reason)
+            assert picked(found, 35, 11, 150, 39, 151, 14, 37, 103) == expected, other
+            assert found[58]
+        for tag, value in NO_VALUES:
+            found = answer(peer, "D", changed(order("b1", "1", "10", (40, "1")), [(tag, value)]))
+            assert picked(found, 35, 371, 373) == ("3", str(tag), "6"), tag
+        assert answer(peer, "D", order("b1", "1", "10", (40, "1")))[37] == "1"
+
+
+KEPT: list[tuple[Pairs, str]] = [
+    ([(54, "2")], "Side can't be changed"),
+    ([(59, "0")], "MaxFloor and TimeInForce can't be changed"),
+    ([(59, "7")], "MaxFloor and TimeInForce can't be changed"),
+    ([(111, "6")], "MaxFloor and TimeInForce can't be changed"),
+    ([(1138, "6")], "MaxFloor and TimeInForce can't be changed"),
+]
+"""What a replace can't change of a bid till cancelled with a peak of 5."""
+
+
+def test_what_a_replace_keeps(tmp_path: pathlib.Path) -> None:
+    port = served.free_port()
+    with on(tmp_path, fixing.day_of(port, "ALICE"), port, "ALICE") as (venue, [peer]):
+        venue.do("start")
+        first = order("a1", "1", "10", (40, "2"), (44, "2.00"), (59, "1"), (1138, "5"))
+        assert picked(answer(peer, "D", first), 150, 59, 111) == ("0", "1", "5")
+        for number, (other, text) in enumerate(KEPT):
+            asked = order(f"b{number}", "1", "20", (40, "2"), (44, "2.10"), (41, "a1"))
+            found = answer(peer, "G", changed(asked, other))
+            expected = ("9", "1", f"b{number}", "a1", "0", "2", "99", text)
+            assert picked(found, 35, 37, 11, 41, 39, 434, 102, 58) == expected
+        found = answer(peer, "F", [(41, "a1"), (11, "b9"), (55, "XYZ"), (54, "2"), (60, TIME)])
+        assert picked(found, 35, 434, 102, 58) == ("9", "1", "99", "Side can't be changed")
+        same = order("c1", "1", "20", (41, "a1"), (40, "2"), (44, "2.10"), (59, "1"), (111, "5"))
+        found = answer(peer, "G", same)
+        assert picked(found, 150, 38, 44, 59, 111) == ("5", "20", "2.10", "1", "5")
+        assert answer(peer, "D", order("d1", "2", "10", (40, "2"), (44, "3.00")))[150] == "0"
+        found = answer(peer, "G", order("d2", "2", "9", (41, "d1"), (40, "1")))
+        assert picked(found, 150, 40, 44, 38, 59) == ("5", "1", "", "9", "0")
+
+
+def test_until_when_orders_are_open(tmp_path: pathlib.Path) -> None:
+    """Those for the opening until its uncross, the others until the day is over, at the third."""
+    port = served.free_port()
+    times = [("", "0"), ("0", "0"), ("1", "1"), ("2", "2"), ("7", "7")]
+    with on(tmp_path, fixing.day_of(port, "ALICE"), port, "ALICE") as (venue, [peer]):
+        venue.do("start")
+        for number, (asked, told) in enumerate(times, 1):
+            more = [(59, asked)] if asked else []
+            pairs = order(f"a{number}", "1", "10", (40, "2"), (44, "2.00"), *more)
+            assert picked(answer(peer, "D", pairs), 17, 150, 59) == (f"XYZ.{number}", "0", told)
+        venue.do("uncross")
+        ended = peer.all()
+        venue.do("start")
+        venue.do("uncross")
+        assert peer.all() == []
+        venue.do("start")
+        venue.do("uncross")
+        ended += peer.all()
+    assert [picked(it, 17, 11, 150, 39, 151, 14, 38) for it in ended] == [
+        ("XYZ.6.x4", "a4", "C", "C", "0", "0", "10"),
+        ("XYZ.8.x1", "a1", "C", "C", "0", "0", "10"),
+        ("XYZ.8.x2", "a2", "C", "C", "0", "0", "10"),
+        ("XYZ.8.x3", "a3", "3", "3", "0", "0", "10"),
+        ("XYZ.8.x5", "a5", "C", "C", "0", "0", "10"),
+    ]
+
+
+def test_orders_that_are_asked_for(tmp_path: pathlib.Path) -> None:
+    """By their last id or one before, by an order that is sent again, and where there is none."""
+    port = served.free_port()
+    with on(tmp_path, fixing.day_of(port, "ALICE"), port, "ALICE") as (venue, [peer]):
+        venue.do("start")
+        market = order("a1", "2", "10", (40, "1"))
+        assert answer(peer, "D", market, [(97, "Y")])[17] == "XYZ.1"
+        found = answer(peer, "D", market, [(97, "Y")])
+        assert picked(found, 17, 37, 150, 39, 151) == ("R.ALICE.3", "1", "I", "0", "10")
+        peer.cancel("a1", "a2", "2")
+        assert peer.take(lambda it: it.get(11) == "a2")[150] == "4"
+        for client in ("a1", "a2"):
+            found = answer(peer, "H", [(11, client), (55, "XYZ"), (54, "2")])
+            assert picked(found, 37, 150, 39, 151) == ("1", "I", "4", "0")
+        found = answer(peer, "H", [(11, "b1"), (55, "XYZ"), (54, "2")])
+        expected = ("b1", "NONE", "I", "8", "5", "there is no order of this ClOrdID")
+        assert picked(found, 11, 37, 150, 39, 103, 58) == expected
+        found = answer(peer, "AF", [(584, "s1"), (585, "3")])
+        assert picked(found, 584, 150, 39, 58) == (
+            *("s1", "I", "8", "tag 585 is 1 with a Symbol, or 7 without"),
+        )
+
+
+def test_a_logon_is_given_back(tmp_path: pathlib.Path) -> None:
+    """And each side hears the other as often as 108 says."""
+    port, folder = served.free_port(), tmp_path / "venue"
+    with served.served(tmp_path, fixing.day_of(port, "ALICE")):
+        peer = Peer(port, "ALICE")
+        peer.connect()
+        password = fixing.token_of(folder, "ALICE")
+        more = [(553, "me"), (789, "99")]
+        peer.say("A", [(98, "0"), (108, "1"), (554, password), *more], [(369, "7")])
+        found = peer.take(lambda it: it[35] == "A")
+        assert picked(found, 49, 56, 98, 108) == ("VENUE", "ALICE", "0", "1")
+        assert 554 not in found and 8013 not in found
+        assert peer.take(lambda it: it[35] in "01", 20.0)[49] == "VENUE"
+
+
+def test_instruments_and_the_market_by_name(tmp_path: pathlib.Path) -> None:
+    port = served.free_port()
+    with on(tmp_path, fixing.day_of(port, "ALICE"), port, "ALICE") as (venue, [peer]):
+        found = answer(peer, "x", [(320, "l1"), (559, "0"), (55, "XYZ")])
+        assert picked(found, 320, 322, 560, 393, 146, 55) == (
+            *("l1", "R.ALICE.2", "0", "1", "1", "XYZ"),
+        )
+        ask_data(peer, "d1", "1", (265, "1"))
+        assert picked(peer.take(lambda it: it[35] == "W"), 262, 55, 268) == ("d1", "XYZ", "0")
+        venue.do("start")
+        peer.enter("a1", "1", 10, "2.00")
+        found = peer.take(lambda it: it[35] == "X")
+        assert picked(found, 262, 268, 279, 269, 55, 270) == ("d1", "1", "0", "0", "XYZ", "2.00")
+        ask_data(peer, "d1", "2")
+        peer.enter("a2", "1", 10, "2.01")
+        assert [it[35] for it in peer.all() if it[35] in "WX"] == []
+        ask_data(peer, "d2", "0")
+        assert rows(peer, "W") == [{269: "0", 270: "2.01"}]
+        found = answer(peer, "V", changed(whole("V"), [(265, "2")]))
+        assert picked(found, 35, 262, 281) == ("Y", "n1", "4") and found[58]
+
+
+@pytest.mark.parametrize("halted", ["the board", "the venue"])
+def test_the_phase_of_what_is_halted(halted: str) -> None:
+    """TradSesStatus 1: halted."""
+    state = types.SimpleNamespace(phase=Phase.CALL, auction="closing", frozen=None, ends=None)
+    board = types.SimpleNamespace(
+        state=state,
+        engine=types.SimpleNamespace(halted=halted if halted == "the board" else None),
+        board=types.SimpleNamespace(market="XYZ"),
+    )
+    venue = types.SimpleNamespace(halted=halted if halted == "the venue" else None)
+    found = dict(phase_of(cast(Any, venue), cast(Any, board)))
+    assert found == {336: "XYZ", 625: "4", 340: "1", 58: "halted"}
+
+
+def test_what_is_sent_again(tmp_path: pathlib.Path) -> None:
+    """Reports and lists, with 43=Y; in place of what a market and a phase were a gap comes."""
+    port = served.free_port()
+    with on(tmp_path, fixing.day_of(port, "ALICE"), port, "ALICE") as (venue, [peer]):
+        venue.do("start")
+        assert answer(peer, "D", order("a1", "1", "10", (40, "1")))[34] == "2"
+        for kind, told, number in (("V", "W", "3"), ("g", "h", "4"), ("x", "y", "5")):
+            assert picked(answer(peer, kind, whole(kind)), 35, 34) == (told, number)
+        peer.say("2", [(7, "1"), (16, "0")])
+        peer.socket.settimeout(fixing.SECONDS)
+        found = [dict(fixing.parsed(peer.whole())) for _ in range(4)]
+        assert [picked(it, 35, 34, 43, 36, 17, 322) for it in found] == [
+            ("4", "1", "Y", "2", "", ""),
+            ("8", "2", "Y", "", "XYZ.1", ""),
+            ("4", "3", "Y", "5", "", ""),
+            ("y", "5", "Y", "", "", "R.ALICE.5"),
+        ]
+
+
+def test_a_gap_in_place_of_a_mass_cancel(tmp_path: pathlib.Path) -> None:
+    """It is in the log and no order was cancelled before all was killed; the client fills the gap:
+    the report says that nothing was done, and the order is open.
+    """
+    port, folder = served.free_port(), tmp_path / "venue"
+    with killable(tmp_path, fixing.day_of(port, "ALICE")) as day:
+        peer = Peer(port, "ALICE")
+        peer.logon(fixing.token_of(folder, "ALICE"))
+        assert answer(peer, "D", order("a1", "1", "10", (40, "1")))[17] == "XYZ.1"
+        [program] = psutil.Process(day.venue.child.pid).children()
+        program.suspend()
+        peer.say("q", [(11, "c1"), (530, "7"), (60, TIME)])
+        until_logged(folder, '"7 c1"')
+        day.venue.child.kill()
+        program.kill()
+        day.again()
+        peer.sent = {number: ("0", []) for number in peer.sent}
+        peer.logon(fixing.token_of(folder, "ALICE"))
+        [found] = peer.all()
+        expected = ("r", "R.ALICE.3", "c1", "7", "0", "99", "0", NOT_DONE)
+        assert picked(found, 35, 37, 11, 530, 531, 532, 533, 58) == expected
+        found = answer(peer, "H", [(11, "a1"), (55, "XYZ"), (54, "1")])
+        assert picked(found, 150, 39, 151) == ("I", "0", "10")
