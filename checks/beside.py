@@ -10,6 +10,7 @@ import contextlib
 import dataclasses
 import os
 import pathlib
+import re
 import shutil
 import signal
 import subprocess
@@ -34,6 +35,10 @@ class Fault(Exception):
     """Why a task can't run, or a product isn't there."""
 
 
+KEPT = re.compile(r"^(rt: \S+) is kept: .*$")
+"""What the gate says of a crate that an earlier run proved, in place of that it is proved."""
+
+
 @dataclasses.dataclass(frozen=True)
 class Product:
     """What a task makes: its name, the lines that the task prints before it is there (where there
@@ -43,6 +48,8 @@ class Product:
     name: str
     lines: frozenset[str] = frozenset()
     take: Callable[[], None] = lambda: None
+    is_at_end: bool = False
+    """Whether it is there at a good end too, where its lines weren't printed."""
 
 
 @dataclasses.dataclass(frozen=True)
@@ -136,9 +143,10 @@ class Running:
 
     def products_of(self, line: str) -> Iterator[Product]:
         """The products that are there once this line is printed."""
+        said = KEPT.sub(r"\1 proved", line)
         for product, lines in self.awaited.items():
-            if line in lines:
-                lines.remove(line)
+            if said in lines:
+                lines.remove(said)
                 if not lines:
                     yield product
 
@@ -230,7 +238,7 @@ class Schedule:
         for product in how.task.gives:
             if product.name not in self.there:
                 why = how.why or f"{how.task.name} made no {product.name}: see {how.log.name}"
-                if how.status == 0 and not product.lines:
+                if how.status == 0 and (product.is_at_end or not product.lines):
                     self.take(product)
                 else:
                     self.lacking.setdefault(product.name, why)

@@ -66,7 +66,9 @@ class Builds:
         """What the gate makes."""
         below = frozenset(f"rt: {name} proved" for name in gate.crates_of_library())
         found = [
-            Product(name, frozenset({line}), functools.partial(self.keep, name))
+            Product(
+                name, frozenset({line}), is_at_end=True, take=functools.partial(self.keep, name)
+            )
             for name, line in LINES.items()
         ]
         return (*found, Product(PROVED, below))
