@@ -194,6 +194,22 @@ at_most n story ms counts counted amount once h follow own_counts k within one d
     let le : slice_index counts m.number ≤ slice_index counted m.number = omega (arith, brings, most, has, f.count) in
     subst (λ (i : ℕ). slice_index counts i ≤ slice_index counted i) is le
 
+-- a member that follows the story, and has counted as many calls as it has of it, is an account of it
+pub account_by_count : (n : ℕ) (story : List Call) (m : MemberView) → HasSeenBeginning n story m
+    → m.calls ≡ length (placed_calls story m.number) → IsAccount story m
+account_by_count n story m f counted = record {
+  begins = f.begins;
+  own_calls =
+      sym (prefix_whole m.mine (placed_calls story m.number) (placed_calls-prefix n story m f)
+      (omega (arith, f.count, counted)));
+  count = f.count;
+}
+
+-- an account counts as many calls as the story has of it
+pub account-counts : (story : List Call) (m : MemberView) → IsAccount story m
+    → m.calls ≡ length (placed_calls story m.number)
+account-counts story m is = is.count ∙ sym (ap length is.own_calls)
+
 pub accounts : (n : ℕ) (story : List Call) (ms : List MemberView) (counts counted : List ℕ) (amount : ℕ)
     → HasEachNumberOnce n ms → AreMemberCounts n ms counts amount → All (HasSeenBeginning n story) ms
     → length counted ≡ n → ((k : ℕ) → k < n → slice_index counted k ≡ length (placed_calls story k))
@@ -209,13 +225,7 @@ accounts n story ms counts counted amount once h follow wide own_counts sums j d
     let same = same_parts counts counted (h.wide ∙ sym wide) below sums m.number (omega (arith, h.wide, f.number)) in
     let all : length (placed_calls story m.number) ≡ m.calls =
     sym (own_counts m.number f.number) ∙ sym same ∙ each j d lt in
-    record {
-      begins = f.begins;
-      own_calls =
-          sym (prefix_whole m.mine (placed_calls story m.number) (placed_calls-prefix n story m f)
-          (omega (arith, all, f.count)));
-      count = f.count;
-    }
+    account_by_count n story m f (sym all)
 
 -- a member more, which isn't kept back
 pub keeps : (late : Option ℕ) (end : ℕ) (ms : List MemberView) (m : MemberView) (kept : Option MemberView)
@@ -239,21 +249,21 @@ pub closes : (c : Config) (n : ℕ) (ms : List MemberView) (closing : Closing) (
 closes c n ms closing amount total once h legal total_is amount_is = search (arith, each_of)
 
 -- where no member was kept back, all follow the story
-pub all_follow : (n end : ℕ) (story : List Call) (ms ms' : List MemberView) (late : Option ℕ) → end ≡ length story
+pub all_follow : (n end long : ℕ) (story : List Call) (ms ms' : List MemberView) (late : Option ℕ) → end ≡ long
     → ms' ≡ ms → IsKeptBack late end ms None → IfNone late (All (HasSeenBeginning n story) ms')
-    → IfSome late (λ k. HasLate k (length story) ms') → All (HasSeenBeginning n story) ms
-all_follow n end story ms ms' None is same h none some = subst (All (HasSeenBeginning n story)) same none
-all_follow n end story ms ms' (Some k) is same h none some =
+    → IfSome late (λ k. HasLate k long ms') → All (HasSeenBeginning n story) ms
+all_follow n end long story ms ms' None is same h none some = subst (All (HasSeenBeginning n story)) same none
+all_follow n end long story ms ms' (Some k) is same h none some =
     absurd
     (none_late (Some k) k end ms h refl
-    (subst (λ (e : ℕ). HasLate k e ms) (sym is) (subst (HasLate k (length story)) same some)))
+    (subst (λ (e : ℕ). HasLate k e ms) (sym is) (subst (HasLate k long) same some)))
 
 -- the member that was kept back is the first that is late
-pub is_late : (c : Config) (n end : ℕ) (story : List Call) (ms ms' : List MemberView) (late : Option ℕ)
+pub is_late : (c : Config) (n end long : ℕ) (ms ms' : List MemberView) (late : Option ℕ)
     (m m' : MemberView) (seen : ℕ) (closing : Closing)
-    → IsClosing c n ms closing → end ≡ length story → ms' ≡ ms → IsKeptBack late end ms (Some m) → m' ≡ m
-    → seen ≡ length m'.seen → length story ≡ length closing.history.items
-    → IfSome late (λ k. All (λ (x : MemberView). x.number < k → length x.seen ≤ length story) ms')
+    → IsClosing c n ms closing → end ≡ long → ms' ≡ ms → IsKeptBack late end ms (Some m) → m' ≡ m
+    → seen ≡ length m'.seen → long ≡ length closing.history.items
+    → IfSome late (λ k. All (λ (x : MemberView). x.number < k → length x.seen ≤ long) ms')
     → IsLate c n ms m' seen closing
-is_late c n end story ms ms' late m m' seen closing closed is same kept same_m seen_is history first =
+is_late c n end long ms ms' late m m' seen closing closed is same kept same_m seen_is history first =
     grind (arith, common_steps, closes)

@@ -24,7 +24,7 @@ use Rattle.auction_terms.specs.declared.Entry.{Entry}
 use Rattle.auction_terms.specs.Day.{IsLegal, step, replay, call_of, calls_of, display}
 use Rattle.auction_terms.specs.Auxiliary.RunningAuction.{RunningAuction, auction_after_call, auction_after}
 use Rattle.auction_terms.proofs.RunLaws.{IsLegal-push, auction_after-push}
-use Rattle.board_terms.specs.FloorInvariant.{FloorInvariant}
+use Rattle.board_terms.specs.CoreInvariant.{CoreInvariant}
 use Rattle.board_terms.specs.MemberInvariant.{MemberInvariant}
 use Rattle.board_terms.specs.Closings.{HasSeenBeginning}
 
@@ -107,16 +107,16 @@ counts-after_call : (xs : List Call) (x : Call) (counts : List ℕ) (k : ℕ) �
 counts-after_call xs x counts k within was h6 is =
     grind (arith, common_steps, eqb-true, get_or-set_same, placed_calls-length-push, eqb-false, get_or-set_other)
 
-pub FloorInvariant-push : (c : Config) (n : ℕ) (a a' : RunningAuction) (h h' : List Entry) (f f' s s' : List Call)
-    (counts counts' : List ℕ) (t t' space space' member : ℕ) (command : Command) (reply : Reply)
-    → FloorInvariant c n a h f s counts t space → length h < c.max_calls → member < n
+pub CoreInvariant-push : (c : Config) (n : ℕ) (a a' : RunningAuction) (h h' : List Entry) (f f' : List Call)
+    (counts counts' : List ℕ) (space space' member : ℕ) (command : Command) (reply : Reply)
+    → CoreInvariant c n a h f counts space → length h < c.max_calls → member < n
     → reply ≡ (step a.config a.state (call_by member command)).1
     → a' ≡ auction_after_call a (call_by member command) → h' ≡ h ++ entry member command reply ∷ []
-    → f' ≡ calls_of h ++ call_by member command ∷ [] → s' ≡ f'
-    → counts' ≡ set counts member (slice_index counts member + 1) → t' ≡ t + 1 → space' ≡ space
-    → FloorInvariant c n a' h' f' s' counts' t' space'
-FloorInvariant-push c n a a' h h' f f' s s' counts counts' t t' space space' member command reply k lt one_of is_reply
-    is_a is_h is_f is_s is_counts is_t is_space =
+    → f' ≡ calls_of h ++ call_by member command ∷ []
+    → counts' ≡ set counts member (slice_index counts member + 1) → space' ≡ space
+    → CoreInvariant c n a' h' f' counts' space'
+CoreInvariant-push c n a a' h h' f f' counts counts' space space' member command reply k lt one_of is_reply is_a is_h
+    is_f is_counts is_space =
     let same = is_reply ∙ ap (λ (r : RunningAuction). (step r.config r.state (call_by member command)).1) k.replayed in
     let e : Entry = entry member command reply in
     let x : Call = call_by member command in
@@ -126,12 +126,10 @@ FloorInvariant-push c n a a' h h' f f' s s' counts counts' t t' space space' mem
       legal = subst (IsLegal c) (sym is_h) (IsLegal-push c h e k.legal lt same);
       replayed = is_a ∙ ap (λ (r : RunningAuction). auction_after_call r (call_by member command)) k.replayed
           ∙ auction_after-push c (calls_of h) (call_by member command) ∙ ap (auction_after c) (sym calls);
-      story = is_f ∙ sym calls;
-      copies = is_s ∙ is_f ∙ sym calls;
+      front_is = is_f ∙ sym calls;
       numbers =
           subst (All Holds) (sym is_h)
           (All-append Holds h (e ∷ []) k.numbers (All-cons Holds e [] one_of (All-nil Holds)));
-      total_is = omega (arith, is_t, k.total_is, ap length is_h, length-append h (e ∷ []));
       wide = ap length is_counts ∙ length-set counts member (slice_index counts member + 1) ∙ k.wide;
       summed = let within : member < length counts = omega (arith, k.wide) in
           omega (
@@ -140,7 +138,8 @@ FloorInvariant-push c n a a' h h' f f' s s' counts counts' t t' space space' mem
             sum_by-set (λ (y : ℕ). y) counts member (slice_index counts member + 1) 0
                 within,
             k.summed,
-            is_t,
+            ap length is_h,
+            length-append h (e ∷ []),
           );
       counts = λ j lt'.
           let inside : j < length counts = omega (arith, k.wide) in
@@ -220,10 +219,9 @@ placed_calls-one_more xs f' m command calls is_f counted =
     )
 
 -- a member follows the story that its beginning begins
-pub HasSeenBeginning-by_length : (n number calls last : ℕ) (seen story : List Call) (parts amount : ℕ) (b : Bool)
-    → MemberInvariant n number calls last seen parts amount
-    → MatchBool b (IsPrefix seen story) (length story < length seen)
-    → MatchBool b (HasSeenBeginning n story (member_view number calls last seen)) (length story < length seen)
-HasSeenBeginning-by_length n number calls last seen story parts amount true k begins =
+pub HasSeenBeginning-by_length : (n number calls last : ℕ) (seen story : List Call) (end : ℕ) (b : Bool)
+    → MemberInvariant n number calls last seen → MatchBool b (IsPrefix seen story) (end < length seen)
+    → MatchBool b (HasSeenBeginning n story (member_view number calls last seen)) (end < length seen)
+HasSeenBeginning-by_length n number calls last seen story end true k begins =
     record { number = k.one_of; begins = begins; mine = placed_calls-take last seen number; count = sym k.own_calls }
-HasSeenBeginning-by_length n number calls last seen story parts amount false k more = more
+HasSeenBeginning-by_length n number calls last seen story end false k more = more

@@ -3,3 +3,4 @@ pub mod StoryLaws
 pub mod HistoryLaws
 pub mod AccountLaws
 pub mod FaultLaws
+pub mod OpenedCoreLaws

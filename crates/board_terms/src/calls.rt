@@ -15,8 +15,8 @@ pub struct Receipt {
 pub enum CallFault {
     /// The history has `max_calls` entries.
     HistoryFull,
-    /// The story of the day has a call that the history hasn't. No run is known to meet it: the floor alone adds to the
-    /// story, under its lock.
+    /// The evidence has a call that the history hasn't. No run is known to meet it: the board alone adds to it, under
+    /// its lock.
     Overtaken,
     /// The member has seen more than the `history` calls that are recorded, or has counted other than the `counted`
     /// entries with its number.

@@ -8,7 +8,6 @@ use Rattle.std.proofs.lemmas.Bool.{cases_lt, true≢false}
 use Rattle.std.proofs.lemmas.List.{append-nil, take-append-drop, take_all}
 use Rattle.std.proofs.lemmas.List.Elements.{All-nil}
 use Rattle.std.specs.Prelude.{IfErr, IfOk, IfSome, IsSomeAnd, MatchBool}
-use Rattle.order_file.specs.Rows.{IsRecordReader, rows_left}
 use Rattle.std.specs.Io.KnownBytes.{Consumes, IsAtEnd, prepend_known}
 use Rattle.csv.specs.Reading.{default_config, is_bom, records, strip_bom}
 use Rattle.byte_streams.specs.Streams.{TakesAtMost}
@@ -17,7 +16,6 @@ use Rattle.order_file.specs.Blocks.{ExplainsReading, BlockState, IsCut, IsBlock,
 use Rattle.order_file.specs.Blocks.{OpensBlock, PassesOverRest, ReadsBytes, Rows, TakesBytes, TakesBytesOrFails}
 use Rattle.order_file.specs.Blocks.{bytes_ahead, and_then_rows, block_rows, rows_to_come, rows_within, without_mark}
 use Rattle.order_file.specs.declared.blocks.TheConstants.{BLOCK}
-use Rattle.order_file.specs.declared.records.Records.{Records}
 use Rattle.order_file.specs.declared.fault.FileFault.{FileFault}
 use Rattle.order_file.specs.declared.fault.FileFault.TheVariants as file
 use Rattle.order_file.proofs.WholeLineLaws.{NoQuote, line-end-first, lines-then}
@@ -389,14 +387,6 @@ pub passes-over : (result : Result (Unit {0}) FileFault) (held : BlockState) (a 
     → IfSome a (λ left. PassesOverRest result held left)
 passes-over (Ok u) held a c is stays fault read = passes-over_rest held a c read.0 is stays read.1 read.2 read.3
 passes-over (Err e) held a c is stays fault read = fails-next e held a stays fault
-
-pub reads-block : {E : Type 0} (result : Result Records E) (held : BlockState) (bytes : List ℕ)
-    → IsBlock held.bytes held.whole held.ended
-    → bytes ≡ take held.whole held.bytes
-    → IfOk result (λ r. IsRecordReader r.rows × (rows_left r.rows ≡ records default_config (strip_bom bytes)))
-    → IfOk result (λ r. IsRecordReader r.rows × (rows_left r.rows ≡ block_rows held))
-reads-block (Ok r) held bytes is same made = (made.0, made.1 ∙ rows-of-block held bytes is same)
-reads-block (Err e) held bytes is same made = made
 
 -- the exits at a fault
 pub fails-opening : (result : Result BlockState FileFault) (e : FileFault) (most : ℕ) (a new : Option (List ℕ))

@@ -1,5 +1,5 @@
 -- The first field of a text that begins with a digit.
-use Rattle.std.proofs.Common.{◌≡◌, ◌≤◌, ◌+◌, ◌⊎◌, inl, inr, ℕ, List, [], ◌∷◌, ◌++◌, Some, Bool, true}
+use Rattle.std.proofs.Common.{◌≡◌, ◌≤◌, ◌⊎◌, inl, inr, ℕ, List, [], ◌∷◌, ◌++◌, Some, Bool, true}
 use Rattle.std.proofs.Common.{false, ◌==◌, refl, ap, rules, ◌∙◌}
 use Rattle.csv.specs.Machine.{Read, ends_at_end, field_after, fields_after, in_field, is_end, next_record, step}
 use Rattle.csv.specs.Reading.{default_config, records, strip_bom}
@@ -12,7 +12,7 @@ use Rattle.order_file.proofs.RowLaws.{first-record}
 use Rattle.order_file.proofs.WholeLineLaws.{steps-on}
 
 -- in a record, in quotes or not
-abbrev IsInside : State → Type 0
+abbrev pub IsInside : State → Type 0
 IsInside st.StartField = Unit {0}
 IsInside st.InField = Unit {0}
 IsInside st.InQuoted = Unit {0}
@@ -85,7 +85,7 @@ inside-step st.InEscape c i = absurd i
 inside-step st.InComment c i = absurd i
 inside-step st.AfterCr c i = absurd i
 
-inside-end : (s : State) → IsInside s → ends_at_end s ≡ true
+pub inside-end : (s : State) → IsInside s → ends_at_end s ≡ true
 inside-end st.InField i = refl
 inside-end st.StartField i = refl
 inside-end st.InQuoted i = refl

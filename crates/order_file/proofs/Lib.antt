@@ -6,3 +6,5 @@ pub mod BlockLaws
 pub mod BlockCallLaws
 pub mod FirstFieldLaws
 pub mod WordLaws
+pub mod OverlongLaws
+pub mod FewFieldLaws

@@ -6,3 +6,5 @@ pub mod File
 pub mod Rows
 pub mod Blocks
 pub mod Calls
+pub mod Overlong
+pub mod Spot

@@ -5,6 +5,7 @@ ghost use Rattle.std.specs.Prelude.{drop, length, slice_index, take, IfErr, IfOk
 ghost use Rattle.std.specs.Prelude.{MatchResult};
 ghost use Rattle.std.specs.Io.KnownBytes.{Consumes, IsAtEnd, prepend_known};
 ghost use Rattle.byte_streams.specs.Streams.{TakesAtMost};
+ghost use Rattle.csv.specs.Reading.{default_config, records, strip_bom};
 ghost use Rattle.order_file.specs.Blocks.{ExplainsReading, GivesNextBlock, BlockState, IsCut, IsBlock, IsOfInput};
 ghost use Rattle.order_file.specs.Blocks.{IsOfReading};
 ghost use Rattle.order_file.specs.Blocks.{OpensBlock, PassesOverRest, ReadsBytes, TakesBytes, TakesBytesOrFails};
@@ -12,14 +13,13 @@ ghost use Rattle.order_file.specs.Blocks.{block_rows, turns_left};
 ghost use Rattle.order_file.specs.Blocks.{without_mark};
 ghost use Rattle.order_file.specs.Calls.{IsReady, calls_left};
 ghost use Rattle.order_file.specs.File.{calls_after};
-ghost use Rattle.order_file.specs.Rows.{IsRecordReader, rows_left};
 
 use crate::calls::Calls;
 use crate::fault::FileFault;
-use crate::records::Records;
+use crate::reading::calls_of_text;
 use byte_streams::Source;
 use memchr::{memchr, memrchr};
-use std::alloc::{AllocError, Global};
+use std::alloc::Global;
 use std::marker::Model;
 
 // How many bytes a block has at least, where the input has as many.
@@ -233,11 +233,11 @@ impl Blocks {
         })
     }
 
-    /// The records of this block, with none read yet. The error is that memory is refused.
-    pub(crate) fn records(&self, alloc: Global) -> Result<Records<'_>, AllocError>
-        ensures { IfOk result (λ r. IsRecordReader r.rows × (rows_left r.rows ≡ block_rows self.now)) }
+    /// The lines of this block.
+    pub(crate) fn lines(&self) -> &[u8]
+        ensures { records default_config (strip_bom result.now) ≡ block_rows self.now }
     {
-        Records::open(alloc, &self.bytes[..self.whole])
+        &self.bytes[..self.whole]
     }
 
     /// The calls of the records of this block, of which none was read yet: they come after `count` others, and there
@@ -255,8 +255,7 @@ impl Blocks {
         ensures calls { IfOk result (λ calls.
             calls_left calls ≡ calls_after members max_calls count (block_rows self.now)) }
     {
-        let records = self.records(alloc)?;
-        Ok(Calls::new(records, members, max_calls, count))
+        calls_of_text(alloc, self.lines(), members, max_calls, count)
     }
 
     /// Goes on to the next block, and says whether there is one. The faults are those of `open`; after a fault there is

@@ -2,13 +2,15 @@
 
 ghost use Rattle.std.specs.Prelude.{◌≡◌, ◌≤◌, IfErr, IfOk, IfSome};
 ghost use Rattle.order_file.specs.Calls.{GivesNextCall, IsReady, calls_left};
-ghost use Rattle.order_file.specs.File.{IsBelow, IsOfRecord, calls_after};
+ghost use Rattle.order_file.specs.File.{IsBelow, IsOfRecord, calls_after, calls_of_file};
 ghost use Rattle.order_file.specs.Rows.{IsRecordReader, rows_left};
 
 use crate::fault::FileFault;
+use crate::reading::calls_of_text;
 use crate::record::numbered_call;
 use crate::records::Records;
 use auction_terms::Call;
+use std::alloc::Global;
 
 /// The calls of the records of a text, one after the other: each of one of `members` members, and no more of them
 /// than `max_calls`, those before the text counted.
@@ -21,6 +23,20 @@ pub struct Calls<'a> {
 }
 
 impl<'a> Calls<'a> {
+    /// The calls of a file that was read, of which none was read yet. The only fault is that memory is refused.
+    pub fn open(
+        alloc: Global,
+        text: &'a [u8],
+        members: u8,
+        max_calls: u32,
+    ) -> Result<Calls<'a>, FileFault>
+        ensures memory { IfErr result (λ e. e ≡ FileFault.NoMemory) }
+        ensures ready { IfOk result (IsReady members max_calls 0) }
+        ensures calls { IfOk result (λ calls. calls_left calls ≡ calls_of_file members max_calls text.now) }
+    {
+        calls_of_text(alloc, text, members, max_calls, 0)
+    }
+
     /// The calls of these records, which come after `count` others.
     pub(crate) fn new(records: Records<'a>, members: u8, max_calls: u32, count: u32) -> Calls<'a>
         requires rows { IsRecordReader records.rows }

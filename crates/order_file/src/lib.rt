@@ -10,9 +10,11 @@ mod blocks;
 mod calls;
 mod fault;
 mod field;
+mod overlong;
 mod reading;
 mod record;
 mod records;
+mod spot;
 #[cfg(test)]
 mod tests;
 
@@ -20,8 +22,10 @@ pub use blocks::Blocks;
 pub use calls::Calls;
 pub use fault::{FileFault, RecordFault};
 pub use field::number_of;
+pub use overlong::up_to_overlong;
 pub use reading::{MAX_BYTES, bytes_after, bytes_of, calls_of_file, read_start, stated_limit};
 pub use record::{
     Word, call_of_record, command_of, count_within, member_of, number_at, numbered_call, word_at,
 };
 pub use records::Records;
+pub use spot::Spot;

@@ -5,11 +5,13 @@ ghost use Rattle.std.specs.Prelude.{IfErr, IfOk, IfSome, IsErrOf};
 ghost use Rattle.std.specs.Io.KnownBytes.{Consumes, IsAtEnd, prepend_known};
 ghost use Rattle.byte_streams.specs.Streams.{TakesAtMost};
 ghost use Rattle.order_file.specs.Calls.{IsReady, calls_left};
-ghost use Rattle.order_file.specs.File.{GivesWanted, IsBelow, IsOfRecord, calls_of_file, within_limit};
+ghost use Rattle.csv.specs.Reading.{default_config, records, strip_bom};
+ghost use Rattle.order_file.specs.File.{GivesWanted, IsBelow, IsOfRecord, calls_after, calls_of_file, within_limit};
 ghost use Rattle.order_file.specs.declared.reading.TheConstants.{MAX_BYTES};
 
 use crate::calls::Calls;
 use crate::fault::FileFault;
+use crate::overlong::up_to_overlong;
 use crate::records::Records;
 use auction_terms::Call;
 use byte_streams::Source;
@@ -89,6 +91,25 @@ pub fn bytes_of<R: Source>(alloc: Global, reader: &mut R, most: usize) -> Result
     bytes_after(Vec::new(alloc), reader, most)
 }
 
+/// The calls of the records of a text, of which none was read yet: they come after `count` others, and there may be
+/// `max_calls` of both, each of one of `members` members. The only fault is that memory is refused.
+pub(crate) fn calls_of_text<'a>(
+    alloc: Global,
+    text: &'a [u8],
+    members: u8,
+    max_calls: u32,
+    count: u32,
+) -> Result<Calls<'a>, FileFault>
+    requires { count ≤ max_calls }
+    ensures memory { IfErr result (λ e. e ≡ FileFault.NoMemory) }
+    ensures ready { IfOk result (IsReady members max_calls count) }
+    ensures calls { IfOk result (λ calls. calls_left calls
+        ≡ calls_after members max_calls count (records default_config (strip_bom text.now))) }
+{
+    let records = Records::open(alloc, up_to_overlong(text))?;
+    Ok(Calls::new(records, members, max_calls, count))
+}
+
 /// All calls that are left.
 fn all_calls(alloc: Global, calls: &mut Calls<'_>) -> Result<Vec<Call>, FileFault>
     requires { IsReady calls.old.members calls.old.max_calls 0 calls.old }
@@ -119,7 +140,6 @@ pub fn calls_of_file(
     ensures few { IfOk result (λ v. length v.items ≤ max_calls) }
     ensures below { IfOk result (λ v. All (IsBelow members) v.items) }
 {
-    let records = Records::open(alloc, bytes)?;
-    let mut calls = Calls::new(records, members, max_calls, 0);
+    let mut calls = Calls::open(alloc, bytes, members, max_calls)?;
     all_calls(alloc, &mut calls)
 }

@@ -1,6 +1,6 @@
 //! An input that is read block by block: where its blocks end, and its own ends.
 
-use crate::{Blocks, FileFault};
+use crate::{Blocks, FileFault, Records, calls_of_file, up_to_overlong};
 use byte_streams::{FromMemory, Source, SourceFailed};
 use std::alloc::{AllocError, Global};
 use std::test::Fail;
@@ -16,7 +16,7 @@ fn lines(alloc: Global, line: &[u8], count: u32) -> Result<Vec<u8>, AllocError> 
 
 // How many records of one field a block has that have this first field.
 fn rows_in(alloc: Global, blocks: &Blocks, field: &[u8]) -> Result<u32, FileFault> {
-    let mut records = blocks.records(alloc)?;
+    let mut records = Records::open(alloc, blocks.lines())?;
     for count in 0..1_000_000 {
         if !records.next()? || records.row.get(0) != Some(field) {
             return Ok(count);
@@ -193,5 +193,50 @@ fn a_failed_read_is_told(rt: HostRuntime) -> Result<(), Fail> {
     };
     let blocks = Blocks::open(rt.alloc(), b"".as_slice(), &mut source, 900_000)?;
     assert!(rt; blocks.drain(&mut source) == Err(FileFault::ReadFailed));
+    Ok(())
+}
+
+// A text that ends in a record of very many fields, with the fault of that record, and how many bytes of the text come
+// before its 65th field ends.
+const OVERLONG: [(&[u8], FileFault, usize); 6] = [
+    (b"", FileFault::BadMember { number: 1 }, 65),
+    (b"1,ask", FileFault::BadCount { number: 1 }, 69),
+    (b"4,ask", FileFault::BadMember { number: 1 }, 69),
+    (
+        b"1,ask\r1,\"as\"\"k\"",
+        FileFault::BadCommand { number: 2 },
+        79,
+    ),
+    (
+        b"\xEF\xBB\xBF1,\"ask\"\n\n1,delete",
+        FileFault::BadCount { number: 2 },
+        84,
+    ),
+    (
+        b"\xEF\xBB\xBF\xEF\xBB\xBF1",
+        FileFault::BadMember { number: 1 },
+        72,
+    ),
+];
+
+#[test]
+fn an_overlong_record_is_refused_by_its_first_fields(rt: HostRuntime) -> Result<(), Fail> {
+    for (start, fault, count) in OVERLONG {
+        let mut text = Vec::new(rt.alloc());
+        text.extend_from_slice(start)?;
+        text.extend_from_slice(lines(rt.alloc(), b",", 1_100_000)?.as_slice())?;
+        assert!(rt; up_to_overlong(text.as_slice()).len() == count);
+        let calls = calls_of_file(rt.alloc(), text.as_slice(), 4, 100);
+        assert!(rt; calls.err() == Some(fault));
+    }
+    Ok(())
+}
+
+#[test]
+fn short_lines_are_read_whole(rt: HostRuntime) -> Result<(), Fail> {
+    let text = lines(rt.alloc(), LINE, 20_000)?;
+    assert!(rt; up_to_overlong(text.as_slice()).len() == text.len());
+    let short = lines(rt.alloc(), b",", 1_000_000)?;
+    assert!(rt; up_to_overlong(short.as_slice()).len() == short.len());
     Ok(())
 }

@@ -1,23 +1,26 @@
 -- What the words ask for, from what was read of the matches of a parse.
 use Rattle.std.proofs.Common.{◌≡◌, ◌∙◌, ap, Bool, true, false, refl, sym, subst, List, [], ◌∷◌, Option, Some, None}
 use Rattle.std.proofs.Common.{codes, inl, inr, ℕ, ◌≤◌, arith}
-use Rattle.std.specs.Prelude.{if◌then◌else◌, Result, Ok, Err, IfErr, IfSome, IsErrAnd, is_some, option_map, unwrap_or}
+use Rattle.std.specs.Prelude.{if◌then◌else◌, Result, Ok, Err, IfErr, IfOk, IfSome, IsErrAnd, is_some}
+use Rattle.std.specs.Prelude.{option_map, unwrap_or}
 use Rattle.auction_terms.specs.declared.limits.TheConstants.{MAX_CALLS}
 use Rattle.std.specs.Borrow.{Bor}
+use Rattle.clap.specs.Built.{IsParsedFrom}
 use Rattle.clap.specs.Faults.{fault_of, is_simple_and_free}
-use Rattle.clap.specs.Kinds.{HasKind, Kinds, or_else}
+use Rattle.clap.specs.Kinds.{FailsBy, HasKind, Kinds, or_else}
 use Rattle.clap.specs.Matches.{first_value}
-use Rattle.clap.specs.Simple.{app_of, matches_of}
+use Rattle.clap.specs.Simple.{HasMatchesOf, app_of, matches_of}
 use Rattle.clap.specs.Walk.{Row, Text, first_of, rows_of}
 use Rattle.clap.specs.declared.builder.command.Command.{Command}
 use Rattle.clap.specs.declared.error.Error.{Error}
 use Rattle.clap.specs.declared.error.kind.ErrorKind.TheVariants.{InvalidValue}
+use Rattle.clap.specs.declared.parser.matches.ArgMatches.{ArgMatches}
 use Rattle.clap.specs.declared.parser.matches.Found.{Found}
 use Rattle.clap.proofs.WalkLemmas.{first_value-rows}
 use Rattle.settings.specs.Options.{callboard}
-use Rattle.settings.specs.CommandLine.{RefusesWords}
+use Rattle.settings.specs.CommandLine.{IsParseOf, RefusesWords}
 use Rattle.settings.specs.NumberTexts.{number_at}
-use Rattle.settings.specs.OptionTexts.{MayHaveNumber}
+use Rattle.settings.specs.OptionTexts.{IsParsed, MayHaveNumber, rows_in}
 use Rattle.settings.specs.Ranges.{HasReserveInRange}
 use Rattle.settings.specs.Tasks.{RefusesTask, wanted_form, form_kinds, is_given, is_live_mixed, is_audit_mixed, run_of}
 use Rattle.settings.specs.Tasks.{is_journal_missing, is_live_missing, is_results_alone, reserve_at, sync_in, sync_kinds}
@@ -29,7 +32,7 @@ use Rattle.settings.specs.declared.types.Form.{Form}
 use Rattle.settings.specs.declared.types.Task.{Task}
 use Rattle.settings.specs.declared.types.Task.TheVariants.{Audit, Live}
 use Rattle.settings.specs.declared.types.TheConstants.{USUAL_RESERVE}
-use Rattle.settings.proofs.Readings.{at_most_if_some, free_command}
+use Rattle.settings.proofs.Readings.{at_most_if_some, free_command, no_fault, rows_are}
 
 -- what a `?` hands on
 pub handed_on : {T E : Type 0} (P : E → Type 0) (r : Result T E) (e : E) → P e → IsErrAnd r (λ x. x ≡ e) → IfErr r P
@@ -118,6 +121,24 @@ pub refused_words : (c : Command) (words : List Text) (e : Error) → app_of c �
 refused_words c words e same kinds =
     first_kinds (fault_of callboard words) (task_kinds (matches_of callboard words)) e
     (subst (λ a. HasKind (fault_of a words) e) same (kinds (free_command c same)))
+
+-- what a parse of the words gives
+pub refused_parse : (c : Command) (words : List Text) (r : Result ArgMatches Error) → app_of c ≡ callboard
+    → (is_simple_and_free (app_of c) ≡ true → FailsBy (fault_of (app_of c) words) r)
+    → IfErr r (λ e. RefusesWords words (Parse e))
+refused_parse c words (Ok m) same kinds = tt
+refused_parse c words (Err e) same kinds = refused_words c words e same kinds
+
+pub parsed_rows : (c : Command) (words : List Text) (r : Result ArgMatches Error) → app_of c ≡ callboard
+    → (is_simple_and_free (app_of c) ≡ true → FailsBy (fault_of (app_of c) words) r)
+    → IfOk r (HasMatchesOf (app_of c) words) → IfOk r (λ m. IsParseOf words (rows_in m))
+parsed_rows c words (Ok m) same kinds has = (no_fault c words same kinds, rows_are c m words same has)
+parsed_rows c words (Err e) same kinds has = tt
+
+pub parsed_by : (c : Command) (r : Result ArgMatches Error) → app_of c ≡ callboard
+    → IfOk r (λ m. IsParsedFrom c m) → IfOk r IsParsed
+parsed_by c (Ok m) same parsed = (c, same, parsed)
+parsed_by c (Err e) same parsed = tt
 
 pub refused_task : (words : List Text) (rows : List Row) (f : WordsFault) → fault_of callboard words ≡ []
     → rows ≡ matches_of callboard words → RefusesTask rows f → RefusesWords words f

@@ -31,6 +31,10 @@ abbrev pub AcceptsWords : List Text → Settings → Type 0
 AcceptsWords words s = (fault_of callboard words ≡ []) × MatchesOptions (matches_of callboard words) s
     × IsWellMixed (matches_of callboard words)
 
+-- the words have no fault, and these are the options that they give
+abbrev pub IsParseOf : List Text → List Row → Type 0
+IsParseOf words rows = (fault_of callboard words ≡ []) × (rows ≡ matches_of callboard words)
+
 -- the kinds of fault of the words: those of the parse, and where it has none, of the words that options were given
 abbrev pub words_kinds : List Text → Kinds
 words_kinds words = or_else (fault_of callboard words) (task_kinds (matches_of callboard words))

@@ -6,7 +6,8 @@ ghost use Rattle.clap.specs.Walk.{first_of, texts};
 ghost use Rattle.settings.specs.Ranges.{IsInRange};
 ghost use Rattle.settings.specs.OptionTexts.{HasU32, IsParsed, MayHaveU32, rows_in};
 ghost use Rattle.settings.specs.NumberTexts.{number_at};
-ghost use Rattle.settings.specs.CommandLine.{AcceptsWords, RefusesWords, MatchesOptions};
+ghost use Rattle.settings.specs.CommandLine.{AcceptsWords, IsParseOf, RefusesWords, MatchesOptions};
+ghost use Rattle.settings.specs.declared.fault.WordsFault.TheVariants.{Parse};
 ghost use Rattle.settings.specs.Tasks.{is_synced, task_at};
 
 mod fault;
@@ -15,7 +16,7 @@ mod task;
 mod types;
 
 use auction_terms::Config;
-use clap::ArgMatches;
+use clap::{ArgMatches, Error};
 pub use fault::WordsFault;
 use std::alloc::Global;
 use task::{has_word, task_of};
@@ -76,6 +77,16 @@ fn settings_of<'a>(matches: &ArgMatches<'a>, task: Task) -> Settings<'a>
     }
 }
 
+/// The matches of a parse of the words. The error is clap's own, for words that it refuses or for refused memory.
+fn matches_of<'a>(alloc: Global, words: &'a [&'a str]) -> Result<ArgMatches<'a>, Error>
+    ensures refused { IfErr result (λ e. RefusesWords (texts words.now) (Parse e)) }
+    ensures parsed { IfOk result IsParsed }
+    ensures rows { IfOk result (λ matches. IsParseOf (texts words.now) (rows_in matches)) }
+{
+    let command = options::callboard(alloc)?;
+    command.try_get_matches_from(words)
+}
+
 /// Reads the command line: `words` is the program's name and then its words.
 ///
 /// Prices are in ticks. Each number is the one that its option gives, or the option's default, and is in its option's
@@ -89,8 +100,7 @@ pub fn settings<'a>(alloc: Global, words: &'a [&'a str]) -> Result<Settings<'a>,
     ensures words { IfOk result (AcceptsWords (texts words.now)) }
     ensures ranges { IfOk result IsInRange }
 {
-    let command = options::callboard(alloc)?;
-    let matches = command.try_get_matches_from(words)?;
+    let matches = matches_of(alloc, words)?;
     let task = task_of(alloc, &matches)?;
     Ok(settings_of(&matches, task))
 }

@@ -2,11 +2,10 @@
 
 ghost use Rattle.std.specs.Prelude.{◌≡◌, IfOk, IfErr, codes, false, map, pos};
 ghost use Rattle.clap.specs.Walk.{rule_of};
-ghost use Rattle.clap.specs.Simple.{app_of, with_rule};
+ghost use Rattle.clap.specs.Simple.{app_of};
 ghost use Rattle.clap.specs.Values.{kind_of};
 ghost use Rattle.settings.specs.Options.{callboard, flag, word};
-ghost use Rattle.settings.specs.Table.{rule_for, with_audit_options, with_live_options, with_rules, with_run_options};
-ghost use Rattle.settings.specs.Table.{without_options};
+ghost use Rattle.settings.specs.Table.{rule_for, rule_for_other, with_rules, without_options};
 
 use auction_terms::{MAX_CALLS, MAX_MEMBERS, MAX_OPEN_ORDERS, MAX_TICK};
 use clap::builder::ValueParser;
@@ -47,25 +46,11 @@ faults and what is printed.
 Status: 0 done, 1 a bad input, 2 a bad command line or bounds, 3 no memory, a read or a write that failed or a board
 that couldn't be closed, 4 an audit that found a reply that isn't lawful, 5 an audit of a broken copy";
 
-const FLOOR_HELP: &str = "The members call at once on a board; prints how many calls each made";
-
-const HISTORY_HELP: &str = "With --floor, prints the board's history too";
-
 const PRINT_HELP: &str =
     "What is printed: lines, journal (the day), trades (who with whom), book (at each price) [default: lines]";
 
-const AUDIT_HELP: &str = "Reads a journal, and tells which recorded replies aren't the lawful ones";
-
-const RESULTS_HELP: &str =
-    "With --audit, prints the lawful results too: each uncross, and where the day stands";
-
-const LIVE_HELP: &str = "Answers each record as it comes; a bad one is told, and the rest goes on";
-
 const JOURNAL_HELP: &str =
     "With --live, keeps each command on the disk before it is answered, and goes on with what the file has";
-
-const SYNC_HELP: &str =
-    "With --journal, none: commands are written to the file, but not synced to the disk";
 
 /// An option with a number.
 #[derive(Clone, Copy)]
@@ -137,6 +122,58 @@ static NUMBERS: [Number; 8] = [
     },
 ];
 
+/// An option with a word, or a flag.
+#[derive(Clone, Copy)]
+struct Other {
+    name: &'static str,
+    /// What the help calls its word; a flag has none.
+    value: Option<&'static str>,
+    help: &'static str,
+}
+
+static OTHERS: [Other; 8] = [
+    Other {
+        name: "floor",
+        value: None,
+        help: "The members call at once on a board; prints how many calls each made",
+    },
+    Other {
+        name: "history",
+        value: None,
+        help: "With --floor, prints the board's history too",
+    },
+    Other {
+        name: "print",
+        value: Some("WHAT"),
+        help: PRINT_HELP,
+    },
+    Other {
+        name: "audit",
+        value: None,
+        help: "Reads a journal, and tells which recorded replies aren't the lawful ones",
+    },
+    Other {
+        name: "results",
+        value: None,
+        help: "With --audit, prints the lawful results too: each uncross, and where the day stands",
+    },
+    Other {
+        name: "live",
+        value: None,
+        help: "Answers each record as it comes; a bad one is told, and the rest goes on",
+    },
+    Other {
+        name: "journal",
+        value: Some("FILE"),
+        help: JOURNAL_HELP,
+    },
+    Other {
+        name: "sync",
+        value: Some("HOW"),
+        help: "With --journal, none: commands are written to the file, but not synced to the disk",
+    },
+];
+
 /// Takes the numbers from `least` to `most`.
 fn numbers_between<'a>(least: u32, most: u32) -> ValueParser<'a>
     ensures { result ≡ ValueParser.Signed (pos least) (pos most) }
@@ -186,36 +223,17 @@ fn word_option<'a>(alloc: Global, name: &'a str, value: &'a str, help: &'a str) 
         .action(ArgAction::Set)
 }
 
-/// The command with this flag too. The error is that memory is refused.
-fn with_flag<'a>(
-    alloc: Global,
-    command: Command<'a>,
-    name: &'a str,
-    help: &'a str,
-) -> Result<Command<'a>, Error>
-    ensures options { IfOk result (λ c. app_of c ≡ with_rule (app_of command.entry) (flag name.entry.now)) }
-    ensures memory { IfErr result (λ e. kind_of e ≡ ErrorKind.OutOfMemory) }
+fn other_option<'a>(alloc: Global, other: Other) -> Arg<'a>
+    ensures rule { rule_of result ≡ rule_for_other other }
+    ensures local { result.global ≡ false }
 {
-    let command = command.arg(flag_option(alloc, name, help))?;
-    Ok(command)
+    match other.value {
+        Some(value) => word_option(alloc, other.name, value, other.help),
+        None => flag_option(alloc, other.name, other.help),
+    }
 }
 
-/// The command with this option with a word too. The error is that memory is refused.
-fn with_word<'a>(
-    alloc: Global,
-    command: Command<'a>,
-    name: &'a str,
-    value: &'a str,
-    help: &'a str,
-) -> Result<Command<'a>, Error>
-    ensures options { IfOk result (λ c. app_of c ≡ with_rule (app_of command.entry) (word name.entry.now)) }
-    ensures memory { IfErr result (λ e. kind_of e ≡ ErrorKind.OutOfMemory) }
-{
-    let command = command.arg(word_option(alloc, name, value, help))?;
-    Ok(command)
-}
-
-/// The command with these options too. The error is that memory is refused.
+/// The command with these options with a number too. The error is that memory is refused.
 fn with_numbers<'a>(
     alloc: Global,
     mut command: Command<'a>,
@@ -231,34 +249,20 @@ fn with_numbers<'a>(
     Ok(command)
 }
 
-/// The command with what is done with a run too. The error is that memory is refused.
-fn with_run_options<'a>(alloc: Global, command: Command<'a>) -> Result<Command<'a>, Error>
-    ensures options { IfOk result (λ c. app_of c ≡ with_run_options (app_of command.entry)) }
+/// The command with these other options too. The error is that memory is refused.
+fn with_others<'a>(
+    alloc: Global,
+    mut command: Command<'a>,
+    others: &[Other],
+) -> Result<Command<'a>, Error>
+    ensures options { IfOk result (λ c.
+        app_of c ≡ with_rules (app_of command.entry) (map rule_for_other others.now)) }
     ensures memory { IfErr result (λ e. kind_of e ≡ ErrorKind.OutOfMemory) }
 {
-    let command = with_flag(alloc, command, "floor", FLOOR_HELP)?;
-    let command = with_flag(alloc, command, "history", HISTORY_HELP)?;
-    with_word(alloc, command, "print", "WHAT", PRINT_HELP)
-}
-
-/// The command with the audit and its results too. The error is that memory is refused.
-fn with_audit_options<'a>(alloc: Global, command: Command<'a>) -> Result<Command<'a>, Error>
-    ensures options { IfOk result (λ c. app_of c ≡ with_audit_options (app_of command.entry)) }
-    ensures memory { IfErr result (λ e. kind_of e ≡ ErrorKind.OutOfMemory) }
-{
-    let command = with_flag(alloc, command, "audit", AUDIT_HELP)?;
-    with_flag(alloc, command, "results", RESULTS_HELP)
-}
-
-/// The command with the answers as records come too, and where and how these are kept. The error is that memory is
-/// refused.
-fn with_live_options<'a>(alloc: Global, command: Command<'a>) -> Result<Command<'a>, Error>
-    ensures options { IfOk result (λ c. app_of c ≡ with_live_options (app_of command.entry)) }
-    ensures memory { IfErr result (λ e. kind_of e ≡ ErrorKind.OutOfMemory) }
-{
-    let command = with_flag(alloc, command, "live", LIVE_HELP)?;
-    let command = with_word(alloc, command, "journal", "FILE", JOURNAL_HELP)?;
-    with_word(alloc, command, "sync", "HOW", SYNC_HELP)
+    for other in others {
+        command = command.arg(other_option(alloc, *other))?;
+    }
+    Ok(command)
 }
 
 /// The command with its texts and no option.
@@ -279,7 +283,5 @@ pub fn callboard<'a>(alloc: Global) -> Result<Command<'a>, Error>
     ensures memory { IfErr result (λ e. kind_of e ≡ ErrorKind.OutOfMemory) }
 {
     let command = with_numbers(alloc, without_options(alloc), NUMBERS.as_slice())?;
-    let command = with_run_options(alloc, command)?;
-    let command = with_audit_options(alloc, command)?;
-    with_live_options(alloc, command)
+    with_others(alloc, command, OTHERS.as_slice())
 }

@@ -16,7 +16,7 @@ use crate::fault::WordsFault;
 use crate::types::{FloorForm, Form, Listing, Task, USUAL_RESERVE};
 use crate::{number_if_given, options};
 use clap::error::ErrorKind;
-use clap::{ArgMatches, Error};
+use clap::{ArgMatches, Command, Error};
 use std::alloc::Global;
 
 fn flag_of(matches: &ArgMatches<'_>, name: &str) -> bool
@@ -43,16 +43,40 @@ fn form_of(word: &str) -> Option<Form>
     }
 }
 
+/// What is said of a word that isn't one of those that an option takes. The error is that memory is refused.
+fn unknown_text(alloc: Global, word: &str, option: &str, possible: &str) -> Result<String, Error>
+    ensures { IfErr result (λ e. kind_of e ≡ OutOfMemory) }
+{
+    let text = format!(in alloc;
+        "invalid value '{word}' for '{option}'\n  [possible values: {possible}]"
+    )?;
+    Ok(text)
+}
+
+/// What a command says of a bad value, in these words. The other error is that memory is refused.
+fn invalid_value_of(command: &mut Command<'_>, text: &str) -> Result<Error, Error>
+    ensures kind { IfOk result (λ e. kind_of e ≡ InvalidValue) }
+    ensures memory { IfErr result (λ e. kind_of e ≡ OutOfMemory) }
+{
+    Ok(command.error(ErrorKind::InvalidValue, text)?)
+}
+
+/// What `clap` would say of a bad value, in these words. The other error is that memory is refused.
+fn invalid_value(alloc: Global, text: &str) -> Result<Error, Error>
+    ensures kind { IfOk result (λ e. kind_of e ≡ InvalidValue) }
+    ensures memory { IfErr result (λ e. kind_of e ≡ OutOfMemory) }
+{
+    let mut command = options::callboard(alloc)?;
+    invalid_value_of(&mut command, text)
+}
+
 /// What `clap` would say of a word that isn't one of those that an option takes.
 fn unknown_word(alloc: Global, word: &str, option: &str, possible: &str) -> Result<Error, Error>
     ensures kind { IfOk result (λ e. kind_of e ≡ InvalidValue) }
     ensures memory { IfErr result (λ e. kind_of e ≡ OutOfMemory) }
 {
-    let mut command = options::callboard(alloc)?;
-    let text = format!(in alloc;
-        "invalid value '{word}' for '{option}'\n  [possible values: {possible}]"
-    )?;
-    Ok(command.error(ErrorKind::InvalidValue, text.as_str())?)
+    let text = unknown_text(alloc, word, option, possible)?;
+    invalid_value(alloc, text.as_str())
 }
 
 /// The form that is asked for: the lines where none is.
