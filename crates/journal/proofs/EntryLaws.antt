@@ -15,19 +15,21 @@ use Rattle.journal.specs.declared.day.DayHeader.{DayHeader}
 use Rattle.journal.specs.declared.entry.RecordStart.{RecordStart}
 use Rattle.journal.specs.EntryRecord.{RecordedCall, call_with, fields_of_call, start_of_entry, is_reply_text}
 use Rattle.journal.specs.EntryRecord.{reply_of_fields}
-use Rattle.journal.specs.EntryRecord.{call_part, recorded_call_of, reply_part}
+use Rattle.journal.specs.EntryRecord.{call_part, recorded_call_of}
 use Rattle.order_file.specs.File.{GivesWanted, IsOfRecord, calls_of_file, file as file_says, within_limit}
 use Rattle.order_file.specs.declared.reading.TheConstants.{MAX_BYTES}
 use Rattle.journal.specs.DayRecord.{day_of_record, is_day_row}
-use Rattle.journal.specs.DayWithCalls.{day_with_calls, run_input_of, or_orders, orders_for}
-use Rattle.journal.specs.JournalFile.{RecordedDay, journal_of, journal_of_rows, recorded_in, recorded_calls_after}
+use Rattle.journal.specs.DayWithCalls.{DayWithCalls, calls_coming, day_with_calls, run_input_by, run_input_of}
+use Rattle.journal.specs.DayWithCalls.{or_orders, orders_for}
+use Rattle.journal.specs.JournalFile.{RecordedDay, journal_of, journal_of_rows, recorded_calls_after, recorded_day}
+use Rattle.journal.specs.JournalFile.{recorded_in}
 use Rattle.journal.specs.declared.run_input.RunInput.{RunInput}
 
 -- these calls, and then those
 abbrev pub behind : List RecordedCall → Result (List RecordedCall) FileFault → Result (List RecordedCall) FileFault
 behind front rest = rest >>= λ recording. Ok (front ++ recording)
 
-behind-more : (front : List RecordedCall) (recording : RecordedCall) (r : Result (List RecordedCall) FileFault)
+pub behind-more : (front : List RecordedCall) (recording : RecordedCall) (r : Result (List RecordedCall) FileFault)
     → behind (front ++ recording ∷ []) r ≡ behind front (r >>= λ rest. Ok (recording ∷ rest))
 behind-more front recording (Ok x) = ap Ok (append_assoc front (recording ∷ []) x)
 behind-more front recording (Err e) = refl
@@ -36,7 +38,7 @@ pub behind-none : (r : Result (List RecordedCall) FileFault) → behind [] r ≡
 behind-none (Ok x) = refl
 behind-none (Err e) = refl
 
-one-entry : (members max_calls before : ℕ) (r : List (List ℕ)) (rs : List (List (List ℕ))) → before < max_calls
+pub one-entry : (members max_calls before : ℕ) (r : List (List ℕ)) (rs : List (List (List ℕ))) → before < max_calls
     → recorded_calls_after members max_calls before (r ∷ rs)
     ≡ (with_record_number (before + 2) (recorded_call_of members r) >>= λ recording. recorded_calls_after members
     max_calls (before + 1) rs >>= λ rest. Ok (recording ∷ rest))
@@ -44,69 +46,10 @@ unfolding recorded_calls_after
 one-entry members max_calls before r rs room = let full : nat_le max_calls before ≡ false =
     search (rules) in rw full refl
 
--- no record is left
-pub entries-end : (day : DayHeader) (before : ℕ) (front : List RecordedCall) (rows all : List (List (List ℕ)))
-    (calls : List Call) (texts : List (List ℕ))
-    → behind front (recorded_calls_after day.members day.config.max_calls before rows)
-    ≡ recorded_calls_after day.members day.config.max_calls 0 all → rows ≡ []
-    → calls ≡ map call_part front → texts ≡ map reply_part front
-    → recorded_in day all ≡ Ok (record { day = day; calls = calls; texts = texts })
-unfolding recorded_in recorded_calls_after
-entries-end day before front rows all calls texts same none e f =
-    let done : recorded_calls_after day.members day.config.max_calls 0 all ≡ Ok front =
-    sym same ∙ rw none (ap Ok (append-nil front)) in
-    rw (done, e, f) refl
-
--- a record has a fault
-pub entries-fault : (day : DayHeader) (before : ℕ) (front : List RecordedCall) (rows all : List (List (List ℕ)))
-    (r : List (List ℕ)) (rs : List (List (List ℕ))) (fault : FileFault)
-    → behind front (recorded_calls_after day.members day.config.max_calls before rows)
-    ≡ recorded_calls_after day.members day.config.max_calls 0 all → rows ≡ r ∷ rs
-    → before < day.config.max_calls → with_record_number (before + 2) (recorded_call_of day.members r) ≡ Err fault
-    → recorded_in day all ≡ Err fault
-unfolding recorded_in
-entries-fault day before front rows all r rs fault same is room bad =
-    let first : recorded_calls_after day.members day.config.max_calls before rows ≡ Err fault =
-    rw (is, one-entry day.members day.config.max_calls before r rs room, bad) refl in
-    let done : recorded_calls_after day.members day.config.max_calls 0 all ≡ Err fault = sym same ∙ rw first refl in
-    rw done refl
-
--- there is a record too many
-pub entries-full : (day : DayHeader) (before : ℕ) (front : List RecordedCall) (rows all : List (List (List ℕ)))
-    (r : List (List ℕ)) (rs : List (List (List ℕ)))
-    → behind front (recorded_calls_after day.members day.config.max_calls before rows)
-    ≡ recorded_calls_after day.members day.config.max_calls 0 all → rows ≡ r ∷ rs
-    → day.config.max_calls ≤ before → recorded_in day all ≡ Err (file.TooManyCommands (before + 2))
-unfolding recorded_in recorded_calls_after
-entries-full day before front rows all r rs same is full =
-    let none : nat_le day.config.max_calls before ≡ true = search rules in
-    let done : recorded_calls_after day.members day.config.max_calls 0 all ≡ Err (file.TooManyCommands (before + 2)) =
-    sym same ∙ rw (is, none) refl in
-    rw done refl
-
--- a record has a call
-pub entries-more : (day : DayHeader) (before : ℕ) (front : List RecordedCall) (rows all : List (List (List ℕ)))
-    (r : List (List ℕ)) (rs : List (List (List ℕ))) (recording : RecordedCall)
-    → behind front (recorded_calls_after day.members day.config.max_calls before rows)
-    ≡ recorded_calls_after day.members day.config.max_calls 0 all → rows ≡ r ∷ rs
-    → before < day.config.max_calls → with_record_number (before + 2) (recorded_call_of day.members r) ≡ Ok recording
-    → behind (front ++ recording ∷ []) (recorded_calls_after day.members day.config.max_calls (before + 1) rs)
-    ≡ recorded_calls_after day.members day.config.max_calls 0 all
-entries-more day before front rows all r rs recording same is room good =
-    let first : recorded_calls_after day.members day.config.max_calls before rows
-    ≡ (recorded_calls_after day.members day.config.max_calls (before + 1) rs >>= λ rest. Ok (recording ∷ rest))
-    = rw (is, one-entry day.members day.config.max_calls before r rs room, good) refl in
-    behind-more front recording _ ∙ ap (behind front) (sym first) ∙ same
-
 pub calls-more : (front : List RecordedCall) (recording : RecordedCall) → map call_part (front ++ recording ∷ [])
     ≡ map call_part front ++ recording.call ∷ []
 calls-more [] recording = refl
 calls-more (s ∷ ss) recording = ap (λ (t : List Call). s.call ∷ t) (calls-more ss recording)
-
-pub texts-more : (front : List RecordedCall) (recording : RecordedCall) → map reply_part (front ++ recording ∷ [])
-    ≡ map reply_part front ++ recording.text ∷ []
-texts-more [] recording = refl
-texts-more (s ∷ ss) recording = ap (λ (t : List (List ℕ)). s.text ∷ t) (texts-more ss recording)
 
 -- what fails one of two that fail alike fails the other
 pub fails-alike : {X Y : Type 0} (e : FileFault) (x : Result X FileFault) (y : Result Y FileFault)
@@ -120,6 +63,25 @@ fails-alike (file.BadField n k) x y f h = f h
 fails-alike (file.TooManyCommands n) x y f h = f h
 fails-alike file.NotADay x y f h = f h
 fails-alike file.NoMemory x y f h = tt
+
+-- ---- what is left behind what was read
+
+-- the first that is left goes to the end of those before
+pub next-behind : (front : List RecordedCall) (r : RecordedCall)
+    (left rest all : Result (List RecordedCall) FileFault)
+    → behind front left ≡ all → left ≡ (rest >>= λ recordings. Ok (r ∷ recordings))
+    → behind (front ++ r ∷ []) rest ≡ all
+next-behind front r left rest all same is = behind-more front r rest ∙ ap (behind front) (sym is) ∙ same
+
+-- none is left
+pub end-behind : (front : List RecordedCall) (left all : Result (List RecordedCall) FileFault)
+    → behind front left ≡ all → left ≡ Ok [] → all ≡ Ok front
+end-behind front left all same none = sym same ∙ ap (behind front) none ∙ ap Ok (append-nil front)
+
+-- what is left has a fault
+pub fails-behind : (front : List RecordedCall) (left all : Result (List RecordedCall) FileFault) (f : FileFault)
+    → behind front left ≡ all → FailsAsWanted f left → FailsAsWanted f all
+fails-behind front left all f same = fails-alike f left all (λ e. sym same ∙ ap (behind front) e)
 
 -- a fault that was wanted
 pub fails-record : {Y : Type 0} (number : ℕ) (fault : RecordFault) (wanted : Result Y FileFault)
@@ -241,3 +203,18 @@ run_input-orders day bytes (file.BadField k l) r f n h = rw f h
 run_input-orders day bytes (file.TooManyCommands k) r f n h = rw f h
 run_input-orders day bytes file.NotADay r f n h = rw f h
 run_input-orders day bytes file.NoMemory r f n h = gives-none day_with_calls r _ h
+
+-- the entries that are left of a journal give what it gives
+pub entries-given : (day : DayHeader) (orders : Result DayWithCalls FileFault)
+    (left : Result (List RecordedCall) FileFault) → (left ≡ Err file.NotADay → ⊥)
+    → calls_coming day left ≡ run_input_by orders (left >>= λ recordings. Ok (recorded_day day recordings))
+entries-given day orders (Ok recordings) n = refl
+entries-given day orders (Err file.NotADay) n = absurd (n refl)
+entries-given day orders (Err file.TooLong) n = refl
+entries-given day orders (Err file.ReadFailed) n = refl
+entries-given day orders (Err (file.BadMember k)) n = refl
+entries-given day orders (Err (file.BadCommand k)) n = refl
+entries-given day orders (Err (file.BadCount k)) n = refl
+entries-given day orders (Err (file.BadField k i)) n = refl
+entries-given day orders (Err (file.TooManyCommands k)) n = refl
+entries-given day orders (Err file.NoMemory) n = refl

@@ -1,7 +1,6 @@
 -- The text of a journal, piece by piece.
 use Rattle.std.proofs.Common.{◌≡◌, ◌+◌, ◌++◌, ◌∷◌, [], ℕ, List, refl, ap, sym, append_assoc, map, decimal}
 use Rattle.auction_terms.specs.declared.Entry.{Entry}
-use Rattle.printed_lines.proofs.Lists.{IsListText}
 use Rattle.printed_lines.specs.ReplyWords.{reply_text}
 use Rattle.journal.specs.declared.day.DayHeader.{DayHeader}
 use Rattle.journal.specs.CallFields.{command_fields}
@@ -28,10 +27,6 @@ line-of-call entry =
 line-of-day : (day : DayHeader) → record_line (day_fields day) ≡ day_line day
 unfolding record_line fields_to_line_end day_fields
 line-of-day day = simp append_assoc
-
-pub calls-by-one : IsListText (λ before entry. call_line entry) call_lines
-unfolding call_lines
-calls-by-one = record { none = λ before. refl; more = λ before entry entries. refl }
 
 lines-of-calls : (before : ℕ) (entries : List Entry)
     → record_lines (map recorded_call_fields (map recorded_call_by entries)) ≡ call_lines before entries

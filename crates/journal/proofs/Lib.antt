@@ -1,4 +1,5 @@
 pub mod EntryLaws
+pub mod EntryReadLaws
 pub mod JournalTextLaws
 pub mod CallFieldLaws
 pub mod RecordLineLaws
@@ -11,5 +12,5 @@ pub mod ReplayTextLaws
 pub mod JournalSizeLaws
 pub mod FileFitLaws
 pub mod RunInputFitLaws
-pub mod WideReplyLaws
 pub mod KeptLineLaws
+pub mod OverlongRowLaws

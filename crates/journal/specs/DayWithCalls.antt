@@ -1,5 +1,5 @@
 -- What a run is given: by a journal, or by an order file.
-use Rattle.std.specs.Prelude.{ℕ, List, Result, Ok, Err}
+use Rattle.std.specs.Prelude.{ℕ, List, map, Result, Ok, Err}
 use Rattle.auction_terms.specs.declared.Call.{Call}
 use Rattle.auction_terms.specs.Results.{◌>>=◌}
 use Rattle.order_file.specs.File.{file, within_limit}
@@ -8,12 +8,17 @@ use Rattle.order_file.specs.declared.fault.FileFault.TheVariants.{NotADay}
 use Rattle.journal.specs.declared.day.DayHeader.{DayHeader}
 use Rattle.journal.specs.declared.run_input.RunInput.{RunInput}
 use Rattle.journal.specs.declared.reading.TheConstants.{MAX_JOURNAL_BYTES}
+use Rattle.journal.specs.EntryRecord.{RecordedCall, call_part}
 use Rattle.journal.specs.JournalFile.{RecordedDay, journal_of}
 
 -- a day and its calls
 pub record DayWithCalls : Type 0 where
   pub day : DayHeader
   pub calls : List Call
+
+-- a day's calls that are to come, as what was given to it
+abbrev pub calls_coming : DayHeader → Result (List RecordedCall) FileFault → Result DayWithCalls FileFault
+calls_coming day coming = coming >>= λ recordings. Ok (record { day = day; calls = map call_part recordings })
 
 -- what an order file gives to this day
 unfoldable pub orders_for : DayHeader → List ℕ → Result DayWithCalls FileFault

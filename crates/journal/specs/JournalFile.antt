@@ -1,7 +1,6 @@
 -- What a journal says: its day, its calls, and the recorded texts of their replies; or its first fault.
 use Rattle.std.specs.Prelude.{ℕ, ◌+◌, List, [], ◌∷◌, map, nat_le, if◌then◌else◌, Result, Ok, Err}
 use Rattle.csv.specs.Reading.{default_config, records, strip_bom}
-use Rattle.csv.specs.Records.{fields_of}
 use Rattle.auction_terms.specs.declared.Call.{Call}
 use Rattle.auction_terms.specs.Results.{◌>>=◌}
 use Rattle.order_file.specs.File.{within_limit}
@@ -9,7 +8,6 @@ use Rattle.order_file.specs.Record.{with_record_number}
 use Rattle.order_file.specs.declared.fault.FileFault.{FileFault}
 use Rattle.order_file.specs.declared.fault.FileFault.TheVariants.{NotADay, TooManyCommands}
 use Rattle.journal.specs.declared.day.DayHeader.{DayHeader}
-use Rattle.journal.specs.declared.reading.Journal.{Journal}
 use Rattle.journal.specs.declared.reading.TheConstants.{MAX_JOURNAL_BYTES}
 use Rattle.journal.specs.DayRecord.{day_of_record, is_day_row}
 use Rattle.journal.specs.EntryRecord.{RecordedCall, call_part, recorded_call_of, reply_part}
@@ -49,7 +47,3 @@ journal_of bytes = journal_of_rows (records default_config (strip_bom bytes))
 -- what the bytes of a journal say, or their first fault
 unfoldable pub journal : List ℕ → Result RecordedDay FileFault
 journal bytes = within_limit MAX_JOURNAL_BYTES bytes >>= journal_of
-
--- a journal in memory
-abbrev pub recorded : Journal → RecordedDay
-recorded j = record { day = j.day; calls = j.calls.items; texts = fields_of j.texts }

@@ -3,6 +3,7 @@ pub mod CallFields
 pub mod DayRecord
 pub mod EntryRecord
 pub mod JournalFile
+pub mod JournalEntries
 pub mod DayWithCalls
 pub mod JournalText
 pub mod PrintedJournal

@@ -4,12 +4,9 @@ ghost use Rattle.std.specs.Prelude.{◌≡◌, ◌≤◌, ◌+◌, ◌++◌, ◌
 ghost use Rattle.printed_lines.specs.declared.page.TheConstants.{LONGEST_LINE, ROOM};
 ghost use Rattle.printed_lines.specs.Printing.{Prints};
 ghost use Rattle.journal.specs.CallFields.{command_fields, enter_ending, limit_field, number_field, side_field};
-ghost use Rattle.journal.specs.JournalText.{journal_text};
-ghost use Rattle.journal.specs.PrintedJournal.{call_line, call_lines, day_line, comma_fields, sizes_text, ticks_text};
-ghost use Rattle.journal.specs.WideReplies.{AreWide};
+ghost use Rattle.journal.specs.PrintedJournal.{call_line, day_line, comma_fields, sizes_text, ticks_text};
 
 use crate::day::DayHeader;
-use crate::wide::see_replies;
 use auction_terms::{Command, Config, Entry, Limit, Restriction, Side};
 use byte_streams::{Sink, WriteFailed};
 use printed_lines::{Page, Printer, put_reply};
@@ -174,14 +171,6 @@ pub(crate) fn put_entry(page: &mut Page, entry: Entry)
     page.put("\n");
 }
 
-fn print_call<S: Sink>(printer: &mut Printer<'_, S>, entry: Entry) -> Result<(), WriteFailed>
-    ensures { Prints S.Sink printer.old printer.new result (call_line entry) }
-{
-    printer.make_room()?;
-    put_entry(&mut printer.page, entry);
-    Ok(())
-}
-
 fn put_ticks(page: &mut Page, config: Config)
     requires { length page.old + 63 ≤ ROOM }
     ensures text { page.new ≡ page.old ++ ticks_text config }
@@ -204,7 +193,7 @@ fn put_sizes(page: &mut Page, day: DayHeader)
 }
 
 /// Puts the record of the day.
-fn put_day(page: &mut Page, day: DayHeader)
+pub(crate) fn put_day(page: &mut Page, day: DayHeader)
     requires { length page.old + LONGEST_LINE ≤ ROOM }
     ensures { page.new ≡ page.old ++ day_line day }
 {
@@ -223,28 +212,4 @@ pub(crate) fn print_day<S: Sink>(
     printer.make_room()?;
     put_day(&mut printer.page, day);
     Ok(())
-}
-
-fn print_calls<S: Sink>(printer: &mut Printer<'_, S>, entries: &[Entry]) -> Result<(), WriteFailed>
-    ensures { Prints S.Sink printer.old printer.new result (call_lines 0 entries.now) }
-{
-    for entry in entries {
-        print_call(printer, *entry)?;
-    }
-    Ok(())
-}
-
-/// Prints the journal of a history: the record of its day, and of each entry the fields of its command, in the shortest
-/// form, and the text of its reply. Each number of a reply is below 2 ^ 64.
-pub fn print_journal<S: Sink>(
-    printer: &mut Printer<'_, S>,
-    day: DayHeader,
-    entries: &[Entry],
-) -> Result<(), WriteFailed>
-    ensures text { Prints S.Sink printer.old printer.new result (journal_text day entries.now) }
-    ensures wide { AreWide entries.now }
-{
-    see_replies(entries);
-    print_day(printer, day)?;
-    print_calls(printer, entries)
 }

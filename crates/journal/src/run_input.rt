@@ -1,14 +1,17 @@
 //! What a run is given.
 
-ghost use Rattle.std.specs.Prelude.{◌≡◌, ◌≢◌, ◌<◌, ◌≤◌, ◌↔◌, ◌+◌, All, length, IfErr, IfOk, IfSome};
+ghost use Rattle.std.specs.Prelude.{◌≢◌, ◌<◌, ◌≤◌, ◌↔◌, ◌+◌, All, length, IfErr, IfOk, IfSome};
 ghost use Rattle.std.specs.Prelude.{IsErrOf};
 ghost use Rattle.byte_streams.specs.Streams.{TakesAtMost};
-ghost use Rattle.order_file.specs.File.{GivesWanted, IsBelow};
-ghost use Rattle.journal.specs.DayWithCalls.{run_input, day_with_calls, run_input_of, or_orders, orders_for};
+ghost use Rattle.order_file.specs.File.{GivesWanted, IsBelow, IsOfRecord};
+ghost use Rattle.journal.specs.DayWithCalls.{calls_coming, run_input, day_with_calls, run_input_of, or_orders};
+ghost use Rattle.journal.specs.DayWithCalls.{orders_for};
+ghost use Rattle.journal.specs.JournalEntries.{CanReadEntries, entries_left};
 ghost use Rattle.journal.specs.declared.reading.TheConstants.{MAX_JOURNAL_BYTES};
 
 use crate::day::DayHeader;
-use crate::reading::{Journal, MAX_JOURNAL_BYTES, journal_of};
+use crate::entries::Entries;
+use crate::reading::MAX_JOURNAL_BYTES;
 use auction_terms::Call;
 use byte_streams::Source;
 use order_file::{FileFault, MAX_BYTES, bytes_of, calls_of_file};
@@ -55,14 +58,23 @@ fn or_orders(
     }
 }
 
-/// The day and the calls of a journal.
-fn without_replies(journal: Journal) -> RunInput
-    ensures { (result.day ≡ journal.day) × (result.calls ≡ journal.calls) }
+/// The day and the calls of a journal's entries, of which none was read; the texts of their replies are looked at, and
+/// not kept.
+fn calls_of_entries(alloc: Global, entries: &mut Entries<'_>) -> Result<RunInput, FileFault>
+    requires { CanReadEntries entries.old.day 0 entries.old }
+    ensures calls { GivesWanted day_with_calls result (calls_coming entries.old.day (entries_left entries.old)) }
+    ensures parsed { IfErr result IsOfRecord }
+    ensures few { IfOk result (λ g. length g.calls.items ≤ g.day.config.max_calls) }
+    ensures below { IfOk result (λ g. All (IsBelow g.day.members) g.calls.items) }
 {
-    RunInput {
-        day: journal.day,
-        calls: journal.calls,
+    let day = entries.day();
+    let mut calls = Vec::new(alloc);
+    'turns: while let Some(call) = entries.next_call()? {
+        if calls.push(call).is_err() {
+            return Err(FileFault::NoMemory);
+        }
     }
+    Ok(RunInput { day, calls })
 }
 
 /// What bytes give, as a journal, or as an order file of this day.
@@ -72,8 +84,8 @@ fn run_input_of(alloc: Global, bytes: &[u8], day: DayHeader) -> Result<RunInput,
     ensures few { IfOk result (λ g. length g.calls.items ≤ g.day.config.max_calls) }
     ensures below { IfOk result (λ g. All (IsBelow g.day.members) g.calls.items) }
 {
-    match journal_of(alloc, bytes) {
-        Ok(journal) => Ok(without_replies(journal)),
+    match Entries::open(alloc, bytes) {
+        Ok(mut entries) => calls_of_entries(alloc, &mut entries),
         Err(fault) => or_orders(alloc, bytes, day, fault),
     }
 }

@@ -2,9 +2,8 @@
 
 ghost use Rattle.std.specs.Prelude.{IfSome};
 ghost use Rattle.journal.specs.WideReplies.{HasWideTick, IsWide, IsWidePrice, IsWideReply, IsWideTrade, IsWideUncross};
-ghost use Rattle.journal.specs.WideReplies.{AreWide};
 
-use auction_terms::{Display, Entry, Limit, Price, Reply, Trade};
+use auction_terms::{Display, Limit, Price, Reply, Trade};
 
 fn see_tick(tick: Option<u32>)
     ensures { IfSome tick IsWide }
@@ -66,14 +65,5 @@ pub(crate) fn see_reply(reply: Reply)
         Reply::Interrupted(price) => see_price(price),
         Reply::Entered { id: _id } => {}
         _ => {}
-    }
-}
-
-/// The numbers of the replies of these entries are such.
-pub fn see_replies(entries: &[Entry])
-    ensures { AreWide entries.now }
-{
-    for entry in entries {
-        see_reply(entry.reply);
     }
 }

@@ -315,6 +315,28 @@ fn open_locked(host: &HostRuntime, path: &str) -> Result<File, OpenFileFault> {
     }
 }
 
+/// Opens a file, or makes it, has its name put on the disk, and reads all its bytes.
+fn open_whole<'a>(
+    host: &'a HostRuntime,
+    path: &str,
+    syncing: Syncing,
+    bytes: &mut Vec<u8>,
+) -> Result<Handle<'a>, OpenFileFault>
+    ensures { IfOk result (λ handle. handle.syncing ≡ syncing) }
+{
+    let mut file = open_locked(host, path)?;
+    sync_name(host, path, syncing)?;
+    file.read_to_end(bytes)?;
+    let name = format!(in host.alloc(); "{path}").map_err(io::Error::from)?;
+    Ok(Handle {
+        host,
+        name,
+        file,
+        len: bytes.len() as u64,
+        syncing,
+    })
+}
+
 /// Opens a file, or makes it, and reads all its bytes into `bytes`, which is empty. The file is locked until it is
 /// dropped. It is refused where it is a link or no regular file, has another name beside this one, is another user's,
 /// may be written by others, or is a standard stream of the process.
@@ -328,16 +350,7 @@ pub fn open<'a>(
     ensures read { IfOk result (λ device. tracked_seen opened_file device ≡ bytes.new.items) }
     ensures synced { IfOk result (λ device. has_syncs device ≡ is_each syncing) }
 {
-    let mut file = open_locked(host, path)?;
-    sync_name(host, path, syncing)?;
-    file.read_to_end(bytes)?;
-    let handle = Handle {
-        host,
-        name: format!(in host.alloc(); "{path}").map_err(io::Error::from)?,
-        file,
-        len: bytes.len() as u64,
-        syncing,
-    };
+    let handle = open_whole(host, path, syncing, bytes)?;
     let mut calls = Record::new();
     calls.note(&[FOUND, 0, 1], bytes);
     Ok(Tracked::over(Opened { handle, calls }))
