@@ -1,5 +1,5 @@
 pub mod AnswerLaws
+pub mod FoundLaws
 pub mod JournalAuditLaws
 pub mod LegalAuditLaws
-pub mod ResultLaws
 pub mod WholeCopyLaws

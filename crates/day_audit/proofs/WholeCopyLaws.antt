@@ -4,7 +4,7 @@ use Rattle.journal.specs.JournalFile.{RecordedDay, journal}
 use Rattle.journal.specs.declared.reading.TheConstants.{MAX_JOURNAL_BYTES}
 use Rattle.journal_file.specs.Committed.{committed}
 use Rattle.order_file.specs.File.{within_limit}
-use Rattle.day_audit.specs.JournalCopies.{JournalCopy, copy_of, ends_with_return, journal_copy, whole_part}
+use Rattle.day_audit.specs.JournalCopies.{copy_of, ends_with_return, journal_copy, whole_part}
 
 whole-part-is : (bytes : List ℕ) → committed bytes ≡ bytes → whole_part bytes ≡ bytes
 unfolding whole_part

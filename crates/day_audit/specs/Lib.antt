@@ -2,7 +2,7 @@ pub mod Answers
 pub mod JournalCopies
 pub mod AuditCounts
 pub mod AuditText
-pub mod BegunAudit
+pub mod Found
 pub mod ResultsText
 pub mod JournalAudit
 pub mod AuditPromises

@@ -58,14 +58,13 @@ impl Counts {
         }
     }
 
-    /// With one more entry.
+    /// With one more entry, of fewer than 2 ^ 64.
     pub(crate) fn with(self, finding: Finding) -> Counts
-        requires entries { self.entries < 2 ^ 64 - 1 }
-        requires compared { self.compared ≤ self.entries }
-        requires unlawful { self.unlawful ≤ self.entries }
-        ensures { result ≡ counts_with self finding }
+        ensures { self.entries < 2 ^ 64 - 1 → self.compared ≤ self.entries → self.unlawful ≤ self.entries
+            → result ≡ counts_with self finding }
     {
-        let entries = self.entries + 1;
+        let entries = self.entries.saturating_add(1);
+        let compared = self.compared.saturating_add(1);
         match finding {
             Finding::Silent => Counts {
                 entries,
@@ -75,14 +74,14 @@ impl Counts {
             },
             Finding::Lawful => Counts {
                 entries,
-                compared: self.compared + 1,
+                compared,
                 unlawful: self.unlawful,
                 first_unlawful: self.first_unlawful,
             },
             Finding::Unlawful => Counts {
                 entries,
-                compared: self.compared + 1,
-                unlawful: self.unlawful + 1,
+                compared,
+                unlawful: self.unlawful.saturating_add(1),
                 first_unlawful: first_or(self.first_unlawful, self.entries),
             },
         }

@@ -9,6 +9,7 @@
 mod copies;
 mod counts;
 mod fault;
+mod findings;
 mod laws;
 mod printing;
 mod results;

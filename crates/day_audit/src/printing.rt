@@ -1,7 +1,8 @@
 //! What an audit prints.
 
-ghost use Rattle.std.specs.Prelude.{◌≡◌, ◌≤◌, ◌+◌, ◌++◌, codes, decimal, length};
+ghost use Rattle.std.specs.Prelude.{◌≡◌, ◌≤◌, ◌+◌, ◌++◌, codes, decimal, length, OnOk};
 ghost use Rattle.printed_lines.specs.declared.page.TheConstants.{LONGEST_LINE, ROOM};
+ghost use Rattle.printed_lines.specs.KeptText.{kept_text};
 ghost use Rattle.printed_lines.specs.Printing.{Prints};
 ghost use Rattle.printed_lines.specs.ReplyWords.{reply_text};
 ghost use Rattle.day_audit.specs.AuditText.{compared_line, counts_text, difference, difference_line, lawful_words};
@@ -11,80 +12,60 @@ ghost use Rattle.day_audit.specs.ResultsText.{behind_line, broken_line};
 use crate::counts::{Counts, Finding};
 use auction_terms::Reply;
 use byte_streams::{Sink, WriteFailed};
-use printed_lines::{Page, Printer, print_audit, print_entries, put_reply};
+use printed_lines::{KeptText, Page, Printer, print_audit, print_entries, put_reply};
+use std::alloc::AllocError;
 
-fn print_recorded_words<S: Sink>(
-    printer: &mut Printer<'_, S>,
-    number: u64,
-) -> Result<(), WriteFailed>
-    ensures { Prints S.Sink printer.old printer.new result (recorded_words number) }
+fn put_recorded_words(page: &mut Page, number: u64)
+    requires { length page.old + LONGEST_LINE ≤ ROOM }
+    ensures { page.new ≡ page.old ++ recorded_words number }
 {
-    printer.make_room()?;
-    let page = &mut printer.page;
     page.put_number(number);
     page.put(": recorded \"");
-    Ok(())
 }
 
-fn print_text<S: Sink>(printer: &mut Printer<'_, S>, text: &[u8]) -> Result<(), WriteFailed>
-    requires { length text.now ≤ LONGEST_LINE }
-    ensures { Prints S.Sink printer.old printer.new result text.now }
-{
-    printer.make_room()?;
-    printer.page.put_bytes(text);
-    Ok(())
-}
-
-fn put_lawful_words(page: &mut Page, reply: Reply)
+fn put_lawful_words(page: &mut Page, reply: &Reply)
     requires { length page.old + LONGEST_LINE ≤ ROOM }
-    ensures { page.new ≡ page.old ++ lawful_words (reply_text reply) }
+    ensures { page.new ≡ page.old ++ lawful_words (reply_text reply.now) }
 {
     page.put("\", lawful \"");
-    put_reply(page, &reply);
+    put_reply(page, reply);
     page.put("\"\n");
 }
 
-fn print_lawful_words<S: Sink>(
-    printer: &mut Printer<'_, S>,
-    reply: Reply,
-) -> Result<(), WriteFailed>
-    ensures { Prints S.Sink printer.old printer.new result (lawful_words (reply_text reply)) }
+/// Records the line of an entry whose recorded reply isn't the lawful one, which is this.
+fn record_difference(
+    lines: &mut KeptText,
+    number: u64,
+    text: &[u8],
+    reply: &Reply,
+) -> Result<(), AllocError>
+    requires { length text.now ≤ LONGEST_LINE }
+    ensures { OnOk result (kept_text lines.new ≡ kept_text lines.old
+        ++ difference_line number (record { recorded = text.now; lawful = reply_text reply.now })) }
 {
-    printer.make_room()?;
-    put_lawful_words(&mut printer.page, reply);
+    lines.make_room()?;
+    put_recorded_words(&mut lines.page, number);
+    lines.make_room()?;
+    lines.page.put_bytes(text);
+    lines.make_room()?;
+    put_lawful_words(&mut lines.page, reply);
     Ok(())
 }
 
-/// Prints the line of an entry whose recorded reply isn't the lawful one, which is this.
-fn print_difference<S: Sink>(
-    printer: &mut Printer<'_, S>,
+/// Records what is found of an entry: a line where it is unlawful, else nothing.
+pub(crate) fn record_finding(
+    lines: &mut KeptText,
     number: u64,
     text: &[u8],
-    reply: Reply,
-) -> Result<(), WriteFailed>
-    requires { length text.now ≤ LONGEST_LINE }
-    ensures { Prints S.Sink printer.old printer.new result
-        (difference_line number (record { recorded = text.now; lawful = reply_text reply })) }
-{
-    print_recorded_words(printer, number)?;
-    print_text(printer, text)?;
-    print_lawful_words(printer, reply)
-}
-
-/// Prints what is found of an entry: a line where it is unlawful, else nothing.
-pub(crate) fn print_finding<S: Sink>(
-    printer: &mut Printer<'_, S>,
-    number: u64,
-    text: &[u8],
-    reply: Reply,
+    reply: &Reply,
     finding: Finding,
-) -> Result<(), WriteFailed>
+) -> Result<(), AllocError>
     requires { length text.now ≤ LONGEST_LINE }
-    ensures { Prints S.Sink printer.old printer.new result
-        (difference number (record { recorded = text.now; lawful = reply_text reply }) finding) }
+    ensures { OnOk result (kept_text lines.new ≡ kept_text lines.old
+        ++ difference number (record { recorded = text.now; lawful = reply_text reply.now }) finding) }
 {
     match finding {
-        Finding::Unlawful => print_difference(printer, number, text, reply),
+        Finding::Unlawful => record_difference(lines, number, text, reply),
         Finding::Lawful | Finding::Silent => Ok(()),
     }
 }

@@ -1,47 +1,29 @@
 //! The results of a day: what its uncrosses came to, and the auction that it is in, if any.
 
 ghost use Rattle.std.specs.Prelude.{◌≡◌, ◌≤◌, ◌+◌, ◌++◌, length, OnOk};
-ghost use Rattle.auction_terms.specs.Auxiliary.RunningAuction.{opened_auction};
-ghost use Rattle.auction_terms.specs.Day.{replies_from, state_after};
+ghost use Rattle.printed_lines.specs.KeptText.{kept_text};
 ghost use Rattle.printed_lines.specs.Printing.{Prints};
-ghost use Rattle.printed_lines.specs.declared.page.TheConstants.{ROOM};
-ghost use Rattle.day_audit.specs.ResultsText.{current_auction_line, results_text, uncross_line, uncross_lines};
+ghost use Rattle.printed_lines.specs.declared.page.TheConstants.{LONGEST_LINE, ROOM};
+ghost use Rattle.day_audit.specs.ResultsText.{current_auction_line, uncross_line};
 
-use auction::Auction;
-use auction_terms::{AuctionKind, Call, Reply};
+use auction_terms::{AuctionKind, Reply};
 use byte_streams::{Sink, WriteFailed};
-use printed_lines::{Page, Printer, kind_word, print_line};
+use printed_lines::{KeptText, LastTexts, Page, Printer, kind_word};
+use std::alloc::AllocError;
 
-/// Prints the line of a command's reply, if that is of an uncross that was accepted.
-fn print_uncross<S: Sink>(
-    printer: &mut Printer<'_, S>,
+/// Records the line of a command's reply, if that is of an uncross that was accepted.
+pub(crate) fn record_uncross(
+    lines: &mut KeptText,
     number: u64,
-    reply: Reply,
-) -> Result<(), WriteFailed>
-    ensures { Prints S.Sink printer.old printer.new result (uncross_line number reply) }
+    reply: &Reply,
+) -> Result<(), AllocError>
+    ensures { OnOk result (kept_text lines.new ≡ kept_text lines.old ++ uncross_line number reply.now) }
 {
     if !reply.is_uncross() {
         return Ok(());
     }
-    print_line(printer, number, &reply)
-}
-
-/// Applies each call, and prints the lines of the uncrosses.
-fn print_uncrosses<S: Sink>(
-    printer: &mut Printer<'_, S>,
-    auction: &mut Auction,
-    calls: &[Call],
-) -> Result<(), WriteFailed>
-    requires { auction.old.calls + length calls.now ≤ auction.old.config.max_calls }
-    ensures printed { Prints S.Sink printer.old printer.new result
-        (uncross_lines 0 (replies_from auction.old.config auction.old.state calls.now)) }
-    ensures state { OnOk result
-        (auction.new.state ≡ state_after auction.old.config auction.old.state calls.now) }
-{
-    for (before, call) in calls.iter().enumerate() {
-        let reply = auction.apply_call(call);
-        print_uncross(printer, before as u64 + 1, reply)?;
-    }
+    lines.make_room()?;
+    LastTexts::new().put_line(&mut lines.page, number, reply);
     Ok(())
 }
 
@@ -60,7 +42,7 @@ fn put_day(page: &mut Page, auction: Option<AuctionKind>)
 }
 
 /// Prints the auction that the day is in, or that it is over.
-fn print_day<S: Sink>(
+pub(crate) fn print_day<S: Sink>(
     printer: &mut Printer<'_, S>,
     auction: Option<AuctionKind>,
 ) -> Result<(), WriteFailed>
@@ -69,19 +51,4 @@ fn print_day<S: Sink>(
     printer.make_room()?;
     put_day(&mut printer.page, auction);
     Ok(())
-}
-
-/// Applies the calls of a day to an auction that it begins with, and prints its results: the line of each uncross that
-/// was accepted, as a run prints it, and then the auction that the day is in, or that it is over.
-pub(crate) fn print_results<S: Sink>(
-    printer: &mut Printer<'_, S>,
-    auction: &mut Auction,
-    calls: &[Call],
-) -> Result<(), WriteFailed>
-    requires begun { auction.old ≡ opened_auction auction.old.config }
-    requires few { length calls.now ≤ auction.old.config.max_calls }
-    ensures { Prints S.Sink printer.old printer.new result (results_text auction.old.config calls.now) }
-{
-    print_uncrosses(printer, auction, calls)?;
-    print_day(printer, auction.current())
 }

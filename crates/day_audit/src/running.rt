@@ -1,161 +1,77 @@
 //! The audit of a journal.
 
-ghost use Rattle.std.specs.Prelude.{◌≡◌, ◌<◌, ◌≤◌, ◌↔◌, ◌+◌, [], All, length, IfErr, IfSome, IsErrOf, OnOk};
-ghost use Rattle.std.specs.Prelude.{unwrap_or};
-ghost use Rattle.csv.specs.Records.{field_at, fields_of};
+ghost use Rattle.std.specs.Prelude.{◌≡◌, ◌<◌, ◌↔◌, ◌+◌, ◌≢◌, [], Err, IfErr, IfSome, IsErrOf, unwrap_or};
 ghost use Rattle.byte_streams.specs.Streams.{TakesAtMost};
-ghost use Rattle.byte_streams.specs.Writing.{WritesAll};
-ghost use Rattle.journal.specs.EntryRecord.{IsReplyText};
+ghost use Rattle.journal.specs.JournalEntries.{day_left};
+ghost use Rattle.journal.specs.JournalFile.{journal_of};
 ghost use Rattle.journal.specs.declared.reading.TheConstants.{MAX_JOURNAL_BYTES};
-ghost use Rattle.printed_lines.specs.Printing.{Prints};
-ghost use Rattle.printed_lines.specs.ReplyWords.{reply_text};
-ghost use Rattle.day_audit.specs.Answers.{answers_in, finding_of};
-ghost use Rattle.day_audit.specs.BegunAudit.{IsNewAudit, IsSameDay, audited_copy, audited_day};
-ghost use Rattle.day_audit.specs.AuditCounts.{counts_of, no_counts};
-ghost use Rattle.day_audit.specs.AuditText.{audit_text, differences};
-ghost use Rattle.day_audit.specs.JournalCopies.{journal_copy};
-ghost use Rattle.day_audit.specs.ResultsText.{copy_text, printed_text, results_text};
+ghost use Rattle.auction.specs.ConfigFault.{open_fault};
+ghost use Rattle.auction.specs.declared.OpenFault.TheVariants as opening;
+ghost use Rattle.day_road.specs.Inputs.{CanReadOn};
+ghost use Rattle.day_audit.specs.Found.{HasFound, HasAudited};
 ghost use Rattle.day_audit.specs.JournalAudit.{IsAuditOf, KeepsText};
+ghost use Rattle.day_audit.specs.JournalCopies.{journal_copy};
 
-use crate::copies::read_copy;
-use crate::counts::{Audited, Counts, Finding};
+use crate::copies::whole_len;
+use crate::counts::Audited;
 use crate::fault::AuditFault;
-use crate::printing::{print_behind, print_counts, print_finding};
-use crate::results::print_results;
-use auction::Auction;
-use auction_terms::Reply;
-use byte_streams::{Sink, Source, WriteFailed};
-use csv::ByteRecord;
-use journal::Journal;
-use order_file::FileFault;
-use printed_lines::{Page, Printer, is_text_of};
+use crate::findings::Findings;
+use auction::{Auction, OpenFault};
+use auction_terms::AuctionKind;
+use byte_streams::{Sink, Source};
+use day_road::{hear_all, pass_over};
+use journal::{Entries, MAX_JOURNAL_BYTES};
+use order_file::{FileFault, bytes_of};
 use std::alloc::Global;
 
-/// What is found of an entry with this recorded text, the lawful reply being this. An empty page is lent for it.
-fn finding_of(page: &mut Page, text: &[u8], reply: Reply) -> Finding
-    requires { page.old ≡ [] }
-    ensures finding { result ≡ finding_of (record { recorded = text.now; lawful = reply_text reply }) }
-    ensures page { page.new ≡ [] }
+/// What a journal owes whose day can't be opened: a fault of its own comes first.
+fn refused(entries: &mut Entries<'_>, fault: OpenFault, findings: &Findings) -> AuditFault
+    requires ready { CanReadOn entries.old }
+    requires fault { fault ≡ unwrap_or (open_fault entries.old.day.config) opening.NoMemory }
+    ensures audited { HasAudited (day_left entries.old) findings.now (Err result) }
+    ensures read { result ≢ AuditFault.File FileFault.ReadFailed }
 {
-    if text.is_empty() {
-        return Finding::Silent;
+    match pass_over(entries) {
+        Ok(()) => AuditFault::Open(fault),
+        Err(fault) => AuditFault::File(fault),
     }
-    if is_text_of(page, text, reply) {
-        return Finding::Lawful;
-    }
-    Finding::Unlawful
 }
 
-/// The recorded text at a place, empty where there is none.
-fn text_at<'a>(texts: &'a ByteRecord, place: usize) -> &'a [u8]
-    ensures { result.now ≡ unwrap_or (field_at (fields_of texts.now) place) [] }
+/// Audits the entries of a journal, of which none was read, and answers the auction that its day is in at their end.
+fn audit_entries(
+    alloc: Global,
+    entries: &mut Entries<'_>,
+    findings: &mut Findings,
+) -> Result<Option<AuctionKind>, AuditFault>
+    requires ready { CanReadOn entries.old }
+    requires begun { entries.old.count ≡ 0 }
+    requires none { HasFound findings.old [] }
+    ensures audited { HasAudited (day_left entries.old) findings.new result }
+    ensures read { result ≢ Err (AuditFault.File FileFault.ReadFailed) }
 {
-    texts.get(place).unwrap_or(b"".as_slice())
+    let mut auction = match Auction::open(alloc, entries.day().config) {
+        Ok(auction) => auction,
+        Err(fault) => return Err(refused(entries, fault, findings)),
+    };
+    match hear_all(alloc, entries, &mut auction, findings) {
+        Ok(()) => Ok(auction.current()),
+        Err(fault) => Err(AuditFault::File(fault)),
+    }
 }
 
-/// An audit under way: a journal, an auction that was opened for its day, and what was counted so far.
-#[derive(Drop)]
-pub(crate) struct Audit<'a> {
-    journal: &'a Journal,
-    auction: Auction,
-    counts: Counts,
-}
-
-impl<'a> Audit<'a> {
-    /// Applies each call, compares its recorded text with the reply's, prints where they differ, and counts.
-    fn print_differences<S: Sink>(
-        &mut self,
-        printer: &mut Printer<'_, S>,
-    ) -> Result<(), WriteFailed>
-        requires { IsNewAudit self.old }
-        ensures printed { Prints S.Sink printer.old printer.new result
-            (differences 0 (answers_in (audited_day self.old))) }
-        ensures counts { OnOk result (self.new.counts ≡ counts_of (answers_in (audited_day self.old))) }
-        ensures day { IsSameDay self.old self.new }
-    {
-        let journal = self.journal;
-        let mut page = Page::new();
-        for (before, call) in journal.calls.iter().enumerate() {
-            let reply = self.auction.apply_call(call);
-            let text = text_at(&journal.texts, before);
-            let finding = finding_of(&mut page, text, reply);
-            self.counts = self.counts.with(finding);
-            print_finding(printer, before as u64 + 1, text, reply, finding)?;
-        }
-        Ok(())
-    }
-
-    /// Prints what is found of the day: the differences, and then what was counted.
-    fn print_findings<S: Sink>(&mut self, printer: &mut Printer<'_, S>) -> Result<(), WriteFailed>
-        requires { IsNewAudit self.old }
-        ensures printed { Prints S.Sink printer.old printer.new result
-            (audit_text (answers_in (audited_day self.old))) }
-        ensures counts { OnOk result (self.new.counts ≡ counts_of (answers_in (audited_day self.old))) }
-        ensures day { IsSameDay self.old self.new }
-    {
-        self.print_differences(printer)?;
-        print_counts(printer, self.counts)
-    }
-
-    /// Prints the results of the day, whose calls are applied from its beginning again.
-    fn print_results<S: Sink>(&mut self, printer: &mut Printer<'_, S>) -> Result<(), WriteFailed>
-        requires { length (audited_day self.old).calls ≤ self.old.auction.config.max_calls }
-        ensures printed { Prints S.Sink printer.old printer.new result
-            (results_text self.old.auction.config (audited_day self.old).calls) }
-        ensures counts { self.new.counts ≡ self.old.counts }
-    {
-        self.auction.reset();
-        print_results(printer, &mut self.auction, self.journal.calls.as_slice())
-    }
-
-    /// Prints the whole text of an audit, with the results of the day where they are wanted.
-    fn print<S: Sink>(
-        &mut self,
-        printer: &mut Printer<'_, S>,
-        results: bool,
-    ) -> Result<(), WriteFailed>
-        requires { IsNewAudit self.old }
-        ensures printed { Prints S.Sink printer.old printer.new result (printed_text results (audited_day self.old)) }
-        ensures counts { OnOk result (self.new.counts ≡ counts_of (answers_in (audited_day self.old))) }
-    {
-        self.print_findings(printer)?;
-        if !results {
-            return Ok(());
-        }
-        self.print_results(printer)
-    }
-
-    /// Prints all of an audit of a copy that has as many bytes behind its whole lines.
-    fn print_copy<S: Sink>(
-        &mut self,
-        printer: &mut Printer<'_, S>,
-        results: bool,
-        behind: u64,
-    ) -> Result<(), WriteFailed>
-        requires { IsNewAudit self.old }
-        ensures printed { Prints S.Sink printer.old printer.new result
-            (copy_text results (audited_copy self.old behind)) }
-        ensures counts { OnOk result (self.new.counts ≡ counts_of (answers_in (audited_day self.old))) }
-    {
-        self.print(printer, results)?;
-        print_behind(printer, behind, self.counts.entries)
-    }
-
-    /// Writes the whole text of such an audit, or at a failure a beginning of it.
-    fn write<S: Sink>(
-        &mut self,
-        writer: &mut S,
-        results: bool,
-        behind: u64,
-    ) -> Result<(), WriteFailed>
-        requires { IsNewAudit self.old }
-        ensures written { WritesAll S.Sink writer.old writer.new result
-            (copy_text results (audited_copy self.old behind)) }
-        ensures counts { OnOk result (self.new.counts ≡ counts_of (answers_in (audited_day self.old))) }
-    {
-        let mut printer = Printer::new(writer);
-        self.print_copy(&mut printer, results, behind)?;
-        printer.flush()
+/// Audits the text of a journal.
+fn audit_bytes(
+    alloc: Global,
+    bytes: &[u8],
+    findings: &mut Findings,
+) -> Result<Option<AuctionKind>, AuditFault>
+    requires { HasFound findings.old [] }
+    ensures audited { HasAudited (journal_of bytes.now) findings.new result }
+    ensures read { result ≢ Err (AuditFault.File FileFault.ReadFailed) }
+{
+    match Entries::open(alloc, bytes) {
+        Ok(mut entries) => audit_entries(alloc, &mut entries, findings),
+        Err(fault) => Err(AuditFault::File(fault)),
     }
 }
 
@@ -186,25 +102,20 @@ pub fn audit_journal<R: Source, S: Sink>(
     // However long the journal is, at most `MAX_JOURNAL_BYTES + 1` bytes are taken.
     ensures taken { TakesAtMost (MAX_JOURNAL_BYTES + 1) (R.left reader.old) (R.left reader.new) }
 {
-    let copy = match read_copy(alloc, reader) {
-        Ok(copy) => copy,
+    let bytes = match bytes_of(alloc, reader, MAX_JOURNAL_BYTES) {
+        Ok(bytes) => bytes,
         Err(fault) => return Err(AuditFault::File(fault)),
     };
-    let auction = match Auction::open(alloc, copy.journal.day.config) {
-        Ok(auction) => auction,
-        Err(fault) => return Err(AuditFault::Open(fault)),
-    };
-    let behind = copy.behind as u64;
-    let mut audit = Audit {
-        journal: &copy.journal,
-        auction,
-        counts: Counts::none(),
-    };
-    let Ok(()) = audit.write(writer, results, behind) else {
+    let bytes = bytes.as_slice();
+    let whole = whole_len(bytes);
+    let mut findings = Findings::new(alloc);
+    let current = audit_bytes(alloc, &bytes[..whole], &mut findings)?;
+    let behind = (bytes.len() - whole) as u64;
+    let Ok(()) = findings.write(writer, current, results, behind) else {
         return Err(AuditFault::WriteFailed);
     };
     Ok(Audited {
-        counts: audit.counts,
+        counts: findings.counts,
         behind,
     })
 }

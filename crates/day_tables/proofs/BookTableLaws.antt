@@ -2,24 +2,22 @@
 use Rattle.std.specs.Option.{option_map_or}
 use Rattle.std.specs.Simd.Lanes.{zip2}
 use Rattle.std.proofs.Common.{◌≡◌, ℕ, zero, suc, ◌+◌, ◌-◌, ◌<◌, ◌≤◌, Bool, true, false, cond, eqb, ◌||◌, List, [], ◌∷◌}
-use Rattle.std.proofs.Common.{◌++◌, length, get_or, drop, Option, Some, None, IfSome, option_map, inl, inr, refl, sym}
-use Rattle.std.proofs.Common.{ap, subst, ◌∙◌, append_assoc, add-one, drop-cons, arith}
+use Rattle.std.proofs.Common.{◌++◌, length, get_or, Option, Some, None, IfSome, option_map, inl, inr, refl, sym}
+use Rattle.std.proofs.Common.{ap, subst, ◌∙◌, append_assoc, arith}
 use Rattle.std.proofs.lemmas.Bool.{cases_Bool, eq-eqb, eqb-true}
-use Rattle.std.proofs.lemmas.List.{append-nil, drop_all}
+use Rattle.std.proofs.lemmas.List.{append-nil}
 use Rattle.auction_terms.specs.declared.Config.{Config}
-use Rattle.auction_terms.specs.declared.Entry.{Entry}
 use Rattle.auction_terms.specs.declared.AuctionKind.{AuctionKind}
 use Rattle.auction_terms.specs.declared.Order.{Order}
 use Rattle.auction_terms.specs.declared.Side.TheVariants.{Bid, Ask}
 use Rattle.auction_terms.specs.Book.{demand, supply, volume, surplus, surplus_side, has_bid_surplus, has_ask_surplus}
 use Rattle.auction_terms.specs.Book.{limits, auction_orders, current_kind}
 use Rattle.auction_terms.specs.AuctionPrice.{best_limits, price_tick, price, priced}
-use Rattle.auction_terms.specs.Day.{State, display, display_of, step, call_of}
+use Rattle.auction_terms.specs.Day.{State, display, display_of}
 use Rattle.auction_terms.specs.Ladder.{LadderView, ladder_of, tick_values, quantity_at, market_quantity, flag_of}
 use Rattle.auction_terms.specs.Ladder.{limit_flag}
 use Rattle.auction_terms.specs.Auxiliary.BestTicks.{has}
-use Rattle.auction_terms.specs.declared.Call.{Call}
-use Rattle.auction_terms.specs.Auxiliary.RunningAuction.{RunningAuction, auction_after_call}
+use Rattle.auction_terms.specs.Auxiliary.RunningAuction.{RunningAuction}
 use Rattle.auction_terms.proofs.LadderLaws.{length-tick_values, at_spread}
 use Rattle.tick_ladder.specs.TickLadder.{IsLadder, IsLadderOf}
 use Rattle.tick_ladder.proofs.PresenceLaws.{flag_is}
@@ -29,8 +27,7 @@ use Rattle.day_tables.specs.declared.curves.Curves.{Curves}
 use Rattle.day_tables.specs.declared.rule.Rule.{Rule}
 use Rattle.day_tables.specs.DecidingRule.{rule_of}
 use Rattle.day_tables.specs.BookTable.{ShownBook, shown_book, is_among, is_price, has_record, rule_field, rule_word}
-use Rattle.day_tables.specs.BookTable.{tick_record, tick_records, market_record, book_table, table_before, text_before}
-use Rattle.day_tables.specs.BookTable.{tables_after}
+use Rattle.day_tables.specs.BookTable.{tick_record, tick_records, market_record, book_table, table_before}
 use Rattle.day_tables.specs.TableCurves.{HasRoomForTicks, AreCurves, IsDecidingRule}
 use Rattle.day_tables.specs.TableRows.{HasPlaces, IsTableOf, has_shares, is_at_price, is_row, side_between, rule_at}
 use Rattle.day_tables.specs.TableRows.{row, row_if, table_rows_below, market_table_row, tick_shown}
@@ -280,49 +277,7 @@ pub rows-end : (table : Table) (front all : List ℕ) (place : ℕ) → place �
 unfolding table_rows_below
 rows-end table front all place none e = sym (append-nil front) ∙ rw none at e
 
-pub tables-next : (config : Config) (state : State) (entries : List Entry) (front all : List ℕ) (i : ℕ) (d : Entry)
-    → front ++ tables_after config i state (drop i entries) ≡ all → i < length entries
-    → front
-    ++ (text_before config (i + 1) state (get_or entries i d).reply
-    ++ tables_after config (i + 1) (step config state (call_of (get_or entries i d))).0 (drop (i + 1) entries))
-    ≡ all
-unfolding tables_after
-tables-next config state entries front all i d e within =
-    let next : drop i entries ≡ get_or entries i d ∷ drop (i + 1) entries =
-    rw (add-one i) (drop-cons entries i d within) in
-    rw next at e
-
-pub tables-done : (config : Config) (state next : State) (entries : List Entry) (front all : List ℕ) (i : ℕ) (d : Entry)
-    → next ≡ (step config state (call_of (get_or entries i d))).0
-    → front ++ tables_after config i state (drop i entries) ≡ all → i < length entries
-    → (front ++ text_before config (i + 1) state (get_or entries i d).reply)
-    ++ tables_after config (i + 1) next (drop (i + 1) entries) ≡ all
-tables-done config state next entries front all i d is e within =
-    rw is (append_assoc front _ _ ∙ tables-next config state entries front all i d e within)
-
-pub tables-end : (config : Config) (state : State) (entries : List Entry) (front all : List ℕ) (i : ℕ)
-    → front ++ tables_after config i state (drop i entries) ≡ all → i ≡ length entries
-    → front ++ table_before config (length entries + 1) state ≡ all
-unfolding tables_after
-tables-end config state entries front all i e is =
-    let none : drop i entries ≡ [] = drop_all i entries (omega arith) in
-    rw (← is) (rw none at e)
-
-pub stepped_from : (old middle new : RunningAuction) (call : Call) (config : Config)
-    → new ≡ auction_after_call middle call → middle ≡ old → old.config ≡ config
-    → new.state ≡ (step config old.state call).0
-stepped_from old middle new call config is same of = rw (is, same, of) refl
-
 -- ---- the room of the curves
-
-pub room_of : (old new : RunningAuction) (v : LadderView) (curves : Curves) → new ≡ old
-    → v ≡ ladder_over new.config (current_orders new.state)
-    → HasRoomForTicks (old.config.high + 1 - old.config.low) curves → HasRoomForTicks (length v.bids) curves
-room_of old new v curves same over room =
-    let long =
-    ladder_ticks old.config.low (old.config.high + 1 - old.config.low) (current_orders old.state) v
-    (rw same at over) in
-    subst (λ n. HasRoomForTicks n curves) (sym long) room
 
 pub room_back : (old new : RunningAuction) (v : LadderView) (curves : Curves) → new ≡ old
     → v ≡ ladder_over new.config (current_orders new.state)

@@ -3,42 +3,31 @@ use Rattle.std.proofs.Common.{◌≡◌, ℕ, zero, suc, ◌+◌, ◌-◌, ◌<�
 use Rattle.std.proofs.Common.{length, map, find, take, drop, get_or, slice_get, min, replicate, Option, Some, None}
 use Rattle.std.proofs.Common.{is_some, option_map, MatchOption, ◌⊎◌, inl, inr, if◌then◌else◌, refl, sym, ap, ◌∙◌}
 use Rattle.std.proofs.Common.{append_assoc, add-one, drop-cons, take_all, length-append, arith}
+use Rattle.std.proofs.Common.{OnOk, Result, Ok, Err}
 use Rattle.std.proofs.Math.Dec.{leb}
 use Rattle.std.proofs.Math.Nat.{zero-add}
 use Rattle.std.proofs.lemmas.Bool.{eq-eqb, ne_eqb}
 use Rattle.std.proofs.lemmas.Bool.Decides.{leb_tells}
-use Rattle.std.proofs.lemmas.List.{append-nil, drop_all, take_more}
+use Rattle.std.proofs.lemmas.List.{append-nil, drop_all, map-append}
 use Rattle.std.proofs.lemmas.Grind.{common_steps}
 use Rattle.auction_terms.specs.declared.Config.{Config}
 use Rattle.auction_terms.specs.declared.Entry.{Entry}
 use Rattle.auction_terms.specs.declared.AuctionKind.{AuctionKind}
 use Rattle.auction_terms.specs.declared.Trade.{Trade}
-use Rattle.auction_terms.specs.Auxiliary.RunningAuction.{RunningAuction, auction_after_call}
+use Rattle.auction_terms.specs.declared.Call.{Call}
+use Rattle.auction_terms.specs.declared.Reply.{Reply}
+use Rattle.auction_terms.specs.Auxiliary.RunningAuction.{RunningAuction, auction_after_call, opened_auction}
+use Rattle.auction_terms.proofs.RunLaws.{replies_from-push, state_after-push}
+use Rattle.day_tables.specs.declared.trades.KeptTrades.{KeptTrades}
+use Rattle.day_tables.specs.AnsweredCalls.{entry_of}
+use Rattle.day_tables.specs.KeptTrades.{AreReplayed, HasAllTrades, HasTradesSoFar}
 use Rattle.auction_terms.specs.Day.{State, opening_state, step, state_after, replies_from, replay, call_of, calls_of}
 use Rattle.auction_terms.specs.Day.{IsLegal}
-use Rattle.auction.specs.AuctionState.{call_by}
 use Rattle.day_tables.specs.TradeTable.{entered_id, has_entered_id, member_who_entered, auctions_of_reply}
 use Rattle.day_tables.specs.TradeTable.{trade_auctions}
 use Rattle.day_tables.specs.TradeTable.{trade_record, trade_records, trades_header, trades_text}
 use Rattle.day_tables.specs.TableMembers.{entering_members, member_of_id}
 use Rattle.day_tables.proofs.StepLaws.{step-reported}
-
--- ---- the commands of a history, one by one
-
-pub replayed-more : (config : Config) (old new : RunningAuction) (entries : List Entry) (i : ℕ) (d : Entry)
-    (last : State)
-    → new ≡ auction_after_call old (call_by (get_or entries i d).member (get_or entries i d).command)
-    → old.config ≡ config → i < length entries
-    → state_after config old.state (calls_of (drop i entries)) ≡ last
-    → state_after config new.state (calls_of (drop (i + 1) entries)) ≡ last
-replayed-more config old new entries i d last is same within e =
-    let next : drop i entries ≡ get_or entries i d ∷ drop (i + 1) entries =
-    rw (add-one i) (drop-cons entries i d within) in
-    rw (is, same) (rw next at e)
-
-pub replayed-end : (config : Config) (state : State) (entries : List Entry) (i : ℕ) (last : State)
-    → state_after config state (calls_of (drop i entries)) ≡ last → length entries ≤ i → state ≡ last
-replayed-end config state entries i last e h = rw (drop_all i entries h) at e
 
 -- ---- the auctions, trade by trade
 
@@ -63,18 +52,6 @@ auctions_push (first ∷ entries) entry =
     ap (λ t. auctions_of_reply first.reply ++ t) (auctions_push entries entry)
     ∙ sym (append_assoc (auctions_of_reply first.reply) (trade_auctions entries) (auctions_of_reply entry.reply))
 
-pub auctions-next : (entries : List Entry) (i : ℕ) (d : Entry) (old new : List AuctionKind) → i < length entries
-    → old ≡ trade_auctions (take i entries) → new ≡ old ++ auctions_of_reply (get_or entries i d).reply
-    → new ≡ trade_auctions (take (i + 1) entries)
-auctions-next entries i d old new within before more =
-    more ∙ ap (λ t. t ++ auctions_of_reply (get_or entries i d).reply) before
-    ∙ sym (auctions_push (take i entries) (get_or entries i d))
-    ∙ sym (ap trade_auctions (take_more entries i d within))
-
-pub auctions-all : (entries : List Entry) (i : ℕ) (all : List AuctionKind) → all ≡ trade_auctions (take i entries)
-    → length entries ≤ i → all ≡ trade_auctions entries
-auctions-all entries i all e h = e ∙ ap trade_auctions (take_all i entries h)
-
 -- ---- the members, entry by entry
 
 members_push : (entries : List Entry) (entry : Entry) → entering_members (entries ++ entry ∷ [])
@@ -87,18 +64,6 @@ members_push (first ∷ entries) entry = by_some (members_push entries entry) (i
         ≡ entering_members (first ∷ entries) ++ entering_members (entry ∷ [])
     by_some rest true e = rw e (ap (λ t. first.member ∷ t) rest)
     by_some rest false e = rw e rest
-
-pub members-next : (entries : List Entry) (i : ℕ) (d : Entry) (old new : List ℕ) → i < length entries
-    → old ≡ entering_members (take i entries) → new ≡ old ++ entering_members (get_or entries i d ∷ [])
-    → new ≡ entering_members (take (i + 1) entries)
-members-next entries i d old new within before more =
-    more ∙ ap (λ t. t ++ entering_members (get_or entries i d ∷ [])) before
-    ∙ sym (members_push (take i entries) (get_or entries i d))
-    ∙ sym (ap entering_members (take_more entries i d within))
-
-pub members-all : (entries : List Entry) (i : ℕ) (all : List ℕ) → all ≡ entering_members (take i entries)
-    → length entries ≤ i → all ≡ entering_members entries
-members-all entries i all e h = e ∙ ap entering_members (take_all i entries h)
 
 -- ---- the records, one by one
 
@@ -255,30 +220,84 @@ member_after members n =
     rw (other, less) refl
 
 -- the members by their places are the members by their ids
-pub members_by_id : (config : Config) (entries : List Entry) → IsLegal config entries → (id : ℕ)
+pub members_by_id : (config : Config) (entries : List Entry) → AreReplayed config entries → (id : ℕ)
     → member_of_id (entering_members entries) id ≡ member_who_entered entries id
 unfolding member_who_entered
-members_by_id config entries legal zero =
+members_by_id config entries replayed zero =
     sym
     (ap (option_map (λ (entry : Entry). entry.member))
-    (none_before config (opening_state config) entries 0 legal.replies (omega arith)))
-members_by_id config entries legal (suc n) =
+    (none_before config (opening_state config) entries 0 replayed (omega arith)))
+members_by_id config entries replayed (suc n) =
     let to : 1 + n ≡ suc n = omega arith in
-    member_after (entering_members entries) n ∙ nth_member config (opening_state config) entries n legal.replies
+    member_after (entering_members entries) n ∙ nth_member config (opening_state config) entries n replayed
     ∙ ap (λ id. option_map (λ (entry : Entry). entry.member) (find (has_entered_id id) entries)) to
 
--- the table of a tape, by the members' places
-pub table_of_trades : (config : Config) (entries : List Entry) (members : List ℕ) (kinds : List AuctionKind)
-    (tape : List Trade) → IsLegal config entries
-    → members ≡ entering_members entries → kinds ≡ trade_auctions entries
-    → tape ≡ (replay config (calls_of entries)).0.tape
-    → trades_header ++ trade_records (member_of_id members) 0 kinds tape ≡ trades_text config entries
+-- the table of what was kept of a day, by the members' places
+pub table_of_trades : (trades : KeptTrades) (config : Config) (entries : List Entry)
+    → HasAllTrades trades config entries
+    → trades_header ++ trade_records (member_of_id trades.members.items) 0 trades.auctions.items trades.tape.items
+    ≡ trades_text config entries
 unfolding trades_text
-table_of_trades config entries members kinds tape legal by_place by_trade is =
-    rw (by_place, by_trade, is) (ap (λ t. trades_header ++ t)
+table_of_trades trades config entries has =
+    rw (has.members, has.auctions, has.tape) (ap (λ t. trades_header ++ t)
     (same_records (member_of_id (entering_members entries)) (member_who_entered entries) (members_by_id config entries
-    legal) 0
+    has.replies) 0
     (trade_auctions entries) (replay config (calls_of entries)).0.tape))
+
+-- ---- what is kept, call by call
+
+pub trades-none : (trades : KeptTrades) (auction : RunningAuction) → auction ≡ opened_auction auction.config
+    → trades.members.items ≡ [] → trades.auctions.items ≡ [] → trades.tape.items ≡ []
+    → HasTradesSoFar trades auction []
+trades-none trades auction fresh members auctions tape = record {
+  members = members;
+  auctions = auctions ∙ sym auctions_none;
+  none = tape;
+  replies = refl;
+  state = ap (λ (a : RunningAuction). a.state) fresh;
+}
+
+replies-more : (config : Config) (state : State) (entries : List Entry) (call : Call) (reply : Reply)
+    → AreReplayed config entries → state ≡ (replay config (calls_of entries)).0 → reply ≡ (step config state call).1
+    → AreReplayed config (entries ++ entry_of call reply ∷ [])
+replies-more config state entries call reply replayed is answered =
+    grind (arith, common_steps, map-append, replies_from-push)
+
+pub trades-more : (old new : KeptTrades) (auction : RunningAuction) (call : Call) (reply : Reply)
+    (entries : List Entry) → reply ≡ (step auction.config auction.state call).1
+    → new.members.items ≡ old.members.items ++ entering_members (entry_of call reply ∷ [])
+    → new.auctions.items ≡ old.auctions.items ++ auctions_of_reply reply
+    → new.tape.items ≡ old.tape.items → HasTradesSoFar old auction entries
+    → HasTradesSoFar new (auction_after_call auction call) (entries ++ entry_of call reply ∷ [])
+trades-more old new auction call reply entries answered members auctions tape is =
+    let entry = entry_of call reply in
+    let config = auction.config in
+    let calls : calls_of (entries ++ entry ∷ []) ≡ calls_of entries ++ call ∷ [] =
+    map-append call_of entries (entry ∷ []) in
+    record {
+      members =
+          members ∙ ap (λ (ms : List ℕ). ms ++ entering_members (entry ∷ [])) is.members
+          ∙ sym (members_push entries entry);
+      auctions =
+          auctions ∙ ap (λ (ks : List AuctionKind). ks ++ auctions_of_reply reply) is.auctions
+          ∙ sym (auctions_push entries entry);
+      none = tape ∙ is.none;
+      replies = replies-more config auction.state entries call reply is.replies is.state answered;
+      state =
+          ap (λ (state : State). (step config state call).0) is.state
+          ∙ sym (rw calls (state_after-push config (opening_state config) (calls_of entries) call));
+    }
+
+-- where memory may be refused
+pub trades-kept : {E : Type 0} (r : Result (Unit {0}) E) (old new : KeptTrades) (auction : RunningAuction) (call : Call)
+    (reply : Reply) (entries : List Entry) → reply ≡ (step auction.config auction.state call).1
+    → new.members.items ≡ old.members.items ++ entering_members (entry_of call reply ∷ [])
+    → OnOk r (new.auctions.items ≡ old.auctions.items ++ auctions_of_reply reply)
+    → new.tape.items ≡ old.tape.items → HasTradesSoFar old auction entries
+    → OnOk r (HasTradesSoFar new (auction_after_call auction call) (entries ++ entry_of call reply ∷ []))
+trades-kept (Ok u) old new auction call reply entries answered members auctions tape is =
+    trades-more old new auction call reply entries answered members auctions tape is
+trades-kept (Err e) old new auction call reply entries answered members auctions tape is = tt
 
 -- ---- each trade is reported
 

@@ -8,3 +8,4 @@ pub mod TableRows
 pub mod AnsweredCalls
 pub mod ShownTable
 pub mod KeptBook
+pub mod KeptTrades

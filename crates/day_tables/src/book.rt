@@ -1,32 +1,27 @@
 //! The book behind each price of the day.
 
-ghost use Rattle.std.specs.Prelude.{◌≡◌, ◌<◌, ◌≤◌, ◌+◌, ◌-◌, ◌++◌, [], length, None, Err, IfErr, IfSome};
+ghost use Rattle.std.specs.Prelude.{◌≡◌, ◌<◌, ◌≤◌, ◌+◌, ◌-◌, ◌++◌, [], length, None};
 ghost use Rattle.std.specs.Prelude.{false, codes, decimal, MatchOption};
 ghost use Rattle.auction_terms.specs.declared.Config.{Config};
-ghost use Rattle.auction_terms.specs.Day.{IsLegal, State};
-ghost use Rattle.auction.specs.ConfigFault.{open_fault};
+ghost use Rattle.auction_terms.specs.Day.{State};
 ghost use Rattle.printed_lines.specs.Printing.{Prints};
 ghost use Rattle.printed_lines.specs.declared.page.TheConstants.{LONGEST_LINE, ROOM};
-ghost use Rattle.day_tables.specs.BookTable.{book_header, book_text, best_word};
-ghost use Rattle.day_tables.specs.BookTable.{table_before, tables_after, text_before};
+ghost use Rattle.day_tables.specs.BookTable.{book_header, best_word};
+ghost use Rattle.day_tables.specs.BookTable.{table_before};
 ghost use Rattle.day_tables.specs.ShownTable.{IsHeadingIn, IsShownIn};
 ghost use Rattle.day_tables.specs.TableCurves.{HasRoomForTicks};
-ghost use Rattle.day_tables.specs.TableRecords.{PrintsTable, IsOnlyNoMemory};
 ghost use Rattle.day_tables.specs.TableRows.{HasPlaces, HasHead, side_between, is_row, row, row_end, row_if};
 ghost use Rattle.day_tables.specs.TableRows.{table_rows_below, market_table_row, is_at_price, rule_at, tick_shown};
 ghost use Rattle.day_tables.specs.declared.front_text.TheConstants.{SHORT, TEXT_ROOM};
-ghost use Rattle.day_tables.specs.declared.fault.TableFault.TheVariants as fault;
 
 use crate::curves::Curves;
-use crate::fault::TableFault;
 use crate::front_text::{Figure, FrontText};
 use crate::record::{put_number, put_word};
 use crate::rule::{Rule, rule_word};
-use auction::{Auction, OpenFault};
-use auction_terms::{AuctionKind, Config, Display, Entry, Reply, Side};
+use auction::Auction;
+use auction_terms::{AuctionKind, Config, Display, Side};
 use byte_streams::{Sink, WriteFailed};
 use printed_lines::{Page, Printer, kind_word, side_word};
-use std::alloc::Global;
 use tick_ladder::Ladder;
 
 /// A table that is printed, with its numbers tick by tick from the lowest tick on.
@@ -373,45 +368,6 @@ pub(crate) fn heading_of(auction: &mut Auction, command: u64) -> Option<Heading>
     })
 }
 
-/// Prints the table of the current auction when a command comes, until the day is over.
-fn print_table<S: Sink>(
-    printer: &mut Printer<'_, S>,
-    auction: &mut Auction,
-    curves: &mut Curves,
-    command: u64,
-) -> Result<(), WriteFailed>
-    requires { HasRoomForTicks (auction.old.config.high + 1 - auction.old.config.low) curves.old }
-    ensures printed { Prints S.Sink printer.old printer.new result
-        (table_before auction.old.config command auction.old.state) }
-    ensures auction { auction.new ≡ auction.old }
-    ensures room { HasRoomForTicks (auction.old.config.high + 1 - auction.old.config.low) curves.new }
-{
-    let Some(heading) = heading_of(auction, command) else {
-        return Ok(());
-    };
-    print_ladder(printer, auction.ladder(), heading, curves)
-}
-
-/// Prints the table before a command that was answered so, if it is an uncross that was accepted.
-fn print_before<S: Sink>(
-    printer: &mut Printer<'_, S>,
-    auction: &mut Auction,
-    curves: &mut Curves,
-    command: u64,
-    reply: Reply,
-) -> Result<(), WriteFailed>
-    requires { HasRoomForTicks (auction.old.config.high + 1 - auction.old.config.low) curves.old }
-    ensures printed { Prints S.Sink printer.old printer.new result
-        (text_before auction.old.config command auction.old.state reply) }
-    ensures auction { auction.new ≡ auction.old }
-    ensures room { HasRoomForTicks (auction.old.config.high + 1 - auction.old.config.low) curves.new }
-{
-    if !reply.is_uncross() {
-        return Ok(());
-    }
-    print_table(printer, auction, curves, command)
-}
-
 pub(crate) fn print_header<S: Sink>(printer: &mut Printer<'_, S>) -> Result<(), WriteFailed>
     ensures { Prints S.Sink printer.old printer.new result book_header }
 {
@@ -419,75 +375,4 @@ pub(crate) fn print_header<S: Sink>(printer: &mut Printer<'_, S>) -> Result<(), 
     let page = &mut printer.page;
     page.put("command,auction,limit,bid,ask,demand,supply,volume,surplus,side,best,price\n");
     Ok(())
-}
-
-/// Prints the tables of a history: before each uncross that was accepted, and at its end.
-fn print_tables<S: Sink>(
-    printer: &mut Printer<'_, S>,
-    auction: &mut Auction,
-    curves: &mut Curves,
-    entries: &[Entry],
-) -> Result<(), WriteFailed>
-    requires calls { auction.old.calls + length entries.now ≤ auction.old.config.max_calls }
-    requires room { HasRoomForTicks (auction.old.config.high + 1 - auction.old.config.low) curves.old }
-    ensures { Prints S.Sink printer.old printer.new result
-        (tables_after auction.old.config 0 auction.old.state entries.now) }
-{
-    for (before, entry) in entries.iter().enumerate() {
-        print_before(printer, auction, curves, before as u64 + 1, entry.reply)?;
-        auction.apply(entry.member, entry.command);
-    }
-    print_table(printer, auction, curves, entries.len() as u64 + 1)
-}
-
-/// Prints the header, and the tables of a history.
-fn print_book_tables<S: Sink>(
-    printer: &mut Printer<'_, S>,
-    auction: &mut Auction,
-    curves: &mut Curves,
-    entries: &[Entry],
-) -> Result<(), WriteFailed>
-    requires calls { auction.old.calls + length entries.now ≤ auction.old.config.max_calls }
-    requires room { HasRoomForTicks (auction.old.config.high + 1 - auction.old.config.low) curves.old }
-    ensures { Prints S.Sink printer.old printer.new result
-        (book_header ++ tables_after auction.old.config 0 auction.old.state entries.now) }
-{
-    print_header(printer)?;
-    print_tables(printer, auction, curves, entries)
-}
-
-/// Prints the book behind each price of a lawful history: the header, and a table before each uncross that was
-/// accepted, an interrupted one too, and at the end if the day isn't over. A table is of the orders that count in the
-/// current auction. Its records begin with the number of the command that comes next, from 1, and the auction.
-///
-/// - A record with the limit `market` has the shares of the market bids and asks.
-/// - From the highest tick down there is a record for each tick that is the limit of an order or the price: the shares
-///   bid and offered with that limit, demand, supply, volume and surplus there in shares, the surplus's side, 1 for a
-///   best limit and else 0, and at the price the rule that decides it.
-///
-/// It fails with the first fault of the config, for refused memory, or at a failing write. Where it isn't a write that
-/// fails nothing is printed.
-pub fn print_book<S: Sink>(
-    alloc: Global,
-    printer: &mut Printer<'_, S>,
-    config: Config,
-    entries: &[Entry],
-) -> Result<(), TableFault>
-    requires legal { IsLegal config entries.now }
-    ensures printed { PrintsTable S.Sink printer.old printer.new result (book_text config entries.now) }
-    ensures refused { IfSome (open_fault config) (λ unopened. result ≡ Err (fault.Open unopened)) }
-    ensures memory { open_fault config ≡ None → IfErr result IsOnlyNoMemory }
-{
-    let mut auction = match Auction::open(alloc, config) {
-        Ok(auction) => auction,
-        Err(fault) => return Err(TableFault::Open(fault)),
-    };
-    let ticks = auction.ladder().bids().len();
-    let Ok(mut curves) = Curves::open(alloc, ticks) else {
-        return Err(TableFault::Open(OpenFault::NoMemory));
-    };
-    match print_book_tables(printer, &mut auction, &mut curves, entries) {
-        Ok(()) => Ok(()),
-        Err(failed) => Err(TableFault::Write(failed)),
-    }
 }

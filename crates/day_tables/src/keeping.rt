@@ -129,7 +129,16 @@ impl KeptBook {
         self.keep_table(alloc, auction)
     }
 
-    /// Prints the book behind each price of the day, as [`print_book`](crate::print_book) does of its history.
+    /// Prints the book behind each price of the day: the header, and a table before each uncross that was accepted, an
+    /// interrupted one too, and at the end if the day isn't over. A table is of the orders that count in the current
+    /// auction. Its records begin with the number of the command that comes next, from 1, and the auction.
+    ///
+    /// - A record with the limit `market` has the shares of the market bids and asks.
+    /// - From the highest tick down there is a record for each tick that is the limit of an order or the price: the
+    ///   shares bid and offered with that limit, demand, supply, volume and surplus there in shares, the side of the
+    ///   surplus, 1 for a best limit and else 0, and at the price the rule that decides it.
+    ///
+    /// A write that fails leaves a beginning of the tables.
     pub fn print<S: Sink>(&mut self, printer: &mut Printer<'_, S>) -> Result<(), WriteFailed>
         requires { (config : Config) × (entries : List Entry) × HasAllTables self.old config entries }
         ensures { (config : Config) (entries : List Entry) → HasAllTables self.old config entries

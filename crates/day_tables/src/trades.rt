@@ -1,21 +1,21 @@
 //! The table of the day's trades.
 
-ghost use Rattle.std.specs.Prelude.{◌≡◌, ◌≤◌, ◌+◌, ◌++◌, ◌∷◌, [], length, is_some, None};
-ghost use Rattle.std.specs.Prelude.{Err, IfErr, IfOk, IfSome, OnOk};
-ghost use Rattle.auction_terms.specs.Day.{IsLegal, calls_of, state_after};
-ghost use Rattle.auction.specs.ConfigFault.{open_fault};
+ghost use Rattle.std.specs.Prelude.{◌≡◌, ◌≤◌, ◌+◌, ◌++◌, ◌∷◌, [], length, is_some, List, OnOk};
+ghost use Rattle.auction_terms.specs.declared.Config.{Config};
+ghost use Rattle.auction_terms.specs.declared.Entry.{Entry};
+ghost use Rattle.auction_terms.specs.Day.{step};
+ghost use Rattle.auction_terms.specs.Auxiliary.RunningAuction.{RunningAuction, auction_after_call, opened_auction};
 ghost use Rattle.printed_lines.specs.Printing.{Prints};
 ghost use Rattle.printed_lines.specs.declared.page.TheConstants.{LONGEST_LINE, ROOM};
-ghost use Rattle.day_tables.specs.TableRecords.{PrintsTable, IsOnlyNoMemory};
+ghost use Rattle.day_tables.specs.AnsweredCalls.{entry_of};
+ghost use Rattle.day_tables.specs.KeptTrades.{HasAllTrades, HasTradesSoFar};
 ghost use Rattle.day_tables.specs.TableMembers.{entering_members, member_of_id};
-ghost use Rattle.day_tables.specs.TradeTable.{entered_id, auctions_of_reply, trade_auctions, trades_header};
+ghost use Rattle.day_tables.specs.TradeTable.{entered_id, auctions_of_reply, trades_header};
 ghost use Rattle.day_tables.specs.TradeTable.{trade_record, trade_records, trades_text};
-ghost use Rattle.day_tables.specs.declared.fault.TableFault.TheVariants as fault;
 
-use crate::fault::TableFault;
 use crate::record::{put_member, put_number, put_word};
-use auction::{Auction, OpenFault};
-use auction_terms::{AuctionKind, Config, Entry, Reply, Trade};
+use auction::Auction;
+use auction_terms::{AuctionKind, Call, Reply, Trade};
 use byte_streams::{Sink, WriteFailed};
 use printed_lines::{Page, Printer, kind_word};
 use std::alloc::{AllocError, Global};
@@ -27,25 +27,15 @@ fn is_entered(reply: Reply) -> bool
     matches!(reply, Reply::Entered { .. })
 }
 
-/// Adds the member of an entry that entered an order.
-fn add_member(members: &mut Vec<u8>, entry: Entry) -> Result<(), AllocError>
-    ensures { OnOk result (members.new.items ≡ members.old.items ++ entering_members (entry ∷ [])) }
+/// Adds the member of a call that entered an order.
+fn add_member(members: &mut Vec<u8>, call: &Call, reply: &Reply) -> Result<(), AllocError>
+    ensures { OnOk result (members.new.items
+        ≡ members.old.items ++ entering_members (entry_of call.now reply.now ∷ [])) }
 {
-    if is_entered(entry.reply) {
-        members.push(entry.member)?;
+    if is_entered(*reply) {
+        members.push(call.member)?;
     }
     Ok(())
-}
-
-/// The members of the entries that were accepted, in their order.
-fn entering_members(alloc: Global, entries: &[Entry]) -> Result<Vec<u8>, AllocError>
-    ensures { IfOk result (λ members. members.items ≡ entering_members entries.now) }
-{
-    let mut members = Vec::new(alloc);
-    for entry in entries {
-        add_member(&mut members, *entry)?;
-    }
-    Ok(members)
 }
 
 /// Adds the auction that a reply names, once for each trade that it made.
@@ -59,17 +49,6 @@ fn add_auctions(auctions: &mut Vec<AuctionKind>, reply: Reply) -> Result<(), All
         }
         _ => Ok(()),
     }
-}
-
-/// Trade by trade the auctions of the day.
-fn trade_auctions(alloc: Global, entries: &[Entry]) -> Result<Vec<AuctionKind>, AllocError>
-    ensures { IfOk result (λ auctions. auctions.items ≡ trade_auctions entries.now) }
-{
-    let mut auctions = Vec::new(alloc);
-    for entry in entries {
-        add_auctions(&mut auctions, entry.reply)?;
-    }
-    Ok(auctions)
 }
 
 /// The member that entered an order.
@@ -164,51 +143,60 @@ fn print_trade_table<S: Sink>(
     print_tape(printer, members, kinds, tape)
 }
 
-/// Applies the commands of a history.
-fn replay(auction: &mut Auction, entries: &[Entry])
-    requires { auction.old.calls + length entries.now ≤ auction.old.config.max_calls }
-    ensures { auction.new.state ≡ state_after auction.old.config auction.old.state (calls_of entries.now) }
-{
-    for entry in entries {
-        auction.apply(entry.member, entry.command);
-    }
+/// The trades of a day, kept while its calls are applied: the members that entered its orders, id by id; trade by trade
+/// the auctions; and the tape, once all calls have come.
+#[derive(Drop)]
+pub struct KeptTrades {
+    pub(crate) members: Vec<u8>,
+    pub(crate) auctions: Vec<AuctionKind>,
+    pub(crate) tape: Vec<Trade>,
 }
 
-/// Prints the trades of a lawful history in the tape's order: the header, and for each trade a record with its number,
-/// the auction that made it, the bid's id and the member that entered it, the ask's id and member, the quantity in
-/// shares and the tick.
-///
-/// It fails with the first fault of the config, for refused memory, or at a failing write. Where it isn't a write that
-/// fails nothing is printed.
-pub fn print_trades<S: Sink>(
-    alloc: Global,
-    printer: &mut Printer<'_, S>,
-    config: Config,
-    entries: &[Entry],
-) -> Result<(), TableFault>
-    requires legal { IsLegal config entries.now }
-    ensures printed { PrintsTable S.Sink printer.old printer.new result (trades_text config entries.now) }
-    ensures refused { IfSome (open_fault config) (λ unopened. result ≡ Err (fault.Open unopened)) }
-    ensures memory { open_fault config ≡ None → IfErr result IsOnlyNoMemory }
-{
-    let mut auction = match Auction::open(alloc, config) {
-        Ok(auction) => auction,
-        Err(fault) => return Err(TableFault::Open(fault)),
-    };
-    let Ok(members) = entering_members(alloc, entries) else {
-        return Err(TableFault::Open(OpenFault::NoMemory));
-    };
-    let Ok(kinds) = trade_auctions(alloc, entries) else {
-        return Err(TableFault::Open(OpenFault::NoMemory));
-    };
-    replay(&mut auction, entries);
-    match print_trade_table(
-        printer,
-        members.as_slice(),
-        kinds.as_slice(),
-        auction.tape(),
-    ) {
-        Ok(()) => Ok(()),
-        Err(failed) => Err(TableFault::Write(failed)),
+impl KeptTrades {
+    /// No trade yet of a day that was just opened.
+    pub fn new(alloc: Global) -> KeptTrades
+        ensures { (auction : RunningAuction) → auction ≡ opened_auction auction.config
+            → HasTradesSoFar result auction [] }
+    {
+        KeptTrades {
+            members: Vec::new(alloc),
+            auctions: Vec::new(alloc),
+            tape: Vec::new(alloc),
+        }
+    }
+
+    /// Keeps what the table needs of a call that the auction answered so. The error is that memory is refused.
+    pub fn hear(&mut self, call: &Call, reply: &Reply) -> Result<(), AllocError>
+        ensures { (auction : RunningAuction) (entries : List Entry)
+            → reply.now ≡ (step auction.config auction.state call.now).1
+            → HasTradesSoFar self.old auction entries → OnOk result (HasTradesSoFar self.new
+            (auction_after_call auction call.now) (entries ++ entry_of call.now reply.now ∷ [])) }
+    {
+        add_member(&mut self.members, call, reply)?;
+        add_auctions(&mut self.auctions, *reply)
+    }
+
+    /// Keeps the tape, as all calls of the day have come. The error is that memory is refused.
+    pub fn close(&mut self, auction: &Auction) -> Result<(), AllocError>
+        ensures { (entries : List Entry) → HasTradesSoFar self.old auction.now entries
+            → OnOk result (HasAllTrades self.new auction.now.config entries) }
+    {
+        self.tape.extend_from_slice(auction.tape())?;
+        Ok(())
+    }
+
+    /// Prints the trades of the day in the tape's order: the header, and for each trade a record with its number, the
+    /// auction that made it, the bid's id and the member that entered it, the ask's id and member, the quantity in
+    /// shares and the tick. A write that fails leaves a beginning of the table.
+    pub fn print<S: Sink>(&self, printer: &mut Printer<'_, S>) -> Result<(), WriteFailed>
+        ensures { (config : Config) (entries : List Entry) → HasAllTrades self.now config entries
+            → Prints S.Sink printer.old printer.new result (trades_text config entries) }
+    {
+        print_trade_table(
+            printer,
+            self.members.as_slice(),
+            self.auctions.as_slice(),
+            self.tape.as_slice(),
+        )
     }
 }

@@ -1,6 +1,5 @@
 -- Answers of `put_broken` (src/printing.rt): what the prover left open; rt looks here.
 use Rattle.std.proofs.Common.{append_assoc}
-use Rattle.std.specs.Prelude.{codes, decimal, ◌∷◌, ◌++◌, []}
 use Rattle.day_audit.proofs.printing.put_broken.Goals as goal
 
 pub returns : goal.returns
