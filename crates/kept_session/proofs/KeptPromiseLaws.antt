@@ -1,10 +1,8 @@
 -- Journals that are kept: whole lines, of which the first are left, and with which a session goes on.
-use Rattle.std.proofs.Common.{◌≡◌, ◌≤◌, ◌+◌, ◌++◌, ◌∷◌, ◌∙◌, [], ℕ, List, Bool, Some, true, false, Ok, refl, sym}
+use Rattle.std.proofs.Common.{◌≡◌, ◌≤◌, ◌+◌, ◌++◌, ◌∷◌, ◌∙◌, [], ℕ, List, Bool, true, false, Ok, refl, sym}
 use Rattle.std.proofs.Common.{ap, append_assoc, arith, map, take, length, nat_lt, length-append}
 use Rattle.std.proofs.lemmas.List.{append-nil}
 use Rattle.std.proofs.lemmas.Slice.Eq.{bytes_eq-Decides}
-use Rattle.csv.specs.Records.{field_at}
-use Rattle.auction_terms.specs.declared.Call.{Call}
 use Rattle.auction_terms.specs.declared.Entry.{Entry}
 use Rattle.auction_terms.specs.declared.Reply.{Reply}
 use Rattle.auction_terms.specs.Auxiliary.RunningAuction.{RunningAuction, auction_after_call}
@@ -25,6 +23,7 @@ use Rattle.journal_file.specs.declared.committed.TheConstants.{LONGEST_WRITE}
 use Rattle.journal_file.proofs.LineTexts.{committed-lines, first_lines}
 use Rattle.kept_session.specs.KeptPromises.{AreWholeLines, LawfulIsGoneOnWith, LeavesFirstEntries}
 use Rattle.kept_session.specs.Replayed.{replayed}
+use Rattle.kept_session.proofs.LookLaws.{after_each, after-each-is, at-behind}
 use Rattle.kept_session.proofs.PrintableLineLaws.{calls-text, day-in-line, day_inside, each-in-line, first-insides}
 use Rattle.kept_session.proofs.PrintableLineLaws.{in-lines, insides}
 use Rattle.kept_session.proofs.PrintableLineLaws.{day-short, day-text, each-short, first-and-more}
@@ -89,34 +88,6 @@ leaves-first day before entries file fits h begun =
     )
 
 -- ---- a lawful history, applied again
-
--- after these calls, one by one
-after_each : RunningAuction → List Call → RunningAuction
-after_each auction [] = auction
-after_each auction (call ∷ calls) = after_each (auction_after_call auction call) calls
-
-after-each-is : (auction : RunningAuction) (calls : List Call)
-    → after_each auction calls ≡ record {
-      config = auction.config;
-      state = state_after auction.config auction.state calls;
-      calls = auction.calls + length calls;
-    }
-unfolding after_each
-after-each-is auction [] = ap (λ (n : ℕ). record { config = auction.config; state = auction.state; calls = n })
-    (omega arith)
-after-each-is auction (call ∷ calls) =
-    after-each-is (auction_after_call auction call) calls
-    ∙ ap (λ (n : ℕ). record {
-      config = auction.config;
-      state = state_after auction.config auction.state (call ∷ calls);
-      calls = n;
-    }) (omega arith)
-
-at-behind : (front : List (List ℕ)) (x : List ℕ) (rest : List (List ℕ))
-    → field_at (front ++ x ∷ rest) (length front) ≡ Some x
-unfolding field_at
-at-behind [] x rest = refl
-at-behind (f ∷ front) x rest = at-behind front x rest
 
 first-reply : (d : Reply) (xs : List Reply) → Reply
 first-reply d [] = d

@@ -1,6 +1,6 @@
 pub mod CommitLaws
 pub mod KeptRunLaws
-mod ReplayLaws
+mod LookLaws
 mod ResumeLaws
 mod LineLengthLaws
 mod PrintableLineLaws

@@ -4,3 +4,4 @@ pub mod KeptPromises
 pub mod KeptRun
 pub mod Replayed
 pub mod Resumed
+pub mod Looked

@@ -1,5 +1,5 @@
 -- The entries of a journal, applied again.
-use Rattle.std.specs.Prelude.{◌≡◌, ℕ, ◌+◌, List, [], ◌∷◌, if◌then◌else◌, unwrap_or, Result, Ok, Err}
+use Rattle.std.specs.Prelude.{ℕ, ◌+◌, List, [], ◌∷◌, if◌then◌else◌, unwrap_or, Result, Ok, Err}
 use Rattle.std.specs.Str.{bytes_eq}
 use Rattle.csv.specs.Records.{field_at}
 use Rattle.auction_terms.specs.declared.Call.{Call}
@@ -23,8 +23,3 @@ replayed before texts auction [] = Ok auction
 replayed before texts auction (call ∷ calls) =
     replayed_one auction call (unwrap_or (field_at texts before) []) (before + 1)
     >>= λ next. replayed (before + 1) texts next calls
-
--- what came of it, and the auction where it went well
-abbrev pub IsReplayed : RunningAuction → Result (Unit {0}) UnlawfulEntry → Result RunningAuction UnlawfulEntry → Type 0
-IsReplayed auction (Ok u) wanted = wanted ≡ Ok auction
-IsReplayed auction (Err entry) wanted = wanted ≡ Err entry

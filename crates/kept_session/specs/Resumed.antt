@@ -7,7 +7,6 @@ use Rattle.order_file.specs.declared.fault.FileFault.TheVariants.{NoMemory}
 use Rattle.journal.specs.JournalFile.{RecordedDay}
 use Rattle.journal.specs.declared.day.DayHeader.{DayHeader}
 use Rattle.kept_session.specs.Replayed.{replayed}
-use Rattle.kept_session.specs.declared.fault.UnlawfulEntry.{UnlawfulEntry}
 use Rattle.kept_session.specs.declared.fault.ResumeFault.{ResumeFault}
 use Rattle.kept_session.specs.declared.fault.ResumeFault.TheVariants.{AnotherDay, File, Unlawful}
 
@@ -28,10 +27,3 @@ IsResumedFrom day (Err f) (Err (File g)) = (g ≡ f) ⊎ (g ≡ NoMemory)
 IsResumedFrom day (Err f) (Err (AnotherDay other)) = ⊥
 IsResumedFrom day (Err f) (Err (Unlawful entry recorded)) = ⊥
 IsResumedFrom day (Err f) (Ok auction) = ⊥
-
--- the fault of an unlawful entry of a recorded day
-abbrev pub IsFaultOfEntry : RecordedDay → UnlawfulEntry → ResumeFault → Type 0
-IsFaultOfEntry j entry (Unlawful named recorded) =
-    (named ≡ entry) × (recorded.items ≡ unwrap_or (field_at j.texts (entry.number - 1)) [])
-IsFaultOfEntry j entry (File f) = f ≡ NoMemory
-IsFaultOfEntry j entry (AnotherDay other) = ⊥

@@ -1,15 +1,12 @@
 //! A session that begins on a journal's file.
 
-ghost use Rattle.std.specs.Prelude.{◌≡◌, ◌≢◌, ◌≤◌, ◌<◌, ◌+◌, List, ℕ, [], None, Some, Ok, Err, length, take, drop};
+ghost use Rattle.std.specs.Prelude.{◌≡◌, ◌≢◌, ◌≤◌, ◌<◌, ◌+◌, List, ℕ, [], None, Some, Ok, Err, length};
 ghost use Rattle.std.specs.Prelude.{IfErr, IfOk, IsTrue, ◌↔◌};
 ghost use Rattle.auction_terms.specs.Auxiliary.RunningAuction.{opened_auction};
-ghost use Rattle.journal.specs.JournalFile.{journal_of};
-ghost use Rattle.journal.specs.JournalText.{journal_text};
 ghost use Rattle.journal_file.specs.Committed.{HasTornEnd, IsTextLen, IsTornOf, behind_lines, committed};
 ghost use Rattle.journal_file.specs.Settled.{IsSettled};
-ghost use Rattle.kept_session.specs.Begun.{AddsLines, HasBegun, HasNotBegun, IsLeftByBegin, IsPutAside, LacksLines};
+ghost use Rattle.kept_session.specs.Begun.{AddsLines, HasBegun, HasNotBegun, IsPutAside, LacksLines};
 ghost use Rattle.kept_session.specs.Begun.{LacksRepair};
-ghost use Rattle.kept_session.specs.Resumed.{IsResumedFrom};
 
 use crate::day::day_lines;
 use crate::fault::{BeginFault, CutOff, NotBegun};

@@ -1,6 +1,6 @@
 //! A conversation whose entries are kept in a journal's file.
 
-ghost use Rattle.std.specs.Prelude.{◌≡◌, [], Bool, false};
+ghost use Rattle.std.specs.Prelude.{◌≡◌, [], false};
 ghost use Rattle.journal_file.specs.Settled.{IsSettled};
 
 use byte_streams::{Sink, Source, SourceFailed, WriteFailed, write_all};

@@ -6,7 +6,7 @@ mod conversation;
 mod day;
 mod fault;
 mod laws;
-mod replaying;
+mod looking;
 mod resuming;
 mod running;
 

@@ -1,48 +1,71 @@
 //! A session that goes on with a journal's file.
 
-ghost use Rattle.std.specs.Prelude.{◌≡◌, ◌≢◌, ◌≤◌, [], Ok, length};
+ghost use Rattle.std.specs.Prelude.{◌≡◌, ◌≢◌, [], Ok};
 ghost use Rattle.auction_terms.specs.Auxiliary.RunningAuction.{opened_auction};
-ghost use Rattle.journal.specs.JournalFile.{journal_of, recorded};
-ghost use Rattle.kept_session.specs.Resumed.{IsResumedAfter, IsResumedFrom, IsFaultOfEntry};
+ghost use Rattle.day_road.specs.Inputs.{CanReadOn};
+ghost use Rattle.journal.specs.JournalEntries.{day_left};
+ghost use Rattle.journal.specs.JournalFile.{journal_of};
+ghost use Rattle.kept_session.specs.Resumed.{IsResumedFrom};
 
-use crate::fault::{ResumeFault, UnlawfulEntry};
-use crate::replaying::{replay, text_at};
+use crate::fault::ResumeFault;
+use crate::looking::FirstUnlawful;
 use auction::Auction;
-use journal::{DayHeader, Journal, journal_of};
-use order_file::FileFault;
+use day_road::{hear_all, pass_over};
+use journal::{DayHeader, Entries};
 use std::alloc::Global;
 
-/// The fault of an entry, with what was recorded.
-fn unlawful(alloc: Global, journal: &Journal, entry: UnlawfulEntry) -> ResumeFault
-    ensures { IsFaultOfEntry (recorded journal.now) entry result }
+/// What is said of entries that are of another day: a fault of the journal comes first.
+fn of_another_day(entries: &mut Entries<'_>, day: DayHeader) -> ResumeFault
+    requires ready { CanReadOn entries.old }
+    requires another { entries.old.day ≢ day }
+    ensures { IsResumedFrom day (day_left entries.old) (Err result) }
 {
-    let place = entry.number.saturating_sub(1);
-    let mut recorded = Vec::new(alloc);
-    let text = text_at(&journal.texts, place as usize);
-    if recorded.extend_from_slice(text).is_err() {
-        return ResumeFault::File(FileFault::NoMemory);
+    let other = entries.day();
+    match pass_over(entries) {
+        Ok(()) => ResumeFault::AnotherDay(other),
+        Err(fault) => ResumeFault::File(fault),
     }
-    ResumeFault::Unlawful(entry, recorded)
 }
 
-/// Brings an auction, which was opened for this day, to where the entries of a journal leave it.
+/// Brings an auction, which was opened for this day, to where the entries of a journal of it leave it.
 fn resume_after(
     alloc: Global,
     mut auction: Auction,
-    journal: &Journal,
+    entries: &mut Entries<'_>,
     day: DayHeader,
 ) -> Result<Auction, ResumeFault>
     requires opened { auction ≡ opened_auction day.config }
-    requires few { length journal.now.calls.items ≤ journal.now.day.config.max_calls }
-    ensures { IsResumedAfter day (recorded journal.now) result }
+    requires ready { CanReadOn entries.old }
+    requires same { entries.old.day ≡ day }
+    requires begun { entries.old.count ≡ 0 }
+    ensures { IsResumedFrom day (day_left entries.old) result }
 {
-    if journal.day != day {
-        return Err(ResumeFault::AnotherDay(journal.day));
+    let mut first = FirstUnlawful::new(alloc);
+    if let Err(fault) = hear_all(alloc, entries, &mut auction, &mut first) {
+        return Err(ResumeFault::File(fault));
     }
-    match replay(&mut auction, journal) {
-        Ok(()) => Ok(auction),
-        Err(entry) => Err(unlawful(alloc, journal, entry)),
+    match first.entry {
+        None => Ok(auction),
+        Some(entry) => Err(ResumeFault::Unlawful(entry, first.recorded)),
     }
+}
+
+/// The same with entries of any day.
+fn resume_entries(
+    alloc: Global,
+    auction: Auction,
+    entries: &mut Entries<'_>,
+    day: DayHeader,
+) -> Result<Auction, ResumeFault>
+    requires opened { auction ≡ opened_auction day.config }
+    requires ready { CanReadOn entries.old }
+    requires begun { entries.old.count ≡ 0 }
+    ensures { IsResumedFrom day (day_left entries.old) result }
+{
+    if entries.day() != day {
+        return Err(of_another_day(entries, day));
+    }
+    resume_after(alloc, auction, entries, day)
 }
 
 /// Brings an auction, which was opened for this day, to where the lines of a journal leave it.
@@ -62,8 +85,8 @@ pub fn resume(
     if lines.is_empty() {
         return Ok(auction);
     }
-    match journal_of(alloc, lines) {
-        Ok(journal) => resume_after(alloc, auction, &journal, day),
+    match Entries::open(alloc, lines) {
+        Ok(mut entries) => resume_entries(alloc, auction, &mut entries, day),
         Err(fault) => Err(ResumeFault::File(fault)),
     }
 }

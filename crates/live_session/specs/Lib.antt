@@ -4,5 +4,4 @@ pub mod InputLines
 pub mod Gathered
 pub mod Giving
 pub mod Hearing
-pub mod Spot
 pub mod Talk

@@ -12,7 +12,6 @@ mod line;
 mod responder;
 mod run;
 mod session;
-mod spot;
 mod terms;
 
 pub use channels::Channels;

@@ -5,12 +5,12 @@ ghost use Rattle.csv.specs.Reading.{strip_bom};
 ghost use Rattle.csv.specs.declared.parser.State.TheVariants as st;
 ghost use Rattle.live_session.specs.Answered.{line_fault};
 ghost use Rattle.live_session.specs.InputLines.{IsFirstLineEnd, is_marked, is_quote_open, line_state_after};
-ghost use Rattle.live_session.specs.Spot.{state_of};
+ghost use Rattle.order_file.specs.Spot.{state_of};
 ghost use Rattle.live_session.specs.declared.line.TheConstants.{MAX_RECORD_BYTES};
 
 use crate::fault::BadRecord;
-use crate::spot::Spot;
 use memchr::{memchr, memchr2};
+use order_file::Spot;
 use std::alloc::AllocError;
 
 /// How many bytes a record may have at most, its line end not counted.

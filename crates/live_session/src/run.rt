@@ -1,6 +1,7 @@
 //! A live session from its beginning to its end.
 
 ghost use Rattle.std.specs.Prelude.{List, ℕ};
+ghost use Rattle.live_session.specs.Hearing.{IsNewSession};
 ghost use Rattle.live_session.specs.Talk.{EndsSession, IsAnswered, MayBeWritten};
 
 use crate::conversation::Conversation;
@@ -12,6 +13,42 @@ use std::alloc::Global;
 
 /// How many bytes are read at a time at most.
 pub const ROOM_OF_A_READ: usize = 65_536;
+
+/// Answers what comes on a session of which nothing has come, each time before it reads on.
+fn take_turns<C: Conversation>(
+    alloc: Global,
+    talk: &mut C,
+    session: &mut Session,
+) -> Result<Ending, LiveFault>
+    requires begun { IsNewSession session.old session.old.responder.terms session.old.responder.auction }
+    requires reads { (now : C)
+        → IsAnswered C.Conversation session.old.responder.terms session.old.responder.auction talk.old now
+        → C.MayRead now }
+    requires writes { (now : C) (text : List ℕ)
+        → MayBeWritten C.Conversation session.old.responder.terms session.old.responder.auction talk.old now text
+        → C.MayWrite now text }
+    ensures { EndsSession C.Conversation session.old.responder.terms session.old.responder.auction talk.old talk.new
+        result }
+{
+    let mut chunk = [0u8; ROOM_OF_A_READ];
+    'turns: for _ in 0..u64::MAX {
+        let Ok(count) = talk.read(&mut chunk) else {
+            return Err(LiveFault::ReadFailed);
+        };
+        if count == 0 {
+            let Ok(()) = session.end() else {
+                return Err(LiveFault::NoMemory);
+            };
+            session.responder.give(talk)?;
+            return Ok(session.responder.ending());
+        }
+        let Ok(()) = session.hear(alloc, &chunk[..count]) else {
+            return Err(LiveFault::NoMemory);
+        };
+        session.responder.give(talk)?;
+    }
+    Err(LiveFault::NoMemory)
+}
 
 /// Answers the records of an input one by one on this auction, each before it reads on.
 ///
@@ -41,22 +78,5 @@ pub fn run_live<C: Conversation>(
     let Ok(mut session) = Session::new(alloc, auction, terms) else {
         return Err(LiveFault::NoMemory);
     };
-    let mut chunk = [0u8; ROOM_OF_A_READ];
-    'turns: for _ in 0..u64::MAX {
-        let Ok(count) = talk.read(&mut chunk) else {
-            return Err(LiveFault::ReadFailed);
-        };
-        if count == 0 {
-            let Ok(()) = session.end() else {
-                return Err(LiveFault::NoMemory);
-            };
-            session.responder.give(talk)?;
-            return Ok(session.responder.ending());
-        }
-        let Ok(()) = session.hear(alloc, &chunk[..count]) else {
-            return Err(LiveFault::NoMemory);
-        };
-        session.responder.give(talk)?;
-    }
-    Err(LiveFault::NoMemory)
+    take_turns(alloc, talk, &mut session)
 }

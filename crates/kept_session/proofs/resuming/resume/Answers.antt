@@ -4,4 +4,4 @@ use Rattle.kept_session.proofs.resuming.resume.Goals as goal
 
 pub returns-in-Err-clause-read : goal.returns-in-Err-clause-read
 returns-in-Err-clause-read c =
-    λ some. never_a_journal c.args.day _ c.in-Err.fault c.in-Err.ensures.recording c.in-Err.ensures.parsed
+    λ some. never_a_journal c.args.day _ c.in-Err.fault c.in-Err.ensures.day c.in-Err.ensures.parsed

@@ -3,7 +3,7 @@
 use Rattle.std.proofs.Common.{◌≡◌, drop}
 use Rattle.csv.specs.declared.parser.State.TheVariants as st
 use Rattle.live_session.specs.InputLines.{line_state_after}
-use Rattle.live_session.specs.Spot.{state_of}
+use Rattle.order_file.specs.Spot.{state_of}
 use Rattle.live_session.proofs.line.spot_behind.Given as goal
 
 -- from the spot so far the bytes that are left lead where all of them lead
