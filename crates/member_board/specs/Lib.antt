@@ -1,2 +1,1 @@
 pub mod FreshBoard
-pub mod FreshRoom

@@ -5,6 +5,7 @@ use crate::floor::Floor;
 use crate::identity::BoardIdentity;
 use crate::versions::{Update, Version};
 use auction_terms::Entry;
+use board_terms::Closing;
 use crossbeam_utils::Backoff;
 use left_right::Absorb;
 use std::marker::Model;
@@ -36,8 +37,6 @@ where
     Version<K>: Absorb<Update<K>, State = ()>,
 {
     pub(crate) floor: Mutex<Floor<K>>,
-    /// A count for each member, which the closing writes.
-    pub(crate) counts: Vec<u32>,
     pub(crate) members: u8,
 }
 
@@ -45,13 +44,13 @@ impl<K: BoardIdentity> Model for Board<K>
 where
     Version<K>: Absorb<Update<K>, State = ()>,
 {
-    ghost use Rattle.std.specs.Prelude.{◌≡◌, ℕ, replicate};
+    ghost use Rattle.std.specs.Prelude.{◌≡◌, ℕ};
 
     ghost Value = { ℕ };
 
     ghost view = { λ b. b.members };
 
-    ghost invariant = { λ b. (b.members ≡ K.parts) × (b.counts.items ≡ replicate b.members 0) };
+    ghost invariant = { λ b. b.members ≡ K.parts };
 }
 
 impl<K: BoardIdentity> Board<K>
@@ -83,11 +82,9 @@ where
     pub fn abandon<R: Wait>(self, rt: &R) -> Vec<Entry>
         ensures { IsLegal K.config result.items }
     {
-        let Board {
-            floor,
-            counts: _counts,
-            members: _,
-        } = self;
-        floor.into_inner().end(rt)
+        let Board { floor, members: _ } = self;
+        let (closing, _book, _joined) = floor.into_inner().end(rt);
+        let Closing { history, calls: _ } = closing;
+        history
     }
 }

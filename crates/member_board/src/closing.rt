@@ -1,6 +1,6 @@
 //! The closing: the history is handed out, and each member's account is held against it.
 ghost use Rattle.std.specs.Prelude.{◌≡◌, ◌+◌, ◌<◌, ◌≤◌, ◌==◌, ℕ, All, length, sum, count_by, ◌↔◌, ◌⊎◌, IfOk, IfErr};
-ghost use Rattle.std.specs.Prelude.{IfNone, IfSome, Err, IsTrue};
+ghost use Rattle.std.specs.Prelude.{IfNone, IfSome, Err, IsTrue, replicate};
 ghost use Rattle.auction_terms.specs.declared.limits.TheConstants.{MAX_CALLS};
 ghost use Rattle.auction_terms.specs.Day.{calls_of};
 ghost use Rattle.board_terms.specs.MemberView.{MemberView};
@@ -12,7 +12,6 @@ use crate::board::Board;
 use crate::floor::Floor;
 use crate::identity::BoardIdentity;
 use crate::member::Member;
-use crate::story::Front;
 use crate::versions::{Update, Version};
 use board_terms::Closing;
 use left_right::Absorb;
@@ -61,22 +60,33 @@ fn are_complete<K: BoardIdentity>(n: u8, members: &[Member<K>]) -> bool
     true
 }
 
-// The least number of a member that has seen more than the story, if there is one.
-fn first_late<K: BoardIdentity>(n: u8, story: &Front<K>, members: &[Member<K>]) -> Option<u8>
+// The least number of a member that has seen more than the history, if there is one.
+fn first_late<K: BoardIdentity>(n: u8, floor: &Floor<K>, members: &[Member<K>]) -> Option<u8>
+where
+    Version<K>: Absorb<Update<K>, State = ()>,
     requires { n ≡ K.parts }
-    ensures none { IfNone result (All (HasSeenBeginning K.parts story.now) members.now) }
-    ensures some { IfSome result (λ k. HasLate k (length story.now) members.now) }
-    ensures first { IfSome result (λ k. All (λ m. m.number < k → length m.seen ≤ length story.now) members.now) }
+    ensures none { IfNone result (All (HasSeenBeginning K.parts (calls_of floor.now)) members.now) }
+    ensures some { IfSome result (λ k. HasLate k (length floor.now) members.now) }
+    ensures first { IfSome result (λ k. All (λ m. m.number < k → length m.seen ≤ length floor.now) members.now) }
 {
     let mut least = n;
     for i in 0..members.len() {
         let member = &members[i];
         let number = member.number();
-        if !member.follows(story) && number < least {
+        if !member.follows(floor) && number < least {
             least = number;
         }
     }
     if least < n { Some(least) } else { None }
+}
+
+// As many counts, with nothing counted.
+fn cleared(counts: Vec<u32>) -> Vec<u32>
+    ensures { result.items ≡ replicate (length counts.items) 0 }
+{
+    let mut counts = counts;
+    counts.fill(0);
+    counts
 }
 
 // What the members brought: each number's count, the joined shares, and the member that is kept back, with its share.
@@ -149,22 +159,22 @@ where
     if !are_complete(n, &members) {
         return Err(CloseFault::MissingMember { board, members });
     }
-    let Board { floor, counts, .. } = board;
-    let Floor {
-        history,
-        front,
-        mut book,
-        joined,
-        copies,
-        ..
-    } = floor.into_inner();
-    copies.end(rt);
-    let late = first_late(n, &front, &members);
+    let Board { floor, members: _ } = board;
+    let floor = floor.into_inner();
+    let late = first_late(n, &floor, &members);
+    let (Closing { history, calls }, mut book, joined) = floor.end(rt);
     let Gathering {
         counts: calls,
         mut joined,
         kept,
-    } = gather(counts, joined, &mut book, members, late, history.len());
+    } = gather(
+        cleared(calls),
+        joined,
+        &mut book,
+        members,
+        late,
+        history.len(),
+    );
     let closing = Closing { history, calls };
     match kept {
         None => {

@@ -6,8 +6,7 @@
 //!
 //! - `fresh`: opening a board, and beginning its day with one member for each number.
 //! - `member`: a member's calls and looks.
-//! - `floor`: what the lock keeps, and the one event of the day, `Floor::record`.
-//! - `story`: the list of all calls so far as evidence, which members and copies hold beginnings of.
+//! - `floor`: what is under the lock, and the one event of the day, `Floor::record`.
 //! - `versions`: the two copies of what the board shows, which looks read.
 //! - `board`: the board and its lock.
 //! - `closing`: the end of the day.
@@ -19,7 +18,6 @@ mod floor;
 mod fresh;
 mod identity;
 mod member;
-mod story;
 mod versions;
 
 pub use board::Board;

@@ -1,70 +1,58 @@
 //! Members: their calls and their looks.
-ghost use Rattle.std.specs.Prelude.{◌≡◌, ◌+◌, ◌<◌, ◌≤◌, ◌⊎◌, ◌≢◌, [], ℕ, List, length, IfOk, IfErr, Err, MatchBool};
+ghost use Rattle.std.specs.Prelude.{◌≡◌, ◌+◌, ◌<◌, ◌≤◌, ◌⊎◌, ◌≢◌, ℕ, List, length, IfOk, IfErr, Err, MatchBool};
 ghost use Rattle.auction_terms.specs.declared.Entry.{Entry};
-ghost use Rattle.auction_terms.specs.declared.limits.TheConstants.{MAX_CALLS};
 ghost use Rattle.auction_terms.specs.Day.{calls_of};
-ghost use Rattle.board_terms.specs.MemberView.{MemberView, placed_calls, newcomer, after_call};
+ghost use Rattle.board_terms.specs.BoardViews.{opened_board};
 ghost use Rattle.board_terms.specs.CallsAndLooks.{CallsOnce, EndsWithCall, SeesFullHistory, IsLook};
 
 use crate::board::Board;
+use crate::floor::Floor;
 use crate::identity::BoardIdentity;
-use crate::story::Front;
-use crate::versions::{Snapshot, Update, Version, Viewer};
+use crate::versions::{Update, Version, Viewer};
 use auction_terms::Command;
-use board_terms::{CallFault, Receipt, Shown};
+use board_terms::{Account, CallFault, Receipt, Shown};
 use left_right::Absorb;
 use std::marker::Model;
 use std::sync::Wait;
 use std::sync::ledger::{Book, Share};
 
-/// A member of one board, which can't be copied. It has one part of the board's ledger, whose amount is its count of
-/// recorded calls, what it looks with, and what it was shown last. Contracts see it as a `MemberView`: its number, its
-/// count, what it has seen, and its own calls by their places in the history.
+/// A member of one board, which can't be copied. It has what it knows, one part of the board's ledger, whose amount is
+/// its count of recorded calls, and what it looks with. Contracts see it as a `MemberView`: its number, its count, what
+/// it has seen, and its own calls by their places in the history.
 #[derive(Drop)]
 pub struct Member<K: BoardIdentity> {
-    number: u8,
-    calls: u32,
-    share: Share<K>,
+    pub(crate) account: Account,
+    pub(crate) share: Share<K>,
     viewer: Viewer<K>,
-    seen: Snapshot<K>,
-    /// The place of its last recorded call, or 0.
-    last: u32,
 }
 
 impl<K: BoardIdentity> Model for Member<K> {
-    ghost use Rattle.board_terms.specs.MemberInvariant.{MemberInvariant};
-    ghost use Rattle.auction_terms.specs.declared.limits.TheConstants.{MAX_CALLS};
-    ghost use Rattle.board_terms.specs.MemberView.{MemberView, member_view};
+    ghost use Rattle.std.specs.Prelude.{◌≡◌};
+    ghost use Rattle.board_terms.specs.BoardViews.{opened_board};
+    ghost use Rattle.board_terms.specs.MemberView.{MemberView};
 
     ghost Value = { MemberView };
 
-    ghost view = { λ m. member_view m.number m.calls m.last m.seen };
+    ghost view = { λ m. m.account.view };
 
-    ghost invariant = { λ m. MemberInvariant K.parts m.number m.calls m.last m.seen m.share.parts m.share.amount };
+    ghost invariant = { λ m.
+        (m.account.board ≡ opened_board 0 K.config K.parts K.story)
+        × (m.share.parts ≡ 1) × (m.share.amount ≡ m.account.view.calls) };
 }
 
 impl<K: BoardIdentity> Member<K> {
     ghost use Rattle.board_terms.specs.Closings.{HasSeenBeginning};
 
-    // A member with this number, which has made no call and was shown none.
-    pub(crate) fn new(
-        number: u8,
-        share: Share<K>,
-        viewer: Viewer<K>,
-        seen: Snapshot<K>,
-    ) -> Member<K>
-        requires number { number < K.parts }
-        requires share { (share.parts ≡ 1) × (share.amount ≡ 0) }
-        requires seen { seen ≡ [] }
-        ensures { result ≡ newcomer number }
+    // A member of the board that K names, which has made no call and was shown none.
+    pub(crate) fn new(account: Account, share: Share<K>, viewer: Viewer<K>) -> Member<K>
+        requires board { account.board ≡ opened_board 0 K.config K.parts K.story }
+        requires share { (share.parts ≡ 1) × (share.amount ≡ account.view.calls) }
+        ensures { result ≡ account.view }
     {
         Member {
-            number,
-            calls: 0,
+            account,
             share,
             viewer,
-            seen,
-            last: 0,
         }
     }
 
@@ -73,14 +61,14 @@ impl<K: BoardIdentity> Member<K> {
         ensures number { result ≡ self.now.number }
         ensures one_of { result < K.parts }
     {
-        self.number
+        self.account.number()
     }
 
     /// How many of its calls were recorded.
     pub fn calls(&self) -> u32
         ensures { result ≡ self.now.calls }
     {
-        self.calls
+        self.account.calls()
     }
 
     /// Calls a command on the board. It waits for the lock, and for readers of the copy that is next.
@@ -127,57 +115,26 @@ impl<K: BoardIdentity> Member<K> {
     pub fn look(&mut self) -> Shown
         ensures { IsLook K.config self.old self.new result }
     {
-        match self.viewer.find_after(self.seen.calls()) {
-            Some(view) => self.catch_up(view),
-            None => self.again(),
+        match self.viewer.find_after(self.account.seen_len()) {
+            Some(view) => self.account.catch_up(view.into_snapshot()),
+            None => self.account.again(),
         }
     }
 
     pub(crate) fn seen_len(&self) -> u32
         ensures { result ≡ length self.now.seen }
     {
-        self.seen.calls()
+        self.account.seen_len()
     }
 
-    // Whether it has seen no more than this story, which it then follows.
-    pub(crate) fn follows(&self, story: &Front<K>) -> bool
-        ensures { MatchBool result (HasSeenBeginning K.parts story.now self.now)
-            (length story.now < length self.now.seen) }
+    // Whether it has seen no more than the history, which it then follows.
+    pub(crate) fn follows(&self, floor: &Floor<K>) -> bool
+    where
+        Version<K>: Absorb<Update<K>, State = ()>,
+        ensures { MatchBool result (HasSeenBeginning K.parts (calls_of floor.now) self.now)
+            (length floor.now < length self.now.seen) }
     {
-        self.seen.front().begins(story)
-    }
-
-    // What it was shown last.
-    fn again(&self) -> Shown
-        ensures { IsLook K.config self.now self.now result }
-    {
-        self.seen.shown()
-    }
-
-    // Takes in what is shown, where that is no less than it has seen.
-    pub(crate) fn catch_up(&mut self, view: Snapshot<K>) -> Shown
-        ensures look { IsLook K.config self.old self.new result }
-        ensures at_least { length view ≤ length self.new.seen }
-    {
-        if self.seen.front().begins(view.front()) {
-            self.seen = view;
-        }
-        self.seen.shown()
-    }
-
-    // Takes in its own call, which was recorded as the last of those that are shown, and counts it once.
-    pub(crate) fn count_call(&mut self, book: &mut Book<K>, view: Snapshot<K>)
-        requires small { book.old.total < MAX_CALLS }
-        requires placed_calls { length (placed_calls view self.old.number) ≡ self.old.calls + 1 }
-        ensures most { self.new.calls ≤ book.new.total }
-        ensures member { self.new ≡ after_call self.old view }
-        ensures book { book.new.total ≡ book.old.total + 1 }
-    {
-        book.audit(&mut self.share);
-        book.add(&mut self.share, 1);
-        self.calls += 1;
-        self.last = view.calls();
-        self.seen = view;
+        floor.core.is_followed_by(&self.account)
     }
 
     // Its count is no more than the total.
@@ -204,6 +161,6 @@ impl<K: BoardIdentity> Member<K> {
         book.audit(&mut others);
         self.share.merge(others);
         book.audit(&mut self.share);
-        self.share = self.share.split_off(1, u64::from(self.calls));
+        self.share = self.share.split_off(1, u64::from(self.account.calls()));
     }
 }

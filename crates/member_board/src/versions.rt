@@ -1,12 +1,10 @@
 //! The two copies of what the board shows, which looks read, kept by `left_right`: readers take one with no lock while
-//! the floor changes the other, and then the two are swapped. Each copy is a beginning of the story with what is shown
-//! after it.
-ghost use Rattle.std.specs.Prelude.{◌≡◌, ◌^◌, ◌<◌, false, length, IfOk, IsTrue};
-ghost use Rattle.board_terms.specs.CallsAndLooks.{ShowsAfter};
+//! the floor changes the other, and then the two are swapped. Each copy is a snapshot of the board.
+ghost use Rattle.std.specs.Prelude.{◌≡◌, ◌^◌, ◌<◌, false, IfOk, IsTrue};
+ghost use Rattle.board_terms.specs.BoardViews.{IsSnapshotOf, opened_board};
 
 use crate::identity::BoardIdentity;
-use crate::story::Front;
-use board_terms::Shown;
+use board_terms::Snapshot;
 use core::mem::replace_with;
 use crossbeam_utils::rule::Unruled;
 use left_right::Absorb;
@@ -19,62 +17,48 @@ use std::sync::atomic::Ordering::SeqCst;
 use std::sync::atomic::{AtomicBool, AtomicU32};
 use std::sync::{Arc, Wait};
 
-/// What the board shows: a beginning of the story, and what is shown after it. Contracts see the calls of that
-/// beginning.
+/// What the board that K names shows. Contracts see the calls that it is shown after.
 #[derive(Drop)]
-pub(crate) struct Snapshot<K: BoardIdentity> {
-    front: Front<K>,
-    shown: Shown,
+pub(crate) struct BoardView<K: BoardIdentity> {
+    snapshot: Snapshot,
+    of: PhantomData<K>,
 }
 
-impl<K: BoardIdentity> Model for Snapshot<K> {
+impl<K: BoardIdentity> Model for BoardView<K> {
     ghost use Rattle.std.specs.Prelude.{List};
     ghost use Rattle.auction_terms.specs.declared.Call.{Call};
-    ghost use Rattle.board_terms.specs.CallsAndLooks.{ShowsAfter};
+    ghost use Rattle.board_terms.specs.BoardViews.{IsSnapshotOf, opened_board};
 
     ghost Value = { List Call };
 
-    ghost view = { λ v. v.front };
+    ghost view = { λ v. v.snapshot.front.log };
 
-    ghost invariant = { λ v. ShowsAfter K.config v.front v.shown };
+    ghost invariant = { λ v.
+        IsSnapshotOf (opened_board 0 K.config K.parts K.story) v.snapshot.front v.snapshot.shown };
 }
 
-impl<K: BoardIdentity> Snapshot<K> {
-    // What is shown after a beginning of the story.
-    pub(crate) fn of(front: Front<K>, shown: Shown) -> Snapshot<K>
-        requires { ShowsAfter K.config front shown }
-        ensures { result ≡ front }
+impl<K: BoardIdentity> BoardView<K> {
+    pub(crate) fn of(snapshot: Snapshot) -> BoardView<K>
+        requires { IsSnapshotOf (opened_board 0 K.config K.parts K.story) snapshot.front snapshot.shown }
+        ensures { result ≡ snapshot.front.log }
     {
-        Snapshot { front, shown }
-    }
-
-    // A copy.
-    pub(crate) fn again(&self) -> Snapshot<K>
-        ensures { result ≡ self.now }
-    {
-        Snapshot {
-            front: self.front.again(),
-            shown: self.shown,
+        BoardView {
+            snapshot,
+            of: PhantomData,
         }
     }
 
-    // How many calls it is shown after.
-    pub(crate) fn calls(&self) -> u32
-        ensures { result ≡ length self.now }
+    // A copy.
+    fn again(&self) -> BoardView<K>
+        ensures { result ≡ self.now }
     {
-        self.shown.calls
+        BoardView::of(self.snapshot.again())
     }
 
-    pub(crate) fn shown(&self) -> Shown
-        ensures { ShowsAfter K.config self.now result }
+    pub(crate) fn into_snapshot(self) -> Snapshot
+        ensures { IsSnapshotOf (opened_board 0 K.config K.parts K.story) result.front result.shown }
     {
-        self.shown
-    }
-
-    pub(crate) fn front(&self) -> &Front<K>
-        ensures { result.now ≡ self.now }
-    {
-        &self.front
+        self.snapshot
     }
 }
 
@@ -138,12 +122,12 @@ impl Watch {
 #[repr(C)]
 pub struct Version<K: BoardIdentity> {
     before: [u64; 8],
-    view: Snapshot<K>,
+    view: BoardView<K>,
     after: [u64; 8],
 }
 
 impl<K: BoardIdentity> Version<K> {
-    fn of(view: Snapshot<K>) -> Version<K>
+    fn of(view: BoardView<K>) -> Version<K>
         ensures { result.view ≡ view }
     {
         Version {
@@ -183,7 +167,7 @@ type CopyReader<K> = Reader<Version<K>, (), Unruled>;
 fn read<K: BoardIdentity>(
     reader: CopyReader<K>,
     _nothing: (),
-) -> (CopyReader<K>, Option<Snapshot<K>>) {
+) -> (CopyReader<K>, Option<BoardView<K>>) {
     match reader.enter_as::<Unruled>() {
         Ok(reading) => {
             let view = reading.get().view.again();
@@ -202,7 +186,7 @@ pub(crate) struct Viewer<K: BoardIdentity> {
 
 impl<K: BoardIdentity> Viewer<K> {
     // What a copy shows, where there is one and it may have more than `calls` calls. It takes no lock and no memory.
-    pub(crate) fn find_after(&mut self, calls: u32) -> Option<Snapshot<K>> {
+    pub(crate) fn find_after(&mut self, calls: u32) -> Option<BoardView<K>> {
         if self.watch.may_find_more(calls) {
             replace_with(&mut self.reader, (), read::<K>)
         } else {
@@ -255,7 +239,7 @@ where
     // Two copies of what is shown at first, and room for `readers` readers.
     pub(crate) fn open(
         alloc: Global,
-        opening: &Snapshot<K>,
+        opening: &BoardView<K>,
         readers: usize,
     ) -> Result<Copies<K>, AllocError>
         requires { (0 < readers) × (readers < 2 ^ 32) }
@@ -290,10 +274,10 @@ where
     }
 
     // Shows readers this. It waits for those that still read the copy that is next, and takes no memory.
-    pub(crate) fn publish<R: Wait>(&mut self, rt: &R, view: Snapshot<K>)
+    pub(crate) fn publish<R: Wait>(&mut self, rt: &R, view: BoardView<K>)
         ensures { self.new ≡ view }
     {
-        let calls = view.calls();
+        let calls = view.snapshot.shown.calls;
         replace_with(&mut self.writer.desk, (rt, view), |desk, (rt, view)| {
             let (open, mut spare) = desk.open(rt);
             spare.view = view;

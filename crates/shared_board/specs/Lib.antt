@@ -1,1 +1,1 @@
-pub mod BoardViews
+pub mod Reserves

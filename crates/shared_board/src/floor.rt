@@ -1,219 +1,106 @@
-//! What the board's lock keeps, and the one event of the day.
-ghost use Rattle.std.specs.Prelude.{◌≡◌, ◌≢◌, ◌+◌, ◌<◌, ◌≤◌, ◌⊎◌, ◌↔◌, ◌++◌, ◌∷◌, [], ℕ, length};
-ghost use Rattle.std.specs.Prelude.{IfOk, IfErr, IfNone, IfSome, OnOk, OnErr, Err, Some};
-ghost use Rattle.board_terms.specs.declared.calls.Shown.{Shown};
+//! What goes through the lock and the copies.
+ghost use Rattle.std.specs.Prelude.{◌≡◌, length};
+ghost use Rattle.auction_terms.specs.Auxiliary.RunningAuction.{auction_after};
 ghost use Rattle.auction_terms.specs.Day.{IsLegal, calls_of};
-ghost use Rattle.board_terms.specs.Closings.{HasSeenBeginning};
-ghost use Rattle.auction.specs.AuctionState.{call_by};
-ghost use Rattle.board_terms.specs.MemberView.{placed_calls};
-ghost use Rattle.board_terms.specs.CallsAndLooks.{behind_fault, entry, CallsOnce, EndsWithCall, IsBehind, IsLook};
-ghost use Rattle.board_terms.specs.CallsAndLooks.{SeesFullHistory};
-ghost use Rattle.shared_board.specs.BoardViews.{IsBehindHistory, IsSnapshotOf};
+ghost use Rattle.board_terms.specs.BoardViews.{IsClosingOf, ladder_after, tape_after};
 
-use crate::day::Day;
-use crate::member::Account;
-use crate::story::{Front, Head};
-use crate::view::Snapshot;
 use auction::Auction;
-use auction_terms::{Call, Command, Entry};
-use board_terms::{CallFault, Receipt, Shown};
+use auction_terms::{Entry, Trade};
+use board_terms::{BoardCore, Closing, Day, Snapshot};
 use counted_slot::Fits;
 use std::marker::Model;
+use tick_ladder::Ladder;
 
-/// What the lock keeps. Contracts see the opening and the history.
+/// The floor of a board, taken out of its lock. Contracts see the opening and the history.
 #[derive(Drop)]
-pub(crate) struct SharedFloor {
-    pub(crate) auction: Auction,
-    pub(crate) history: Vec<Entry>,
-    pub(crate) front: Front,
-    pub(crate) head: Head,
-    /// How many entries each number has.
-    pub(crate) counted: Vec<u32>,
-    pub(crate) identity: u64,
-    pub(crate) members: u8,
+pub struct TakenFloor {
+    pub(crate) core: Box<BoardCore>,
 }
 
-impl Model for SharedFloor {
-    ghost use Rattle.std.specs.Prelude.{◌≡◌, length, vec_capacity};
-    ghost use Rattle.board_terms.specs.FloorInvariant.{FloorInvariant};
-    ghost use Rattle.shared_board.specs.BoardViews.{FloorView, floor_view, opened_board};
+impl Model for TakenFloor {
+    ghost use Rattle.board_terms.specs.BoardViews.{FloorView};
 
     ghost Value = { FloorView };
 
-    ghost view = { λ f.
-        floor_view (opened_board f.identity f.auction.config f.members f.front.book) f.history.items };
-
-    ghost invariant = { λ f.
-        FloorInvariant f.auction.config f.members f.auction f.history.items f.front.log f.front.log f.counted.items
-        (length f.history.items) (vec_capacity f.history)
-        × (f.head.word.book ≡ f.front.book) };
+    ghost view = { λ f. f.core.value };
 }
 
-/// The floor on the heap, as it is passed through the lock.
-#[derive(Drop)]
-pub(crate) struct BoxedFloor {
-    pub(crate) floor: Box<SharedFloor>,
-}
-
-impl Fits for BoxedFloor {
+impl Fits for TakenFloor {
     ghost use Rattle.std.specs.Prelude.{◌≡◌};
 
     type Tag = Day;
 
-    ghost fits = { λ day room. room.floor.value.board ≡ day };
+    ghost fits = { λ day floor. floor.board ≡ day };
 }
 
-impl SharedFloor {
-    /// A member's call, which is recorded; a member that finds the history full is shown all of it.
-    pub(crate) fn call(&mut self, by: &mut Account, command: Command) -> Result<Receipt, CallFault>
-        requires board { by.old.board ≡ self.old.board }
-        ensures board { (self.new.board ≡ self.old.board) × (by.new.board ≡ by.old.board) }
-        ensures history { IfOk result (λ r.
-            self.new.history ≡ self.old.history ++ entry by.old.view.number command r.reply ∷ []) }
-        ensures call { IfOk result (λ r. CallsOnce self.old.board.config by.old.view by.new.view command r) }
-        ensures by_history { IfOk result (λ r.
-            EndsWithCall self.old.board.config self.new.history by.old.view.number command r) }
-        ensures full { result ≡ Err CallFault.HistoryFull →
-            SeesFullHistory self.old.board.config by.old.view by.new.view }
-        ensures fault { IfErr result (λ e. e ≢ CallFault.HistoryFull → by.new ≡ by.old) }
-        ensures same { IfErr result (λ e. self.new ≡ self.old) }
-        ensures behind { (h k : ℕ) → result ≡ Err (CallFault.Behind h k) →
-            IsBehindHistory self.old.board.config by.old.view (CallFault.Behind h k) }
+impl TakenFloor {
+    /// The identity that its board was given.
+    pub fn identity(&self) -> u64
+        ensures { result ≡ self.now.board.identity }
     {
-        let result = self.record(by, command);
-        if result == Err(CallFault::HistoryFull) {
-            self.show_history(by);
-        }
-        result
+        self.core.identity
     }
 
-    /// Applies a member's command to the auction, writes it with its reply at the end of the history, and counts it.
-    pub(crate) fn record(
-        &mut self,
-        by: &mut Account,
-        command: Command,
-    ) -> Result<Receipt, CallFault>
-        requires board { by.old.board ≡ self.old.board }
-        ensures board { (self.new.board ≡ self.old.board) × (by.new.board ≡ by.old.board) }
-        ensures history { IfOk result (λ r.
-            self.new.history ≡ self.old.history ++ entry by.old.view.number command r.reply ∷ []) }
-        ensures call { IfOk result (λ r. CallsOnce self.old.board.config by.old.view by.new.view command r) }
-        ensures by_history { IfOk result (λ r.
-            EndsWithCall self.old.board.config self.new.history by.old.view.number command r) }
-        ensures full { (result ≡ Err CallFault.HistoryFull)
-            ↔ (length self.old.history ≡ self.old.board.config.max_calls) }
-        ensures behind { IsBehind self.old.history by.old.view →
-            length self.old.history ≢ self.old.board.config.max_calls →
-            result ≡ Err (behind_fault self.old.history by.old.view.number) }
-        ensures behind_only { (h k : ℕ) → result ≡ Err (CallFault.Behind h k) →
-            IsBehind self.old.history by.old.view
-            × (CallFault.Behind h k ≡ behind_fault self.old.history by.old.view.number) }
-        ensures fault { OnErr result ((self.new ≡ self.old) × (by.new ≡ by.old)) }
-        ensures legal { IsLegal self.new.board.config self.new.history }
-    {
-        if let Some(fault) = self.refusal(by) {
-            return Err(fault);
-        }
-        let mut front = self.front.again();
-        // The floor alone adds to the story, under its lock, so this adds always.
-        if !front.add(
-            &self.head,
-            Call {
-                member: by.number(),
-                command,
-            },
-        ) {
-            return Err(CallFault::Overtaken);
-        }
-        Ok(self.write_down(by, command, front))
-    }
-
-    // Why a member's call can't be recorded, if it can't.
-    fn refusal(&self, by: &Account) -> Option<CallFault>
-        requires board { by.now.board ≡ self.now.board }
-        ensures full { (result ≡ Some CallFault.HistoryFull)
-            ↔ (length self.now.history ≡ self.now.board.config.max_calls) }
-        ensures room { IfNone result (length self.now.history < self.now.board.config.max_calls) }
-        ensures behind { IsBehind self.now.history by.now.view →
-            length self.now.history ≢ self.now.board.config.max_calls →
-            result ≡ Some (behind_fault self.now.history by.now.view.number) }
-        ensures only { IfSome result (λ fault. (fault ≡ CallFault.HistoryFull)
-            ⊎ (IsBehind self.now.history by.now.view
-            × (fault ≡ behind_fault self.now.history by.now.view.number))) }
-        ensures follows { IfNone result
-            (HasSeenBeginning self.now.board.members (calls_of self.now.history) by.now.view) }
-        ensures counted { IfNone result
-            (by.now.view.calls ≡ length (placed_calls (calls_of self.now.history) by.now.view.number)) }
-    {
-        if self.auction.is_full() {
-            return Some(CallFault::HistoryFull);
-        }
-        let history = self.auction.calls();
-        let counted = self.counted[usize::from(by.number())];
-        if !by.follows(&self.front) || by.calls() != counted {
-            return Some(CallFault::Behind { history, counted });
-        }
-        None
-    }
-
-    /// How many calls were recorded, and the display of the book after them.
-    pub(crate) fn shown(&self) -> Snapshot
-        ensures view { IsSnapshotOf self.now.board result.front result.shown }
-        ensures all { result.front.log ≡ calls_of self.now.history }
+    /// How many calls were recorded.
+    pub fn calls(&self) -> u32
+        ensures value { result ≡ length self.now.history }
         ensures legal { IsLegal self.now.board.config self.now.history }
     {
-        let calls = self.auction.calls();
-        Snapshot {
-            front: self.front.again(),
-            shown: Shown {
-                calls,
-                display: self.auction.display(),
-            },
-        }
+        self.core.auction.calls()
     }
 
-    // A member that finds the history full is shown all of it.
-    fn show_history(&self, by: &mut Account)
-        requires board { by.old.board ≡ self.now.board }
-        ensures board { by.new.board ≡ by.old.board }
-        ensures look { (s : Shown) × IsLook self.now.board.config by.old.view by.new.view s }
-        ensures all_calls { length self.now.history ≤ length by.new.view.seen }
+    /// The auction to which the history's calls were applied.
+    pub fn auction(&self) -> &Auction
+        ensures { result.now ≡ auction_after self.now.board.config (calls_of self.now.history) }
     {
-        by.catch_up(self.shown());
+        &self.core.auction
     }
 
-    // The part of a recorded call that can't fail: the story with it is there.
-    fn write_down(&mut self, by: &mut Account, command: Command, front: Front) -> Receipt
-        requires board { by.old.board ≡ self.old.board }
-        requires room { length self.old.history < self.old.board.config.max_calls }
-        requires book { front.book ≡ self.old.board.book }
-        requires front { front.log ≡ calls_of self.old.history ++ call_by by.old.view.number command ∷ [] }
-        requires follows { HasSeenBeginning self.old.board.members (calls_of self.old.history) by.old.view }
-        requires counted { by.old.view.calls ≡ length (placed_calls (calls_of self.old.history) by.old.view.number) }
-        ensures board { (self.new.board ≡ self.old.board) × (by.new.board ≡ by.old.board) }
-        ensures history { self.new.history ≡ self.old.history ++ entry by.old.view.number command result.reply ∷ [] }
-        ensures call { CallsOnce self.old.board.config by.old.view by.new.view command result }
-        ensures number { result.number ≡ length self.new.history }
-        ensures legal { IsLegal self.new.board.config self.new.history }
+    /// The calls that were recorded, with their replies. They are a legal history.
+    pub fn history(&self) -> &[Entry]
+        ensures value { result.now ≡ self.now.history }
+        ensures legal { IsLegal self.now.board.config self.now.history }
     {
-        let member = by.number();
-        let reply = self.auction.apply(member, command);
-        let display = self.auction.show();
-        let number = self.auction.calls();
-        by.count_call(
-            front.again(),
-            Shown {
-                calls: number,
-                display,
-            },
-        );
-        self.counted[usize::from(member)] += 1;
-        self.history.push_reserved(Entry {
-            member,
-            command,
-            reply,
-        });
-        self.front = front;
-        Receipt { number, reply }
+        self.core.history.as_slice()
     }
+
+    /// The quantities of the orders that count, tick by tick.
+    pub fn ladder(&self) -> &Ladder
+        ensures { result.now ≡ ladder_after self.now.board.config (calls_of self.now.history) }
+    {
+        self.core.auction.ladder()
+    }
+
+    /// The trades of the day so far.
+    pub fn tape(&self) -> &[Trade]
+        ensures { result.now ≡ tape_after self.now.board.config (calls_of self.now.history) }
+    {
+        self.core.auction.tape()
+    }
+
+    /// The history with the counts of the members.
+    ///
+    /// The history is one of the plain auction of one thread; it has exactly as many entries as the counts add up to,
+    /// and each count is that of the entries with its number.
+    pub fn into_closing(self) -> Closing
+        ensures closed { IsClosingOf self.board result }
+        ensures history { result.history.items ≡ self.history }
+    {
+        let TakenFloor { core } = self;
+        Box::into_inner(core).into_closing()
+    }
+}
+
+/// What a copy shows.
+#[derive(Drop)]
+pub(crate) struct ShownCopy {
+    pub(crate) view: Snapshot,
+}
+
+impl Fits for ShownCopy {
+    ghost use Rattle.board_terms.specs.BoardViews.{IsSnapshotOf};
+
+    type Tag = Day;
+
+    ghost fits = { λ day copy. IsSnapshotOf day copy.view.front copy.view.shown };
 }

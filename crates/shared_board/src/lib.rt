@@ -1,29 +1,28 @@
 //! A call auction board for callers that may not wait: members call commands on it at once, one lock that is only ever
-//! tried orders them, and looks take no lock.
+//! tried orders them, and looks take no lock. It has no type parameter and no handle of the runtime, so C can hold its
+//! members by handles. The day is a ghost value, the tag of the lock, and the same tag is known of each member.
 //!
-//! It promises what `member_board` does, without a type parameter for the day and without a handle of the runtime: so C
-//! can hold its members by handles. The day is a ghost value, the tag of the lock, and the same tag is known of each
-//! member.
+//! A recorded call and a look are as `member_board` promises them, and a `Behind` tells numbers that its member is
+//! behind, as there. A full history too, but that the last calls of the day may be kept for the operator
+//! (`specs/Reserves.antt`). No ledger adds up the members' counts: each account is compared with the history in
+//! its turn (`is_settled`). Nothing says when a call is `Busy` or `Closed`, nor that the history under the lock is the
+//! one that earlier calls left.
 //!
 //! - `opening`: opening a board, with one member for each number.
 //! - `member`: a member's calls and looks.
-//! - `floor`: what the lock keeps, and the one event of the day, `SharedFloor::record`.
+//! - `reserves`: the last calls of the day, which are the operator's.
+//! - `floor`: what goes through the lock and the copies.
 //! - `shared`: the lock, and the copies that looks read.
-//! - `story`: the list of all calls so far as evidence, which members and copies hold beginnings of.
-//! - `view`: what a copy shows.
-//! - `day`: one opening, as the tag of the lock and the copies.
-//! - `closing`: the floor taken out of its lock, and the end of the day.
+//! - `closing`: a member at the floor taken out of its lock, and the end of the day.
 #![tactic(auto)]
 
 mod closing;
-mod day;
 mod floor;
 mod member;
 mod opening;
+mod reserves;
 mod shared;
-mod story;
-mod view;
 
-pub use closing::TakenFloor;
+pub use floor::TakenFloor;
 pub use member::{BoardFault, SharedMember};
 pub use opening::open;

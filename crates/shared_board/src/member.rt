@@ -1,17 +1,14 @@
 //! Members: their calls and their looks.
-ghost use Rattle.std.specs.Prelude.{◌≡◌, ◌≢◌, ◌+◌, ◌<◌, ◌≤◌, ◌⊎◌, ℕ, List, length, Err, IfOk, IfErr, MatchBool};
+ghost use Rattle.std.specs.Prelude.{◌≡◌, ◌≢◌, ℕ, List, Err, IfOk, IfErr};
 ghost use Rattle.auction_terms.specs.declared.Entry.{Entry};
-ghost use Rattle.auction_terms.specs.declared.limits.TheConstants.{MAX_CALLS};
-ghost use Rattle.board_terms.specs.Closings.{HasSeenBeginning};
-ghost use Rattle.board_terms.specs.MemberView.{placed_calls, after_call};
-ghost use Rattle.board_terms.specs.CallsAndLooks.{CallsOnce, EndsWithCall, IsLook, SeesFullHistory, ShowsAfter};
-ghost use Rattle.shared_board.specs.BoardViews.{IsBehindHistory, IsSnapshotOf, SeesStory, board_member};
+ghost use Rattle.board_terms.specs.BoardViews.{IsBehindHistory};
+ghost use Rattle.board_terms.specs.CallsAndLooks.{CallsOnce, EndsWithCall, IsLook};
+ghost use Rattle.shared_board.specs.Reserves.{LeavesReserve, SeesNoneLeft};
 
+use crate::reserves::call_unreserved;
 use crate::shared::{Shared, Unwatched};
-use crate::story::Front;
-use crate::view::Snapshot;
 use auction_terms::{Command, Config};
-use board_terms::{CallFault, Receipt, Shown};
+use board_terms::{Account, CallFault, Receipt, Shown};
 use std::alloc::Global;
 use std::marker::Model;
 use std::sync::Arc;
@@ -27,115 +24,6 @@ pub enum BoardFault {
     Call(CallFault),
 }
 
-/// What a member knows. Contracts see its board and what it knows.
-#[derive(Drop)]
-pub(crate) struct Account {
-    pub(crate) identity: u64,
-    pub(crate) config: Config,
-    pub(crate) members: u8,
-    pub(crate) number: u8,
-    pub(crate) calls: u32,
-    /// The place of its last recorded call, or 0.
-    pub(crate) last: u32,
-    pub(crate) seen: Snapshot,
-}
-
-impl Model for Account {
-    ghost use Rattle.board_terms.specs.MemberInvariant.{MemberInvariant};
-    ghost use Rattle.board_terms.specs.MemberView.{member_view};
-    ghost use Rattle.board_terms.specs.CallsAndLooks.{ShowsAfter};
-    ghost use Rattle.shared_board.specs.BoardViews.{BoardMember, board_member, opened_board};
-
-    ghost Value = { BoardMember };
-
-    ghost view = { λ m.
-        board_member (opened_board m.identity m.config m.members m.seen.front.book)
-        (member_view m.number m.calls m.last m.seen.front.log) };
-
-    ghost invariant = { λ m.
-        MemberInvariant m.members m.number m.calls m.last m.seen.front.log 1 m.calls
-        × ShowsAfter m.config m.seen.front.log m.seen.shown };
-}
-
-impl Account {
-    pub(crate) fn number(&self) -> u8
-        ensures number { result ≡ self.now.view.number }
-        ensures one_of { result < self.now.board.members }
-    {
-        self.number
-    }
-
-    pub(crate) fn calls(&self) -> u32
-        ensures { result ≡ self.now.view.calls }
-    {
-        self.calls
-    }
-
-    // Whether it has seen no more than this story, which it then follows.
-    pub(crate) fn follows(&self, story: &Front) -> bool
-        requires { story.now.book ≡ self.now.board.book }
-        ensures { MatchBool result (HasSeenBeginning self.now.board.members story.now.log self.now.view)
-            (length story.now.log < length self.now.view.seen) }
-    {
-        self.seen.front.begins(story)
-    }
-
-    // Takes in its own call, which was recorded as the last of those that are shown, and counts it once.
-    pub(crate) fn count_call(&mut self, front: Front, shown: Shown)
-        requires small { self.old.view.calls < MAX_CALLS }
-        requires book { front.book ≡ self.old.board.book }
-        requires shows { ShowsAfter self.old.board.config front.log shown }
-        requires placed_calls { length (placed_calls front.log self.old.view.number) ≡ self.old.view.calls + 1 }
-        ensures { self.new ≡ board_member self.old.board (after_call self.old.view front.log) }
-    {
-        self.calls += 1;
-        self.last = shown.calls;
-        self.seen = Snapshot { front, shown };
-    }
-
-    // Takes in what is shown, where that is no less than it has seen.
-    pub(crate) fn catch_up(&mut self, view: Snapshot) -> Shown
-        requires { IsSnapshotOf self.old.board view.front view.shown }
-        ensures board { self.new.board ≡ self.old.board }
-        ensures look { IsLook self.old.board.config self.old.view self.new.view result }
-        ensures at_least { length view.front.log ≤ length self.new.view.seen }
-    {
-        if self.seen.front.begins(&view.front) {
-            self.seen = view;
-        }
-        self.seen.shown
-    }
-
-    // Takes in a beginning of the story with what is shown after it, where that is no less than it has seen, and says
-    // whether it is.
-    pub(crate) fn see(&mut self, view: Snapshot) -> bool
-        requires { IsSnapshotOf self.old.board view.front view.shown }
-        ensures board { self.new.board ≡ self.old.board }
-        ensures seen { MatchBool result (SeesStory view.front.log self.old.view self.new.view)
-            ((self.new ≡ self.old) × (length view.front.log < length self.old.view.seen)) }
-    {
-        let begins = self.seen.front.begins(&view.front);
-        if begins {
-            self.seen = view;
-        }
-        begins
-    }
-
-    // A copy of what it was shown last.
-    fn shown(&self) -> Snapshot
-        ensures { IsSnapshotOf self.now.board result.front result.shown }
-    {
-        self.seen.again()
-    }
-
-    // What it was shown last.
-    pub(crate) fn again(&self) -> Shown
-        ensures { IsLook self.now.board.config self.now.view self.now.view result }
-    {
-        self.seen.shown
-    }
-}
-
 /// A member of one board, which can't be copied. Contracts see its board and what it knows.
 #[derive(Drop)]
 pub struct SharedMember {
@@ -146,7 +34,7 @@ pub struct SharedMember {
 impl Model for SharedMember {
     ghost use Rattle.std.specs.Prelude.{◌≡◌};
     ghost use Rattle.std.specs.Arc.{arc_value};
-    ghost use Rattle.shared_board.specs.BoardViews.{BoardMember};
+    ghost use Rattle.board_terms.specs.BoardViews.{BoardMember};
 
     ghost Value = { BoardMember };
 
@@ -198,26 +86,39 @@ impl SharedMember {
         self.account.config.max_calls
     }
 
-    /// Calls a command on the board, if no other call has the lock.
+    /// Calls a command on the board, if no other call has the lock. The last `reserve` calls of the day are the
+    /// operator's, member 0: any other member finds the history full then.
     ///
     /// A recorded call is in the history after all that this member had seen and calls of others only; its receipt has
     /// its place there and the auction's reply at that place; the member's own calls are the ones before and this one.
     /// After a fault nothing was recorded, and the member is as it was, except that at `HistoryFull` it has seen the
-    /// whole history, of at least `max_calls` entries. `Behind` comes only where the history isn't full, and the member
-    /// has seen more than it has, or counted other calls than it has of the member.
-    pub fn call(&mut self, command: Command) -> Result<Receipt, BoardFault>
+    /// whole history, of at least `max_calls` entries, or `reserve` fewer where it isn't the operator. A `Behind` has
+    /// the numbers of a legal history that isn't full, and the member has seen more than it has, or counted other calls
+    /// than it has of the member.
+    pub fn call(&mut self, command: Command, reserve: u32) -> Result<Receipt, BoardFault>
         ensures board { self.new.board ≡ self.old.board }
+        ensures place { IfOk result (λ r.
+            LeavesReserve reserve self.old.board.config self.old.view.number r.number) }
         ensures call { IfOk result (λ r. CallsOnce self.old.board.config self.old.view self.new.view command r) }
         ensures by_history { IfOk result (λ r.
             (h : List Entry) × EndsWithCall self.old.board.config h self.old.view.number command r) }
         ensures full { result ≡ Err (BoardFault.Call CallFault.HistoryFull) →
-            SeesFullHistory self.old.board.config self.old.view self.new.view }
+            SeesNoneLeft reserve self.old.board.config self.old.view self.new.view }
         ensures fault { IfErr result (λ e. e ≢ BoardFault.Call CallFault.HistoryFull → self.new ≡ self.old) }
         ensures behind { (h k : ℕ) → result ≡ Err (BoardFault.Call (CallFault.Behind h k)) →
             IsBehindHistory self.old.board.config self.old.view (CallFault.Behind h k) }
     {
         let SharedMember { shared, account } = self;
-        call_on(shared, account, command)
+        let mut floor = match shared.take() {
+            Ok(floor) => floor,
+            Err(fault) => return Err(fault),
+        };
+        let answer = call_unreserved(&mut floor.core, account, command, reserve);
+        if answer.is_ok() {
+            show(shared, account);
+        }
+        shared.give(floor);
+        answer.map_err(BoardFault::Call)
     }
 
     /// Looks at the board: how many calls it has had, and the display of the book after them. It takes no lock, but for
@@ -228,20 +129,11 @@ impl SharedMember {
         ensures look { IsLook self.old.board.config self.old.view self.new.view result }
     {
         let SharedMember { shared, account } = self;
-        look_at(shared, account)
-    }
-}
-
-// A look of this account at what it shares.
-fn look_at(shared: &Shared, account: &mut Account) -> Shown
-    requires { shared.now.floor ≡ account.old.board }
-    ensures board { account.new.board ≡ account.old.board }
-    ensures look { IsLook account.old.board.config account.old.view account.new.view result }
-{
-    match shared.newest(account.seen.shown.calls) {
-        Ok(Some(view)) => account.catch_up(view),
-        Ok(None) => account.again(),
-        Err(Unwatched) => look_first(shared, account),
+        match shared.newest(account.seen_len()) {
+            Ok(Some(view)) => account.catch_up(view),
+            Ok(None) => account.again(),
+            Err(Unwatched) => look_first(shared, account),
+        }
     }
 }
 
@@ -252,12 +144,12 @@ fn look_first(shared: &Shared, account: &mut Account) -> Shown
     ensures board { account.new.board ≡ account.old.board }
     ensures look { IsLook account.old.board.config account.old.view account.new.view result }
 {
-    let Ok(room) = shared.take() else {
+    let Ok(floor) = shared.take() else {
         return account.again();
     };
-    let view = room.floor.shown();
+    let view = floor.core.shown();
     shared.publish(view.again());
-    shared.give(room);
+    shared.give(floor);
     account.catch_up(view)
 }
 
@@ -266,36 +158,6 @@ fn show(shared: &Shared, account: &Account)
     requires { shared.now.floor ≡ account.now.board }
 {
     if shared.is_watched() {
-        shared.publish(account.shown());
-    }
-}
-
-// A call by this account on what it shares.
-fn call_on(shared: &Shared, account: &mut Account, command: Command) -> Result<Receipt, BoardFault>
-    requires board { shared.now.floor ≡ account.old.board }
-    ensures board { account.new.board ≡ account.old.board }
-    ensures call { IfOk result (λ r. CallsOnce account.old.board.config account.old.view account.new.view command r) }
-    ensures by_history { IfOk result (λ r.
-        (h : List Entry) × EndsWithCall account.old.board.config h account.old.view.number command r) }
-    ensures full { result ≡ Err (BoardFault.Call CallFault.HistoryFull) →
-        SeesFullHistory account.old.board.config account.old.view account.new.view }
-    ensures fault { IfErr result (λ e. e ≢ BoardFault.Call CallFault.HistoryFull → account.new ≡ account.old) }
-    ensures behind { (h k : ℕ) → result ≡ Err (BoardFault.Call (CallFault.Behind h k)) →
-        IsBehindHistory account.old.board.config account.old.view (CallFault.Behind h k) }
-{
-    let mut room = match shared.take() {
-        Ok(room) => room,
-        Err(fault) => return Err(fault),
-    };
-    match room.floor.call(account, command) {
-        Ok(receipt) => {
-            show(shared, account);
-            shared.give(room);
-            Ok(receipt)
-        }
-        Err(fault) => {
-            shared.give(room);
-            Err(BoardFault::Call(fault))
-        }
+        shared.publish(account.snapshot());
     }
 }

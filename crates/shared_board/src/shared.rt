@@ -1,17 +1,20 @@
 //! What the members of a board share: the lock round the floor, and the copies that looks read.
-ghost use Rattle.std.specs.Prelude.{◌≡◌, ◌<◌, ◌⊎◌, All, IfSome, IfErr, IfOk};
-ghost use Rattle.shared_board.specs.BoardViews.{IsSnapshotOf};
+ghost use Rattle.std.specs.Prelude.{◌≡◌, ◌<◌, ◌⊎◌, All, IfSome, IfErr, IfOk, option_map};
+ghost use Rattle.board_terms.specs.BoardViews.{IsSnapshotOf};
 
-use crate::floor::BoxedFloor;
+use crate::floor::{ShownCopy, TakenFloor};
 use crate::member::BoardFault;
-use crate::view::Snapshot;
+use board_terms::Snapshot;
 use counted_slot::{Counted, FREE, MARKED, MOST_READERS, ONE_READER, PRESENT, TAKEN};
 use std::hint::spin_loop;
 use std::sync::atomic::AtomicU64;
 use std::sync::atomic::Ordering::SeqCst;
 
-/// How often a call tries a lock that another call has.
-const TRIES: u32 = 1000;
+/// How often a call tries a lock that another call has, with the rests of `rest` between.
+const TRIES: u32 = 32;
+
+/// After how many tries the rests between them grow no longer.
+const LONGER_RESTS: u32 = 6;
 
 /// How often a look tries a copy that is just being written.
 const LOOKS: u32 = 100;
@@ -31,48 +34,56 @@ pub(crate) struct Unwatched;
 /// The word of the lock is `FREE` while the floor is in it.
 #[derive(Drop)]
 pub(crate) struct Shared {
-    pub(crate) floor: Counted<Option<BoxedFloor>>,
-    pub(crate) copies: Vec<Counted<Option<Snapshot>>>,
+    pub(crate) floor: Counted<Option<TakenFloor>>,
+    pub(crate) copies: Vec<Counted<Option<ShownCopy>>>,
     pub(crate) newest: AtomicU64,
     ghost same: { All (λ p. p ≡ floor) copies.items },
 }
 
 // Changes the word of the slot and gets what is in it, where the word is as it was.
 fn swap_floor(
-    slot: &Counted<Option<BoxedFloor>>,
+    slot: &Counted<Option<TakenFloor>>,
     old: u64,
-    room: Option<BoxedFloor>,
+    floor: Option<TakenFloor>,
     new: u64,
-) -> Result<Option<BoxedFloor>, Option<BoxedFloor>>
+) -> Result<Option<TakenFloor>, Option<TakenFloor>>
     requires words { (old < 2) × (new < 3) }
-    requires fits { IfSome room (λ r. r.floor.value.board ≡ slot.now) }
-    ensures { IfOk result (λ x. IfSome x (λ r. r.floor.value.board ≡ slot.now)) }
+    requires fits { IfSome floor (λ f. f.board ≡ slot.now) }
+    ensures { IfOk result (λ x. IfSome x (λ f. f.board ≡ slot.now)) }
 {
     let (found, claim) = slot.turn(old, TAKEN);
     if found != old {
         claim.done();
-        return Err(room);
+        return Err(floor);
     }
-    Ok(claim.put(room, new))
+    Ok(claim.put(floor, new))
+}
+
+// Rests after so many tries, each time twice as long up to 64 times: who has just given the floor back has its memory
+// at hand, and a lock that is asked all the time is slow for who has it.
+fn rest(tries: u32) {
+    for _ in 0..1u32 << tries.min(LONGER_RESTS) {
+        spin_loop();
+    }
 }
 
 impl Shared {
     /// The floor, if no other call has it, or gives it back soon.
-    pub(crate) fn take(&self) -> Result<BoxedFloor, BoardFault>
-        ensures floor { IfOk result (λ room. room.floor.value.board ≡ self.now.floor) }
+    pub(crate) fn take(&self) -> Result<TakenFloor, BoardFault>
+        ensures floor { IfOk result (λ floor. floor.board ≡ self.now.floor) }
         ensures fault { IfErr result (λ f. (f ≡ BoardFault.Busy) ⊎ (f ≡ BoardFault.Closed)) }
     {
-        for _ in 0..TRIES {
+        for tries in 0..TRIES {
             let word = self.floor.load();
             if word == CLOSED {
                 return Err(BoardFault::Closed);
             }
             if word == FREE {
-                if let Ok(Some(room)) = swap_floor(&self.floor, FREE, None, LENT) {
-                    return Ok(room);
+                if let Ok(Some(floor)) = swap_floor(&self.floor, FREE, None, LENT) {
+                    return Ok(floor);
                 }
             }
-            spin_loop();
+            rest(tries);
         }
         Err(BoardFault::Busy)
     }
@@ -83,10 +94,10 @@ impl Shared {
     }
 
     /// Gives the floor back. It alone changes the word while the floor is lent, so this succeeds always.
-    pub(crate) fn give(&self, room: BoxedFloor)
-        requires { room.floor.value.board ≡ self.now.floor }
+    pub(crate) fn give(&self, floor: TakenFloor)
+        requires { floor.board ≡ self.now.floor }
     {
-        let _ = swap_floor(&self.floor, LENT, Some(room), FREE);
+        let _ = swap_floor(&self.floor, LENT, Some(floor), FREE);
     }
 
     /// Whether somebody has looked.
@@ -140,7 +151,7 @@ impl Shared {
 }
 
 // Writes the view into the copy, or gives it back where somebody reads or writes the copy.
-fn write_copy(slot: &Counted<Option<Snapshot>>, view: Snapshot) -> Option<Snapshot>
+fn write_copy(slot: &Counted<Option<ShownCopy>>, view: Snapshot) -> Option<Snapshot>
     requires { IsSnapshotOf slot.now view.front view.shown }
     ensures { IfSome result (λ v. v ≡ view) }
 {
@@ -153,12 +164,12 @@ fn write_copy(slot: &Counted<Option<Snapshot>>, view: Snapshot) -> Option<Snapsh
         claim.done();
         return Some(view);
     }
-    claim.put(Some(view), PRESENT);
+    claim.put(Some(ShownCopy { view }), PRESENT);
     None
 }
 
 // Reads the copy, where nobody writes it.
-fn read_copy(slot: &Counted<Option<Snapshot>>) -> Option<Snapshot>
+fn read_copy(slot: &Counted<Option<ShownCopy>>) -> Option<Snapshot>
     ensures { IfSome result (λ v. IsSnapshotOf slot.now v.front v.shown) }
 {
     let seen = slot.load();
@@ -175,11 +186,11 @@ fn read_copy(slot: &Counted<Option<Snapshot>>) -> Option<Snapshot>
     view
 }
 
-fn copied(view: &Option<Snapshot>) -> Option<Snapshot>
-    ensures { result ≡ view.now }
+fn copied(shown: &Option<ShownCopy>) -> Option<Snapshot>
+    ensures { result ≡ option_map (λ s. s.view) shown.now }
 {
-    match view {
-        Some(view) => Some(view.again()),
+    match shown {
+        Some(copy) => Some(copy.view.again()),
         None => None,
     }
 }

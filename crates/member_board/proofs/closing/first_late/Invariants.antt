@@ -1,5 +1,6 @@
 -- Invariants of the loops of `first_late` (src/closing.rt); rt looks here.
 use Rattle.std.proofs.Common.{◌<◌, ◌≤◌, ℕ, length, get_or}
+use Rattle.auction_terms.specs.Day.{calls_of}
 use Rattle.board_terms.specs.MemberView.{MemberView}
 use Rattle.board_terms.specs.Closings.{HasSeenBeginning, HasLate}
 use Rattle.member_board.proofs.closing.first_late.Given as goal
@@ -7,8 +8,8 @@ use Rattle.member_board.proofs.closing.first_late.Given as goal
 abbrev pub invariant-loop-i : goal.invariant-loop-i
 invariant-loop-i g l = record {
   least : l.least ≤ l.n;
-  some : l.least < l.n → HasLate l.least (length l.story) l.members;
+  some : l.least < l.n → HasLate l.least (length l.floor) l.members;
   first : (k : ℕ) (d : MemberView) → k < l.i → (get_or l.members k d).number < l.least
-      → HasSeenBeginning g.K.Ledger.parts l.story (get_or l.members k d);
+      → HasSeenBeginning g.K.Ledger.parts (calls_of l.floor) (get_or l.members k d);
   numbers : (k : ℕ) (d : MemberView) → k < l.i → (get_or l.members k d).number < l.n;
 }

@@ -5,9 +5,9 @@ use Rattle.member_board.proofs.fresh.new_members.Given as goal
 
 abbrev pub invariant-loop-number : goal.invariant-loop-number
 invariant-loop-number g l = record {
-  parts : l.joined.parts + l.number ≡ l.count;
+  parts : l.joined.parts + l.number ≡ g.K.Ledger.parts;
   amount : l.joined.amount ≡ 0;
   members : l.members.items ≡ newcomers l.number;
   len : l.members.len ≡ l.number;
-  room : l.count ≤ vec_capacity l.members;
+  room : g.K.Ledger.parts ≤ vec_capacity l.members;
 }

@@ -1,6 +1,6 @@
 -- Invariants of the loops of `no_copies` (src/opening.rt); rt looks here.
 use Rattle.std.proofs.Common.{◌≡◌, All}
-use Rattle.shared_board.specs.BoardViews.{OpenedBoard}
+use Rattle.board_terms.specs.BoardViews.{OpenedBoard}
 use Rattle.shared_board.proofs.opening.no_copies.Given as goal
 
 abbrev pub invariant-loop : goal.invariant-loop

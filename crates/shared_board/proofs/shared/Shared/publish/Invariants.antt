@@ -1,5 +1,5 @@
 -- Invariants of the loops of `Shared::publish` (src/shared.rt); rt looks here.
-use Rattle.shared_board.specs.BoardViews.{IsSnapshotOf}
+use Rattle.board_terms.specs.BoardViews.{IsSnapshotOf}
 use Rattle.shared_board.proofs.shared.Shared.publish.Given as goal
 
 abbrev pub invariant-loop-i : goal.invariant-loop-i

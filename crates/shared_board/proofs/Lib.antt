@@ -1,2 +1,0 @@
-pub mod FirstFloorLaws
-pub mod AccountCountLaws

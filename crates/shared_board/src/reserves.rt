@@ -1,0 +1,46 @@
+//! The last calls of a day, which are the operator's.
+ghost use Rattle.std.specs.Prelude.{◌≡◌, ◌≢◌, ◌++◌, ◌∷◌, [], ℕ, length, Err, IfErr, IfOk};
+ghost use Rattle.board_terms.specs.BoardViews.{IsBehindHistory};
+ghost use Rattle.board_terms.specs.CallsAndLooks.{CallsOnce, EndsWithCall, entry};
+ghost use Rattle.shared_board.specs.Reserves.{LeavesReserve, SeesNoneLeft, finds_reserve};
+
+use auction_terms::Command;
+use board_terms::{Account, BoardCore, CallFault, Receipt};
+
+// Whether the calls that are left to the day are the operator's, which the member with this number isn't.
+fn finds_reserve(core: &BoardCore, number: u8, reserve: u32) -> bool
+    ensures { result ≡ finds_reserve reserve core.now.board.config number (length core.now.history) }
+{
+    let calls = u64::from(core.auction.calls()) + u64::from(reserve);
+    number != 0 && u64::from(core.auction.config().max_calls) <= calls
+}
+
+/// Calls a member's command, as the core of every board does. But where no more than `reserve` calls are left, a member
+/// that isn't the operator finds the history full, and is shown all of it.
+pub(crate) fn call_unreserved(
+    core: &mut BoardCore,
+    by: &mut Account,
+    command: Command,
+    reserve: u32,
+) -> Result<Receipt, CallFault>
+    requires board { by.old.board ≡ core.old.board }
+    ensures board { (core.new.board ≡ core.old.board) × (by.new.board ≡ by.old.board) }
+    ensures history { IfOk result (λ r.
+        core.new.history ≡ core.old.history ++ entry by.old.view.number command r.reply ∷ []) }
+    ensures call { IfOk result (λ r. CallsOnce core.old.board.config by.old.view by.new.view command r) }
+    ensures by_history { IfOk result (λ r.
+        EndsWithCall core.old.board.config core.new.history by.old.view.number command r) }
+    ensures place { IfOk result (λ r. LeavesReserve reserve core.old.board.config by.old.view.number r.number) }
+    ensures full { result ≡ Err CallFault.HistoryFull →
+        SeesNoneLeft reserve core.old.board.config by.old.view by.new.view }
+    ensures fault { IfErr result (λ e. e ≢ CallFault.HistoryFull → by.new ≡ by.old) }
+    ensures same { IfErr result (λ e. core.new ≡ core.old) }
+    ensures behind { (h k : ℕ) → result ≡ Err (CallFault.Behind h k) →
+        IsBehindHistory core.old.board.config by.old.view (CallFault.Behind h k) }
+{
+    if finds_reserve(core, by.number(), reserve) {
+        core.show_history(by);
+        return Err(CallFault::HistoryFull);
+    }
+    core.call(by, command)
+}
