@@ -15,7 +15,8 @@ use Rattle.order_file.proofs.BlockCallLaws.{fails-alike}
 use Rattle.order_file.proofs.CallLaws.{after}
 use Rattle.callboard.specs.declared.kept.Kept.{Kept}
 use Rattle.callboard.specs.KeptEntries.{KeepsEntries, after_calls}
-use Rattle.callboard.specs.Printed.{entries_from, entry_of_call}
+use Rattle.day_tables.specs.AnsweredCalls.{entry_of}
+use Rattle.callboard.specs.Printed.{entries_from}
 
 -- ---- calls, and then more
 
@@ -29,7 +30,7 @@ entries-twice : (config : Config) (state : State) (front calls : List Call)
     ++ entries_from config (state_after config state front) calls
 entries-twice config state [] calls = refl
 entries-twice config state (call ∷ front) calls =
-    ap (λ es. entry_of_call call (step config state call).1 ∷ es)
+    ap (λ es. entry_of call (step config state call).1 ∷ es)
     (entries-twice config (step config state call).0 front calls)
 
 calls-twice : (auction : RunningAuction) (front calls : List Call) → after_calls (after_calls auction front) calls

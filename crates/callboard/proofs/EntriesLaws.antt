@@ -1,8 +1,10 @@
 -- The history of calls, entry by entry.
-use Rattle.std.proofs.Common.{◌≡◌, ◌≤◌, List, [], ◌∷◌, length, map, ◌∙◌, refl, sym, ap, suc}
+use Rattle.std.proofs.Common.{◌≡◌, ◌≤◌, List, [], ◌∷◌, length, map, ◌∙◌, refl, sym, ap, suc, arith}
+use Rattle.std.proofs.lemmas.Grind.{common_steps}
+use Rattle.auction_terms.specs.declared.Entry.{Entry}
 use Rattle.auction_terms.specs.declared.Call.{Call}
 use Rattle.auction_terms.specs.declared.Config.{Config}
-use Rattle.auction_terms.specs.Day.{IsLegal, State, calls_of, opening_state, replay, replies_from, step}
+use Rattle.auction_terms.specs.Day.{IsLegal, State, call_of, calls_of, opening_state, replay, replies_from, step}
 use Rattle.callboard.specs.Printed.{entries_from, history_of, reply_in}
 
 -- its replies are those of the replay
@@ -35,3 +37,20 @@ history_legal config calls few = record {
       history-replies config (opening_state config) calls
       ∙ ap (λ cs. (replay config cs).1) (sym (history-calls config calls));
 }
+
+-- ---- a legal history
+
+-- the entries of its calls are its own
+entries-again : (config : Config) (state : State) (entries : List Entry)
+    → map reply_in entries ≡ replies_from config state (calls_of entries)
+    → entries_from config state (calls_of entries) ≡ entries
+entries-again config state [] e = refl
+entries-again config state (entry ∷ entries) e =
+    let first : entry.reply ≡ (step config state (call_of entry)).1 = grind (arith, common_steps) in
+    let rest : map reply_in entries ≡ replies_from config (step config state (call_of entry)).0 (calls_of entries) =
+    grind (arith, common_steps) in
+    rw (← first) (ap (λ es. entry ∷ es) (entries-again config (step config state (call_of entry)).0 entries rest))
+
+pub legal-history : (config : Config) (entries : List Entry) → IsLegal config entries
+    → history_of config (calls_of entries) ≡ entries
+legal-history config entries legal = entries-again config (opening_state config) entries legal.replies

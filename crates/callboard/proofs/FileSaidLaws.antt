@@ -1,7 +1,7 @@
 -- What an input says of which the start was read apart.
 use Rattle.std.proofs.Common.{◌≡◌, ◌≤◌, ◌<◌, ◌⊎◌, inl, inr, ◌++◌, ◌∷◌, ◌∙◌, [], ℕ, List, length, Option, None, Some}
 use Rattle.std.proofs.Common.{Result, Ok, Err, Bool, true, false, nat_lt, refl, ap, sym, subst, arith, rules}
-use Rattle.std.specs.Prelude.{◌↔◌, IfErr, IfSome, IsErrAnd, IsErrOf}
+use Rattle.std.specs.Prelude.{IfErr, IfSome, IsErrAnd, IsErrOf}
 use Rattle.csv.specs.Records.{field_at}
 use Rattle.std.specs.Io.KnownBytes.{Consumes, prepend_known}
 use Rattle.auction.specs.ConfigFault.{open_fault}
@@ -15,12 +15,10 @@ use Rattle.journal.specs.DayRecord.{is_day_row}
 use Rattle.journal.specs.JournalFile.{journal_of, journal_of_rows}
 use Rattle.journal.specs.declared.day.DayHeader.{DayHeader}
 use Rattle.journal.specs.declared.reading.TheConstants.{MAX_JOURNAL_BYTES}
-use Rattle.order_file.specs.Blocks.{BlockState, block_rows, rows_to_come}
-use Rattle.order_file.specs.File.{FailsAsWanted, IsOfRecord, calls_after, calls_of_file, file, within_limit}
+use Rattle.order_file.specs.File.{FailsAsWanted, calls_of_file, file, within_limit}
 use Rattle.order_file.specs.declared.fault.FileFault.{FileFault}
 use Rattle.order_file.specs.declared.fault.FileFault.TheVariants as faults
 use Rattle.order_file.specs.declared.reading.TheConstants.{MAX_BYTES}
-use Rattle.order_file.proofs.BlockCallLaws.{CarriesCalls, carries-last}
 use Rattle.order_file.proofs.CallLaws.{fails-at}
 use Rattle.order_file.proofs.FirstFieldLaws.{BeginsWith, digit-first}
 use Rattle.settings.specs.declared.types.Form.{Form}
@@ -28,13 +26,11 @@ use Rattle.callboard.specs.declared.fault.Fault.{Fault}
 use Rattle.callboard.specs.declared.fault.Fault.TheVariants as fault
 use Rattle.callboard.specs.declared.kept.Kept.{Kept}
 use Rattle.callboard.specs.declared.kept_day.KeptDay.{KeptDay}
-use Rattle.callboard.specs.AuctionRun.{auction_job}
-use Rattle.callboard.specs.FileRun.{Ends, IsRunOf}
-use Rattle.callboard.specs.KeptEntries.{KeepsCalls, KeepsEntries, IsClosedDay, KeepsDay, KeepsDayOfText, after_calls}
-use Rattle.callboard.specs.KeptEntries.{calls_for, form_kept}
-use Rattle.callboard.specs.Printed.{history_of}
-use Rattle.callboard.proofs.BlockRunLaws.{block-after, block-calls, block-follows, fails-then}
-use Rattle.callboard.proofs.KeptLaws.{input-refused, kept_refused, orders-long, refused-records, said_closed}
+use Rattle.callboard.specs.KeptEntries.{KeepsCallsOfText, KeepsEntries, IsClosedDay, KeepsDay, KeepsDayOfText}
+use Rattle.callboard.specs.KeptEntries.{after_calls, calls_for, form_kept}
+use Rattle.callboard.specs.Printed.{entries_from, history_of}
+use Rattle.callboard.proofs.BlockRunLaws.{fails-then}
+use Rattle.callboard.proofs.KeptLaws.{orders-long, refused-records, said_closed}
 
 -- ---- a file of a day
 
@@ -108,6 +104,14 @@ pub said-memory : (form : Form) (text : Option (List ℕ)) (says : List ℕ → 
 said-memory form None says = (Err faults.NoMemory, tt, tt)
 said-memory form (Some bytes) says = (says bytes, tt, refl)
 
+-- what a `?` handed on
+pub said-handed : (form : Form) (text : Option (List ℕ)) (says : List ℕ → Result DayWithCalls FileFault)
+    (r : Result KeptDay Fault) (f : Fault) → IsErrAnd r (λ x. x ≡ f) → KeepsDayOfText form (Err f) text says
+    → KeepsDayOfText form r text says
+said-handed form text says (Ok kept) f is keeps = absurd is
+said-handed form text says (Err e) f is keeps =
+    subst (λ (x : Fault). KeepsDayOfText form (Err x) text says) (sym is) keeps
+
 -- ---- the start of an input
 
 pub start-said : (form : Form) (start : List ℕ) (a b : Option (List ℕ)) (r : Result KeptDay Fault) (says : List ℕ
@@ -165,84 +169,71 @@ digit-said form day start (Some left) r (d, rest, is, low, high) (said, keeps, k
 
 -- ---- a file that begins with a digit
 
--- a count that is the same has not risen
-pub not-risen : (before after : ℕ) → after ≡ before → before < after → ⊥
-not-risen before after same h = omega (arith, same, h)
-
--- An input was read so far; it is an order file, as it begins with a digit.
-abbrev pub BeginsOrders : Option (List ℕ) → Option (List ℕ) → List ℕ → Type 0
-BeginsOrders left rest start =
-    Consumes left rest start × ((digit : ℕ) × (more : List ℕ) × (start ≡ digit ∷ more) × (48 ≤ digit) × (digit ≤ 57))
-
--- what it says is what the input says
+-- what it says is what the input says, which begins with its start
 pub begun-said : (form : Form) (day : DayHeader) (left rest : Option (List ℕ)) (start : List ℕ)
-    (r : Result KeptDay Fault) → BeginsOrders left rest start
+    (r : Result KeptDay Fault) → Consumes left rest start
+    → ((digit : ℕ) × (more : List ℕ) × (start ≡ digit ∷ more) × (48 ≤ digit) × (digit ≤ 57))
     → KeepsDayOfText form r (prepend_known start rest) (orders_for day) → KeepsDayOfText form r left (run_input day)
-begun-said form day left rest start r (read, digit) keeps =
+begun-said form day left rest start r read digit keeps =
     start-said form start left rest r (run_input day) read (digit-said form day start rest r digit keeps)
 
--- it wasn't kept
-pub begun-refused : {X : Type 0} (form : Form) (day : DayHeader) (ends : Ends) (rest : Option (List ℕ))
-    (start : List ℕ) (f : Fault) → BeginsOrders ends.left rest start
-    → (IsErrOf {T = X} (Err f) (fault.File faults.ReadFailed) ↔ ends.ReadFailed) → (ends.WriteFailed → ⊥)
-    → ends.new ≡ ends.old → KeepsDayOfText form (Err f) (prepend_known start rest) (orders_for day)
-    → IsRunOf (auction_job day form) ends (Err f)
-begun-refused {X} form day ends rest start f begins told wrote_well kept keeps =
-    let (said, fails, known) = begun-said form day ends.left rest start (Err f) begins keeps in
-    kept_refused form day ends said (Err f) f refl (λ e. told.0 (alike e), λ h. again (told.1 h)) wrote_well kept fails
-    known
-  where
-    alike : IsErrOf {T = KeptDay} (Err f) (fault.File faults.ReadFailed)
-        → IsErrOf {T = X} (Err f) (fault.File faults.ReadFailed)
-    alike e = let same : f ≡ fault.File faults.ReadFailed = cc (e) in ap (λ (x : Fault). Err x) same
+-- ---- what its blocks say
 
-    again : IsErrOf {T = X} (Err f) (fault.File faults.ReadFailed)
-        → IsErrOf {T = KeptDay} (Err f) (fault.File faults.ReadFailed)
-    again e = let same : f ≡ fault.File faults.ReadFailed = cc (e) in ap (λ (x : Fault). Err x) same
+-- a fault of it
+pub blocks-stop : (kept : Kept) (old new : RunningAuction) (r : Result (Unit {0}) FileFault)
+    (f : FileFault) (text : Option (List ℕ)) (members : ℕ) → IsErrAnd r (λ x. x ≡ f)
+    → IfSome text (λ bytes. FailsAsWanted f (file bytes members old.config.max_calls))
+    → KeepsCallsOfText (KeepsEntries kept new) old new r text members
+blocks-stop kept old new (Ok u) f text members is fails = absurd is
+blocks-stop kept old new (Err e) f None members is fails = (Err e, fails-at e (Err e) refl, tt)
+blocks-stop kept old new (Err e) f (Some bytes) members is fails = (
+  file bytes members old.config.max_calls,
+  subst (λ (x : FileFault). FailsAsWanted x (file bytes members old.config.max_calls)) (sym is) fails,
+  refl,
+)
 
--- it has a fault
-pub begun-fails : {X : Type 0} (form : Form) (day : DayHeader) (ends : Ends) (rest : Option (List ℕ))
-    (start : List ℕ) (f : FileFault) → BeginsOrders ends.left rest start
-    → (IsErrOf {T = X} (Err f) faults.ReadFailed ↔ ends.ReadFailed) → (ends.WriteFailed → ⊥) → ends.new ≡ ends.old
-    → IfSome (prepend_known start rest) (λ bytes. FailsAsWanted f (file bytes day.members day.config.max_calls))
-    → IsRunOf (auction_job day form) ends (Err (fault.File f))
-begun-fails {X} form day ends rest start f begins told wrote_well kept fails =
-    input-refused form day ends f told wrote_well kept
-    (begun-said form day ends.left rest start (Err (fault.File f)) begins
-    (file-fails form day (prepend_known start rest) f fails))
+-- all of its calls
+pub blocks-end : (kept : Kept) (old new : RunningAuction) (calls : List Call)
+    (text : Option (List ℕ)) (members : ℕ) → IfSome text (λ bytes. file bytes members old.config.max_calls ≡ Ok calls)
+    → new ≡ after_calls old calls → KeepsEntries kept new (entries_from old.config old.state calls)
+    → KeepsCallsOfText (KeepsEntries kept new) old new (Ok tt) text members
+blocks-end kept old new calls None members says came holds = (Ok calls, (calls, refl, came, holds), tt)
+blocks-end kept old new calls (Some bytes) members says came holds =
+    (Ok calls, (calls, refl, came, holds), sym says)
 
--- a record has a fault, and no read failed
-pub begun-bad : (form : Form) (day : DayHeader) (ends : Ends) (rest : Option (List ℕ)) (start : List ℕ) (f : FileFault)
-    → BeginsOrders ends.left rest start → IsOfRecord f → (ends.ReadFailed → ⊥) → (ends.WriteFailed → ⊥)
-    → ends.new ≡ ends.old
-    → IfSome (prepend_known start rest) (λ bytes. FailsAsWanted f (file bytes day.members day.config.max_calls))
-    → IsRunOf (auction_job day form) ends (Err (fault.File f))
-begun-bad form day ends rest start f begins parsed read_well wrote_well kept fails =
-    begun-fails {X = Unit {0}} form day ends rest start f begins
-    (λ e. absurd (late e), λ h. absurd (read_well h)) wrote_well kept fails
-  where
-    late : IsErrOf {T = Unit {0}} (Err f) faults.ReadFailed → ⊥
-    late e =
-        let same : f ≡ faults.ReadFailed = cc (e) in subst (λ (x : FileFault). IsOfRecord x) same parsed
+known-calls : (text : Option (List ℕ)) (members max_calls : ℕ) (wanted : Result (List Call) FileFault)
+    (calls : List Call) → wanted ≡ Ok calls → IfSome text (λ bytes. wanted ≡ file bytes members max_calls)
+    → IfSome text (λ bytes. file bytes members max_calls ≡ Ok calls)
+known-calls None members max_calls wanted calls is known = tt
+known-calls (Some bytes) members max_calls wanted calls is known = sym known ∙ is
 
--- its last block's calls came to the auction too, and the day was closed
-pub file-closed : (form : Form) (day : DayHeader) (kept : Kept) (now new : RunningAuction) (front : List Call)
-    (text left : Option (List ℕ)) (held : BlockState) (r : Result KeptDay Fault)
-    → now ≡ after_calls (opened_auction day.config) front
-    → CarriesCalls text left day.members day.config.max_calls front held
-    → IfSome left (λ bytes. rows_to_come held bytes ≡ Ok (block_rows held))
-    → KeepsCalls (KeepsEntries kept new) (history_of day.config front) now new (Ok tt)
-    (calls_after day.members now.config.max_calls now.calls (block_rows held))
-    → open_fault day.config ≡ None → form_kept kept ≡ form → new.calls ≤ now.config.max_calls
+known-fault : (text : Option (List ℕ)) (members max_calls : ℕ) (wanted : Result (List Call) FileFault)
+    (f : FileFault) → FailsAsWanted f wanted → IfSome text (λ bytes. wanted ≡ file bytes members max_calls)
+    → IfSome text (λ bytes. FailsAsWanted f (file bytes members max_calls))
+known-fault None members max_calls wanted f fails known = tt
+known-fault (Some bytes) members max_calls wanted f fails known = rw known at fails
+
+-- its calls came to the auction, and the day was closed
+pub blocks-kept : (form : Form) (day : DayHeader) (kept : Kept) (old new : RunningAuction) (text : Option (List ℕ))
+    (r : Result KeptDay Fault) → old ≡ opened_auction day.config → form_kept kept ≡ form
+    → open_fault day.config ≡ None → new.calls ≤ old.config.max_calls
+    → KeepsCallsOfText (KeepsEntries kept new) old new (Ok tt) text day.members
     → ((entries : List Entry) → KeepsEntries kept new entries → IsClosedDay day kept new.config entries r)
     → KeepsDayOfText form r text (orders_for day)
-file-closed form day kept now new front text left held r is carries last keeps opens for room closes =
-    let (calls, says, came, more) = keeps in
-    let start = opened_auction day.config in
-    file-kept form day kept new (front ++ calls) text r (block-after start now new front calls is came) for opens
-    (omega (arith, room, ap (λ (a : RunningAuction). a.config.max_calls) is))
-    (carries-last _ _ _ _ front _ held carries last (block-calls day.members start now front calls _ refl is says))
-    (block-follows kept start now new [] front calls is more) closes
+blocks-kept form day kept old new text r fresh for opens room keeps closes =
+    let (wanted, (calls, is, came, holds), known) = rw fresh at keeps in
+    file-kept form day kept new calls text r came for opens (rw fresh at room)
+    (known-calls text day.members day.config.max_calls wanted calls is known) holds closes
+
+-- it has a fault
+pub blocks-failed : (form : Form) (day : DayHeader) (kept : Kept) (old new : RunningAuction)
+    (text : Option (List ℕ)) (f : FileFault) (r : Result KeptDay Fault) → old ≡ opened_auction day.config
+    → IsErrAnd r (λ x. x ≡ fault.File f) → KeepsCallsOfText (KeepsEntries kept new) old new (Err f) text day.members
+    → KeepsDayOfText form r text (orders_for day)
+blocks-failed form day kept old new text f r fresh is keeps =
+    let (wanted, fails, known) = rw fresh at keeps in
+    said-handed form text (orders_for day) r (fault.File f) is
+    (file-fails form day text f (known-fault text day.members day.config.max_calls wanted f fails known))
 
 -- memory that was refused at a day's end is no failed read
 pub closed-read : (day : DayHeader) (kept : Kept) (config : Config) (entries : List Entry) (r : Result KeptDay Fault)

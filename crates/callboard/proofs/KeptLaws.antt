@@ -1,18 +1,11 @@
 -- What is kept of a day's entries, call by call.
-use Rattle.std.proofs.Common.{◌≡◌, ◌<◌, ◌≤◌, ◌+◌, ◌++◌, ◌∷◌, ◌∙◌, [], ℕ, List, length, nat_lt, false, true, rules}
-use Rattle.std.proofs.Common.{Option, None, Some, Ok, Err, Result, refl, ap, sym, subst, arith, append_assoc, add-one}
-use Rattle.std.proofs.Common.{drop, drop-cons, get_or}
-use Rattle.std.proofs.lemmas.List.{append-nil, drop_all, length_push}
-use Rattle.std.proofs.lemmas.Grind.{common_steps}
+use Rattle.std.proofs.Common.{◌≡◌, ◌<◌, ◌≤◌, ◌∙◌, [], ℕ, List, length, nat_lt, false, true, rules}
+use Rattle.std.proofs.Common.{Option, None, Some, Ok, Err, Result, refl, ap, sym, subst}
 use Rattle.auction_terms.specs.declared.Call.{Call}
 use Rattle.auction_terms.specs.declared.Config.{Config}
 use Rattle.auction_terms.specs.declared.Entry.{Entry}
-use Rattle.auction_terms.specs.declared.Reply.{Reply}
-use Rattle.auction_terms.specs.Day.{State, step, state_after}
-use Rattle.auction_terms.specs.Auxiliary.RunningAuction.{RunningAuction, auction_after_call, opened_auction}
-use Rattle.auction_terms.proofs.RunLaws.{state_after-push}
-use Rattle.std.specs.Prelude.{IfSome, IsErrAnd, IsErrOf, OnOk, unwrap_or, ◌↔◌}
-use Rattle.std.specs.Result.{is_err}
+use Rattle.auction_terms.specs.Auxiliary.RunningAuction.{RunningAuction, opened_auction}
+use Rattle.std.specs.Prelude.{IfSome, IsErrOf, unwrap_or, ◌↔◌}
 use Rattle.auction.specs.ConfigFault.{open_fault}
 use Rattle.auction.specs.declared.OpenFault.{OpenFault}
 use Rattle.auction.specs.declared.OpenFault.TheVariants.{NoMemory}
@@ -21,7 +14,7 @@ use Rattle.order_file.specs.File.{FailsAsWanted, IsOfRecord, calls_of_file, file
 use Rattle.order_file.specs.declared.reading.TheConstants.{MAX_BYTES}
 use Rattle.order_file.proofs.CallLaws.{fails-at}
 use Rattle.journal.specs.DayWithCalls.{DayWithCalls, run_input, run_input_of, or_orders, orders_for}
-use Rattle.journal.specs.JournalFile.{RecordedDay, journal_of}
+use Rattle.journal.specs.JournalFile.{journal_of}
 use Rattle.journal.specs.declared.reading.TheConstants.{MAX_JOURNAL_BYTES}
 use Rattle.callboard.specs.declared.fault.Fault.{Fault}
 use Rattle.callboard.specs.declared.kept_day.KeptDay.{KeptDay}
@@ -30,83 +23,13 @@ use Rattle.order_file.specs.declared.fault.FileFault.TheVariants as faults
 use Rattle.settings.specs.declared.types.Form.{Form}
 use Rattle.callboard.specs.declared.fault.Fault.TheVariants as fault
 use Rattle.callboard.specs.declared.kept.Kept.{Kept}
-use Rattle.callboard.specs.KeptEntries.{KeepsEntries, IsClosedDay, KeepsCalls, KeepsDay, KeepsDayOfText, after_calls}
-use Rattle.callboard.specs.KeptEntries.{KeepsUpToCall, entry_in}
+use Rattle.callboard.specs.KeptEntries.{KeepsEntries, IsClosedDay, KeepsCalls, KeepsDay, KeepsDayOfText}
 use Rattle.callboard.specs.KeptEntries.{calls_for, form_kept}
-use Rattle.callboard.specs.AuctionRun.{IsOfAuction, auction_job, run_text}
+use Rattle.callboard.specs.AuctionRun.{auction_job, run_text}
 use Rattle.callboard.specs.FileRun.{Ends, IsRunOf, WritesText}
-use Rattle.callboard.specs.Printed.{IsOfListing, IsOfPrinting, IsWideForm, IsWideIfBegun, entries_from, entry_of_call}
+use Rattle.callboard.specs.Printed.{IsWideForm}
 use Rattle.callboard.specs.Printed.{history_of, printed}
-use Rattle.callboard.proofs.OwedLaws.{printing_after, refused_input, refused_opening}
-
--- one more call comes to the auction
-auction_after_call-more : (auction : RunningAuction) (front : List Call) (call : Call)
-    → auction_after_call (after_calls auction front) call ≡ after_calls auction (front ++ call ∷ [])
-auction_after_call-more auction front call = grind (arith, common_steps, state_after-push, length_push)
-
-pub called_on : (old now new : RunningAuction) (front : List Call) (call : Call) → new ≡ auction_after_call now call
-    → now ≡ after_calls old front → new ≡ after_calls old (front ++ call ∷ [])
-called_on old now new front call put is =
-    put ∙ ap (λ a. auction_after_call a call) is ∙ auction_after_call-more old front call
-
--- its entry comes after those before it
-pub entries-more : (config : Config) (state : State) (front : List Call) (call : Call)
-    → entries_from config state (front ++ call ∷ []) ≡ entries_from config state front
-    ++ entry_of_call call (step config (state_after config state front) call).1 ∷ []
-entries-more config state [] call = refl
-entries-more config state (first ∷ front) call =
-    ap (λ es. entry_of_call first (step config state first).1 ∷ es)
-    (entries-more config (step config state first).0 front call)
-
--- and is kept there
-pub holds-more : (kept : Kept) (last auction now : RunningAuction) (before : List Entry) (front : List Call)
-    (call : Call) → now ≡ after_calls auction front
-    → KeepsEntries kept last ((before ++ entries_from auction.config auction.state front)
-    ++ entry_of_call call (step now.config now.state call).1 ∷ [])
-    → KeepsEntries kept last (before ++ entries_from auction.config auction.state (front ++ call ∷ []))
-holds-more kept last auction now before front call is h =
-    let same : (before ++ entries_from auction.config auction.state front)
-    ++ entry_of_call call (step now.config now.state call).1 ∷ []
-    ≡ before ++ entries_from auction.config auction.state (front ++ call ∷ []) =
-    rw is (append_assoc before _ _
-    ∙ ap (λ es. before ++ es) (sym (entries-more auction.config auction.state front call))) in
-    subst (KeepsEntries kept last) same h
-
--- no call has come
-pub holds-none : (kept : Kept) (last : RunningAuction) (before : List Entry) → KeepsEntries kept last before
-    → KeepsEntries kept last (before ++ [])
-holds-none kept last before h = subst (KeepsEntries kept last) (sym (append-nil before)) h
-
--- the calls that are left, after one of them
-pub call-next : (calls front : List Call) (i : ℕ) (d : Call) → front ++ drop i calls ≡ calls → i < length calls
-    → (front ++ get_or calls i d ∷ []) ++ drop (i + 1) calls ≡ calls
-call-next calls front i d is h =
-    let next : drop i calls ≡ get_or calls i d ∷ drop (i + 1) calls = rw (add-one i) (drop-cons calls i d h) in
-    append_assoc front _ _ ∙ rw next at is
-
-pub call-end : (calls front : List Call) (i : ℕ) → front ++ drop i calls ≡ calls → length calls ≤ i → front ≡ calls
-call-end calls front i is h = sym (append-nil front) ∙ rw (drop_all i calls h) at is
-
--- what was put after the others, where memory wasn't refused
-pub was_put : {E P : Type 0} (r : Result (Unit {0}) E) → is_err r ≡ false → OnOk r P → P
-was_put (Ok u) e h = h
-was_put (Err f) e h = absurd cc
-
--- what was kept before a call, and then its reply, is what is kept of the auction after it
-pub kept-answered : {E : Type 0} (r s : Result (Unit {0}) E) (between kept : Kept) (old mid new : RunningAuction)
-    (call : Call) (reply : Reply) (entries : List Entry) → is_err r ≡ false → is_err s ≡ false → mid ≡ old
-    → new ≡ auction_after_call mid call → reply ≡ (step mid.config mid.state call).1
-    → OnOk r (KeepsUpToCall between old entries call)
-    → ((auction : RunningAuction) (es : List Entry) → reply ≡ (step auction.config auction.state call).1
-    → KeepsUpToCall between auction es call
-    → OnOk s (KeepsEntries kept (auction_after_call auction call) (es ++ entry_in auction call ∷ [])))
-    → KeepsEntries kept new (entries ++ entry_in old call ∷ [])
-kept-answered r s between kept old mid new call reply entries put answered same is told before after =
-    let said : reply ≡ (step old.config old.state call).1 =
-    told ∙ ap (λ (a : RunningAuction). (step a.config a.state call).1) same in
-    let last : new ≡ auction_after_call old call = is ∙ ap (λ (a : RunningAuction). auction_after_call a call) same in
-    subst (λ (a : RunningAuction). KeepsEntries kept a (entries ++ entry_in old call ∷ [])) (sym last)
-    (was_put s answered (after old entries said (was_put r put before)))
+use Rattle.callboard.proofs.OwedLaws.{refused_input, refused_opening}
 
 -- a fault of an order file is one of what it gives
 pub refused-records : (form : Form) (day : DayHeader) (f : FileFault) (r : Result (List Call) FileFault)
@@ -184,25 +107,7 @@ calls-kept form day kept old new calls r fresh for opens few keeps closes =
     subst (λ said. KeepsDay form said r) (sym (ap (calls_for day) wanted))
     (said_closed form day found kept r for opens (rw same at few) closed)
 
--- an order file that isn't too long says what its records do
-pub orders-said : (form : Form) (day : DayHeader) (bytes : List ℕ) (calls : List Call) (r : Result KeptDay Fault)
-    → length bytes ≤ MAX_BYTES → calls_of_file day.members day.config.max_calls bytes ≡ Ok calls
-    → KeepsDay form (calls_for day (Ok calls)) r → KeepsDay form (orders_for day bytes) r
-orders-said form day bytes calls r short wanted keeps =
-    subst (λ said. KeepsDay form said r) (sym (orders-short day bytes short ∙ ap (calls_for day) wanted)) keeps
-
--- it has a fault, which a `?` handed on
-pub orders-stopped : (form : Form) (day : DayHeader) (bytes : List ℕ) (r : Result KeptDay Fault) (f : FileFault)
-    → IsErrAnd r (λ x. x ≡ fault.File f) → length bytes ≤ MAX_BYTES
-    → FailsAsWanted f (calls_of_file day.members day.config.max_calls bytes) → KeepsDay form (orders_for day bytes) r
-orders-stopped form day bytes (Ok kept) f is short fails = absurd is
-orders-stopped form day bytes (Err x) f is short fails =
-    subst (λ (e : Fault). KeepsDay form (orders_for day bytes) (Err e)) (sym is)
-    (rw (orders-short day bytes short)
-    (refused-records form day f (calls_of_file day.members day.config.max_calls bytes) fails))
-
 -- ---- an input
-
 unread : (day : DayHeader) (all : List ℕ) (f : FileFault) → FailsAsWanted f (within_limit MAX_JOURNAL_BYTES all)
     → FailsAsWanted f (run_input day all)
 unfolding run_input
@@ -230,13 +135,6 @@ pub unread_said : (day : DayHeader) (left : Option (List ℕ)) (f : FileFault)
     → (said : Result DayWithCalls FileFault) × FailsAsWanted f said × IfSome left (λ all. said ≡ run_input day all)
 unread_said day None f h = (Err f, fails-at f (Err f) refl, tt)
 unread_said day (Some all) f h = (run_input day all, unread day all f h, refl)
-
--- a journal
-pub journal_said : (form : Form) (day : DayHeader) (bytes : List ℕ) (j : RecordedDay) (r : Result KeptDay Fault)
-    → journal_of bytes ≡ Ok j
-    → KeepsDay form (Ok (record { day = j.day; calls = j.calls })) r → KeepsDay form (run_input_of day bytes) r
-unfolding run_input_of
-journal_said form day bytes j r e keeps = rw e keeps
 
 -- what may come of refused memory may come in any case
 keeps-none : (form : Form) (r : Result KeptDay Fault) (said : Result DayWithCalls FileFault)
@@ -315,15 +213,6 @@ kept_refused form day ends said r fault.NoMemory is told wrote_well kept keeps k
 kept_refused form day ends said r fault.NotClosed is told wrote_well kept keeps known = absurd keeps
 kept_refused form day ends said r fault.WriteFailed is told wrote_well kept keeps known = absurd keeps
 
--- an input that couldn't be read
-pub input-refused : (form : Form) (day : DayHeader) (ends : Ends) (f : FileFault) {X : Type 0}
-    → (IsErrOf {T = X} (Err f) faults.ReadFailed ↔ ends.ReadFailed) → (ends.WriteFailed → ⊥) → ends.new ≡ ends.old
-    → KeepsDayOfText form (Err (fault.File f)) ends.left (run_input day)
-    → IsRunOf (auction_job day form) ends (Err (fault.File f))
-input-refused form day ends f {X} told wrote_well kept (said, fails, known) =
-    refused_input {X = X} (auction_job day form) ends (Err f) f refl told wrote_well kept tt
-    (said_fails day ends.left said f fails known)
-
 -- what was kept is of a form, and of what was said
 pub kept-day : (form : Form) (r : Result KeptDay Fault) (text : Option (List ℕ))
     (says : List ℕ → Result DayWithCalls FileFault) → KeepsDayOfText form r text says
@@ -337,14 +226,6 @@ pub kept_wrote : (form for : Form) (day_with_calls : DayWithCalls) (old new : Op
     → WritesText old new (run_text form day_with_calls) r
 kept_wrote form for day_with_calls old new r is wrote = rw is at wrote
 
-pub kept_wide : (form for : Form) (entries : List Entry) (r : Result (Unit {0}) Fault) → for ≡ form
-    → IsWideIfBegun r for entries → IsWideIfBegun r form entries
-kept_wide form for entries r is wide = rw is at wide
-
-pub kept_short_wide : (form for : Form) (entries : List Entry) (f : Fault) → for ≡ form
-    → IsWideIfBegun (Err f) for entries → f ≡ fault.WriteFailed → IsWideForm form entries
-kept_short_wide form for entries f is wide failed =
-    subst (λ (x : Fault). IsWideIfBegun (Err x) form entries) failed (kept_wide form for entries (Err f) is wide)
-
-pub kept_faults : (form for : Form) (f : Fault) → for ≡ form → IsOfPrinting for f → IsOfListing f × IsOfAuction form f
-kept_faults form for f is h = printing_after form f (rw is at h)
+pub kept_wide : (form for : Form) (entries : List Entry) → for ≡ form → IsWideForm for entries
+    → IsWideForm form entries
+kept_wide form for entries is wide = rw is at wide

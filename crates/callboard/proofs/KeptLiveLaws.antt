@@ -1,5 +1,7 @@
 -- A session whose commands are kept.
-use Rattle.std.proofs.Common.{◌≡◌, ◌<◌, ◌≤◌, ℕ, Bool, true, false, Some, Result, Ok, Err, refl, inl, inr, arith}
+use Rattle.std.proofs.Common.{◌≡◌, ◌<◌, ◌≤◌, ℕ, Bool, true, false, Some, None, Result, Ok, Err, IfOk, refl, inl, inr}
+use Rattle.std.proofs.Common.{IfErr, arith}
+use Rattle.auction.specs.ConfigFault.{open_fault}
 use Rattle.auction_terms.specs.Auxiliary.RunningAuction.{RunningAuction}
 use Rattle.byte_streams.specs.declared.sink.Sink as sink
 use Rattle.byte_streams.specs.declared.source.Source as source
@@ -7,7 +9,9 @@ use Rattle.journal.specs.declared.day.DayHeader.{DayHeader}
 use Rattle.journal_file.specs.declared.file.OpenFileFault.TheVariants.{Busy, Failed, Foreign, NotRegular, Stream}
 use Rattle.journal_file.specs.declared.file.OpenFileFault.TheVariants.{Shared}
 use Rattle.journal_file.specs.declared.journal.CommittedLines.{CommittedLines}
-use Rattle.kept_session.specs.KeptRun.{KeptEnds, RunsKept, ends_at, kept_ends}
+use Rattle.kept_session.specs.Begun.{HasBegun}
+use Rattle.kept_session.specs.KeptRun.{KeptEnds, ends_at, kept_ends}
+use Rattle.kept_session.specs.declared.beginning.Begun.{Begun}
 use Rattle.kept_session.specs.declared.fault.BeginFault.{BeginFault}
 use Rattle.kept_session.specs.declared.fault.BeginFault.TheVariants as begin
 use Rattle.kept_session.specs.declared.fault.ResumeFault.{ResumeFault}
@@ -19,7 +23,8 @@ use Rattle.live_session.specs.declared.fault.LiveFault.{LiveFault}
 use Rattle.live_session.specs.declared.terms.SessionTerms.{SessionTerms}
 use Rattle.settings.specs.declared.types.JournalFile.{JournalFile}
 use Rattle.callboard.specs.FileRun.{ends_of}
-use Rattle.callboard.specs.KeptLive.{EndsWithStatus, HasClosed, IsBegunFor, IsReason, JournalFiles, RunsKeptSession}
+use Rattle.callboard.specs.KeptLive.{EndsWithStatus, IsBegunFor, IsReason, IsRefusedOn, JournalFiles, RunsKeptSession}
+use Rattle.callboard.specs.KeptLive.{RunsToEnd}
 use Rattle.callboard.specs.KeptLive.{begin_status, kept_status, resume_status}
 use Rattle.callboard.specs.LiveRun.{terms_of}
 use Rattle.callboard.specs.declared.keeping.KeptFault.{KeptFault}
@@ -80,6 +85,25 @@ failed-write terms start before after (Ok ending) true status h is f =
     let same = h.answered.writes in absurd (omega (arith, same, f))
 failed-write terms start before after (Err fault) true status h is f = is
 
+module _ {D : Type 0} (files : JournalFiles D) (file : JournalFile) (day : DayHeader) where
+  -- it began on a file that was opened, or didn't
+  pub begun-for : (r : Result (Begun D) KeptFault) (opened : D) → open_fault day.config ≡ None
+      → files.Opens file opened
+      → IfOk r (λ begun. HasBegun files.device day opened begun.journal begun.auction begun.cut)
+      → IfOk r (λ begun. IsBegunFor files file day begun.journal begun.auction)
+  begun-for (Ok begun) opened opens was_opened h =
+      record { opens = opens; device = opened; cut = begun.cut; opened = was_opened; begun = h }
+  begun-for (Err f) opened opens was_opened h = tt
+
+  pub refused-on : (r : Result (Begun D) KeptFault) (opened : D) → open_fault day.config ≡ None
+      → files.Opens file opened → IfErr r (IsRefusedOn files.device day opened files.left)
+      → IfErr r (IsReason files file day)
+  refused-on (Ok begun) opened opens was_opened h = tt
+  refused-on (Err (kept.Day f)) opened opens was_opened h = absurd h
+  refused-on (Err (kept.Opening f)) opened opens was_opened h = absurd h
+  refused-on (Err (kept.Begin f)) opened opens was_opened (last, left, why) =
+      record { opens = opens; device = opened; opened = was_opened; last = last; left = left; why = why }
+
 module _ {D : Type 0} (files : JournalFiles D) (file : JournalFile) (day : DayHeader) (reserve : ℕ) {R O : Type 0}
     (reads : source.Ghosts R) (writes : sink.Ghosts O) where
   -- it didn't begin
@@ -104,39 +128,37 @@ module _ {D : Type 0} (files : JournalFiles D) (file : JournalFile) (day : DayHe
 
   -- it ran
   pub ran-kept : (reader last_reader : R) (out last_out : O) (start : RunningAuction)
-      (journal last closed : CommittedLines D)
-      (ended : Result Ending LiveFault) (is_closed : Bool) (status : ℕ) → IsBegunFor files file day journal start
-      → RunsKept files.device.seen files.device.may_leave files.device.moment files.device.left_since
-      files.device.faults (terms_of day reserve) start journal last
+      (journal closed : CommittedLines D) (status : ℕ) → IsBegunFor files file day journal start
+      → RunsToEnd files.device (terms_of day reserve) start journal closed.device
       (ends_at (reads.left reader) (writes.written out) (reads.failures reader) (writes.failures out))
       (ends_at (reads.left last_reader) (writes.written last_out) (reads.failures last_reader)
-      (writes.failures last_out)) ended
-      → HasClosed files.device ended last.device closed.device is_closed → files.left ≡ Some closed.device
-      → EndsWithStatus ended is_closed status
+      (writes.failures last_out)) status → files.left ≡ Some closed.device
       → RunsKeptSession files file day reserve (ends_of reads writes reader last_reader out last_out) status
-  ran-kept reader last_reader out last_out start journal last closed ended is_closed status begun ran closing left is =
+  ran-kept reader last_reader out last_out start journal closed status begun ran left =
       record {
         came = inr (record {
           start = start;
           journal = journal;
           begun = begun;
-          ended = ended;
-          last = last;
+          ended = ran.ended;
+          last = ran.last;
           reads = reads.failures reader;
           reads_after = reads.failures last_reader;
           writes = writes.failures out;
           writes_after = writes.failures last_out;
-          session = ran;
+          session = ran.session;
           read_failed = (λ f. f, λ f. f);
           write_failed = (λ f. f, λ f. f);
-          is_closed = is_closed;
+          is_closed = ran.is_closed;
           closed = closed;
-          closing = closing;
+          closing = ran.closing;
           left = left;
-          status_is = is;
+          status_is = ran.status_is;
         });
-        quiet = λ two. absurd (never-two ended is_closed status is two);
-        read_failed = λ f. failed-read (terms_of day reserve) start _ _ ended is_closed status ran.session is f;
-        write_failed = λ f. failed-write (terms_of day reserve) start _ _ ended is_closed status ran.session is f;
-        small = ended-small ended is_closed status is;
+        quiet = λ two. absurd (never-two ran.ended ran.is_closed status ran.status_is two);
+        read_failed = λ f. failed-read (terms_of day reserve) start _ _ ran.ended ran.is_closed status
+            ran.session.session ran.status_is f;
+        write_failed = λ f. failed-write (terms_of day reserve) start _ _ ran.ended ran.is_closed status
+            ran.session.session ran.status_is f;
+        small = ended-small ran.ended ran.is_closed status ran.status_is;
       }

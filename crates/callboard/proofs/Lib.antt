@@ -11,3 +11,5 @@ pub mod KeptLiveLaws
 pub mod ServedLaws
 pub mod BlockRunLaws
 pub mod FileSaidLaws
+pub mod EntriesHeardLaws
+pub mod ComingLaws

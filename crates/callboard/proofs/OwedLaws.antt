@@ -13,16 +13,13 @@ use Rattle.board_terms.specs.declared.closing.Closing.{Closing}
 use Rattle.printed_lines.specs.Tally.{history_lines, tally}
 use Rattle.settings.specs.declared.types.FloorForm.{FloorForm}
 use Rattle.settings.specs.declared.types.FloorForm.TheVariants as floor
-use Rattle.settings.specs.declared.types.Form.{Form}
-use Rattle.settings.specs.declared.types.Form.TheVariants as forms
 use Rattle.callboard.specs.declared.fault.Fault.{Fault}
 use Rattle.callboard.specs.declared.fault.Fault.TheVariants as fault
 use Rattle.callboard.specs.declared.fault.Finish.{Finish}
-use Rattle.callboard.specs.AuctionRun.{IsOfAuction}
 use Rattle.callboard.specs.BoardRun.{IsDayOf, IsFloorText, IsWideFloor, closed_text}
-use Rattle.callboard.specs.FileRun.{Ends, Job, OpensUnless, IsRunOf, WritesText, WritesByInput}
+use Rattle.callboard.specs.FileRun.{Ends, Job, OpensUnless, IsRunOf, IsWithoutBoard, WritesText, WritesByInput}
 use Rattle.callboard.specs.PlayedDay.{IsOfOpeningOrDay}
-use Rattle.callboard.specs.Printed.{IsOfListing, IsOfPrinting}
+use Rattle.callboard.specs.Printed.{IsOfListing}
 use Rattle.callboard.specs.Status.{RunResult}
 
 -- ---- what a `?` hands on, and what didn't fail
@@ -149,18 +146,9 @@ ran_short job ends run_input finish text r (fault.Open f) same hears read_well t
 ran_short job ends run_input finish text r fault.NotClosed same hears read_well told opens faults after is wrote =
     absurd after
 
--- a fault of printing on an auction
-pub printing_after : (form : Form) (f : Fault) → IsOfPrinting form f → IsOfListing f × IsOfAuction form f
-printing_after forms.Lines fault.WriteFailed h = (tt, refl)
-printing_after forms.Lines fault.NoMemory h = absurd (cc h)
-printing_after forms.Lines (fault.File f) h = absurd (cc h)
-printing_after forms.Lines (fault.Open f) h = absurd (cc h)
-printing_after forms.Lines fault.NotClosed h = absurd (cc h)
-printing_after (forms.Listing listing) fault.WriteFailed h = (tt, tt)
-printing_after (forms.Listing listing) fault.NoMemory h = (tt, tt)
-printing_after (forms.Listing listing) (fault.File f) h = absurd h
-printing_after (forms.Listing listing) (fault.Open f) h = absurd h
-printing_after (forms.Listing listing) fault.NotClosed h = absurd h
+-- a failed write
+pub write-failed : (f : Fault) → f ≡ fault.WriteFailed → IsWithoutBoard f × IsOfListing f
+write-failed f is = (subst IsWithoutBoard (sym is) tt, subst IsOfListing (sym is) tt)
 
 -- what is printed of a closed day is a text of the calls that were given
 pub is_text : (form : FloorForm) (run_input : DayWithCalls) (closing : Closing)

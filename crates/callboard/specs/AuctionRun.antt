@@ -4,11 +4,9 @@ use Rattle.auction.specs.ConfigFault.{open_fault}
 use Rattle.journal.specs.DayWithCalls.{DayWithCalls, run_input}
 use Rattle.journal.specs.declared.day.DayHeader.{DayHeader}
 use Rattle.settings.specs.declared.types.Form.{Form}
-use Rattle.callboard.specs.declared.fault.Fault.{Fault}
-use Rattle.callboard.specs.declared.fault.Fault.TheVariants as fault
 use Rattle.callboard.specs.declared.fault.Finish.TheVariants.{Lawful}
-use Rattle.callboard.specs.FileRun.{Ends, Job, IsRunOf}
-use Rattle.callboard.specs.Printed.{IsOfPrinting, IsWideForm, history_of, printed}
+use Rattle.callboard.specs.FileRun.{Ends, Job, IsRunOf, IsWithoutBoard}
+use Rattle.callboard.specs.Printed.{IsWideForm, history_of, printed}
 use Rattle.callboard.specs.Status.{RunResult}
 
 -- what is printed of a day on which these calls come
@@ -20,12 +18,6 @@ abbrev pub IsRunText : Form → DayWithCalls → List ℕ → Type 0
 IsRunText form run_input text =
     (text ≡ run_text form run_input) × IsWideForm form (history_of run_input.day.config run_input.calls)
 
--- a fault that a run on an auction may have
-abbrev pub IsOfAuction : Form → Fault → Type 0
-IsOfAuction form (fault.File f) = Unit {0}
-IsOfAuction form (fault.Open f) = Unit {0}
-IsOfAuction form f = IsOfPrinting form f
-
 -- the commands of an input, applied to an auction one after the other; it is of this day where it says no other
 abbrev pub auction_job : DayHeader → Form → Job
 auction_job day form = record {
@@ -33,7 +25,7 @@ auction_job day form = record {
   says = run_input day;
   opening = λ run_input. open_fault run_input.day.config;
   Text = λ run_input finish text. (finish ≡ Lawful) × IsRunText form run_input text;
-  Faults = IsOfAuction form;
+  Faults = IsWithoutBoard;
 }
 
 abbrev pub RunsOnAuction : DayHeader → Form → Ends → RunResult → Type 0

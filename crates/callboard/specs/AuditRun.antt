@@ -11,7 +11,7 @@ use Rattle.callboard.specs.declared.fault.Fault.{Fault}
 use Rattle.callboard.specs.declared.fault.Fault.TheVariants as fault
 use Rattle.callboard.specs.declared.fault.Finish.{Finish}
 use Rattle.callboard.specs.declared.fault.Finish.TheVariants.{Incomplete, Lawful, Unlawful}
-use Rattle.callboard.specs.FileRun.{Ends, Job, IsRunOf}
+use Rattle.callboard.specs.FileRun.{Ends, Job, IsRunOf, IsWithoutBoard}
 use Rattle.callboard.specs.Status.{RunResult}
 
 -- A day with an unlawful reply is unlawful. Without one it is lawful where nothing is behind the whole lines of its
@@ -26,12 +26,6 @@ fault_of_audit (File f) = fault.File f
 fault_of_audit (Open f) = fault.Open f
 fault_of_audit WriteFailed = fault.WriteFailed
 
--- an audit keeps no entries, and has no board
-abbrev pub IsOfAudit : Fault → Type 0
-IsOfAudit fault.NoMemory = ⊥
-IsOfAudit fault.NotClosed = ⊥
-IsOfAudit f = Unit {0}
-
 -- the replies in the whole lines of a journal, compared with the lawful ones, with or without the results of its day
 abbrev pub audit_job : Bool → Job
 audit_job results = record {
@@ -41,7 +35,7 @@ audit_job results = record {
   Text = λ copy finish text.
       (finish ≡ finish_of (counts_of (answers_in copy.recorded)).first_unlawful copy.behind)
       × (text ≡ copy_text results copy);
-  Faults = IsOfAudit;
+  Faults = IsWithoutBoard;
 }
 
 abbrev pub RunsAudit : Bool → Ends → RunResult → Type 0

@@ -55,6 +55,12 @@ pub record Job : Type 1 where
   pub Text : Given → Finish → List ℕ → Type 0
   pub Faults : Fault → Type 0
 
+-- A fault that a run without a board may have: of its input, of the day's opening, or of writing.
+abbrev pub IsWithoutBoard : Fault → Type 0
+IsWithoutBoard fault.NoMemory = ⊥
+IsWithoutBoard fault.NotClosed = ⊥
+IsWithoutBoard f = Unit {0}
+
 -- It was opened where there is no reason against it, and was refused for the first, or for refused memory.
 abbrev pub OpensUnless : {X : Type 0} → Option OpenFault → Result X Fault → Type 0
 OpensUnless reason (Err (fault.File f)) = Unit {0}

@@ -10,11 +10,12 @@ use Rattle.auction.specs.ConfigFault.{open_fault}
 use Rattle.auction.specs.declared.OpenFault.TheVariants.{NoMemory}
 use Rattle.auction_terms.specs.Results.{◌>>=◌}
 use Rattle.day_tables.specs.KeptBook.{HasTablesSoFar, HasAllTables}
+use Rattle.day_tables.specs.KeptTrades.{HasTradesSoFar, HasAllTrades}
 use Rattle.printed_lines.specs.KeptText.{kept_text}
 use Rattle.journal.specs.DayWithCalls.{DayWithCalls}
 use Rattle.journal.specs.KeptLines.{HasEntryLines}
 use Rattle.journal.specs.declared.day.DayHeader.{DayHeader}
-use Rattle.order_file.specs.File.{FailsAsWanted}
+use Rattle.order_file.specs.File.{FailsAsWanted, file}
 use Rattle.order_file.specs.declared.fault.FileFault.{FileFault}
 use Rattle.order_file.specs.declared.fault.FileFault.TheVariants as file_fault
 use Rattle.settings.specs.declared.types.Form.{Form}
@@ -25,25 +26,26 @@ use Rattle.callboard.specs.declared.fault.Fault.TheVariants as fault
 use Rattle.callboard.specs.declared.kept.Kept.{Kept}
 use Rattle.callboard.specs.declared.kept.Kept.TheVariants.{Lines, Journal, Trades, Book}
 use Rattle.callboard.specs.declared.kept_day.KeptDay.{KeptDay}
-use Rattle.callboard.specs.Printed.{entries_from, entry_of_call, history_of, reply_in}
+use Rattle.day_tables.specs.AnsweredCalls.{entry_of}
+use Rattle.callboard.specs.Printed.{entries_from, history_of, reply_in}
 
 -- the entry of the auction's next call
 abbrev pub entry_in : RunningAuction → Call → Entry
-entry_in auction call = entry_of_call call (step auction.config auction.state call).1
+entry_in auction call = entry_of call (step auction.config auction.state call).1
 
 -- the form that it is kept for
 abbrev pub form_kept : Kept → Form
 form_kept (Lines replies) = forms.Lines
 form_kept (Journal lines) = forms.Listing listing.Journal
-form_kept (Trades entries) = forms.Listing listing.Trades
+form_kept (Trades trades) = forms.Listing listing.Trades
 form_kept (Book book) = forms.Listing listing.Book
 
--- What is kept is of these entries, after which this is the auction: their replies, their lines in the journal, all of
--- them, or the tables before the uncrosses among them.
+-- What is kept is of these entries, after which this is the auction: their replies, their lines in the journal, what
+-- the table of trades needs of them, or the tables before the uncrosses among them.
 abbrev pub KeepsEntries : Kept → RunningAuction → List Entry → Type 0
 KeepsEntries (Lines replies) auction entries = replies ≡ map reply_in entries
 KeepsEntries (Journal lines) auction entries = HasEntryLines (kept_text lines) entries
-KeepsEntries (Trades kept) auction entries = kept.items ≡ entries
+KeepsEntries (Trades trades) auction entries = HasTradesSoFar trades auction entries
 KeepsEntries (Book book) auction entries = HasTablesSoFar book auction entries
 
 -- What is kept when the auction's next call comes, of the entries before it: those, and of the book the table before
@@ -53,11 +55,11 @@ KeepsUpToCall (Book book) auction entries call =
     HasTablesSoFar book (auction_after_call auction call) (entries ++ entry_in auction call ∷ [])
 KeepsUpToCall kept auction entries call = KeepsEntries kept auction entries
 
--- the same of all entries of a day, and the tables are all
+-- the same of all entries of a day, with its tape and all its tables
 abbrev pub KeepsWholeDay : Kept → Config → List Entry → Type 0
 KeepsWholeDay (Lines replies) config entries = replies ≡ map reply_in entries
 KeepsWholeDay (Journal lines) config entries = HasEntryLines (kept_text lines) entries
-KeepsWholeDay (Trades kept) config entries = kept.items ≡ entries
+KeepsWholeDay (Trades trades) config entries = HasAllTrades trades config entries
 KeepsWholeDay (Book book) config entries = HasAllTables book config entries
 
 -- an auction after these calls
@@ -76,6 +78,13 @@ KeepsCalls AreKept before old new (Ok u) wanted =
     (calls : List Call) × (wanted ≡ Ok calls) × (new ≡ after_calls old calls)
     × AreKept (before ++ entries_from old.config old.state calls)
 KeepsCalls AreKept before old new (Err f) wanted = FailsAsWanted f wanted
+
+-- the same of the calls that an order file says, of which these are the first; where its text is known, of those of it
+abbrev pub KeepsCallsOfText : (List Entry → Type 0) → RunningAuction → RunningAuction → Result (Unit {0}) FileFault
+    → Option (List ℕ) → ℕ → Type 0
+KeepsCallsOfText AreKept old new result text members =
+    (wanted : Result (List Call) FileFault) × KeepsCalls AreKept [] old new result wanted
+    × IfSome text (λ bytes. wanted ≡ file bytes members old.config.max_calls)
 
 -- a day's calls, as what was given to it
 abbrev pub calls_for : DayHeader → Result (List Call) FileFault → Result DayWithCalls FileFault

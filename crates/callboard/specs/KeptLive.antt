@@ -1,5 +1,6 @@
 -- What a session does whose commands are kept in a journal's file.
-use Rattle.std.specs.Prelude.{◌≡◌, ◌<◌, ◌≤◌, ◌⊎◌, ◌↔◌, ℕ, Bool, true, false, Option, Some, None, Result, Err, unwrap_or}
+use Rattle.std.specs.Prelude.{◌≡◌, ◌<◌, ◌≤◌, ◌⊎◌, ◌↔◌, ℕ, List, Bool, true, false, Option, Some, None, Result, Err}
+use Rattle.std.specs.Prelude.{unwrap_or}
 use Rattle.auction.specs.ConfigFault.{open_fault}
 use Rattle.auction.specs.declared.OpenFault.TheVariants.{NoMemory}
 use Rattle.auction_terms.specs.Auxiliary.RunningAuction.{RunningAuction}
@@ -11,7 +12,8 @@ use Rattle.journal_file.specs.declared.file.OpenFileFault.{OpenFileFault}
 use Rattle.journal_file.specs.declared.file.OpenFileFault.TheVariants.{Busy}
 use Rattle.journal_file.specs.declared.journal.CommittedLines.{CommittedLines}
 use Rattle.kept_session.specs.Begun.{HasBegun, HasNotBegun}
-use Rattle.kept_session.specs.KeptRun.{RunsKept, ends_at}
+use Rattle.kept_session.specs.KeptRun.{KeptEnds, RunsKept, ends_at}
+use Rattle.live_session.specs.declared.terms.SessionTerms.{SessionTerms}
 use Rattle.kept_session.specs.declared.fault.BeginFault.{BeginFault}
 use Rattle.kept_session.specs.declared.fault.BeginFault.TheVariants as begin
 use Rattle.kept_session.specs.declared.fault.CutOff.{CutOff}
@@ -83,6 +85,12 @@ pub record IsNotBegunOn {D : Type 0} (files : JournalFiles D) (file : JournalFil
   pub left : files.left ≡ Some last
   pub why : HasNotBegun files.device day device last fault
 
+-- no session begins on a file that was opened: so it is left
+abbrev pub IsRefusedOn : {D : Type 0} → Ghosts D → DayHeader → D → Option D → KeptFault → Type 0
+IsRefusedOn {D = D} device day opened left (kept.Begin f) =
+    (last : D) × (left ≡ Some last) × HasNotBegun device day opened last f
+IsRefusedOn {D = D} device day opened left f = ⊥
+
 -- why a session of this day doesn't begin
 abbrev pub IsReason : {D : Type 0} → JournalFiles D → JournalFile → DayHeader → KeptFault → Type 0
 IsReason files file day (kept.Day f) = f ≡ unwrap_or (open_fault day.config) NoMemory
@@ -102,6 +110,17 @@ pub record HasClosed {D : Type 0} (device : Ghosts D) (ended : Result Ending Liv
       → LeavesOnly device.moment device.left_since old new (Means (committed (device.seen old)))
   pub text : is_closed ≡ true → device.seen new ≡ committed (device.seen old)
   pub why : is_closed ≡ false → (ended ≡ Err CommitFailed) ⊎ (device.faults old < device.faults new)
+
+-- A session that is kept ran to its end, and its journal was closed.
+pub record RunsToEnd {D : Type 0} (device : Ghosts D) (terms : SessionTerms) (start : RunningAuction)
+    (journal : CommittedLines D) (left : D) (before after : List ℕ → ℕ → KeptEnds) (status : ℕ) : Type 0 where
+  pub ended : Result Ending LiveFault
+  pub last : CommittedLines D
+  pub session : RunsKept device.seen device.may_leave device.moment device.left_since device.faults terms start journal
+      last before after ended
+  pub is_closed : Bool
+  pub closing : HasClosed device ended last.device left is_closed
+  pub status_is : EndsWithStatus ended is_closed status
 
 -- The session didn't begin, for this reason: nothing was read, and nothing written.
 pub record HasNotBegunSession {D : Type 0} (files : JournalFiles D) (file : JournalFile) (day : DayHeader) (ends : Ends)

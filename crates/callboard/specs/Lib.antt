@@ -1,3 +1,4 @@
+pub mod EntriesHeard
 pub mod Status
 pub mod FaultLine
 pub mod FileRun

@@ -1,16 +1,13 @@
 -- What is printed of a day, in each form.
-use Rattle.std.specs.Prelude.{◌≡◌, ℕ, List, [], ◌∷◌, map, Result, Ok, Err}
+use Rattle.std.specs.Prelude.{ℕ, List, [], ◌∷◌, map, Result, Ok, Err}
 use Rattle.auction_terms.specs.declared.Call.{Call}
 use Rattle.auction_terms.specs.declared.Config.{Config}
 use Rattle.auction_terms.specs.declared.Entry.{Entry}
 use Rattle.auction_terms.specs.declared.Reply.{Reply}
 use Rattle.auction_terms.specs.Day.{State, opening_state, step}
-use Rattle.byte_streams.specs.Writing.{WritesAll}
-use Rattle.byte_streams.specs.declared.sink.Sink.{Ghosts}
+use Rattle.day_tables.specs.AnsweredCalls.{entry_of}
 use Rattle.day_tables.specs.BookTable.{book_text}
 use Rattle.day_tables.specs.TradeTable.{trades_text}
-use Rattle.day_tables.specs.declared.fault.TableFault.{TableFault}
-use Rattle.day_tables.specs.declared.fault.TableFault.TheVariants.{Open, Write}
 use Rattle.journal.specs.JournalText.{journal_text}
 use Rattle.journal.specs.WideReplies.{AreWide}
 use Rattle.journal.specs.declared.day.DayHeader.{DayHeader}
@@ -24,14 +21,11 @@ use Rattle.callboard.specs.declared.fault.Fault.TheVariants as fault
 
 -- ---- a day's entries
 
-abbrev pub entry_of_call : Call → Reply → Entry
-entry_of_call call reply = record { member = call.member; command = call.command; reply = reply }
-
 -- calls from a state on, each with its reply
 abbrev pub entries_from : Config → State → List Call → List Entry
 entries_from config state [] = []
 entries_from config state (call ∷ calls) =
-    entry_of_call call (step config state call).1 ∷ entries_from config (step config state call).0 calls
+    entry_of call (step config state call).1 ∷ entries_from config (step config state call).0 calls
 
 -- the history of a day on which these calls come, in this order
 abbrev pub history_of : Config → List Call → List Entry
@@ -64,12 +58,6 @@ abbrev pub IsWideForm : Form → List Entry → Type 0
 IsWideForm forms.Lines entries = Unit {0}
 IsWideForm (forms.Listing listing) entries = IsWideListing listing entries
 
--- in one of which at least a beginning was written
-abbrev pub IsWideIfBegun : Result (Unit {0}) Fault → Form → List Entry → Type 0
-IsWideIfBegun (Ok done) form entries = IsWideForm form entries
-IsWideIfBegun (Err fault.WriteFailed) form entries = IsWideForm form entries
-IsWideIfBegun (Err f) form entries = Unit {0}
-
 -- ---- the faults of printing
 
 -- a fault of printing a day that is over
@@ -78,13 +66,8 @@ IsOfListing fault.NoMemory = Unit {0}
 IsOfListing fault.WriteFailed = Unit {0}
 IsOfListing f = ⊥
 
--- a listing takes memory, lines take none
-abbrev pub IsOfPrinting : Form → Fault → Type 0
-IsOfPrinting forms.Lines f = f ≡ fault.WriteFailed
-IsOfPrinting (forms.Listing listing) f = IsOfListing f
-
--- A listing was written, or at a failing write a beginning of it, and nothing where it wasn't begun.
-abbrev pub WritesTable : {S : Type 0} → Ghosts S → S → S → Result (Unit {0}) TableFault → List ℕ → Type 0
-WritesTable sink old new (Ok done) text = WritesAll sink old new (Ok done) text
-WritesTable sink old new (Err (Write failed)) text = WritesAll sink old new (Err failed) text
-WritesTable sink old new (Err (Open fault)) text = new ≡ old
+-- it is so where at least a beginning was written
+abbrev pub IfBegun : Result (Unit {0}) Fault → Type 0 → Type 0
+IfBegun (Ok done) IsSo = IsSo
+IfBegun (Err fault.WriteFailed) IsSo = IsSo
+IfBegun (Err f) IsSo = Unit {0}

@@ -8,19 +8,21 @@ ghost use Rattle.callboard.specs.BoardRun.{IsAuditFinding, IsDayOf, IsWideFloor,
 ghost use Rattle.callboard.specs.BoardRun.{closing_text};
 ghost use Rattle.callboard.specs.FileRun.{OpensUnless, WritesText, ends_of};
 ghost use Rattle.callboard.specs.PlayedDay.{IsOfOpeningOrDay};
-ghost use Rattle.callboard.specs.Printed.{IsOfListing};
+ghost use Rattle.callboard.specs.Printed.{IfBegun, IsOfListing, IsWideListing, listing_text};
 
 use crate::day::closing_of_day;
 use crate::fault::{Fault, Finish};
-use crate::printing::{ClosingForm, write_closing, write_listing};
+use crate::journals::keep_calls;
+use crate::printing::{ClosingForm, write_closing, write_kept};
 use crate::scripts::split;
 use auction::{AuditFinding, audit};
 use auction_terms::{Call, Config, Entry};
 use byte_streams::{Sink, Source};
+use day_road::History;
 use journal::{DayHeader, read_run_input};
 use member_board::{Closing, Fresh};
 use member_floor::Gate;
-use settings::FloorForm;
+use settings::{FloorForm, Form, Listing};
 use std::alloc::Global;
 use std::marker::Brand;
 use std::sync::Wait;
@@ -88,6 +90,29 @@ fn write_tally<S: Sink>(
     Ok(())
 }
 
+/// Writes a listing of a lawful day with these entries, whose calls are run again as those of an input are. Where
+/// memory is refused nothing is written, and a write that fails leaves a beginning of the text.
+fn write_listing<S: Sink>(
+    alloc: Global,
+    writer: &mut S,
+    listing: Listing,
+    day: DayHeader,
+    entries: &[Entry],
+) -> Result<(), Fault>
+    requires { IsLegal day.config entries.now }
+    ensures text { WritesText (S.written writer.old) (S.written writer.new) (listing_text listing day entries.now)
+        result }
+    ensures failed { IsErrOf result Fault.WriteFailed ↔ (S.failures writer.old < S.failures writer.new) }
+    ensures fault { IfErr result IsOfListing }
+    ensures wide { IfBegun result (IsWideListing listing entries.now) }
+{
+    let mut history = History::new(entries);
+    match keep_calls(alloc, &mut history, day, Form::Listing(listing)) {
+        Ok(mut kept_day) => write_kept(writer, kept_day.day, &mut kept_day.kept),
+        Err(_) => Err(Fault::NoMemory),
+    }
+}
+
 /// Writes what is printed of a closed day: its tally, or a listing in place of that.
 fn write_floor<S: Sink>(
     alloc: Global,
@@ -101,7 +126,7 @@ fn write_floor<S: Sink>(
         (closed_text form day closing.now) result }
     ensures failed { IsErrOf result Fault.WriteFailed ↔ (S.failures writer.old < S.failures writer.new) }
     ensures fault { IfErr result IsOfListing }
-    ensures wide { IsWideFloor form closing.now.history.items }
+    ensures wide { IfBegun result (IsWideFloor form closing.now.history.items) }
 {
     let entries = closing.history.as_slice();
     match form {

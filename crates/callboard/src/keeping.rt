@@ -1,12 +1,16 @@
 //! A live session whose commands are kept in a journal's file.
 
 ghost use Rattle.std.specs.Prelude.{◌≡◌, Err, IfErr, IfOk};
+ghost use Rattle.auction_terms.specs.Auxiliary.RunningAuction.{opened_auction};
 ghost use Rattle.journal_file.specs.Settled.{IsSettled};
 ghost use Rattle.journal_file.specs.declared.file.OpenFileFault.{OpenFileFault};
 ghost use Rattle.live_session.specs.declared.fault.LiveFault.TheVariants.{CommitFailed};
 ghost use Rattle.settings.specs.declared.types.JournalFile.{JournalFile};
 ghost use Rattle.callboard.specs.FileRun.{ends_of};
-ghost use Rattle.callboard.specs.KeptLive.{HasClosed, IsBegunFor, IsReason, RunsKeptSession, files_of};
+ghost use Rattle.kept_session.specs.Begun.{HasBegun};
+ghost use Rattle.kept_session.specs.KeptRun.{ends_at};
+ghost use Rattle.callboard.specs.KeptLive.{HasClosed, IsBegunFor, IsReason, IsRefusedOn, RunsKeptSession, RunsToEnd};
+ghost use Rattle.callboard.specs.KeptLive.{files_of};
 
 use crate::journal_lines::{write_cut, write_ending, write_entries, write_kept_fault};
 use auction::Auction;
@@ -51,6 +55,30 @@ pub enum KeptFault {
     Begin(BeginFault),
 }
 
+/// Begins a session of this day, for which the auction was opened, on a file that was read. Where no session begins on
+/// what it has, the file is left to `left`.
+fn begin_on<D: Device + Drop>(
+    alloc: Global,
+    auction: Auction,
+    opened: OpenedJournal<D>,
+    day: DayHeader,
+    left: &mut Option<D>,
+) -> Result<Begun<D>, KeptFault>
+    requires { auction ≡ opened_auction day.config }
+    ensures begun { IfOk result (λ begun.
+        HasBegun D.Device day opened.device begun.journal begun.auction begun.cut) }
+    ensures refused { IfErr result (IsRefusedOn D.Device day opened.device left.new) }
+{
+    let OpenedJournal { device, bytes } = opened;
+    match begin(alloc, auction, device, bytes.as_slice(), day) {
+        Ok(begun) => Ok(begun),
+        Err(NotBegun { device, fault }) => {
+            *left = Some(device);
+            Err(KeptFault::Begin(fault))
+        }
+    }
+}
+
 /// Begins a session of this day on a file, which isn't opened where no auction can be. Where no session begins on what
 /// it has, the file is left to `left`.
 fn begin_kept<D: Device + Drop, P: OpensJournal<D> + Drop>(
@@ -70,16 +98,9 @@ fn begin_kept<D: Device + Drop, P: OpensJournal<D> + Drop>(
         Ok(auction) => auction,
         Err(fault) => return Err(KeptFault::Day(fault)),
     };
-    let OpenedJournal { device, bytes } = match files.open(alloc, file) {
-        Ok(opened) => opened,
-        Err(fault) => return Err(KeptFault::Opening(fault)),
-    };
-    match begin(alloc, auction, device, bytes.as_slice(), day) {
-        Ok(begun) => Ok(begun),
-        Err(NotBegun { device, fault }) => {
-            *left = Some(device);
-            Err(KeptFault::Begin(fault))
-        }
+    match files.open(alloc, file) {
+        Ok(opened) => begin_on(alloc, auction, opened, day, left),
+        Err(fault) => Err(KeptFault::Opening(fault)),
     }
 }
 
@@ -103,6 +124,29 @@ fn close_journal<D: Device>(
             }
         },
     }
+}
+
+/// Answers each record of the input on this auction, with its command in the journal before its answer is written, and
+/// closes the journal at the end.
+fn run_to_end<R: Source, O: Sink, E: Sink, D: Device>(
+    alloc: Global,
+    reader: &mut R,
+    out: &mut O,
+    err: &mut E,
+    journal: &mut CommittedLines<D>,
+    auction: Auction,
+    terms: SessionTerms,
+) -> u8
+    requires { IsSettled D.seen D.may_leave journal.old }
+    ensures { RunsToEnd D.Device terms auction journal.old journal.new.device
+        (ends_at (R.left reader.old) (O.written out.old) (R.failures reader.old) (O.failures out.old))
+        (ends_at (R.left reader.new) (O.written out.new) (R.failures reader.new) (O.failures out.new)) result }
+{
+    write_entries(err, auction.calls());
+    let mut fault = None;
+    let ended = run_kept(alloc, reader, out, journal, auction, terms, &mut fault);
+    let is_closed = close_journal(journal, ended, &mut fault);
+    write_ending(err, ended, is_closed, fault)
 }
 
 /// Answers each record of the input as soon as its line has ended, with its command in the journal's file before its
@@ -131,14 +175,11 @@ pub fn serve_kept<R: Source, O: Sink, E: Sink, D: Device + Drop, P: OpensJournal
         Err(fault) => return write_kept_fault(err, &fault, file.name, day),
     };
     write_cut(err, file.name, cut);
-    write_entries(err, auction.calls());
     let terms = SessionTerms {
         members: day.members,
         reserve,
     };
-    let mut fault = None;
-    let ended = run_kept(alloc, reader, out, &mut journal, auction, terms, &mut fault);
-    let is_closed = close_journal(&mut journal, ended, &mut fault);
+    let status = run_to_end(alloc, reader, out, err, &mut journal, auction, terms);
     *left = Some(journal.device);
-    write_ending(err, ended, is_closed, fault)
+    status
 }

@@ -1,34 +1,37 @@
 //! What is kept of a day's entries until they are printed.
 
-ghost use Rattle.std.specs.Prelude.{◌≡◌, ◌++◌, ◌∷◌, [], List, IfOk, OnOk};
+ghost use Rattle.std.specs.Prelude.{◌≡◌, ◌++◌, ◌∷◌, [], List, IfOk, OnOk, refl};
+ghost use Rattle.std.proofs.Common.{◌∙◌};
 ghost use Rattle.auction_terms.specs.declared.Entry.{Entry};
 ghost use Rattle.auction_terms.specs.Day.{step};
 ghost use Rattle.auction_terms.specs.Auxiliary.RunningAuction.{RunningAuction, auction_after_call, opened_auction};
 ghost use Rattle.callboard.specs.KeptEntries.{KeepsEntries, KeepsUpToCall, KeepsWholeDay, entry_in, form_kept};
-ghost use Rattle.callboard.specs.Printed.{entry_of_call};
+ghost use Rattle.callboard.specs.EntriesHeard.{entries_heard};
+ghost use Rattle.day_tables.specs.AnsweredCalls.{entry_of};
 
 use auction::Auction;
 use auction_terms::{Call, Entry, Reply};
-use day_tables::KeptBook;
+use day_road::Listener;
+use day_tables::{KeptBook, KeptTrades};
 use journal::keep_entry;
 use printed_lines::KeptText;
 use reply_list::ReplyList;
 use settings::{Form, Listing};
 use std::alloc::{AllocError, Global};
 
-/// What a form needs of a day's entries: lines the replies, which are kept in a byte each, a journal its lines,
-/// the trades all entries, and the book its tables.
+/// What a form needs of a day's entries: lines the replies, which are kept in a byte each, a journal its lines, the
+/// trades who entered each order and in which auction each trade was made, and the book its tables.
 #[derive(Drop)]
 pub enum Kept {
     Lines(ReplyList),
     Journal(KeptText),
-    Trades(Vec<Entry>),
+    Trades(KeptTrades),
     Book(KeptBook),
 }
 
 /// The entry of a call that was answered so.
 fn entry_of(call: &Call, reply: &Reply) -> Entry
-    ensures { result ≡ entry_of_call call.now reply.now }
+    ensures { result ≡ entry_of call.now reply.now }
 {
     let Call { member, command } = *call;
     Entry {
@@ -36,14 +39,6 @@ fn entry_of(call: &Call, reply: &Reply) -> Entry
         command,
         reply: *reply,
     }
-}
-
-/// Appends an entry to the others.
-fn keep_whole(entries: &mut Vec<Entry>, entry: Entry) -> Result<(), AllocError>
-    ensures { OnOk result (entries.new.items ≡ entries.old.items ++ entry ∷ []) }
-{
-    entries.push(entry)?;
-    Ok(())
 }
 
 impl Kept {
@@ -56,15 +51,15 @@ impl Kept {
         match form {
             Form::Lines => Ok(Kept::Lines(ReplyList::new(alloc))),
             Form::Listing(Listing::Journal) => Ok(Kept::Journal(KeptText::new(alloc))),
-            Form::Listing(Listing::Trades) => Ok(Kept::Trades(Vec::new(alloc))),
+            Form::Listing(Listing::Trades) => Ok(Kept::Trades(KeptTrades::new(alloc))),
             Form::Listing(Listing::Book) => Ok(Kept::Book(KeptBook::open(alloc, auction)?)),
         }
     }
 
     /// Keeps what its form needs from before the auction's next call: of the book the ladder, where the call is an
     /// uncross that will be accepted. The error is that memory is refused.
-    #[inline]
-    pub fn keep_before(
+    #[inline(always)]
+    fn keep_before(
         &mut self,
         alloc: Global,
         auction: &mut Auction,
@@ -83,8 +78,8 @@ impl Kept {
 
     /// Keeps the entry of a call that the auction answered so, and before which [`Kept::keep_before`] was called. The
     /// error is that memory is refused.
-    #[inline]
-    pub fn keep_reply(&mut self, call: &Call, reply: &Reply) -> Result<(), AllocError>
+    #[inline(always)]
+    fn keep_reply(&mut self, call: &Call, reply: &Reply) -> Result<(), AllocError>
         ensures form { form_kept self.new ≡ form_kept self.old }
         ensures kept { (auction : RunningAuction) (entries : List Entry)
             → reply.now ≡ (step auction.config auction.state call.now).1
@@ -94,7 +89,7 @@ impl Kept {
         match self {
             Kept::Lines(replies) => replies.push(reply),
             Kept::Journal(lines) => keep_entry(lines, entry_of(call, reply)),
-            Kept::Trades(entries) => keep_whole(entries, entry_of(call, reply)),
+            Kept::Trades(trades) => trades.hear(call, reply),
             Kept::Book(_) => Ok(()),
         }
     }
@@ -107,8 +102,36 @@ impl Kept {
             → OnOk result (KeepsWholeDay self.new auction.old.config entries) }
     {
         match self {
+            Kept::Trades(trades) => trades.close(auction),
             Kept::Book(book) => book.close(alloc, auction),
             _ => Ok(()),
         }
+    }
+}
+
+impl Listener for Kept {
+    ghost Hears = { λ k auction heard. KeepsEntries k auction (entries_heard heard) };
+
+    ghost Awaits = { λ k auction heard recording. KeepsUpToCall k auction (entries_heard heard) recording.call };
+
+    ghost Becomes = { λ a b. form_kept b ≡ form_kept a };
+
+    ghost becomes_itself = { λ _. refl };
+
+    ghost becomes_on = { λ _ _ _ h k. k ∙ h };
+
+    #[inline(always)]
+    fn before(
+        &mut self,
+        alloc: Global,
+        auction: &mut Auction,
+        call: &Call,
+    ) -> Result<(), AllocError> {
+        self.keep_before(alloc, auction, call)
+    }
+
+    #[inline(always)]
+    fn hear(&mut self, call: &Call, _text: &[u8], reply: &Reply) -> Result<(), AllocError> {
+        self.keep_reply(call, reply)
     }
 }

@@ -33,6 +33,7 @@ mod hints;
 mod keeping;
 mod live;
 mod refused;
+mod tables;
 
 /// The program's name alone.
 const PLAIN: &[&str] = &["callboard"];

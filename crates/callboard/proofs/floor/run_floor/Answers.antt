@@ -1,8 +1,10 @@
 -- Answers of `run_floor` (src/floor.rt): what the prover left open; rt looks here.
-use Rattle.std.proofs.Common.{arith, refl}
+use Rattle.std.proofs.Common.{Err, arith, refl, subst}
 use Rattle.board_terms.specs.declared.closing.Closing.{Closing}
 use Rattle.journal.specs.DayWithCalls.{day_with_calls}
-use Rattle.callboard.specs.BoardRun.{closed_text}
+use Rattle.callboard.specs.BoardRun.{IsWideFloor, closed_text}
+use Rattle.callboard.specs.Printed.{IfBegun}
+use Rattle.callboard.specs.declared.fault.Fault.{Fault}
 use Rattle.callboard.specs.declared.fault.Fault.TheVariants as fault
 use Rattle.callboard.specs.declared.fault.Finish.TheVariants.{Lawful}
 use Rattle.callboard.proofs.OwedLaws.{ended_between, handed_over, is_text, ran_short, ran_whole, read_well}
@@ -35,7 +37,11 @@ returns-in_err-write_floor g c =
     c.in_ok-run_input.ensures.answer
     (read_well _ c.in_ok-run_input.run_input refl c.in_ok-run_input.ensures.failed)
     c.in_err-write_floor.ensures.failed c.in_ok-closing.ensures.opening tt c.in_err-write_floor.ensures.fault
-    (λ failed. (refl, is_text c.args.form run_input closing day c.in_err-write_floor.ensures.wide))
+    (λ failed. (
+      refl,
+      is_text c.args.form run_input closing day (subst (λ (x : Fault). IfBegun (Err x) (IsWideFloor c.args.form
+          closing.history.items)) failed c.in_err-write_floor.ensures.wide),
+    ))
     c.in_err-write_floor.ensures.text)
 
 pub returns : goal.returns

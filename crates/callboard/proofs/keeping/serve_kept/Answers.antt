@@ -1,5 +1,6 @@
 -- Answers of `serve_kept` (src/keeping.rt): what the prover left open; rt looks here.
-use Rattle.std.proofs.Common.{refl}
+use Rattle.std.proofs.Common.{Some, refl}
+use Rattle.callboard.specs.KeptLive.{files_of}
 use Rattle.callboard.proofs.KeptLiveLaws.{not-begun, ran-kept}
 use Rattle.callboard.proofs.keeping.serve_kept.Goals as goal
 
@@ -11,12 +12,14 @@ returns-in-Err g c =
 pub returns : goal.returns
 returns g c =
     let begun = c.in-Ok.ensures.begun in
-    ran-kept _ _ _ _ g.R.Source g.O.Sink c.args.reader.now _ c.args.out.now _ c.in-Ok.begun.auction
-    c.in-Ok.begun.journal c.run_kept-ended.new.journal c.close_journal-is_closed.new.journal c.run_kept-ended.result
-    c.close_journal-is_closed.result c.write_ending.result (record {
+    let left = Some c.run_to_end-status.new.journal.device in
+    ran-kept
+    (files_of g.D.Device (g.P.OpensJournal.Opens c.args.files) (g.P.OpensJournal.CannotOpen c.args.files) left)
+    c.args.file c.args.day c.args.reserve g.R.Source g.O.Sink c.args.reader.now _ c.args.out.now _ c.in-Ok.begun.auction
+    c.in-Ok.begun.journal c.run_to_end-status.new.journal c.run_to_end-status.result (record {
       opens = begun.opens;
       device = begun.device;
       cut = begun.cut;
       opened = begun.opened;
       begun = begun.begun;
-    }) c.run_kept-ended.ensures c.close_journal-is_closed.ensures refl c.write_ending.ensures
+    }) c.run_to_end-status.ensures refl

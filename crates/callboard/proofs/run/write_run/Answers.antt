@@ -4,10 +4,9 @@ use Rattle.callboard.specs.AuctionRun.{auction_job, run_text}
 use Rattle.callboard.specs.Printed.{history_of}
 use Rattle.callboard.specs.declared.fault.Finish.TheVariants.{Lawful}
 use Rattle.journal.specs.DayWithCalls.{DayWithCalls}
-use Rattle.callboard.proofs.EntriesLaws.{history_legal}
-use Rattle.callboard.proofs.KeptLaws.{kept_faults, kept_refused, kept_short_wide, kept_well, kept_wide, kept_wrote}
+use Rattle.callboard.proofs.KeptLaws.{kept_refused, kept_well, kept_wide, kept_wrote}
 use Rattle.callboard.proofs.KeptLaws.{said_given}
-use Rattle.callboard.proofs.OwedLaws.{handed_over, ran_short, ran_whole, wrote_well}
+use Rattle.callboard.proofs.OwedLaws.{handed_over, ran_short, ran_whole, write-failed, wrote_well}
 use Rattle.callboard.proofs.run.write_run.Goals as goal
 
 pub returns-in-Err : goal.returns-in-Err
@@ -20,7 +19,7 @@ pub write_kept-requires : goal.write_kept-requires
 write_kept-requires g c =
     let (form, said, keeps) = c.requires in
     let (calls, is, (for, opens, few, holds)) = rw c.in-Ok.is at keeps in
-    (_, holds, history_legal c.in-Ok.kept_day.day.config calls few)
+    (_, holds)
 
 pub returns-in_err-write_kept : goal.returns-in_err-write_kept
 returns-in_err-write_kept g c = λ day form left rest reads reads_after (said, keeps, known) told.
@@ -29,15 +28,12 @@ returns-in_err-write_kept g c = λ day form left rest reads reads_after (said, k
     let (calls, is, (for, opens, few, holds)) = rw c.in-Ok.is at keeps in
     let run_input : DayWithCalls = record { day = kept_day; calls = calls } in
     let entries = history_of kept_day.config calls in
-    let after = kept_faults form _ f for c.in_err-write_kept.ensures.fault in
+    let failed = write-failed f c.in_err-write_kept.ensures.fault in
     handed_over _ _ _ f c.from_residual.ensures.1
     (ran_short (auction_job day form) _ run_input Lawful (run_text form run_input) _ f refl
     (said_given day _ said run_input is known)
-    (kept_well _ _ refl (rw c.in-Ok.is at told)) c.in_err-write_kept.ensures.failed opens after.1 after.0
-    (λ failed. (
-      refl,
-      (refl, kept_short_wide form _ entries f for (c.in_err-write_kept.ensures.wide entries holds) failed),
-    ))
+    (kept_well _ _ refl (rw c.in-Ok.is at told)) c.in_err-write_kept.ensures.failed opens failed.0 failed.1
+    (λ _. (refl, (refl, kept_wide form _ entries for (c.in_err-write_kept.ensures.wide entries holds))))
     (kept_wrote form _ run_input (g.S.Sink.written c.args.writer.now) (g.S.Sink.written c.write_kept.new.writer)
     (Err f) for (c.in_err-write_kept.ensures.text entries holds)))
 
@@ -50,6 +46,6 @@ returns g c = λ day form left rest reads reads_after (said, keeps, known) told.
     ran_whole (auction_job day form) _ run_input Lawful (run_text form run_input)
     (said_given day _ said run_input is known)
     (kept_well _ _ refl (rw c.in-Ok.is at told)) (wrote_well _ _ refl c.in_ok-write_kept.ensures.failed) opens
-    (refl, (refl, kept_wide form _ entries (Ok tt) for (c.in_ok-write_kept.ensures.wide entries holds)))
+    (refl, (refl, kept_wide form _ entries for (c.in_ok-write_kept.ensures.wide entries holds)))
     (kept_wrote form _ run_input (g.S.Sink.written c.args.writer.now) (g.S.Sink.written c.write_kept.new.writer)
     (Ok tt) for (c.in_ok-write_kept.ensures.text entries holds))

@@ -7,3 +7,6 @@ use Rattle.callboard.proofs.kept.Kept.open.Goals as goal
 pub returns-in-Listing-Journal-clause-none : goal.returns-in-Listing-Journal-clause-none
 returns-in-Listing-Journal-clause-none c =
     λ fresh. subst (λ (text : List ℕ). HasEntryLines text []) (sym c.new-in-Listing-Journal.ensures) holds-none
+
+pub returns-in-Listing-Trades-clause-none : goal.returns-in-Listing-Trades-clause-none
+returns-in-Listing-Trades-clause-none c = c.new-in-Listing-Trades.ensures c.args.auction.now
