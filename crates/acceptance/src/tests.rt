@@ -21,7 +21,6 @@ mod reading;
 mod refused;
 mod selection;
 mod sums;
-mod tables;
 
 /// The day of a board whose options are left out: ticks from 1 to 1000 and a reference of 200.
 const DAY: Config = Config {

@@ -4,7 +4,7 @@ use Rattle.std.proofs.lemmas.List.Elements.{All-head, All-weaker}
 use Rattle.std.specs.Prelude.{◌==◌, Option, None, Some, IfSome, IsSomeAnd}
 use Rattle.auction_terms.specs.declared.Entry.{Entry}
 use Rattle.board_terms.specs.declared.closing.Closing.{Closing}
-use Rattle.shared_board.specs.BoardViews.{BoardMember, FloorView, IsClosingOf, OpenedBoard, floor_view}
+use Rattle.board_terms.specs.BoardViews.{BoardMember, FloorView, IsClosingOf, OpenedBoard, floor_view}
 use Rattle.auction_c.specs.declared.member_handle.AuctionMember.{AuctionMember}
 use Rattle.auction_c.specs.declared.structs.AuctionEntry.{AuctionEntry}
 use Rattle.auction_c.specs.Entries.{AreEntries}

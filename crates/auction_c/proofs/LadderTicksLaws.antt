@@ -5,7 +5,7 @@ use Rattle.auction_terms.specs.declared.Config.{Config}
 use Rattle.auction_terms.specs.Auxiliary.RunningAuction.{RunningAuction}
 use Rattle.auction_terms.specs.Ladder.{ladder_of}
 use Rattle.auction_terms.proofs.LadderLaws.{length-tick_values}
-use Rattle.shared_board.specs.BoardViews.{ladder_after}
+use Rattle.board_terms.specs.BoardViews.{ladder_after}
 use Rattle.auction_c.specs.Calling.{ladder_now, ticks_of}
 
 pub ticks_now : (a : RunningAuction) → length (ladder_now a).bids ≡ ticks_of a.config

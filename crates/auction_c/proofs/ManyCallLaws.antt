@@ -2,36 +2,37 @@
 use Rattle.std.proofs.Common.{◌≡◌, ◌==◌, ◌∙◌, ℕ, zero, suc, ◌+◌, ◌<◌, ◌≤◌, Bool, true, false, List, length, get_or, set}
 use Rattle.std.proofs.Common.{refl, ap, sym, subst, arith, get_or-set_same, get_or-set_other, length-set}
 use Rattle.std.proofs.lemmas.Bool.{eqb-true, eqb-false}
-use Rattle.shared_board.specs.BoardViews.{BoardMember}
+use Rattle.board_terms.specs.BoardViews.{BoardMember}
 use Rattle.auction_c.specs.declared.structs.AuctionCommand.{AuctionCommand}
 use Rattle.auction_c.specs.declared.structs.AuctionReceipt.{AuctionReceipt}
 use Rattle.auction_c.specs.ManyCalls.{IsSameFrom, RecordsFirst, RecordsStruct}
 
 -- a receipt written behind the first ones changes nothing of them
-pub recorded_before : (n : ℕ) (commands : List AuctionCommand) (receipts : List AuctionReceipt) (i : ℕ)
-    (v : AuctionReceipt) (old new : BoardMember) → n ≤ i → RecordsFirst n commands receipts old new
-    → RecordsFirst n commands (set receipts i v) old new
-recorded_before zero commands receipts i v old new below is = is
-recorded_before (suc n) commands receipts i v old new below is = (
+pub recorded_before : (reserve n : ℕ) (commands : List AuctionCommand) (receipts : List AuctionReceipt) (i : ℕ)
+    (v : AuctionReceipt) (old new : BoardMember) → n ≤ i → RecordsFirst reserve n commands receipts old new
+    → RecordsFirst reserve n commands (set receipts i v) old new
+recorded_before reserve zero commands receipts i v old new below is = is
+recorded_before reserve (suc n) commands receipts i v old new below is = (
   is.0,
-  recorded_before n commands receipts i v old is.0 (omega (arith, below)) is.1,
+  recorded_before reserve n commands receipts i v old is.0 (omega (arith, below)) is.1,
   λ d b.
-      subst (λ (r : AuctionReceipt). RecordsStruct (get_or commands n d) r is.0 new)
+      subst (λ (r : AuctionReceipt). RecordsStruct reserve (get_or commands n d) r is.0 new)
       (sym (get_or-set_other receipts i n v b (λ same. omega (arith, same, below)))) (is.2 d b),
 )
 
 -- one more, whose receipt is written at its place
-pub recorded_more : (commands : List AuctionCommand) (receipts : List AuctionReceipt) (i : ℕ) (v : AuctionReceipt)
-    (old mid new : BoardMember) → i < length receipts → RecordsFirst i commands receipts old mid
-    → ((d : AuctionCommand) → RecordsStruct (get_or commands i d) v mid new)
-    → RecordsFirst (i + 1) commands (set receipts i v) old new
-recorded_more commands receipts i v old mid new within is more =
+pub recorded_more : (reserve : ℕ) (commands : List AuctionCommand) (receipts : List AuctionReceipt) (i : ℕ)
+    (v : AuctionReceipt) (old mid new : BoardMember) → i < length receipts
+    → RecordsFirst reserve i commands receipts old mid
+    → ((d : AuctionCommand) → RecordsStruct reserve (get_or commands i d) v mid new)
+    → RecordsFirst reserve (i + 1) commands (set receipts i v) old new
+recorded_more reserve commands receipts i v old mid new within is more =
     let next : suc i ≡ i + 1 = omega arith in
-    subst (λ (n : ℕ). RecordsFirst n commands (set receipts i v) old new) next (
+    subst (λ (n : ℕ). RecordsFirst reserve n commands (set receipts i v) old new) next (
       mid,
-      recorded_before i commands receipts i v old mid (omega arith) is,
+      recorded_before reserve i commands receipts i v old mid (omega arith) is,
       λ d b.
-          subst (λ (r : AuctionReceipt). RecordsStruct (get_or commands i d) r mid new)
+          subst (λ (r : AuctionReceipt). RecordsStruct reserve (get_or commands i d) r mid new)
           (sym (get_or-set_same receipts i v b within)) (more d),
     )
 

@@ -1,7 +1,7 @@
 -- Commands applied one after another: what the first i of them leave to do.
 use Rattle.std.proofs.Common.{◌≡◌, refl, sym, add-zero, ◌∙◌, ap, subst, ℕ, ◌+◌, ◌<◌, ◌++◌, Bool, true, false}
 use Rattle.std.proofs.Common.{if◌then◌else◌, List, [], ◌∷◌, length, take, drop, get_or, slice_set, Option, Some, None}
-use Rattle.std.proofs.Common.{nat_eq, arith}
+use Rattle.std.proofs.Common.{arith}
 use Rattle.std.proofs.lemmas.List.{append_assoc, drop_more, take-append-drop, length-drop, set-get_or, take_more_set}
 use Rattle.std.proofs.lemmas.List.{drop-set-lt}
 use Rattle.std.proofs.lemmas.Grind.{common_steps}
@@ -11,7 +11,7 @@ use Rattle.auction_c.specs.declared.structs.AuctionCommand.{AuctionCommand}
 use Rattle.auction_c.specs.declared.structs.AuctionReply.{AuctionReply}
 use Rattle.auction_c.specs.Decoding.{command_in}
 use Rattle.auction_c.specs.Calling.{ApplyResult, ApplyAllResult, apply_command, apply_decoded, apply_struct}
-use Rattle.auction_c.specs.Calling.{apply_structs, nothing_applied, one_more}
+use Rattle.auction_c.specs.Calling.{apply_structs, has_none_left, nothing_applied, one_more}
 
 -- after the first i, whose replies are at the head of replies
 abbrev pub so_far : ℕ → List AuctionReply → ApplyAllResult → ApplyAllResult
@@ -24,10 +24,10 @@ so_far i replies rest = record {
 }
 
 -- the first i are applied, and this is the auction and these are the replies
-abbrev pub IsApplied : RunningAuction → List AuctionCommand → List AuctionReply → ℕ → RunningAuction → List AuctionReply
-    → Type 0
-IsApplied a cs rs i now rs_now =
-    apply_structs a cs rs ≡ so_far i rs_now (apply_structs now (drop i cs) (drop i rs_now))
+abbrev pub IsApplied : ℕ → RunningAuction → List AuctionCommand → List AuctionReply → ℕ → RunningAuction
+    → List AuctionReply → Type 0
+IsApplied reserve a cs rs i now rs_now =
+    apply_structs reserve a cs rs ≡ so_far i rs_now (apply_structs reserve now (drop i cs) (drop i rs_now))
 
 -- no more than these were applied
 so_far-nothing : (i error : ℕ) (a : RunningAuction) (rs : List AuctionReply)
@@ -48,22 +48,23 @@ so_far-nothing i error a rs =
           xs;
     }) (take-append-drop i rs)
 
-at_the_end : (a : RunningAuction) (cs : List AuctionCommand) (rs : List AuctionReply) → length cs ≡ 0
-    → apply_structs a cs rs ≡ nothing_applied 0 a rs
-at_the_end a [] rs e = refl
-at_the_end a (c ∷ cs) rs e = absurd (omega (arith, e))
+at_the_end : (reserve : ℕ) (a : RunningAuction) (cs : List AuctionCommand) (rs : List AuctionReply) → length cs ≡ 0
+    → apply_structs reserve a cs rs ≡ nothing_applied 0 a rs
+at_the_end reserve a [] rs e = refl
+at_the_end reserve a (c ∷ cs) rs e = absurd (omega (arith, e))
 
-pub applied_each : (a : RunningAuction) (cs : List AuctionCommand) (rs : List AuctionReply) (i : ℕ)
+pub applied_each : (reserve : ℕ) (a : RunningAuction) (cs : List AuctionCommand) (rs : List AuctionReply) (i : ℕ)
     (now : RunningAuction) (rs_now : List AuctionReply)
-    → IsApplied a cs rs i now rs_now → i ≡ length cs → apply_structs a cs rs ≡ record {
+    → IsApplied reserve a cs rs i now rs_now → i ≡ length cs → apply_structs reserve a cs rs ≡ record {
       error = 0;
       applied =
           i;
       auction = now;
       replies = rs_now;
     }
-applied_each a cs rs i now rs_now so end =
-    so ∙ ap (so_far i rs_now) (at_the_end now (drop i cs) (drop i rs_now) (omega (arith, end, length-drop i cs)))
+applied_each reserve a cs rs i now rs_now so end =
+    so ∙ ap (so_far i rs_now)
+    (at_the_end reserve now (drop i cs) (drop i rs_now) (omega (arith, end, length-drop i cs)))
     ∙ so_far-nothing i 0 now rs_now
 
 -- ---- an error changes nothing
@@ -76,56 +77,57 @@ if-error : (b : Bool) (x y : ApplyResult) → y.error ≡ 0 → ((if b then x el
 if-error true x y done fails = refl
 if-error false x y done fails = absurd (fails done)
 
-command_kept : (a : RunningAuction) (member : ℕ) (c : Command) (r : AuctionReply)
-    → ((apply_command a member c r).error ≡ 0 → ⊥) → IsUnchanged a r (apply_command a member c r)
-command_kept a member c r fails =
-    subst (IsUnchanged a r) (sym (if-error (nat_eq a.calls a.config.max_calls) _ _ refl fails)) (refl, refl)
+command_kept : (reserve : ℕ) (a : RunningAuction) (member : ℕ) (c : Command) (r : AuctionReply)
+    → ((apply_command reserve a member c r).error ≡ 0 → ⊥) → IsUnchanged a r (apply_command reserve a member c r)
+command_kept reserve a member c r fails =
+    subst (IsUnchanged a r) (sym (if-error (has_none_left reserve a member) _ _ refl fails)) (refl, refl)
 
-decoded_kept : (a : RunningAuction) (member : ℕ) (c : Option Command) (r : AuctionReply)
-    → ((apply_decoded a member c r).error ≡ 0 → ⊥) → IsUnchanged a r (apply_decoded a member c r)
-decoded_kept a member None r fails = (refl, refl)
-decoded_kept a member (Some c) r fails = command_kept a member c r fails
+decoded_kept : (reserve : ℕ) (a : RunningAuction) (member : ℕ) (c : Option Command) (r : AuctionReply)
+    → ((apply_decoded reserve a member c r).error ≡ 0 → ⊥) → IsUnchanged a r (apply_decoded reserve a member c r)
+decoded_kept reserve a member None r fails = (refl, refl)
+decoded_kept reserve a member (Some c) r fails = command_kept reserve a member c r fails
 
-apply_structs-halts : (a : RunningAuction) (c : AuctionCommand) (cs : List AuctionCommand) (r : AuctionReply)
-    (rs : List AuctionReply) → ((apply_struct a c r).error ≡ 0 → ⊥)
-    → apply_structs a (c ∷ cs) (r ∷ rs) ≡ nothing_applied (apply_struct a c r).error a (r ∷ rs)
-apply_structs-halts a c cs r rs fails = grind (arith, common_steps, fails)
+apply_structs-halts : (reserve : ℕ) (a : RunningAuction) (c : AuctionCommand) (cs : List AuctionCommand)
+    (r : AuctionReply) (rs : List AuctionReply) → ((apply_struct reserve a c r).error ≡ 0 → ⊥)
+    → apply_structs reserve a (c ∷ cs) (r ∷ rs) ≡ nothing_applied (apply_struct reserve a c r).error a (r ∷ rs)
+apply_structs-halts reserve a c cs r rs fails = grind (arith, common_steps, fails)
 
 -- the next one has an error
-pub applied_some : (a : RunningAuction) (cs : List AuctionCommand) (rs : List AuctionReply) (i : ℕ)
+pub applied_some : (reserve : ℕ) (a : RunningAuction) (cs : List AuctionCommand) (rs : List AuctionReply) (i : ℕ)
     (now : RunningAuction) (rs_now : List AuctionReply) (dc : AuctionCommand) (dr : AuctionReply) (error : ℕ)
     (after : RunningAuction) (reply : AuctionReply)
-    → IsApplied a cs rs i now rs_now → i < length cs → i < length rs_now → (error ≡ 0 → ⊥)
-    → error ≡ (apply_struct now (get_or cs i dc) (get_or rs_now i dr)).error
-    → after ≡ (apply_struct now (get_or cs i dc) (get_or rs_now i dr)).auction
-    → reply ≡ (apply_struct now (get_or cs i dc) (get_or rs_now i dr)).reply
-    → apply_structs a cs rs ≡ record { error = error; applied = i; auction = after; replies = slice_set rs_now i reply }
-applied_some a cs rs i now rs_now dc dr error after reply so in_cs in_rs fails is_error is_after is_reply =
+    → IsApplied reserve a cs rs i now rs_now → i < length cs → i < length rs_now → (error ≡ 0 → ⊥)
+    → error ≡ (apply_struct reserve now (get_or cs i dc) (get_or rs_now i dr)).error
+    → after ≡ (apply_struct reserve now (get_or cs i dc) (get_or rs_now i dr)).auction
+    → reply ≡ (apply_struct reserve now (get_or cs i dc) (get_or rs_now i dr)).reply
+    → apply_structs reserve a cs rs
+    ≡ record { error = error; applied = i; auction = after; replies = slice_set rs_now i reply }
+applied_some reserve a cs rs i now rs_now dc dr error after reply so in_cs in_rs fails is_error is_after is_reply =
     let c = get_or cs i dc in let r = get_or rs_now i dr in
-    let wrong : (apply_struct now c r).error ≡ 0 → ⊥ = λ z. fails (is_error ∙ z) in
-    let same = decoded_kept now c.member (command_in c) r wrong in
+    let wrong : (apply_struct reserve now c r).error ≡ 0 → ⊥ = λ z. fails (is_error ∙ z) in
+    let same = decoded_kept reserve now c.member (command_in c) r wrong in
     let rest : drop i rs_now ≡ r ∷ drop (i + 1) rs_now = drop_more rs_now i dr in_rs in
-    let here : apply_structs now (drop i cs) (drop i rs_now) ≡ nothing_applied (apply_struct now c r).error now
-    (drop i rs_now) =
-    ap (λ xs. apply_structs now xs (drop i rs_now)) (drop_more cs i dc in_cs)
-    ∙ ap (λ xs. apply_structs now (c ∷ drop (i + 1) cs) xs) rest
-    ∙ apply_structs-halts now c (drop (i + 1) cs) r (drop (i + 1) rs_now) wrong
-    ∙ ap (nothing_applied (apply_struct now c r).error now) (sym rest) in
+    let here : apply_structs reserve now (drop i cs) (drop i rs_now)
+    ≡ nothing_applied (apply_struct reserve now c r).error now (drop i rs_now) =
+    ap (λ xs. apply_structs reserve now xs (drop i rs_now)) (drop_more cs i dc in_cs)
+    ∙ ap (λ xs. apply_structs reserve now (c ∷ drop (i + 1) cs) xs) rest
+    ∙ apply_structs-halts reserve now c (drop (i + 1) cs) r (drop (i + 1) rs_now) wrong
+    ∙ ap (nothing_applied (apply_struct reserve now c r).error now) (sym rest) in
     let same_after : now ≡ after = sym (is_after ∙ same.0) in
     let same_reply : rs_now ≡ slice_set rs_now i reply =
     sym (ap (slice_set rs_now i) (is_reply ∙ same.1) ∙ set-get_or rs_now i dr) in
-    so ∙ ap (so_far i rs_now) here ∙ so_far-nothing i (apply_struct now c r).error now rs_now
+    so ∙ ap (so_far i rs_now) here ∙ so_far-nothing i (apply_struct reserve now c r).error now rs_now
     ∙ ap (λ (n : ℕ). record { error = n; applied = i; auction = now; replies = rs_now }) (sym is_error)
     ∙ ap (λ (b : RunningAuction). record { error = error; applied = i; auction = b; replies = rs_now }) same_after
     ∙ ap (λ (xs : List AuctionReply). record { error = error; applied = i; auction = after; replies = xs }) same_reply
 
 -- ---- one more is applied
 
-apply_structs-goes_on : (a : RunningAuction) (c : AuctionCommand) (cs : List AuctionCommand) (r : AuctionReply)
-    (rs : List AuctionReply) → (apply_struct a c r).error ≡ 0
-    → apply_structs a (c ∷ cs) (r ∷ rs)
-    ≡ one_more (apply_struct a c r).reply (apply_structs (apply_struct a c r).auction cs rs)
-apply_structs-goes_on a c cs r rs done = grind (arith, common_steps, done)
+apply_structs-goes_on : (reserve : ℕ) (a : RunningAuction) (c : AuctionCommand) (cs : List AuctionCommand)
+    (r : AuctionReply) (rs : List AuctionReply) → (apply_struct reserve a c r).error ≡ 0
+    → apply_structs reserve a (c ∷ cs) (r ∷ rs)
+    ≡ one_more (apply_struct reserve a c r).reply (apply_structs reserve (apply_struct reserve a c r).auction cs rs)
+apply_structs-goes_on reserve a c cs r rs done = grind (arith, common_steps, done)
 
 one_so_far : (i : ℕ) (rs : List AuctionReply) (reply : AuctionReply) (rest : ApplyAllResult) → i < length rs
     → so_far i rs (one_more reply rest) ≡ so_far (i + 1) (slice_set rs i reply) rest
@@ -149,29 +151,31 @@ one_so_far i rs reply rest within =
       replies = xs;
     }) (sym joined)
 
-pub applied_next : (a : RunningAuction) (cs : List AuctionCommand) (rs : List AuctionReply) (i : ℕ)
+pub applied_next : (reserve : ℕ) (a : RunningAuction) (cs : List AuctionCommand) (rs : List AuctionReply) (i : ℕ)
     (now : RunningAuction) (rs_now : List AuctionReply) (dc : AuctionCommand) (dr : AuctionReply)
     (after : RunningAuction) (reply : AuctionReply)
-    → IsApplied a cs rs i now rs_now → i < length cs → i < length rs_now
-    → (apply_struct now (get_or cs i dc) (get_or rs_now i dr)).error ≡ 0
-    → after ≡ (apply_struct now (get_or cs i dc) (get_or rs_now i dr)).auction
-    → reply ≡ (apply_struct now (get_or cs i dc) (get_or rs_now i dr)).reply
-    → IsApplied a cs rs (i + 1) after (slice_set rs_now i reply)
-applied_next a cs rs i now rs_now dc dr after reply so in_cs in_rs done is_after is_reply =
+    → IsApplied reserve a cs rs i now rs_now → i < length cs → i < length rs_now
+    → (apply_struct reserve now (get_or cs i dc) (get_or rs_now i dr)).error ≡ 0
+    → after ≡ (apply_struct reserve now (get_or cs i dc) (get_or rs_now i dr)).auction
+    → reply ≡ (apply_struct reserve now (get_or cs i dc) (get_or rs_now i dr)).reply
+    → IsApplied reserve a cs rs (i + 1) after (slice_set rs_now i reply)
+applied_next reserve a cs rs i now rs_now dc dr after reply so in_cs in_rs done is_after is_reply =
     let c = get_or cs i dc in let r = get_or rs_now i dr in
     let rest_cs : List AuctionCommand = drop (i + 1) cs in let rest_rs : List AuctionReply = drop (i + 1) rs_now in
-    let here : apply_structs now (drop i cs) (drop i rs_now) ≡ one_more (apply_struct now c r).reply
-    (apply_structs (apply_struct now c r).auction rest_cs rest_rs) =
-    ap (λ xs. apply_structs now xs (drop i rs_now)) (drop_more cs i dc in_cs)
-    ∙ ap (λ xs. apply_structs now (c ∷ rest_cs) xs) (drop_more rs_now i dr in_rs)
-    ∙ apply_structs-goes_on now c rest_cs r rest_rs done in
+    let here : apply_structs reserve now (drop i cs) (drop i rs_now) ≡ one_more (apply_struct reserve now c r).reply
+    (apply_structs reserve (apply_struct reserve now c r).auction rest_cs rest_rs) =
+    ap (λ xs. apply_structs reserve now xs (drop i rs_now)) (drop_more cs i dc in_cs)
+    ∙ ap (λ xs. apply_structs reserve now (c ∷ rest_cs) xs) (drop_more rs_now i dr in_rs)
+    ∙ apply_structs-goes_on reserve now c rest_cs r rest_rs done in
     so ∙ ap (so_far i rs_now) here
-    ∙ one_so_far i rs_now (apply_struct now c r).reply (apply_structs (apply_struct now c r).auction rest_cs rest_rs)
+    ∙ one_so_far i rs_now (apply_struct reserve now c r).reply
+    (apply_structs reserve (apply_struct reserve now c r).auction rest_cs rest_rs)
     in_rs
     ∙ ap
     (λ (p : AuctionReply). so_far (i + 1) (slice_set rs_now i p)
-    (apply_structs (apply_struct now c r).auction rest_cs rest_rs)) (sym is_reply)
-    ∙ ap (λ (b : RunningAuction). so_far (i + 1) (slice_set rs_now i reply) (apply_structs b rest_cs rest_rs))
+    (apply_structs reserve (apply_struct reserve now c r).auction rest_cs rest_rs)) (sym is_reply)
+    ∙ ap (λ (b : RunningAuction). so_far (i + 1) (slice_set rs_now i reply) (apply_structs reserve b rest_cs rest_rs))
     (sym is_after)
-    ∙ ap (λ (xs : List AuctionReply). so_far (i + 1) (slice_set rs_now i reply) (apply_structs after rest_cs xs))
+    ∙ ap
+    (λ (xs : List AuctionReply). so_far (i + 1) (slice_set rs_now i reply) (apply_structs reserve after rest_cs xs))
     (sym (drop-set-lt (i + 1) rs_now i reply (omega arith)))

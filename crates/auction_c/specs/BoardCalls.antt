@@ -10,14 +10,15 @@ use Rattle.auction_terms.specs.declared.Command.{Command}
 use Rattle.auction_terms.specs.declared.Entry.{Entry}
 use Rattle.auction_terms.specs.declared.OpenOrder.{OpenOrder}
 use Rattle.board_terms.specs.Closings.{IsAccount}
-use Rattle.board_terms.specs.CallsAndLooks.{CallsOnce, EndsWithCall, IsLook, SeesFullHistory}
+use Rattle.board_terms.specs.CallsAndLooks.{CallsOnce, EndsWithCall, IsLook}
 use Rattle.board_terms.specs.declared.calls.CallFault.{CallFault}
 use Rattle.board_terms.specs.declared.calls.Receipt.{Receipt}
 use Rattle.board_terms.specs.declared.calls.Shown.{Shown}
 use Rattle.board_terms.specs.declared.closing.Closing.{Closing}
-use Rattle.shared_board.specs.BoardViews.{OpenedBoard, BoardMember, FloorView, IsBehindHistory, IsClosingOf}
-use Rattle.shared_board.specs.BoardViews.{SeesStory, floor_view}
-use Rattle.shared_board.specs.BoardViews.{new_board_members, opened_board, ladder_after, tape_after}
+use Rattle.board_terms.specs.BoardViews.{OpenedBoard, BoardMember, FloorView, IsBehindHistory, IsClosingOf}
+use Rattle.board_terms.specs.BoardViews.{SeesStory, floor_view}
+use Rattle.board_terms.specs.BoardViews.{new_board_members, opened_board, ladder_after, tape_after}
+use Rattle.shared_board.specs.Reserves.{LeavesReserve, SeesNoneLeft}
 use Rattle.auction_c.specs.declared.member_handle.AuctionMember.{AuctionMember}
 use Rattle.auction_c.specs.declared.structs.AuctionDayState.{AuctionDayState}
 use Rattle.auction_c.specs.declared.structs.AuctionEntry.{AuctionEntry}
@@ -39,14 +40,16 @@ receipt_out r = record { reply = reply_out r.reply; number = r.number }
 abbrev pub shown_out : Shown → AuctionShown
 shown_out s = record { display = display_out s.display; calls = s.calls }
 
--- the member's command was recorded once: its receipt was written
-pub record RecordsCall (command : Command) (out : AuctionReceipt) (old new : BoardMember) : Type 0 where
+-- the member's command was recorded once, and as many calls are left as are kept from the member: its receipt was
+-- written
+pub record RecordsCall (reserve : ℕ) (command : Command) (out : AuctionReceipt) (old new : BoardMember) : Type 0 where
   pub receipt : Receipt
   pub receipt_is : out ≡ receipt_out receipt
   pub board : new.board ≡ old.board
   pub call : CallsOnce old.board.config old.view new.view command receipt
   pub history : List Entry
   pub by_history : EndsWithCall old.board.config history old.view.number command receipt
+  pub place : LeavesReserve reserve old.board.config old.view.number receipt.number
 
 -- the member was shown the display after what it has seen now
 pub record ShowsDisplay (out : AuctionShown) (old new : BoardMember) : Type 0 where
@@ -71,9 +74,10 @@ IsLockError error = (error ≡ BUSY) ⊎ (error ≡ CLOSED)
 abbrev pub IsCallError : ℕ → Type 0
 IsCallError error = IsLockError error ⊎ ((error ≡ FULL) ⊎ ((error ≡ BEHIND) ⊎ (error ≡ OVERTAKEN)))
 
--- the member has seen all of a full history, and is else as before
-abbrev pub FindsFull : BoardMember → BoardMember → Type 0
-FindsFull old new = (new.board ≡ old.board) × SeesFullHistory old.board.config old.view new.view
+-- no call is left to the member: it has seen all of a history that is full but for those that are kept from it, and is
+-- else as before
+abbrev pub FindsFull : ℕ → BoardMember → BoardMember → Type 0
+FindsFull reserve old new = (new.board ≡ old.board) × SeesNoneLeft reserve old.board.config old.view new.view
 
 -- the member is behind a legal history of its board that isn't full
 abbrev pub IsBehindBoard : BoardMember → Type 0
@@ -137,10 +141,10 @@ pub record ShowsOrders (listed : RunningAuction → List OpenOrder) (room orders
   pub calls_are : calls ≡ length history
 
 -- where the day is after all calls that the member has seen now
-pub record ShowsState (out : AuctionDayState) (old new : BoardMember) : Type 0 where
+pub record ShowsState (reserve : ℕ) (out : AuctionDayState) (old new : BoardMember) : Type 0 where
   pub history : List Entry
   pub sees : SeesHistory old new history
-  pub state_is : out ≡ state_out (auction_after old.board.config (calls_of history))
+  pub state_is : out ≡ state_out reserve (auction_after old.board.config (calls_of history))
 
 -- the copy is the board's auction after all calls that the member has seen now
 pub record IsClone (copy : RunningAuction) (old new : BoardMember) : Type 0 where
@@ -227,8 +231,9 @@ abbrev pub AreOfBoards : (ℕ → OpenedBoard) → List AuctionMember → Type 0
 AreOfBoards boards handles =
     All (λ (h : AuctionMember). IfSome h.boxed.value (λ (m : BoardMember). m.board ≡ boards m.board.identity)) handles
 
--- each handle holds the member with its place's number, all of one new board of this identity and config
-pub record HoldsNewMembers (identity : ℕ) (config : Config) (handles : List AuctionMember) : Type 0 where
+-- each handle holds the member with its place's number, all of one new board of this identity, config and reserve
+pub record HoldsNewMembers (identity : ℕ) (config : Config) (reserve : ℕ) (handles : List AuctionMember) : Type 0 where
   pub book : Book
   pub boxed : map (λ (h : AuctionMember). h.boxed.value) handles
       ≡ map Some (new_board_members (opened_board identity config (length handles) book) (length handles))
+  pub reserves : All (λ (h : AuctionMember). h.reserve ≡ reserve) handles

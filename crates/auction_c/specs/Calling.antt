@@ -1,6 +1,6 @@
 -- What a call from C does to the auction that its handle holds, and what it answers.
-use Rattle.std.specs.Prelude.{ℕ, ◌+◌, ◌-◌, ◌&&◌, ◌==◌, nat_eq, if◌then◌else◌, List, [], ◌∷◌, length, drop}
-use Rattle.std.specs.Prelude.{Option, Some, None}
+use Rattle.std.specs.Prelude.{ℕ, ◌+◌, ◌-◌, ◌&&◌, ◌||◌, ◌==◌, nat_eq, if◌then◌else◌, List, [], ◌∷◌, length, drop}
+use Rattle.std.specs.Prelude.{Bool, Option, Some, None}
 use Rattle.auction_terms.specs.declared.Command.{Command}
 use Rattle.auction_terms.specs.declared.Config.{Config}
 use Rattle.auction_terms.specs.declared.Trade.{Trade}
@@ -14,6 +14,7 @@ use Rattle.auction_c.specs.declared.errors.TheConstants.{BAD_BOUNDS, BAD_REFEREN
 use Rattle.auction_c.specs.declared.errors.TheConstants.{DONE, NO_COMMAND, FULL, BAD_LENGTH}
 use Rattle.auction_c.specs.declared.errors.TheConstants.{BUSY, BEHIND, CLOSED, OVERTAKEN}
 use Rattle.board_terms.specs.declared.calls.CallFault.TheVariants.{HistoryFull, Behind, Overtaken}
+use Rattle.shared_board.specs.Reserves.{finds_reserve}
 use Rattle.shared_board.specs.declared.member.BoardFault.{BoardFault}
 use Rattle.shared_board.specs.declared.member.BoardFault.TheVariants.{Busy, Closed, Call as CallRefused}
 use Rattle.auction_c.specs.declared.structs.AuctionCommand.{AuctionCommand}
@@ -46,10 +47,14 @@ pub record ApplyResult : Type 0 where
 abbrev pub not_applied : ℕ → RunningAuction → AuctionReply → ApplyResult
 not_applied error a reply = record { error = error; auction = a; reply = reply }
 
--- a command of a member: one step of the day, unless as many were applied as may be
-abbrev pub apply_command : RunningAuction → ℕ → Command → AuctionReply → ApplyResult
-apply_command a member command before =
-    if nat_eq a.calls a.config.max_calls
+-- no call is left to the member: as many commands were applied as may be, or those that are left are the operator's
+abbrev pub has_none_left : ℕ → RunningAuction → ℕ → Bool
+has_none_left reserve a member = nat_eq a.calls a.config.max_calls || finds_reserve reserve a.config member a.calls
+
+-- a command of a member: one step of the day, unless no call is left to it
+abbrev pub apply_command : ℕ → RunningAuction → ℕ → Command → AuctionReply → ApplyResult
+apply_command reserve a member command before =
+    if has_none_left reserve a member
     then not_applied FULL a before
     else record {
       error = DONE;
@@ -57,13 +62,13 @@ apply_command a member command before =
       reply = reply_out (step a.config a.state (call_by member command)).1;
     }
 
-abbrev pub apply_decoded : RunningAuction → ℕ → Option Command → AuctionReply → ApplyResult
-apply_decoded a member None before = not_applied NO_COMMAND a before
-apply_decoded a member (Some command) before = apply_command a member command before
+abbrev pub apply_decoded : ℕ → RunningAuction → ℕ → Option Command → AuctionReply → ApplyResult
+apply_decoded reserve a member None before = not_applied NO_COMMAND a before
+apply_decoded reserve a member (Some command) before = apply_command reserve a member command before
 
 -- the command in the struct
-abbrev pub apply_struct : RunningAuction → AuctionCommand → AuctionReply → ApplyResult
-apply_struct a c before = apply_decoded a c.member (command_in c) before
+abbrev pub apply_struct : ℕ → RunningAuction → AuctionCommand → AuctionReply → ApplyResult
+apply_struct reserve a c before = apply_decoded reserve a c.member (command_in c) before
 
 -- ---- many commands
 
@@ -82,19 +87,20 @@ abbrev pub one_more : AuctionReply → ApplyAllResult → ApplyAllResult
 one_more reply rest = record rest { applied = rest.applied + 1; replies = reply ∷ rest.replies }
 
 -- one after another, up to the first error
-abbrev pub apply_structs : RunningAuction → List AuctionCommand → List AuctionReply → ApplyAllResult
-apply_structs a [] replies = nothing_applied DONE a replies
-apply_structs a (c ∷ cs) [] = nothing_applied DONE a []
-apply_structs a (c ∷ cs) (r ∷ rs) =
-    if (apply_struct a c r).error == DONE
-    then one_more (apply_struct a c r).reply (apply_structs (apply_struct a c r).auction cs rs)
-    else nothing_applied (apply_struct a c r).error a (r ∷ rs)
+abbrev pub apply_structs : ℕ → RunningAuction → List AuctionCommand → List AuctionReply → ApplyAllResult
+apply_structs reserve a [] replies = nothing_applied DONE a replies
+apply_structs reserve a (c ∷ cs) [] = nothing_applied DONE a []
+apply_structs reserve a (c ∷ cs) (r ∷ rs) =
+    if (apply_struct reserve a c r).error == DONE
+    then one_more (apply_struct reserve a c r).reply
+    (apply_structs reserve (apply_struct reserve a c r).auction cs rs)
+    else nothing_applied (apply_struct reserve a c r).error a (r ∷ rs)
 
 -- where there is a reply struct for each command
-abbrev pub apply_all : RunningAuction → List AuctionCommand → List AuctionReply → ApplyAllResult
-apply_all a commands replies =
+abbrev pub apply_all : ℕ → RunningAuction → List AuctionCommand → List AuctionReply → ApplyAllResult
+apply_all reserve a commands replies =
     if nat_eq (length replies) (length commands)
-    then apply_structs a commands replies
+    then apply_structs reserve a commands replies
     else nothing_applied BAD_LENGTH a replies
 
 -- ---- what is shown

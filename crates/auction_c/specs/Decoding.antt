@@ -31,7 +31,13 @@ config_with c range = record {
 
 -- the config in a struct, if there is one
 abbrev pub config_in : AuctionConfig → Option Config
-config_in c = option_map (config_with c) (flagged_in c.has_range c.range)
+config_in c =
+    option_and_then (λ range. option_map (λ reserve. config_with c range) (flagged_in c.has_reserve c.reserve))
+    (flagged_in c.has_range c.range)
+
+-- how many of the day's last calls are the operator's: what a config says, else the usual number
+abbrev pub reserve_in : ℕ → AuctionConfig → ℕ
+reserve_in usual c = if c.has_reserve == 1 then c.reserve else usual
 
 abbrev pub side_in : ℕ → Option Side
 side_in n = if n == 1 then Some Bid else if n == 2 then Some Ask else None

@@ -139,19 +139,20 @@ abbrev pub current_auction_out : Option AuctionKind → ℕ
 current_auction_out None = 0
 current_auction_out (Some kind) = auction_kind_out kind
 
--- where the day is
-abbrev pub state_out : RunningAuction → AuctionDayState
-state_out a = record {
+-- where the day is, of which these last calls are the operator's
+abbrev pub state_out : ℕ → RunningAuction → AuctionDayState
+state_out reserve a = record {
   reference = a.state.reference;
   calls = a.calls;
   calls_left = a.config.max_calls - a.calls;
+  calls_left_to_members = a.config.max_calls - a.calls - reserve;
   auction = current_auction_out a.state.auction;
   in_call = flag_out (is_some a.state.auction);
   extended = flag_out a.state.extended;
 }
 
-abbrev pub config_out : Config → AuctionConfig
-config_out c = record {
+abbrev pub config_out : Config → ℕ → AuctionConfig
+config_out c reserve = record {
   low = c.low;
   high = c.high;
   reference = c.reference;
@@ -159,6 +160,8 @@ config_out c = record {
   max_calls = c.max_calls;
   has_range = flag_out (is_some c.range);
   range = unwrap_or c.range 0;
+  has_reserve = 1;
+  reserve = reserve;
 }
 
 -- a command of a member with this tag and id, and 0 in all else

@@ -1,7 +1,7 @@
 -- What is held once the member was lent.
 use Rattle.std.specs.Borrow.{Lends, MutBor, Fml}
 use Rattle.std.specs.Prelude.{Some}
-use Rattle.shared_board.specs.BoardViews.{BoardMember}
+use Rattle.board_terms.specs.BoardViews.{BoardMember}
 use Rattle.shared_board.specs.contracts.member.SharedMember.{the_row as member_row}
 use Rattle.auction_c.specs.declared.member_box.MemberBox.{MemberBox}
 use Rattle.auction_c.specs.contracts.member_box.MemberBox.{the_row}

@@ -1,6 +1,7 @@
 //! Commands applied, one or many.
 ghost use Rattle.std.specs.Prelude.{◌≡◌, length};
 ghost use Rattle.auction_c.specs.Calling.{apply_struct, apply_structs};
+ghost use Rattle.shared_board.specs.Reserves.{finds_reserve};
 
 use crate::decoding::command_in;
 use crate::encoding::reply_out;
@@ -8,21 +9,33 @@ use crate::errors::{DONE, FULL, NO_COMMAND};
 use crate::structs::{AuctionCommand, AuctionReply};
 use auction::Auction;
 
+// Whether the calls that are left to the day are the operator's, which the member isn't.
+fn finds_reserve(auction: &Auction, reserve: u32, member: u8) -> bool
+    ensures { result ≡ finds_reserve reserve auction.now.config member auction.now.calls }
+{
+    let calls = u64::from(auction.calls()) + u64::from(reserve);
+    member != 0 && u64::from(auction.config().max_calls) <= calls
+}
+
 /// Applies the command, writes the reply, and answers `DONE`. Else it changes nothing, and answers `NO_COMMAND` for a
-/// struct that is none, `FULL` where as many were applied as may be.
+/// struct that is none, `FULL` where no call is left to the member.
 pub(crate) fn apply_one(
     auction: &mut Auction,
+    reserve: u32,
     command: &AuctionCommand,
     reply: &mut AuctionReply,
 ) -> u32
-    ensures error { result ≡ (apply_struct auction.old command.now reply.old).error }
-    ensures auction { auction.new ≡ (apply_struct auction.old command.now reply.old).auction }
-    ensures reply { reply.new ≡ (apply_struct auction.old command.now reply.old).reply }
+    ensures error { result ≡ (apply_struct reserve auction.old command.now reply.old).error }
+    ensures auction { auction.new ≡ (apply_struct reserve auction.old command.now reply.old).auction }
+    ensures reply { reply.new ≡ (apply_struct reserve auction.old command.now reply.old).reply }
 {
     let Some(decoded) = command_in(command) else {
         return NO_COMMAND;
     };
     if auction.is_full() {
+        return FULL;
+    }
+    if finds_reserve(auction, reserve, command.member) {
         return FULL;
     }
     *reply = reply_out(auction.apply(command.member, decoded));
@@ -32,18 +45,19 @@ pub(crate) fn apply_one(
 /// Applies the commands one after another up to the first error, which it answers, and says how many were applied.
 pub(crate) fn apply_each(
     auction: &mut Auction,
+    reserve: u32,
     commands: &[AuctionCommand],
     replies: &mut [AuctionReply],
     applied: &mut usize,
 ) -> u32
     requires { length replies.old ≡ length commands.now }
-    ensures error { result ≡ (apply_structs auction.old commands.now replies.old).error }
-    ensures applied { applied.new ≡ (apply_structs auction.old commands.now replies.old).applied }
-    ensures auction { auction.new ≡ (apply_structs auction.old commands.now replies.old).auction }
-    ensures replies { replies.new ≡ (apply_structs auction.old commands.now replies.old).replies }
+    ensures error { result ≡ (apply_structs reserve auction.old commands.now replies.old).error }
+    ensures applied { applied.new ≡ (apply_structs reserve auction.old commands.now replies.old).applied }
+    ensures auction { auction.new ≡ (apply_structs reserve auction.old commands.now replies.old).auction }
+    ensures replies { replies.new ≡ (apply_structs reserve auction.old commands.now replies.old).replies }
 {
     for i in 0..commands.len() {
-        let error = apply_one(auction, &commands[i], &mut replies[i]);
+        let error = apply_one(auction, reserve, &commands[i], &mut replies[i]);
         if error != DONE {
             *applied = i;
             return error;

@@ -11,9 +11,10 @@ ghost use Rattle.auction_c.specs.Calling.{fault_number, ladder_error, ticks_of};
 ghost use Rattle.auction_c.specs.Decoding as decoded_as;
 ghost use Rattle.auction_c.specs.Encoding as encoded_as;
 ghost use Rattle.auction_c.specs.ManyCalls.{CallsMany, IsSameFrom};
+ghost use Rattle.auction_c.specs.declared.decoding.TheConstants.{BOARD_RESERVE};
 ghost use Rattle.auction_c.specs.declared.errors.TheConstants.{BAD_LENGTH, BEHIND, FULL, NO_MEMBER};
 ghost use Rattle.board_terms.specs.BoardOpening.{board_fault};
-ghost use Rattle.shared_board.specs.BoardViews.{OpenedBoard};
+ghost use Rattle.board_terms.specs.BoardViews.{OpenedBoard};
 
 use crate::board::calling::{call_one, look_one};
 use crate::board::calling_many::call_many;
@@ -21,7 +22,7 @@ use crate::board::cloning::{clone_over_same, cloned};
 use crate::board::closing::close_all;
 use crate::board::opening::{fill, is_in_use};
 use crate::board::showing::{show_entries, show_ladder, show_state, show_trades};
-use crate::decoding::{command_in, config_in};
+use crate::decoding::{BOARD_RESERVE, command_in, config_in, reserve_in};
 use crate::encoding::config_out;
 use crate::errors::{
     BAD_CAPACITY, BAD_LENGTH, DONE, FULL, IN_USE, NO_COMMAND, NO_CONFIG, NO_MEMBER, NO_MEMORY,
@@ -35,7 +36,8 @@ use crate::structs::{
 use std::alloc::Global;
 
 /// Opens a board with as many members as there are handles: each handle then holds the member with its place's number,
-/// from 0. The caller gives each board an identity of its own, which a closing knows its members by.
+/// from 0. The last calls of the day are the operator's, as many as the config says, else `BOARD_RESERVE`. The caller
+/// gives each board an identity of its own, which a closing knows its members by.
 ///
 /// Where a handle holds a member already it answers `IN_USE`. Else it answers `NO_CONFIG` for a struct that is no
 /// config, then `BAD_CAPACITY` for more than 255 handles, then `BAD_BOUNDS`, `BAD_REFERENCE` or `BAD_CAPACITY`, the
@@ -48,7 +50,8 @@ pub extern "C" fn callauction_board_open(
     identity: u64,
 ) -> u32
     ensures done { result ≡ 0 →
-        IsSomeAnd (decoded_as.config_in config.now) (λ c. HoldsNewMembers identity c members.new) }
+        IsSomeAnd (decoded_as.config_in config.now) (λ c.
+        HoldsNewMembers identity c (decoded_as.reserve_in BOARD_RESERVE config.now) members.new) }
     ensures refused { 0 < result → members.new ≡ members.old }
     ensures busy { is_in_use members.old ≡ true → result ≡ IN_USE }
     ensures none { is_in_use members.old ≡ false → IsNone (decoded_as.config_in config.now) → result ≡ NO_CONFIG }
@@ -67,13 +70,14 @@ pub extern "C" fn callauction_board_open(
     let Some(decoded) = config_in(config) else {
         return NO_CONFIG;
     };
-    fill(alloc, members, identity, decoded)
+    let reserve = reserve_in(BOARD_RESERVE, config);
+    fill(alloc, members, identity, decoded, reserve)
 }
 
 /// Calls a command of the handle's member on its board, and writes its receipt. The struct's `member` isn't read.
 ///
 /// It answers `NO_COMMAND` for a struct that is no command, `BUSY` where another call had the board at each try,
-/// `CLOSED`, `FULL`, `BEHIND` or `OVERTAKEN`.
+/// `CLOSED`, `FULL` where no call is left to the member, `BEHIND` or `OVERTAKEN`.
 #[unsafe(no_mangle)]
 pub extern "C" fn callauction_board_call(
     member: &mut AuctionMember,
@@ -81,7 +85,8 @@ pub extern "C" fn callauction_board_call(
     receipt: &mut AuctionReceipt,
 ) -> u32
     ensures done { result ≡ 0 → IsSomeAnd (decoded_as.command_in command.now) (λ c.
-        HoldsAfter (RecordsCall c receipt.new) member.old.boxed.value member.new.boxed.value) }
+        HoldsAfter (RecordsCall member.old.reserve c receipt.new) member.old.boxed.value member.new.boxed.value) }
+    ensures reserve { member.new.reserve ≡ member.old.reserve }
     ensures fault { 0 < result → receipt.new ≡ receipt.old }
     ensures member { 0 < result → result ≢ FULL → member.new.boxed.value ≡ member.old.boxed.value }
     ensures missing { IfNone member.old.boxed.value (result ≡ NO_MEMBER) }
@@ -89,7 +94,8 @@ pub extern "C" fn callauction_board_call(
         IfNone (decoded_as.command_in command.now) (result ≡ NO_COMMAND)) }
     ensures error { IfSome member.old.boxed.value (λ m. IfSome (decoded_as.command_in command.now) (λ c.
         0 < result → IsCallError result)) }
-    ensures full { result ≡ FULL → HoldsAfter FindsFull member.old.boxed.value member.new.boxed.value }
+    ensures full { result ≡ FULL →
+        HoldsAfter (FindsFull member.old.reserve) member.old.boxed.value member.new.boxed.value }
     ensures behind { result ≡ BEHIND → IsSomeAnd member.old.boxed.value IsBehindBoard }
 {
     if !member.is_open {
@@ -98,7 +104,8 @@ pub extern "C" fn callauction_board_call(
     let Some(decoded) = command_in(command) else {
         return NO_COMMAND;
     };
-    call_one(member.boxed.get_mut(), decoded, receipt)
+    let reserve = member.reserve;
+    call_one(member.boxed.get_mut(), decoded, reserve, receipt)
 }
 
 /// Calls commands of the handle's member one after another, each as `callauction_board_call`, up to the first error,
@@ -115,8 +122,9 @@ pub extern "C" fn callauction_board_apply_many(
     applied: &mut usize,
 ) -> u32
     ensures called { IsSome member.old.boxed.value → length receipts.old ≡ length commands.now →
-        HoldsAfter (CallsMany commands.now receipts.new applied.new result)
+        HoldsAfter (CallsMany member.old.reserve commands.now receipts.new applied.new result)
         member.old.boxed.value member.new.boxed.value }
+    ensures reserve { member.new.reserve ≡ member.old.reserve }
     ensures length { IsSome member.old.boxed.value → length receipts.old ≢ length commands.now →
         (result ≡ BAD_LENGTH) × (applied.new ≡ 0) × (member.new.boxed.value ≡ member.old.boxed.value) }
     ensures missing { IfNone member.old.boxed.value
@@ -130,7 +138,8 @@ pub extern "C" fn callauction_board_apply_many(
     if receipts.len() != commands.len() {
         return BAD_LENGTH;
     }
-    call_many(member.boxed.get_mut(), commands, receipts, applied)
+    let reserve = member.reserve;
+    call_many(member.boxed.get_mut(), reserve, commands, receipts, applied)
 }
 
 /// Shows the handle's member how many calls there were, and the display after them. It takes no lock.
@@ -140,6 +149,7 @@ pub extern "C" fn callauction_board_look(
     shown: &mut AuctionShown,
 ) -> u32
     ensures done { result ≡ 0 → HoldsAfter (ShowsDisplay shown.new) member.old.boxed.value member.new.boxed.value }
+    ensures reserve { member.new.reserve ≡ member.old.reserve }
     ensures none { 0 < result → (member.old.boxed.value ≡ None) × (result ≡ NO_MEMBER) }
     ensures fault { 0 < result → (member.new.boxed.value ≡ member.old.boxed.value) × (shown.new ≡ shown.old) }
 {
@@ -162,6 +172,7 @@ pub extern "C" fn callauction_board_ladder(
 ) -> u32
     ensures done { result ≡ 0 → HoldsAfter (ShowsLadder bids.new asks.new market.new calls.new)
         member.old.boxed.value member.new.boxed.value }
+    ensures reserve { member.new.reserve ≡ member.old.reserve }
     ensures fault { 0 < result → member.new.boxed.value ≡ member.old.boxed.value }
     ensures missing { IfNone member.old.boxed.value (result ≡ NO_MEMBER) }
     ensures error { IfSome member.old.boxed.value (λ m. 0 < result →
@@ -189,6 +200,7 @@ pub extern "C" fn callauction_board_trades(
 ) -> u32
     ensures done { result ≡ 0 → HoldsAfter (ShowsTrades seen trades.old trades.new copied.new calls.new)
         member.old.boxed.value member.new.boxed.value }
+    ensures reserve { member.new.reserve ≡ member.old.reserve }
     ensures fault { 0 < result → member.new.boxed.value ≡ member.old.boxed.value }
     ensures missing { IfNone member.old.boxed.value (result ≡ NO_MEMBER) }
     ensures error { IfSome member.old.boxed.value (λ m. 0 < result → IsShowError m result) }
@@ -201,8 +213,8 @@ pub extern "C" fn callauction_board_trades(
 }
 
 /// Makes the other handle hold an auction of its own, a copy of the board's after all calls, which the member has seen
-/// then. Where it holds an auction of the board's bounds and room already, that one is written over, and no memory is
-/// taken.
+/// then, with the board's reserve. Where it holds an auction of the board's bounds and room already, that one is
+/// written over, and no memory is taken.
 ///
 /// Where the other handle holds an auction of other bounds or room it answers `IN_USE`; else `BUSY` or `CLOSED`; else
 /// `NO_MEMORY`, where the other handle holds none and memory is refused; else `BEHIND`.
@@ -214,8 +226,11 @@ pub extern "C" fn callauction_board_clone(
 ) -> u32
     ensures done { result ≡ 0 → IsSomeAnd other.new.boxed.value (λ a.
         HoldsAfter (IsClone a) member.old.boxed.value member.new.boxed.value) }
+    ensures reserve { member.new.reserve ≡ member.old.reserve }
     ensures fault { 0 < result → member.new.boxed.value ≡ member.old.boxed.value }
-    ensures refused { 0 < result → other.new.boxed.value ≡ other.old.boxed.value }
+    ensures copied { result ≡ 0 → other.new.reserve ≡ member.old.reserve }
+    ensures refused { 0 < result →
+        (other.new.boxed.value ≡ other.old.boxed.value) × (other.new.reserve ≡ other.old.reserve) }
     ensures missing { IfNone member.old.boxed.value (result ≡ NO_MEMBER) }
     ensures busy { IfSome member.old.boxed.value (λ m. IfSome other.old.boxed.value (λ a.
         limits.has_same_limits m.board.config a.config ≡ false → result ≡ IN_USE)) }
@@ -227,12 +242,18 @@ pub extern "C" fn callauction_board_clone(
     if !member.is_open {
         return NO_MEMBER;
     }
+    let reserve = member.reserve;
     if other.is_open {
-        return clone_over_same(member.boxed.get_mut(), other.boxed.get_mut());
+        let error = clone_over_same(member.boxed.get_mut(), other.boxed.get_mut());
+        if error != DONE {
+            return error;
+        }
+        other.reserve = reserve;
+        return DONE;
     }
     match cloned(alloc, member.boxed.get_mut()) {
         Ok(copy) => {
-            other.hold_boxed(copy);
+            other.hold_boxed(copy, reserve);
             DONE
         }
         Err(error) => error,
@@ -247,7 +268,8 @@ pub extern "C" fn callauction_board_state(
     state: &mut AuctionDayState,
 ) -> u32
     ensures done { result ≡ 0 →
-        HoldsAfter (ShowsState state.new) member.old.boxed.value member.new.boxed.value }
+        HoldsAfter (ShowsState member.old.reserve state.new) member.old.boxed.value member.new.boxed.value }
+    ensures reserve { member.new.reserve ≡ member.old.reserve }
     ensures fault { 0 < result → member.new.boxed.value ≡ member.old.boxed.value }
     ensures missing { IfNone member.old.boxed.value (result ≡ NO_MEMBER) }
     ensures error { IfSome member.old.boxed.value (λ m. 0 < result → IsShowError m result) }
@@ -256,7 +278,8 @@ pub extern "C" fn callauction_board_state(
     if !member.is_open {
         return NO_MEMBER;
     }
-    show_state(member.boxed.get_mut(), state)
+    let reserve = member.reserve;
+    show_state(member.boxed.get_mut(), reserve, state)
 }
 
 /// Copies the entries of the board's history after the first `seen` of them, as many as there is room for. The member
@@ -270,6 +293,7 @@ pub extern "C" fn callauction_board_history(
 ) -> u32
     ensures done { result ≡ 0 → HoldsAfter (ShowsEntries seen entries.old entries.new copied.new)
         member.old.boxed.value member.new.boxed.value }
+    ensures reserve { member.new.reserve ≡ member.old.reserve }
     ensures fault { 0 < result → member.new.boxed.value ≡ member.old.boxed.value }
     ensures missing { IfNone member.old.boxed.value (result ≡ NO_MEMBER) }
     ensures error { IfSome member.old.boxed.value (λ m. 0 < result → IsShowError m result) }
@@ -286,7 +310,7 @@ pub extern "C" fn callauction_board_history(
 pub extern "C" fn callauction_board_calls(member: &mut AuctionMember, calls: &mut u32) -> u32
     ensures done { result ≡ 0 → IsSomeAnd member.old.boxed.value (λ m. calls.new ≡ m.view.calls) }
     ensures none { 0 < result → (member.old.boxed.value ≡ None) × (result ≡ NO_MEMBER) × (calls.new ≡ calls.old) }
-    ensures member { member.new.boxed.value ≡ member.old.boxed.value }
+    ensures member { (member.new.boxed.value ≡ member.old.boxed.value) × (member.new.reserve ≡ member.old.reserve) }
 {
     if !member.is_open {
         return NO_MEMBER;
@@ -302,14 +326,16 @@ pub extern "C" fn callauction_board_config_of(
     config: &mut AuctionConfig,
 ) -> u32
     ensures done { result ≡ 0 →
-        IsSomeAnd member.old.boxed.value (λ m. config.new ≡ encoded_as.config_out m.board.config) }
+        IsSomeAnd member.old.boxed.value (λ m.
+        config.new ≡ encoded_as.config_out m.board.config member.old.reserve) }
     ensures none { 0 < result → (member.old.boxed.value ≡ None) × (result ≡ NO_MEMBER) × (config.new ≡ config.old) }
-    ensures member { member.new.boxed.value ≡ member.old.boxed.value }
+    ensures member { (member.new.boxed.value ≡ member.old.boxed.value) × (member.new.reserve ≡ member.old.reserve) }
 {
     if !member.is_open {
         return NO_MEMBER;
     }
-    *config = config_out(member.boxed.get_mut().config());
+    let reserve = member.reserve;
+    *config = config_out(member.boxed.get_mut().config(), reserve);
     DONE
 }
 

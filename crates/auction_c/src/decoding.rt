@@ -8,12 +8,15 @@ use auction_terms::{Command, Config, Limit, Restriction, Side};
 /// The number that means all members.
 pub const ALL_MEMBERS: u32 = 256;
 
-fn range_in(flag: u32, range: u32) -> Option<Option<u32>>
-    ensures { result ≡ decoded_as.flagged_in flag range }
+/// How many of a board's last calls are the operator's, where its config doesn't say it.
+pub const BOARD_RESERVE: u32 = 16;
+
+fn flagged_in(flag: u32, value: u32) -> Option<Option<u32>>
+    ensures { result ≡ decoded_as.flagged_in flag value }
 {
     if flag == 1 {
-        Some(Some(range))
-    } else if flag == 0 && range == 0 {
+        Some(Some(value))
+    } else if flag == 0 && value == 0 {
         Some(None)
     } else {
         None
@@ -24,14 +27,27 @@ fn range_in(flag: u32, range: u32) -> Option<Option<u32>>
 pub(crate) fn config_in(config: &AuctionConfig) -> Option<Config>
     ensures { result ≡ decoded_as.config_in config.now }
 {
+    let range = flagged_in(config.has_range, config.range)?;
+    flagged_in(config.has_reserve, config.reserve)?;
     Some(Config {
         low: config.low,
         high: config.high,
         reference: config.reference,
         max_open: config.max_open,
         max_calls: config.max_calls,
-        range: range_in(config.has_range, config.range)?,
+        range,
     })
+}
+
+/// How many of the day's last calls are the operator's: what a config says, else the usual number.
+pub(crate) fn reserve_in(usual: u32, config: &AuctionConfig) -> u32
+    ensures { result ≡ decoded_as.reserve_in usual config.now }
+{
+    if config.has_reserve == 1 {
+        config.reserve
+    } else {
+        usual
+    }
 }
 
 fn side_in(side: u8) -> Option<Side>

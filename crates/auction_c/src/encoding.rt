@@ -1,5 +1,5 @@
 //! Replies, displays, trades and configs as C reads them.
-ghost use Rattle.std.specs.Prelude.{◌≡◌, Some};
+ghost use Rattle.std.specs.Prelude.{◌≡◌, Some, ℕ};
 ghost use Rattle.auction_c.specs.Decoding as decoded_as;
 ghost use Rattle.auction_c.specs.Encoding as encoded_as;
 ghost use Rattle.auction_c.specs.ReadBack.{reply_back};
@@ -217,26 +217,29 @@ fn current_auction_out(current: Option<AuctionKind>) -> u8
     }
 }
 
-/// Where the day of an auction is, as C reads it.
-pub(crate) fn state_out(auction: &Auction) -> AuctionDayState
-    ensures { result ≡ encoded_as.state_out auction.now }
+/// Where the day of an auction is, as C reads it, of which the last `reserve` calls are the operator's.
+pub(crate) fn state_out(auction: &Auction, reserve: u32) -> AuctionDayState
+    ensures { result ≡ encoded_as.state_out reserve auction.now }
 {
     let current = auction.current();
     let calls = auction.calls();
+    let calls_left = auction.config().max_calls - calls;
     AuctionDayState {
         reference: auction.reference(),
         calls,
-        calls_left: auction.config().max_calls - calls,
+        calls_left,
+        calls_left_to_members: calls_left.saturating_sub(reserve),
         auction: current_auction_out(current),
         in_call: u8::from(current.is_some()),
         extended: u8::from(auction.is_extended()),
     }
 }
 
-/// A config as C reads it. It reads back as this config.
-pub(crate) fn config_out(config: Config) -> AuctionConfig
-    ensures value { result ≡ encoded_as.config_out config }
+/// A config and a reserve as C reads them. They read back as these.
+pub(crate) fn config_out(config: Config, reserve: u32) -> AuctionConfig
+    ensures value { result ≡ encoded_as.config_out config reserve }
     ensures reads_back { decoded_as.config_in result ≡ Some config }
+    ensures reserve_back { (usual : ℕ) → decoded_as.reserve_in usual result ≡ reserve }
 {
     AuctionConfig {
         low: config.low,
@@ -246,5 +249,7 @@ pub(crate) fn config_out(config: Config) -> AuctionConfig
         max_calls: config.max_calls,
         has_range: u32::from(config.range.is_some()),
         range: config.range.unwrap_or(0),
+        has_reserve: 1,
+        reserve,
     }
 }

@@ -12,6 +12,8 @@ use std::alloc::Global;
 #[derive(Drop)]
 pub struct AuctionHandle {
     pub(crate) boxed: AuctionBox,
+    /// How many of the day's last calls are the operator's.
+    pub(crate) reserve: u32,
     pub(crate) is_open: bool,
     ghost marked: { is_some boxed.value ≡ is_open },
 }
@@ -19,24 +21,28 @@ pub struct AuctionHandle {
 impl AuctionHandle {
     /// Holds the auction, and answers `DONE`; answers `NO_MEMORY` where there is none for it, and then it holds what it
     /// held.
-    pub(crate) fn hold(&mut self, alloc: Global, auction: Auction) -> u32
+    pub(crate) fn hold(&mut self, alloc: Global, auction: Auction, reserve: u32) -> u32
         ensures done { result ≡ DONE → self.new.boxed.value ≡ Some auction }
-        ensures refused { 0 < result → self.new.boxed.value ≡ self.old.boxed.value }
+        ensures reserve { result ≡ DONE → self.new.reserve ≡ reserve }
+        ensures refused { 0 < result →
+            (self.new.boxed.value ≡ self.old.boxed.value) × (self.new.reserve ≡ self.old.reserve) }
         ensures memory { 0 < result → result ≡ NO_MEMORY }
     {
         let Ok(made) = Box::new(alloc, auction) else {
             return NO_MEMORY;
         };
-        self.hold_boxed(made);
+        self.hold_boxed(made, reserve);
         DONE
     }
 
     /// Holds the auction.
-    pub(crate) fn hold_boxed(&mut self, made: Box<Auction>)
-        ensures { self.new.boxed.value ≡ Some made.value }
+    pub(crate) fn hold_boxed(&mut self, made: Box<Auction>, reserve: u32)
+        ensures value { self.new.boxed.value ≡ Some made.value }
+        ensures reserve { self.new.reserve ≡ reserve }
     {
         *self = AuctionHandle {
             boxed: AuctionBox::of(made),
+            reserve,
             is_open: true,
         };
     }

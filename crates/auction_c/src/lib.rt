@@ -38,8 +38,8 @@ mod structs;
 use applying::{apply_each, apply_one};
 use auction::Auction;
 use copying::{copy_ladder, copy_over, copy_trades};
-pub use decoding::ALL_MEMBERS;
-use decoding::config_in;
+pub use decoding::{ALL_MEMBERS, BOARD_RESERVE};
+use decoding::{config_in, reserve_in};
 use encoding::{config_out, display_out, state_out};
 use errors::fault_out;
 pub use errors::{
@@ -55,7 +55,8 @@ pub use structs::{
     AuctionOrder, AuctionOutcome, AuctionReceipt, AuctionReply, AuctionShown, AuctionTrade,
 };
 
-/// Opens an auction, which the handle then holds: no orders, no trades, no calls, the reference of the config.
+/// Opens an auction, which the handle then holds: no orders, no trades, no calls, the reference of the config. The last
+/// calls of the day are the operator's, as many as the config says, else none.
 ///
 /// Where the handle holds one already it answers `IN_USE`. Else it answers `NO_CONFIG` for a struct that is no config,
 /// then the first fault of the config, `BAD_BOUNDS`, `BAD_REFERENCE` or `BAD_CAPACITY`, and `NO_MEMORY` only where it
@@ -68,7 +69,9 @@ pub extern "C" fn callauction_open(
 ) -> u32
     ensures opened_auction { result ≡ 0 → handle.new.boxed.value ≡
         option_map opened_auction (decoded_as.config_in config.now) }
-    ensures refused { 0 < result → handle.new.boxed.value ≡ handle.old.boxed.value }
+    ensures reserve { result ≡ 0 → handle.new.reserve ≡ decoded_as.reserve_in 0 config.now }
+    ensures refused { 0 < result →
+        (handle.new.boxed.value ≡ handle.old.boxed.value) × (handle.new.reserve ≡ handle.old.reserve) }
     ensures busy { IsSome handle.old.boxed.value → result ≡ IN_USE }
     ensures none { IsNone handle.old.boxed.value → IsNone (decoded_as.config_in config.now) → result ≡ NO_CONFIG }
     ensures fault { IsNone handle.old.boxed.value → IfSome (decoded_as.config_in config.now) (λ c.
@@ -83,15 +86,16 @@ pub extern "C" fn callauction_open(
         return NO_CONFIG;
     };
     match Auction::open(alloc, decoded) {
-        Ok(auction) => handle.hold(alloc, auction),
+        Ok(auction) => handle.hold(alloc, auction, reserve_in(0, config)),
         Err(fault) => fault_out(fault),
     }
 }
 
 /// Applies a command and writes its reply.
 ///
-/// It answers `NO_COMMAND` for a struct that is no command, and `FULL` where as many were applied as may be. A command
-/// that the auction refuses is no error: its reply says so.
+/// It answers `NO_COMMAND` for a struct that is no command, and `FULL` where as many were applied as may be, or those
+/// that are left are the operator's and the command isn't. A command that the auction refuses is no error: its reply
+/// says so.
 #[unsafe(no_mangle)]
 pub extern "C" fn callauction_apply(
     handle: &mut AuctionHandle,
@@ -99,16 +103,20 @@ pub extern "C" fn callauction_apply(
     reply: &mut AuctionReply,
 ) -> u32
     ensures error { result ≡
-        option_map_or (λ a. (apply_struct a command.now reply.old).error) handle.old.boxed.value NO_AUCTION }
+        option_map_or (λ a. (apply_struct handle.old.reserve a command.now reply.old).error)
+        handle.old.boxed.value NO_AUCTION }
     ensures auction { handle.new.boxed.value ≡
-        option_map (λ a. (apply_struct a command.now reply.old).auction) handle.old.boxed.value }
+        option_map (λ a. (apply_struct handle.old.reserve a command.now reply.old).auction) handle.old.boxed.value }
+    ensures reserve { handle.new.reserve ≡ handle.old.reserve }
     ensures reply { reply.new ≡
-        option_map_or (λ a. (apply_struct a command.now reply.old).reply) handle.old.boxed.value reply.old }
+        option_map_or (λ a. (apply_struct handle.old.reserve a command.now reply.old).reply)
+        handle.old.boxed.value reply.old }
 {
     if !handle.is_open {
         return NO_AUCTION;
     }
-    apply_one(handle.boxed.get_mut(), command, reply)
+    let reserve = handle.reserve;
+    apply_one(handle.boxed.get_mut(), reserve, command, reply)
 }
 
 /// Applies commands one after another, each as `callauction_apply`, up to the first error, which it answers. It writes
@@ -123,13 +131,17 @@ pub extern "C" fn callauction_apply_many(
     applied: &mut usize,
 ) -> u32
     ensures error { result ≡
-        option_map_or (λ a. (apply_all a commands.now replies.old).error) handle.old.boxed.value NO_AUCTION }
+        option_map_or (λ a. (apply_all handle.old.reserve a commands.now replies.old).error)
+        handle.old.boxed.value NO_AUCTION }
     ensures applied { applied.new ≡
-        option_map_or (λ a. (apply_all a commands.now replies.old).applied) handle.old.boxed.value 0 }
+        option_map_or (λ a. (apply_all handle.old.reserve a commands.now replies.old).applied)
+        handle.old.boxed.value 0 }
     ensures auction { handle.new.boxed.value ≡
-        option_map (λ a. (apply_all a commands.now replies.old).auction) handle.old.boxed.value }
+        option_map (λ a. (apply_all handle.old.reserve a commands.now replies.old).auction) handle.old.boxed.value }
+    ensures reserve { handle.new.reserve ≡ handle.old.reserve }
     ensures replies { replies.new ≡
-        option_map_or (λ a. (apply_all a commands.now replies.old).replies) handle.old.boxed.value replies.old }
+        option_map_or (λ a. (apply_all handle.old.reserve a commands.now replies.old).replies)
+        handle.old.boxed.value replies.old }
 {
     *applied = 0;
     if !handle.is_open {
@@ -138,7 +150,8 @@ pub extern "C" fn callauction_apply_many(
     if replies.len() != commands.len() {
         return BAD_LENGTH;
     }
-    apply_each(handle.boxed.get_mut(), commands, replies, applied)
+    let reserve = handle.reserve;
+    apply_each(handle.boxed.get_mut(), reserve, commands, replies, applied)
 }
 
 /// Writes what is shown, as a reply with tag 5 or 6. It is no call of a member: it isn't counted.
@@ -146,6 +159,7 @@ pub extern "C" fn callauction_apply_many(
 pub extern "C" fn callauction_display(handle: &mut AuctionHandle, shown: &mut AuctionReply) -> u32
     ensures error { result ≡ option_map_or (λ a. DONE) handle.old.boxed.value NO_AUCTION }
     ensures auction { handle.new.boxed.value ≡ handle.old.boxed.value }
+    ensures reserve { handle.new.reserve ≡ handle.old.reserve }
     ensures shown { shown.new ≡
         option_map_or (λ a. encoded_as.display_out (display a.state)) handle.old.boxed.value shown.old }
 {
@@ -171,6 +185,7 @@ pub extern "C" fn callauction_ladder(
     ensures error { result ≡ option_map_or
         (λ a. ladder_error (ticks_of a.config) (length bids.old) (length asks.old)) handle.old.boxed.value NO_AUCTION }
     ensures auction { handle.new.boxed.value ≡ handle.old.boxed.value }
+    ensures reserve { handle.new.reserve ≡ handle.old.reserve }
     ensures bids { result ≡ 0 → IfSome handle.old.boxed.value (λ a. bids.new ≡ (ladder_now a).bids) }
     ensures asks { result ≡ 0 → IfSome handle.old.boxed.value (λ a. asks.new ≡ (ladder_now a).asks) }
     ensures market { result ≡ 0 → IfSome handle.old.boxed.value (λ a. market.new ≡
@@ -194,6 +209,7 @@ pub extern "C" fn callauction_trades(
 ) -> u32
     ensures error { result ≡ option_map_or (λ a. DONE) handle.old.boxed.value NO_AUCTION }
     ensures auction { handle.new.boxed.value ≡ handle.old.boxed.value }
+    ensures reserve { handle.new.reserve ≡ handle.old.reserve }
     ensures copied { copied.new ≡ min (length (unseen_trades seen handle.old.boxed.value)) (length trades.old) }
     ensures trades { trades.new ≡
         map encoded_as.trade_out (take copied.new (unseen_trades seen handle.old.boxed.value))
@@ -216,6 +232,7 @@ pub extern "C" fn callauction_trades(
 pub extern "C" fn callauction_calls(handle: &mut AuctionHandle, calls: &mut u32) -> u32
     ensures error { result ≡ option_map_or (λ a. DONE) handle.old.boxed.value NO_AUCTION }
     ensures auction { handle.new.boxed.value ≡ handle.old.boxed.value }
+    ensures reserve { handle.new.reserve ≡ handle.old.reserve }
     ensures calls { calls.new ≡ option_map_or (λ a. a.calls) handle.old.boxed.value calls.old }
 {
     if !handle.is_open {
@@ -226,18 +243,20 @@ pub extern "C" fn callauction_calls(handle: &mut AuctionHandle, calls: &mut u32)
 }
 
 /// Writes where the day is: the current auction, whether its call phase was extended, the reference price, and the
-/// calls.
+/// calls, those that are left to the operator and to another member.
 #[unsafe(no_mangle)]
 pub extern "C" fn callauction_state(handle: &mut AuctionHandle, state: &mut AuctionDayState) -> u32
     ensures error { result ≡ option_map_or (λ a. DONE) handle.old.boxed.value NO_AUCTION }
     ensures auction { handle.new.boxed.value ≡ handle.old.boxed.value }
+    ensures reserve { handle.new.reserve ≡ handle.old.reserve }
     ensures state { state.new ≡
-        option_map_or (λ a. encoded_as.state_out a) handle.old.boxed.value state.old }
+        option_map_or (λ a. encoded_as.state_out handle.old.reserve a) handle.old.boxed.value state.old }
 {
     if !handle.is_open {
         return NO_AUCTION;
     }
-    *state = state_out(handle.boxed.get_mut());
+    let reserve = handle.reserve;
+    *state = state_out(handle.boxed.get_mut(), reserve);
     DONE
 }
 
@@ -249,13 +268,15 @@ pub extern "C" fn callauction_config_of(
 ) -> u32
     ensures error { result ≡ option_map_or (λ a. DONE) handle.old.boxed.value NO_AUCTION }
     ensures auction { handle.new.boxed.value ≡ handle.old.boxed.value }
+    ensures reserve { handle.new.reserve ≡ handle.old.reserve }
     ensures config { config.new ≡
-        option_map_or (λ a. encoded_as.config_out a.config) handle.old.boxed.value config.old }
+        option_map_or (λ a. encoded_as.config_out a.config handle.old.reserve) handle.old.boxed.value config.old }
 {
     if !handle.is_open {
         return NO_AUCTION;
     }
-    *config = config_out(handle.boxed.get_mut().config());
+    let reserve = handle.reserve;
+    *config = config_out(handle.boxed.get_mut().config(), reserve);
     DONE
 }
 
@@ -264,6 +285,7 @@ pub extern "C" fn callauction_config_of(
 pub extern "C" fn callauction_reset(handle: &mut AuctionHandle) -> u32
     ensures error { result ≡ option_map_or (λ a. DONE) handle.old.boxed.value NO_AUCTION }
     ensures auction { handle.new.boxed.value ≡ option_map (λ a. opened_auction a.config) handle.old.boxed.value }
+    ensures reserve { handle.new.reserve ≡ handle.old.reserve }
 {
     if !handle.is_open {
         return NO_AUCTION;
@@ -272,8 +294,8 @@ pub extern "C" fn callauction_reset(handle: &mut AuctionHandle) -> u32
     DONE
 }
 
-/// Makes the other handle hold an auction of its own, a copy of this one as it is now. Where it holds an auction of the
-/// same bounds and room already, that one is written over, and no memory is taken.
+/// Makes the other handle hold an auction of its own, a copy of this one as it is now, with its reserve. Where it holds
+/// an auction of the same bounds and room already, that one is written over, and no memory is taken.
 ///
 /// Where the other handle holds an auction of other bounds or room it answers `IN_USE`; where it holds none,
 /// `NO_MEMORY` where memory is refused.
@@ -284,8 +306,11 @@ pub extern "C" fn callauction_clone(
     other: &mut AuctionHandle,
 ) -> u32
     ensures auction { handle.new.boxed.value ≡ handle.old.boxed.value }
-    ensures copied { result ≡ 0 → other.new.boxed.value ≡ handle.old.boxed.value }
-    ensures refused { 0 < result → other.new.boxed.value ≡ other.old.boxed.value }
+    ensures reserve { handle.new.reserve ≡ handle.old.reserve }
+    ensures copied { result ≡ 0 →
+        (other.new.boxed.value ≡ handle.old.boxed.value) × (other.new.reserve ≡ handle.old.reserve) }
+    ensures refused { 0 < result →
+        (other.new.boxed.value ≡ other.old.boxed.value) × (other.new.reserve ≡ other.old.reserve) }
     ensures missing { IsNone handle.old.boxed.value → result ≡ NO_AUCTION }
     ensures busy { IfSome handle.old.boxed.value (λ a. IfSome other.old.boxed.value (λ b.
         has_same_limits a.config b.config ≡ false → result ≡ IN_USE)) }
@@ -297,11 +322,17 @@ pub extern "C" fn callauction_clone(
     if !handle.is_open {
         return NO_AUCTION;
     }
+    let reserve = handle.reserve;
     if other.is_open {
-        return copy_over(handle.boxed.get_mut(), other.boxed.get_mut());
+        let error = copy_over(handle.boxed.get_mut(), other.boxed.get_mut());
+        if error != DONE {
+            return error;
+        }
+        other.reserve = reserve;
+        return DONE;
     }
     match handle.boxed.get_mut().copied(alloc) {
-        Ok(copy) => other.hold(alloc, copy),
+        Ok(copy) => other.hold(alloc, copy, reserve),
         Err(_) => NO_MEMORY,
     }
 }

@@ -1,6 +1,6 @@
 //! A member of a board on the heap, or none.
 ghost use Rattle.std.specs.Prelude.{◌≡◌, Option, Some, None, IsSome};
-ghost use Rattle.shared_board.specs.BoardViews.{BoardMember};
+ghost use Rattle.board_terms.specs.BoardViews.{BoardMember};
 ghost use Rattle.auction_c.specs.MemberBox.{member_coded, optional_box_owns};
 
 use crate::auction_box::parts::Parts;

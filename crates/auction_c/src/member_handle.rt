@@ -11,16 +11,20 @@ use std::alloc::Global;
 #[derive(Drop)]
 pub struct AuctionMember {
     pub(crate) boxed: MemberBox,
+    /// How many of the day's last calls are the operator's: the same at each handle of a board.
+    pub(crate) reserve: u32,
     pub(crate) is_open: bool,
     ghost marked: { is_some boxed.value ≡ is_open },
 }
 
 impl AuctionMember {
-    pub(crate) fn of(member: Box<SharedMember>) -> AuctionMember
-        ensures { result.boxed.value ≡ Some member.value }
+    pub(crate) fn of(member: Box<SharedMember>, reserve: u32) -> AuctionMember
+        ensures value { result.boxed.value ≡ Some member.value }
+        ensures reserve { result.reserve ≡ reserve }
     {
         AuctionMember {
             boxed: MemberBox::of(member),
+            reserve,
             is_open: true,
         }
     }

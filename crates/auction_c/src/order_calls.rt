@@ -29,6 +29,7 @@ pub extern "C" fn callauction_orders(
     copied: &mut usize,
 ) -> u32
     ensures auction { handle.new.boxed.value ≡ handle.old.boxed.value }
+    ensures reserve { handle.new.reserve ≡ handle.old.reserve }
     ensures missing { IsNone handle.old.boxed.value → result ≡ NO_AUCTION }
     ensures member { IsSome handle.old.boxed.value → IsNone (decoded_as.decoded_member member) → result ≡ BAD_MEMBER }
     ensures memory { IsSome handle.old.boxed.value → IsSome (decoded_as.decoded_member member) → 0 < result →
@@ -68,6 +69,7 @@ pub extern "C" fn callauction_expiring(
     copied: &mut usize,
 ) -> u32
     ensures auction { handle.new.boxed.value ≡ handle.old.boxed.value }
+    ensures reserve { handle.new.reserve ≡ handle.old.reserve }
     ensures missing { IsNone handle.old.boxed.value → result ≡ NO_AUCTION }
     ensures memory { IsSome handle.old.boxed.value → 0 < result → result ≡ NO_MEMORY }
     ensures copied { result ≡ 0 → IfSome handle.old.boxed.value (λ a.
@@ -107,6 +109,7 @@ pub extern "C" fn callauction_board_orders(
     ensures done { result ≡ 0 → IsSomeAnd (decoded_as.decoded_member of) (λ o.
         HoldsAfter (ShowsOrders (λ a. orders_in_priority o a.state) orders.old orders.new copied.new calls.new)
         member.old.boxed.value member.new.boxed.value) }
+    ensures reserve { member.new.reserve ≡ member.old.reserve }
     ensures fault { 0 < result → member.new.boxed.value ≡ member.old.boxed.value }
     ensures missing { IfNone member.old.boxed.value (result ≡ NO_MEMBER) }
     ensures number { IsSome member.old.boxed.value → IsNone (decoded_as.decoded_member of) → result ≡ BAD_MEMBER }
@@ -139,6 +142,7 @@ pub extern "C" fn callauction_board_expiring(
     ensures done { result ≡ 0 →
         HoldsAfter (ShowsOrders (λ a. orders_expiring a.config a.state) orders.old orders.new copied.new calls.new)
         member.old.boxed.value member.new.boxed.value }
+    ensures reserve { member.new.reserve ≡ member.old.reserve }
     ensures fault { 0 < result → member.new.boxed.value ≡ member.old.boxed.value }
     ensures missing { IfNone member.old.boxed.value (result ≡ NO_MEMBER) }
     ensures error { IfSome member.old.boxed.value (λ m. 0 < result → IsListError m result) }

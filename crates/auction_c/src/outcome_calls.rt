@@ -25,6 +25,7 @@ pub extern "C" fn callauction_uncross(
     copied: &mut usize,
 ) -> u32
     ensures auction { result ≡ 0 → handle.new.boxed.value ≡ option_map uncrossing.after_uncross handle.old.boxed.value }
+    ensures reserve { handle.new.reserve ≡ handle.old.reserve }
     ensures reply { result ≡ 0 → IfSome handle.old.boxed.value (λ a.
         reply.new ≡ encoded_as.reply_out (uncrossing.uncross_reply a)) }
     ensures copied { result ≡ 0 → IfSome handle.old.boxed.value (λ a.

@@ -19,6 +19,9 @@ pub struct AuctionConfig {
     /// reference.
     pub has_range: u32,
     pub range: u32,
+    /// 1: the last `reserve` calls are the operator's, member 0. 0: as many as usual are, and `reserve` is 0.
+    pub has_reserve: u32,
+    pub reserve: u32,
 }
 
 /// A member's command. What its tag doesn't need isn't read.
@@ -140,9 +143,10 @@ pub struct AuctionOutcome {
 pub struct AuctionDayState {
     /// The reference price: the last auction price of the day, and before it that of the config.
     pub reference: u32,
-    /// How many commands were applied, and how many more may be.
+    /// How many commands were applied, and how many more may be: by the operator, and by each other member.
     pub calls: u32,
     pub calls_left: u32,
+    pub calls_left_to_members: u32,
     /// The current auction, where `in_call` is 1: 1 opening, 2 intraday, 3 closing; else 0.
     pub auction: u8,
     /// 1 in a call phase, 0 after the day.

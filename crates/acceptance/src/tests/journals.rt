@@ -9,19 +9,14 @@ use auction_terms::{
 };
 use byte_streams::{Failures, FromMemory, ToMemory};
 use day_audit::{AuditFault, Audited, Counts, audit_journal};
-use journal::{DayHeader, Journal, RunInput, print_journal, read_journal, read_run_input};
+use journal::{DayHeader, Entries, RunInput, keep_entry, print_kept_journal, read_run_input};
 use order_file::FileFault;
-use printed_lines::Printer;
+use printed_lines::{KeptText, Printer};
 use std::alloc::Global;
 use std::marker::Brand;
 use std::str::from_utf8;
 use std::sync::ledger::{Blank, Ledger};
 use std::test::Fail;
-
-fn journal_in(alloc: Global, text: &[u8]) -> Result<Journal, FileFault> {
-    let mut source = FromMemory { rest: text };
-    read_journal(alloc, &mut source)
-}
 
 fn given_by(alloc: Global, text: &[u8]) -> Result<RunInput, FileFault> {
     let mut source = FromMemory { rest: text };
@@ -30,6 +25,12 @@ fn given_by(alloc: Global, text: &[u8]) -> Result<RunInput, FileFault> {
         members: 4,
     };
     read_run_input(alloc, &mut source, day)
+}
+
+/// What a text that is a journal gives.
+fn journal_in(alloc: Global, text: &[u8]) -> Result<RunInput, FileFault> {
+    let _is_journal = Entries::open(alloc, text)?;
+    given_by(alloc, text)
 }
 
 fn fault_of(alloc: Global, text: &[u8]) -> Option<FileFault> {
@@ -47,28 +48,24 @@ fn journals_are_read(rt: HostRuntime) -> Result<(), Fail> {
         "\"day\",01,9,\"5\",3,4,9,\n2,\"ask\",\"price 5\"\n0,delete,0007,\"\"",
         "\n\nday,1,9,5,3,4,9,\n\n2,ask,price 5\n0,delete,7,",
     ];
-    let calls = [
-        Call {
-            member: 2,
-            command: Command::Indicate,
-        },
-        Call {
-            member: 0,
-            command: Command::Delete { id: 7 },
-        },
-    ];
+    let first = Call {
+        member: 2,
+        command: Command::Indicate,
+    };
+    let second = Call {
+        member: 0,
+        command: Command::Delete { id: 7 },
+    };
     for text in texts {
-        let journal = journal_in(rt.alloc(), text.as_bytes())?;
-        assert!(rt; journal.day.config.high == 9);
-        assert!(rt; journal.day.config.range == None);
-        assert!(rt; journal.day.members == 3);
-        assert!(rt; journal.calls.as_slice() == calls.as_slice());
-        assert!(rt; journal.texts.len() == 2);
-        assert!(rt; journal.texts.get(0) == Some(b"price 5".as_slice()));
-        assert!(rt; journal.texts.get(1) == Some(b"".as_slice()));
+        let mut entries = Entries::open(rt.alloc(), text.as_bytes())?;
+        assert!(rt; entries.day().config.high == 9);
+        assert!(rt; entries.day().config.range == None);
+        assert!(rt; entries.day().members == 3);
+        assert!(rt; entries.next_call()? == Some(first));
+        assert!(rt; entries.text() == b"price 5".as_slice());
         let given = given_by(rt.alloc(), text.as_bytes())?;
-        assert!(rt; given.day == journal.day);
-        assert!(rt; given.calls.as_slice() == calls.as_slice());
+        assert!(rt; given.day == entries.day());
+        assert!(rt; given.calls.as_slice() == [first, second].as_slice());
     }
     Ok(())
 }
@@ -235,9 +232,13 @@ fn printed<L: Ledger>(alloc: Global, blank: Blank, day: DayHeader, entries: &[En
     requires parts { blank.parts ≡ L.parts }
     requires backed { 0 < L.parts }
 {
+    let mut lines = KeptText::new(alloc);
+    for entry in entries {
+        let _ = keep_entry(&mut lines, *entry);
+    }
     let mut sink = memory::<L>(alloc, blank);
     let mut printer = Printer::new(&mut sink);
-    let _ = print_journal(&mut printer, day, entries);
+    let _ = print_kept_journal(&mut printer, day, &lines);
     let _ = printer.flush();
     sink.bytes
 }

@@ -14,17 +14,18 @@ use shared_board::SharedMember;
 pub(crate) fn call_one(
     member: &mut SharedMember,
     command: Command,
+    reserve: u32,
     receipt: &mut AuctionReceipt,
 ) -> u32
-    ensures done { result ≡ 0 → RecordsCall command receipt.new member.old member.new }
+    ensures done { result ≡ 0 → RecordsCall reserve command receipt.new member.old member.new }
     ensures fault { 0 < result → receipt.new ≡ receipt.old }
     ensures same { 0 < result → result ≢ FULL → member.new ≡ member.old }
     ensures board { member.new.board ≡ member.old.board }
     ensures error { 0 < result → IsCallError result }
-    ensures full { result ≡ FULL → FindsFull member.old member.new }
+    ensures full { result ≡ FULL → FindsFull reserve member.old member.new }
     ensures behind { result ≡ BEHIND → IsBehindBoard member.old }
 {
-    match member.call(command) {
+    match member.call(command, reserve) {
         Ok(answer) => {
             let Receipt { number, reply } = answer;
             *receipt = AuctionReceipt {

@@ -14,21 +14,22 @@ use shared_board::{BoardFault, SharedMember, TakenFloor};
 fn call_struct(
     member: &mut SharedMember,
     floor: &mut TakenFloor,
+    reserve: u32,
     command: &AuctionCommand,
     receipt: &mut AuctionReceipt,
 ) -> u32
     requires { floor.old.board ≡ member.old.board }
     ensures board { floor.new.board ≡ member.new.board }
-    ensures done { result ≡ 0 → RecordsStruct command.now receipt.new member.old member.new }
+    ensures done { result ≡ 0 → RecordsStruct reserve command.now receipt.new member.old member.new }
     ensures number { result ≡ 0 → receipt.new.number ≡ length floor.old.history + 1 }
     ensures count { result ≡ 0 → length floor.new.history ≡ length floor.old.history + 1 }
-    ensures stop { 0 < result → StopsStruct command.now result member.old member.new }
+    ensures stop { 0 < result → StopsStruct reserve command.now result member.old member.new }
     ensures same { 0 < result → receipt.new ≡ receipt.old }
 {
     let Some(decoded) = command_in(command) else {
         return NO_COMMAND;
     };
-    match member.call_taken(floor, decoded) {
+    match member.call_taken(floor, decoded, reserve) {
         Ok(answer) => {
             let Receipt { number, reply } = answer;
             *receipt = AuctionReceipt {
@@ -45,6 +46,7 @@ fn call_struct(
 fn call_each(
     member: &mut SharedMember,
     floor: &mut TakenFloor,
+    reserve: u32,
     commands: &[AuctionCommand],
     receipts: &mut [AuctionReceipt],
     applied: &mut usize,
@@ -53,12 +55,12 @@ fn call_each(
     requires length { length receipts.old ≡ length commands.now }
     ensures board { floor.new.board ≡ member.new.board }
     ensures all { result ≡ 0 → applied.new ≡ length commands.now }
-    ensures done { result ≡ 0 → RecordsMany commands.now receipts.new applied.new member.old member.new }
-    ensures stop { 0 < result → StopsAfter commands.now receipts.new applied.new result member.old member.new }
+    ensures done { result ≡ 0 → RecordsMany reserve commands.now receipts.new applied.new member.old member.new }
+    ensures stop { 0 < result → StopsAfter reserve commands.now receipts.new applied.new result member.old member.new }
     ensures rest { IsSameFrom applied.new receipts.old receipts.new }
 {
     for i in 0..commands.len() {
-        let error = call_struct(member, floor, &commands[i], &mut receipts[i]);
+        let error = call_struct(member, floor, reserve, &commands[i], &mut receipts[i]);
         if error != DONE {
             *applied = i;
             return error;
@@ -72,20 +74,21 @@ fn call_each(
 /// that were recorded, and says how many they are.
 pub(crate) fn call_many(
     member: &mut SharedMember,
+    reserve: u32,
     commands: &[AuctionCommand],
     receipts: &mut [AuctionReceipt],
     applied: &mut usize,
 ) -> u32
     requires count { applied.old ≡ 0 }
     requires length { length receipts.old ≡ length commands.now }
-    ensures called { CallsMany commands.now receipts.new applied.new result member.old member.new }
+    ensures called { CallsMany reserve commands.now receipts.new applied.new result member.old member.new }
     ensures rest { IsSameFrom applied.new receipts.old receipts.new }
 {
     let mut floor = match take_floor(member) {
         Ok(floor) => floor,
         Err(error) => return error,
     };
-    let error = call_each(member, &mut floor, commands, receipts, applied);
+    let error = call_each(member, &mut floor, reserve, commands, receipts, applied);
     member.give_called(floor);
     error
 }

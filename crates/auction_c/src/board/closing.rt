@@ -4,7 +4,7 @@ ghost use Rattle.std.specs.Prelude.{ℕ, true, false};
 ghost use Rattle.auction_terms.specs.Day.{calls_of};
 ghost use Rattle.board_terms.specs.Closings.{IsAccount};
 ghost use Rattle.board_terms.specs.declared.closing.Closing.{Closing};
-ghost use Rattle.shared_board.specs.BoardViews.{IsClosingOf, OpenedBoard};
+ghost use Rattle.board_terms.specs.BoardViews.{IsClosingOf, OpenedBoard};
 ghost use Rattle.auction_c.specs.Entries.{AreEntries};
 ghost use Rattle.auction_c.specs.BoardCalls.{AreOfBoards};
 ghost use Rattle.auction_c.specs.BoardCalls.{HoldAccounts, HoldsAccount, IsAccountError, IsAccountsError, IsCloseError};

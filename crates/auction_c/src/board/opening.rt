@@ -27,14 +27,15 @@ fn boxed(alloc: Global, members: Vec<SharedMember>) -> Result<Vec<Box<SharedMemb
     Ok(boxes)
 }
 
-// Puts the members into the handles, in order.
-fn put_in(handles: &mut [AuctionMember], members: Vec<Box<SharedMember>>)
+// Puts the members into the handles, in order, each with the reserve of the board.
+fn put_in(handles: &mut [AuctionMember], members: Vec<Box<SharedMember>>, reserve: u32)
     requires { length handles.old ≡ length members.items }
-    ensures { map (λ h. h.boxed.value) handles.new ≡ map (λ b. Some b.value) members.items }
+    ensures members { map (λ h. h.boxed.value) handles.new ≡ map (λ b. Some b.value) members.items }
+    ensures reserves { map (λ h. h.reserve) handles.new ≡ map (λ b. reserve) members.items }
 {
     let mut i = 0;
     for member in members {
-        handles[i] = AuctionMember::of(member);
+        handles[i] = AuctionMember::of(member, reserve);
         i += 1;
     }
 }
@@ -45,8 +46,9 @@ pub(crate) fn fill(
     handles: &mut [AuctionMember],
     identity: u64,
     config: Config,
+    reserve: u32,
 ) -> u32
-    ensures done { result ≡ 0 → HoldsNewMembers identity config handles.new }
+    ensures done { result ≡ 0 → HoldsNewMembers identity config reserve handles.new }
     ensures refused { 0 < result → handles.new ≡ handles.old }
     ensures many { 256 ≤ length handles.old → result ≡ BAD_CAPACITY }
     ensures fault { length handles.old < 256 →
@@ -60,7 +62,7 @@ pub(crate) fn fill(
     match open(alloc, identity, config, count) {
         Ok(members) => match boxed(alloc, members) {
             Ok(boxes) => {
-                put_in(handles, boxes);
+                put_in(handles, boxes, reserve);
                 DONE
             }
             Err(_) => NO_MEMORY,

@@ -87,8 +87,12 @@ pub(crate) fn show_trades(
 }
 
 /// Writes where the day is, once the member has seen all calls.
-pub(crate) fn show_state(member: &mut SharedMember, state: &mut AuctionDayState) -> u32
-    ensures done { result ≡ 0 → ShowsState state.new member.old member.new }
+pub(crate) fn show_state(
+    member: &mut SharedMember,
+    reserve: u32,
+    state: &mut AuctionDayState,
+) -> u32
+    ensures done { result ≡ 0 → ShowsState reserve state.new member.old member.new }
     ensures member { 0 < result → member.new ≡ member.old }
     ensures error { 0 < result → IsShowError member.old result }
     ensures same { 0 < result → state.new ≡ state.old }
@@ -97,7 +101,7 @@ pub(crate) fn show_state(member: &mut SharedMember, state: &mut AuctionDayState)
         Ok(floor) => floor,
         Err(error) => return error,
     };
-    *state = state_out(floor.auction());
+    *state = state_out(floor.auction(), reserve);
     member.give_floor(floor);
     DONE
 }

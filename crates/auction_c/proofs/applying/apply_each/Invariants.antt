@@ -5,4 +5,5 @@ use Rattle.auction_c.proofs.applying.apply_each.Given as goal
 
 abbrev pub invariant-loop-i : goal.invariant-loop-i
 invariant-loop-i l =
-    IsApplied l.fn.auction l.commands l.fn.replies l.i l.auction l.replies × (length l.replies ≡ length l.fn.replies)
+    IsApplied l.reserve l.fn.auction l.commands l.fn.replies l.i l.auction l.replies
+    × (length l.replies ≡ length l.fn.replies)

@@ -20,14 +20,16 @@ returns-then-error-ne-DONE-clause-stop c =
     record {
       mid = c.loop-i.member;
       recorded = record {
-        each = recorded_before i commands c.loop-i.receipts i v c.args.member.now c.loop-i.member (omega arith)
+        each = recorded_before c.args.reserve i commands c.loop-i.receipts i v c.args.member.now c.loop-i.member
+            (omega arith)
             was.each;
         before = length c.args.floor.now.history;
         numbers = numbered_before (length c.args.floor.now.history) i c.loop-i.receipts i v (omega arith) was.numbers;
       };
       within = within;
       stop = λ d.
-          subst (λ (s : AuctionCommand). StopsStruct s error c.loop-i.member new) (get_or_default commands i _ d within)
+          subst (λ (s : AuctionCommand). StopsStruct c.args.reserve s error c.loop-i.member new)
+          (get_or_default commands i _ d within)
           (c.call_struct-error.ensures.stop some);
     }
 
@@ -44,8 +46,9 @@ loop-i-preserved c =
     let inside : i < length c.loop-i.receipts = omega (arith, c.loop-i-test.true, was.rest.0, c.requires.length) in
     record {
       board = c.call_struct-error.ensures.board;
-      each = recorded_more commands c.loop-i.receipts i v c.args.member.now c.loop-i.member new inside was.each
-          (λ d. subst (λ (s : AuctionCommand). RecordsStruct s v c.loop-i.member new)
+      each = recorded_more c.args.reserve commands c.loop-i.receipts i v c.args.member.now c.loop-i.member new inside
+          was.each
+          (λ d. subst (λ (s : AuctionCommand). RecordsStruct c.args.reserve s v c.loop-i.member new)
           (get_or_default commands i _ d within) (c.call_struct-error.ensures.done done));
       count = omega (arith, c.call_struct-error.ensures.count done, was.count);
       numbers = numbered_more before c.loop-i.receipts i v inside
@@ -58,5 +61,6 @@ returns-clause-done c =
     λ _.
     let was = c.loop-i.invariant in
     let end : c.loop-i.i ≡ length c.args.commands.now = omega (arith, c.loop-i-test.false, c.loop-i.auto.i-end) in
-    subst (λ (n : ℕ). RecordsMany c.args.commands.now c.loop-i.receipts n c.args.member.now c.loop-i.member) end
+    subst (λ (n : ℕ).
+    RecordsMany c.args.reserve c.args.commands.now c.loop-i.receipts n c.args.member.now c.loop-i.member) end
     (record { each = was.each; before = length c.args.floor.now.history; numbers = was.numbers })

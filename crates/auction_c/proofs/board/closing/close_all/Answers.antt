@@ -1,7 +1,7 @@
 -- Answers of `close_all` (src/board/closing.rt): what the prover left open; rt looks here.
 use Rattle.std.proofs.Common.{◌≡◌, ◌∙◌, ◌<◌, All, IfSome, IsSomeAnd, List, ap, arith, length, set, subst, sym}
 use Rattle.std.proofs.lemmas.List.{set-get_or}
-use Rattle.shared_board.specs.BoardViews.{BoardMember, FloorView}
+use Rattle.board_terms.specs.BoardViews.{BoardMember, FloorView}
 use Rattle.auction_c.specs.declared.member_handle.AuctionMember.{AuctionMember}
 use Rattle.auction_c.specs.BoardCalls.{HoldAccounts, IsAccountsError}
 use Rattle.auction_c.proofs.ClosingLaws.{all_of_one, close_error, of_first, writes_closing}

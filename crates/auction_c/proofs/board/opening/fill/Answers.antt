@@ -1,6 +1,6 @@
 -- Answers of `fill` (src/board/opening.rt): what the prover left open; rt looks here.
 use Rattle.std.proofs.Common.{rules, ◌≡◌, length}
-use Rattle.shared_board.specs.BoardViews.{opened_board}
+use Rattle.board_terms.specs.BoardViews.{opened_board}
 use Rattle.auction_c.proofs.OpenLaws.{holds_new_members, as_many}
 use Rattle.auction_c.proofs.board.opening.fill.Goals as goal
 
@@ -13,6 +13,7 @@ put_in-requires c =
 
 pub returns-in-Ok-boxed-clause-done : goal.returns-in-Ok-boxed-clause-done
 returns-in-Ok-boxed-clause-done c =
-    λ _. holds_new_members (λ b. b.value) c.args.identity c.args.config c.in-Ok.count c.in-Ok-open.ensures.opening.0
+    λ _. holds_new_members (λ b. b.value) c.args.identity c.args.config c.args.reserve c.in-Ok.count
+    c.in-Ok-open.ensures.opening.0
     c.in-Ok-boxed.boxes.items c.in-Ok-open.members.items c.put_in.new.handles c.in-Ok-boxed.ensures
-    c.in-Ok-open.ensures.opening.1 c.put_in.ensures
+    c.in-Ok-open.ensures.opening.1 c.put_in.ensures.members c.put_in.ensures.reserves

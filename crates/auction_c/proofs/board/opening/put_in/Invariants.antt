@@ -7,5 +7,6 @@ invariant-loop-member l = record {
   at : l.i ≡ length l.yielded;
   wide : length l.handles ≡ length l.fn.members.items;
   split : l.yielded ++ l.member-iterator.rest.items ≡ l.fn.members.items;
+  reserves : map (λ h. h.reserve) (take l.i l.handles) ≡ map (λ b. l.reserve) l.yielded;
   members : map (λ h. h.boxed.value) (take l.i l.handles) ≡ map (λ b. Some b.value) l.yielded;
 }

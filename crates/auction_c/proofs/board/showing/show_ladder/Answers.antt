@@ -2,7 +2,7 @@
 use Rattle.std.proofs.Common.{rules, ◌≡◌, ◌∙◌, ap}
 use Rattle.auction_terms.specs.Day.{calls_of}
 use Rattle.auction_terms.specs.Ladder.{LadderView}
-use Rattle.shared_board.specs.BoardViews.{FloorView, OpenedBoard, ladder_after}
+use Rattle.board_terms.specs.BoardViews.{FloorView, OpenedBoard, ladder_after}
 use Rattle.auction_c.specs.Encoding.{market_out}
 use Rattle.auction_c.proofs.board.showing.show_ladder.Goals as goal
 

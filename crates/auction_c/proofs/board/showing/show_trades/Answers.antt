@@ -2,7 +2,7 @@
 use Rattle.std.proofs.Common.{rules, ◌≡◌, ◌++◌, ◌∙◌, ap, subst, length, drop, map, min, take, List}
 use Rattle.auction_terms.specs.Day.{IsLegal, calls_of}
 use Rattle.auction_terms.specs.declared.Trade.{Trade}
-use Rattle.shared_board.specs.BoardViews.{OpenedBoard, tape_after}
+use Rattle.board_terms.specs.BoardViews.{OpenedBoard, tape_after}
 use Rattle.auction_c.specs.Encoding.{trade_out}
 use Rattle.auction_c.proofs.board.showing.show_trades.Goals as goal
 
