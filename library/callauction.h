@@ -8,7 +8,7 @@
  * CALLAUCTION_ERROR_NO_MEMBER, and does nothing else. Each call answers CALLAUCTION_DONE or the number of an error, and
  * an error changes nothing but a count that it writes as 0 (callauction_apply_many and callauction_board_apply_many
  * write how many commands they had applied before one; after CALLAUCTION_ERROR_FULL on a board its member has seen at
- * least max_calls calls).
+ * least max_calls calls, or reserve fewer).
  *
  * docs/MODEL.md says what a command does, when it is refused and what it is answered. Limits and prices are ticks,
  * quantities whole shares. Members are numbered from 0, and member 0 is the operator, who alone uncrosses.
@@ -59,7 +59,8 @@ typedef enum callauction_error {
     CALLAUCTION_ERROR_IN_USE = 5,        /* a handle that was to get an auction or a member holds one */
     CALLAUCTION_ERROR_NO_AUCTION = 6,    /* the handle holds no auction */
     CALLAUCTION_ERROR_NO_COMMAND = 7,    /* the struct is no command */
-    CALLAUCTION_ERROR_FULL = 8,          /* as many commands were applied or recorded as may be */
+    CALLAUCTION_ERROR_FULL = 8,          /* no call is left to the member: max_calls were made, or those that are left
+                                            are the operator's */
     CALLAUCTION_ERROR_BAD_LENGTH = 9,    /* an array has another length than the call wants */
     CALLAUCTION_ERROR_NO_CONFIG = 10,    /* the struct is no config */
     CALLAUCTION_ERROR_BUSY = 11,         /* another member's call has the board: try again */
@@ -79,6 +80,7 @@ typedef enum callauction_error {
 /* Begin with one of zeros: callauction_handle handle = {0}; */
 typedef struct callauction_handle {
     void *boxed_;
+    uint32_t reserve_;
     bool is_open_;
     uint8_t busy_;
 } callauction_handle;
@@ -86,6 +88,7 @@ typedef struct callauction_handle {
 /* A member of a board. Begin with zeros: callauction_member members[8] = {{0}}; */
 typedef struct callauction_member {
     void *boxed_;
+    uint32_t reserve_;
     bool is_open_;
     uint8_t busy_;
 } callauction_member;
@@ -97,6 +100,8 @@ typedef struct callauction_config {
     uint32_t max_calls; /* how many commands may be applied */
     uint32_t has_range; /* 0: no price interrupts an uncross; 1: one more than range ticks from the reference does */
     uint32_t range;
+    uint32_t has_reserve; /* 1: the last reserve calls are the operator's; 0: none of an auction, 16 of a board */
+    uint32_t reserve;     /* with as many as max_calls no other member makes any */
 } callauction_config;
 
 /* The tags of a command, with the fields that each needs; no other is read. Each needs member, but for a board's call,
@@ -226,6 +231,7 @@ typedef struct callauction_day_state {
     uint32_t reference;  /* the reference price: the last auction price of the day, before it the config's */
     uint32_t calls;      /* how many commands were applied, the refused ones among them */
     uint32_t calls_left; /* how many more may be */
+    uint32_t calls_left_to_members; /* how many of them by another member than the operator */
     uint8_t auction;     /* callauction_auction_kind of the current auction; 0 where in_call is 0 */
     uint8_t in_call;     /* 1 in its call phase; 0 after the day */
     uint8_t extended;    /* 1 where an interruption extended this call phase, which interrupts it no more */
@@ -268,13 +274,14 @@ const char *callauction_refusal_text(uint32_t refusal);
 
 /* The handle gets an auction at its opening: no orders, no trades, the reference of the config. All memory that the
  * day wants is taken here. IN_USE where the handle holds an auction; else NO_CONFIG where has_range isn't 0 or 1, or
- * range isn't 0 without it; else the first fault of the config, BAD_BOUNDS, BAD_REFERENCE or BAD_CAPACITY; else
- * NO_MEMORY where memory is refused. */
+ * range isn't 0 without it, and so of has_reserve; else the first fault of the config, BAD_BOUNDS, BAD_REFERENCE or
+ * BAD_CAPACITY; else NO_MEMORY where memory is refused. */
 CALLAUCTION_RESULT callauction_error callauction_open(callauction_handle *handle, const callauction_config *config);
 
 /* Applies a command and writes its reply. NO_COMMAND where a number of the struct that its tag needs is none of its
- * enum, a flag isn't 0 or 1, or a value isn't 0 whose flag is; FULL where max_calls commands were applied. A command
- * that the auction refuses is no error: its reply is REFUSED. */
+ * enum, a flag isn't 0 or 1, or a value isn't 0 whose flag is; FULL where max_calls commands were applied, or no more
+ * than the reserve are left and the member isn't 0. A command that the auction refuses is no error: its reply is
+ * REFUSED. */
 CALLAUCTION_RESULT callauction_error callauction_apply(callauction_handle *handle,
                                                        const callauction_command *command,
                                                        callauction_reply *reply);
@@ -331,17 +338,17 @@ CALLAUCTION_RESULT callauction_error callauction_calls(const callauction_handle 
 CALLAUCTION_RESULT callauction_error callauction_state(const callauction_handle *handle,
                                                        callauction_day_state *state);
 
-/* Writes what the auction was opened with. */
+/* Writes what the auction was opened with: has_reserve is 1, and reserve what it has, also where that wasn't said. */
 CALLAUCTION_RESULT callauction_error callauction_config_of(const callauction_handle *handle,
                                                            callauction_config *config);
 
 /* Goes back to the opening, as if the auction had just been opened. It takes no memory. */
 CALLAUCTION_RESULT callauction_error callauction_reset(callauction_handle *handle);
 
-/* The other handle gets an auction of its own, a copy of this one as it is now; what is done to one isn't seen in the
- * other. Where it holds an auction with the same bounds, max_open and max_calls, that one is written over, and no
- * memory is taken. NO_AUCTION where `handle` holds none; else IN_USE where `other` holds any other auction; else
- * NO_MEMORY where memory is refused. MISUSED where both are one. */
+/* The other handle gets an auction of its own, a copy of this one as it is now, with its reserve; what is done to one
+ * isn't seen in the other. Where it holds an auction with the same bounds, max_open and max_calls, that one is written
+ * over, and no memory is taken. NO_AUCTION where `handle` holds none; else IN_USE where `other` holds any other
+ * auction; else NO_MEMORY where memory is refused. MISUSED where both are one. */
 CALLAUCTION_RESULT callauction_error callauction_clone(const callauction_handle *handle, callauction_handle *other);
 
 /* Gives up the auction and its memory; the handle then holds none, and may be opened again. On a handle that holds
@@ -360,9 +367,9 @@ CALLAUCTION_RESULT callauction_error callauction_board_open(callauction_member *
 /* Calls a command of the handle's member on its board; the struct's `member` isn't read. The call is recorded in the
  * board's history after all that this member has seen, and its receipt has its number there and the reply of one
  * auction to which the history's calls were applied one by one. NO_COMMAND as callauction_apply; BUSY where another
- * call had the board at each of 1,000 tries (callauction_board_call_waiting waits), or CLOSED; else FULL where the
- * history has max_calls entries; else BEHIND where the member has seen more calls than the history has, or counted
- * others than it has of the member; else OVERTAKEN. */
+ * call had the board at each of 32 tries (callauction_board_call_waiting waits), or CLOSED; else FULL where the
+ * history has max_calls entries, or, but for member 0, no more than the reserve are left; else BEHIND where the member
+ * has seen more calls than the history has, or counted others than it has of the member; else OVERTAKEN. */
 CALLAUCTION_RESULT callauction_error callauction_board_call(callauction_member *member,
                                                             const callauction_command *command,
                                                             callauction_receipt *receipt);
@@ -418,7 +425,7 @@ CALLAUCTION_RESULT callauction_error callauction_board_clone(callauction_member 
 /* Writes how many calls of this member were recorded. */
 CALLAUCTION_RESULT callauction_error callauction_board_calls(const callauction_member *member, uint32_t *calls);
 
-/* Writes what the board was opened with. */
+/* Writes what the board was opened with, its reserve as callauction_config_of. */
 CALLAUCTION_RESULT callauction_error callauction_board_config_of(const callauction_member *member,
                                                                  callauction_config *config);
 
@@ -489,13 +496,15 @@ static inline callauction_error callauction_board_apply_many_waiting(pthread_mut
 
 CALLAUCTION_SIZE(handle, 16);
 CALLAUCTION_AT(handle, boxed_, 0);
-CALLAUCTION_AT(handle, is_open_, 8);
-CALLAUCTION_AT(handle, busy_, 9);
+CALLAUCTION_AT(handle, reserve_, 8);
+CALLAUCTION_AT(handle, is_open_, 12);
+CALLAUCTION_AT(handle, busy_, 13);
 CALLAUCTION_SIZE(member, 16);
 CALLAUCTION_AT(member, boxed_, 0);
-CALLAUCTION_AT(member, is_open_, 8);
-CALLAUCTION_AT(member, busy_, 9);
-CALLAUCTION_SIZE(config, 28);
+CALLAUCTION_AT(member, reserve_, 8);
+CALLAUCTION_AT(member, is_open_, 12);
+CALLAUCTION_AT(member, busy_, 13);
+CALLAUCTION_SIZE(config, 36);
 CALLAUCTION_AT(config, low, 0);
 CALLAUCTION_AT(config, high, 4);
 CALLAUCTION_AT(config, reference, 8);
@@ -503,6 +512,8 @@ CALLAUCTION_AT(config, max_open, 12);
 CALLAUCTION_AT(config, max_calls, 16);
 CALLAUCTION_AT(config, has_range, 20);
 CALLAUCTION_AT(config, range, 24);
+CALLAUCTION_AT(config, has_reserve, 28);
+CALLAUCTION_AT(config, reserve, 32);
 CALLAUCTION_SIZE(command, 32);
 CALLAUCTION_AT(command, quantity, 0);
 CALLAUCTION_AT(command, peak, 8);
@@ -558,13 +569,14 @@ CALLAUCTION_AT(outcome, tick, 20);
 CALLAUCTION_AT(outcome, member, 24);
 CALLAUCTION_AT(outcome, side, 25);
 CALLAUCTION_AT(outcome, expired, 26);
-CALLAUCTION_SIZE(day_state, 16);
+CALLAUCTION_SIZE(day_state, 20);
 CALLAUCTION_AT(day_state, reference, 0);
 CALLAUCTION_AT(day_state, calls, 4);
 CALLAUCTION_AT(day_state, calls_left, 8);
-CALLAUCTION_AT(day_state, auction, 12);
-CALLAUCTION_AT(day_state, in_call, 13);
-CALLAUCTION_AT(day_state, extended, 14);
+CALLAUCTION_AT(day_state, calls_left_to_members, 12);
+CALLAUCTION_AT(day_state, auction, 16);
+CALLAUCTION_AT(day_state, in_call, 17);
+CALLAUCTION_AT(day_state, extended, 18);
 CALLAUCTION_SIZE(market_orders, 16);
 CALLAUCTION_AT(market_orders, bids, 0);
 CALLAUCTION_AT(market_orders, asks, 8);

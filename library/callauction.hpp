@@ -40,10 +40,18 @@ namespace callauction {
 
 namespace detail {
 
-// Whether a type is one of numbers that aren't cut: no bool, no letter.
+// Whether a type is one of letters.
 template <typename T>
-inline constexpr bool is_integer = std::is_integral_v<T> && !std::is_same_v<T, bool> && !std::is_same_v<T, char>
-    && !std::is_same_v<T, wchar_t> && !std::is_same_v<T, char16_t> && !std::is_same_v<T, char32_t>;
+inline constexpr bool is_letter = std::is_same_v<T, char> || std::is_same_v<T, wchar_t>
+#ifdef __cpp_char8_t
+    || std::is_same_v<T, char8_t>
+#endif
+    || std::is_same_v<T, char16_t> || std::is_same_v<T, char32_t>;
+
+// Whether a type is one of numbers that aren't cut: no bool, no letter, and none of more bits than are looked at.
+template <typename T>
+inline constexpr bool is_integer = std::is_integral_v<T> && !std::is_same_v<T, bool> && !is_letter<T>
+    && sizeof(T) <= sizeof(std::int64_t);
 
 } // namespace detail
 
@@ -80,7 +88,9 @@ enum class Error : std::uint32_t {
     missing_member = CALLAUCTION_ERROR_MISSING_MEMBER,
     overtaken = CALLAUCTION_ERROR_OVERTAKEN,
     bad_member = CALLAUCTION_ERROR_BAD_MEMBER,
-    misused = CALLAUCTION_ERROR_MISUSED
+    misused = CALLAUCTION_ERROR_MISUSED,
+    no_tick_size = 1001, // of Ticks alone, as the next one
+    no_price = 1002
 };
 
 enum class Side : std::uint8_t {
@@ -114,7 +124,11 @@ enum class Refusal : std::uint8_t {
 };
 
 // One line of English, without a full stop.
-inline const char *text(Error error) { return callauction_error_text(static_cast<std::uint32_t>(error)); }
+inline const char *text(Error error) {
+    if (error == Error::no_tick_size) return "a tick size is a decimal number above 0, with at most nine decimals";
+    if (error == Error::no_price) return "the price is no decimal number, or lies between two ticks";
+    return callauction_error_text(static_cast<std::uint32_t>(error));
+}
 inline const char *text(Refusal refusal) { return callauction_refusal_text(static_cast<std::uint32_t>(refusal)); }
 
 // ---- results
@@ -182,19 +196,19 @@ struct Done {};
 //     auction.apply(1, callauction::Enter{callauction::Side::bid, 500, cents.of("199.75").value()});
 class Ticks {
 public:
-    // By a tick size in money, as "0.01". Error::no_config where that isn't a decimal number above 0 and below
+    // By a tick size in money, as "0.01". Error::no_tick_size where that isn't a decimal number above 0 and below
     // 1,000,000,000 with at most nine decimals.
     static Result<Ticks> by(std::string_view size) {
         const auto found = units_of(size);
-        if (!found || *found == 0) return Error::no_config;
+        if (!found || *found == 0) return Error::no_tick_size;
         return Ticks(*found);
     }
 
-    // The tick of a price in money, as "199.75". Error::no_command where that is no such number, or lies between two
+    // The tick of a price in money, as "199.75". Error::no_price where that is no such number, or lies between two
     // ticks.
     Result<Whole> of(std::string_view price) const {
         const auto found = units_of(price);
-        if (!found || *found % size_ != 0) return Error::no_command;
+        if (!found || *found % size_ != 0) return Error::no_price;
         return Whole(*found / size_);
     }
 
@@ -254,6 +268,7 @@ struct Config {
     Whole max_open = 4096;              // orders that may be open at a time
     Whole max_calls = 65536;            // commands that may be applied
     std::optional<Whole> range = {};    // a price further from the reference interrupts an uncross
+    std::optional<Whole> reserve = {};  // last calls that are the operator's: else none of an auction, 16 of a board
 };
 
 // An order without a limit is a market order, one with a peak an iceberg order.
@@ -415,14 +430,16 @@ inline Uncrossed uncrossed_of(const callauction_reply &from) {
 
 inline bool config_fits(const Config &from, callauction_config &to) {
     to.has_range = from.range ? 1 : 0;
+    to.has_reserve = from.reserve ? 1 : 0;
     return fits(from.low, to.low) && fits(from.high, to.high) && fits(from.reference, to.reference)
         && fits(from.max_open, to.max_open) && fits(from.max_calls, to.max_calls)
-        && (!from.range || fits(*from.range, to.range));
+        && (!from.range || fits(*from.range, to.range)) && (!from.reserve || fits(*from.reserve, to.reserve));
 }
 
 inline Config config_of(const callauction_config &from) {
-    Config config{from.low, from.high, from.reference, from.max_open, from.max_calls, {}};
+    Config config{from.low, from.high, from.reference, from.max_open, from.max_calls, {}, {}};
     if (from.has_range) config.range = from.range;
+    if (from.has_reserve) config.reserve = from.reserve;
     return config;
 }
 
@@ -434,6 +451,11 @@ inline Result<callauction_command> struct_of(Whole member, const Command &comman
     if (!detail::fits(member, made.member) || !std::visit(detail::Filling{made}, command)) return Error::no_command;
     return made;
 }
+
+#if defined(__GNUC__) && !defined(__clang__)
+#pragma GCC diagnostic push
+#pragma GCC diagnostic ignored "-Wmaybe-uninitialized" // which g++ 12 says of an empty limit, at -O1
+#endif
 
 // The reply of a struct that the library wrote.
 inline Reply reply_of(const callauction_reply &from) {
@@ -454,6 +476,10 @@ inline Reply reply_of(const callauction_reply &from) {
     }
 }
 
+#if defined(__GNUC__) && !defined(__clang__)
+#pragma GCC diagnostic pop
+#endif
+
 inline Display display_of(const callauction_reply &from) {
     if (from.tag == CALLAUCTION_REPLY_PRICED) return detail::price_of(from);
     return detail::no_price_of(from);
@@ -465,10 +491,12 @@ struct State {
     bool extended;                      // whether an interruption extended it
     std::uint32_t reference;            // the reference price, a tick
     std::uint32_t calls, calls_left;    // commands that were applied, and that may still be
+    std::uint32_t calls_left_to_members; // how many of these by another member than the operator
 };
 
 inline State state_of(const callauction_day_state &from) {
-    State state{std::nullopt, from.extended != 0, from.reference, from.calls, from.calls_left};
+    State state{std::nullopt, from.extended != 0, from.reference, from.calls, from.calls_left,
+        from.calls_left_to_members};
     if (from.in_call) state.auction = static_cast<AuctionKind>(from.auction);
     return state;
 }
@@ -590,7 +618,7 @@ public:
 
     // Applies structs one after another, and writes their replies, as many of each: how many were applied, and the
     // error that the next one had.
-    std::pair<std::size_t, std::optional<Error>> apply_many(
+    [[nodiscard]] std::pair<std::size_t, std::optional<Error>> apply_many(
         Span<const callauction_command> commands, Span<callauction_reply> replies) {
         std::size_t applied = 0;
         const auto answer = callauction_apply_many(
@@ -657,12 +685,14 @@ public:
     }
 
     // The trades of the day after the first `seen`.
-    Result<std::vector<callauction_trade>> trades(std::size_t seen = 0) const {
+    Result<std::vector<callauction_trade>> trades(Whole seen = 0) const {
+        if (seen < 0) return Error::no_command;
+        const auto before = static_cast<std::size_t>(std::int64_t{seen});
         std::vector<callauction_trade> found;
         for (std::size_t copied = at_once; copied == at_once;) {
             const std::size_t had = found.size();
             found.resize(had + at_once);
-            const auto answer = callauction_trades(&handle_, seen + had, found.data() + had, at_once, &copied);
+            const auto answer = callauction_trades(&handle_, before + had, found.data() + had, at_once, &copied);
             if (const auto error = detail::error_of(answer)) return *error;
             found.resize(had + copied);
         }
@@ -696,8 +726,9 @@ public:
     }
 
     // Makes another auction with the same bounds, max_open and max_calls a copy of this one, and takes no memory. Where
-    // it has others, Error::in_use.
+    // it has others, Error::in_use. Of itself it is a copy.
     Result<Done> copy_into(Auction &other) const {
+        if (&other == this) return calls() ? Result<Done>(Done{}) : Error::no_auction;
         if (const auto error = detail::error_of(callauction_clone(&handle_, &other.handle_))) return *error;
         return Done{};
     }
@@ -787,12 +818,13 @@ public:
         return waiting([&] { return call(*given); });
     }
 
-    // Any other call of this member, made so: member.waiting([&] { return member.ladder(); }).
+    // Any other call of this member, made so: member.waiting([&] { return member.ladder(); }). What it calls may wait
+    // too.
     template <typename Call> auto waiting(Call call) -> decltype(call()) {
         if (!handle_) return Error::no_member;
         for (;;) {
             {
-                const std::lock_guard<std::mutex> waits(*mutex_);
+                const std::lock_guard<std::recursive_mutex> waits(*mutex_);
                 auto found = call();
                 if (found || found.error() != Error::busy) return found;
             }
@@ -802,7 +834,7 @@ public:
 
     // Records structs one after another, with no other call between them, and writes their receipts, as many of each:
     // how many were recorded, and the error that the next one had.
-    std::pair<std::size_t, std::optional<Error>> apply_many(
+    [[nodiscard]] std::pair<std::size_t, std::optional<Error>> apply_many(
         Span<const callauction_command> commands, Span<callauction_receipt> receipts) {
         if (!handle_) return {0, Error::no_member};
         std::size_t applied = 0;
@@ -812,12 +844,12 @@ public:
     }
 
     // The same, but waits as call_waiting does.
-    std::pair<std::size_t, std::optional<Error>> apply_many_waiting(
+    [[nodiscard]] std::pair<std::size_t, std::optional<Error>> apply_many_waiting(
         Span<const callauction_command> commands, Span<callauction_receipt> receipts) {
         if (!handle_) return {0, Error::no_member};
         for (;;) {
             {
-                const std::lock_guard<std::mutex> waits(*mutex_);
+                const std::lock_guard<std::recursive_mutex> waits(*mutex_);
                 const auto found = apply_many(commands, receipts);
                 if (found.second != Error::busy) return found;
             }
@@ -846,11 +878,13 @@ public:
     }
 
     // Copies the trades of the day after the first `seen`, as many as fit: how many.
-    Result<std::size_t> trades(std::size_t seen, Span<callauction_trade> trades) {
+    Result<std::size_t> trades(Whole seen, Span<callauction_trade> trades) {
         if (!handle_) return Error::no_member;
+        if (seen < 0) return Error::no_command;
+        const auto before = static_cast<std::size_t>(std::int64_t{seen});
         std::size_t copied = 0;
         std::uint32_t calls = 0;
-        const auto answer = callauction_board_trades(handle_, seen, trades.data(), trades.size(), &copied, &calls);
+        const auto answer = callauction_board_trades(handle_, before, trades.data(), trades.size(), &copied, &calls);
         if (const auto error = detail::error_of(answer)) return *error;
         return copied;
     }
@@ -897,10 +931,12 @@ public:
     }
 
     // Copies the entries of the board's history after the first `seen`, as many as fit: how many.
-    Result<std::size_t> history(std::size_t seen, Span<callauction_entry> entries) {
+    Result<std::size_t> history(Whole seen, Span<callauction_entry> entries) {
         if (!handle_) return Error::no_member;
+        if (seen < 0) return Error::no_command;
+        const auto before = static_cast<std::size_t>(std::int64_t{seen});
         std::size_t copied = 0;
-        const auto answer = callauction_board_history(handle_, seen, entries.data(), entries.size(), &copied);
+        const auto answer = callauction_board_history(handle_, before, entries.data(), entries.size(), &copied);
         if (const auto error = detail::error_of(answer)) return *error;
         return copied;
     }
@@ -932,7 +968,7 @@ public:
 private:
     friend class Board;
 
-    Member(callauction_member *handle, std::mutex *mutex) : handle_(handle), mutex_(mutex) {}
+    Member(callauction_member *handle, std::recursive_mutex *mutex) : handle_(handle), mutex_(mutex) {}
 
     Result<Receipt> call(const callauction_command &command) {
         if (!handle_) return Error::no_member;
@@ -950,17 +986,18 @@ private:
     }
 
     callauction_member *handle_;
-    std::mutex *mutex_;
+    std::recursive_mutex *mutex_;
 };
 
 class Board {
 public:
     static constexpr std::size_t max_members = 64;
 
-    static Result<Board> open(std::size_t members, const Config &config) {
+    static Result<Board> open(Whole members, const Config &config) {
         callauction_config given{};
         if (!detail::config_fits(config, given)) return Error::no_config;
-        const auto count = members > max_members ? max_members + 1 : members; // one too many, as any that is greater
+        const auto asked = static_cast<std::uint64_t>(std::int64_t{members});
+        const std::size_t count = asked > max_members ? max_members + 1 : asked; // one too many, as any that is greater
         Board made(count);
         const auto answer = callauction_board_open(made.handles_.get(), count, &given);
         if (const auto error = detail::error_of(answer)) return *error;
@@ -1007,7 +1044,7 @@ public:
 
 private:
     explicit Board(std::size_t members)
-        : count_(members), handles_(new callauction_member[members]{}), mutex_(new std::mutex) {}
+        : count_(members), handles_(new callauction_member[members]{}), mutex_(new std::recursive_mutex) {}
 
     void leave() noexcept {
         for (std::size_t number = 0; handles_ && number < count_; number++) callauction_board_leave(&handles_[number]);
@@ -1015,7 +1052,7 @@ private:
 
     std::size_t count_;
     std::unique_ptr<callauction_member[]> handles_;
-    std::unique_ptr<std::mutex> mutex_;
+    std::unique_ptr<std::recursive_mutex> mutex_;
 };
 
 } // namespace callauction

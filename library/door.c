@@ -279,7 +279,7 @@ const char *callauction_error_text(uint32_t error) {
     case CALLAUCTION_ERROR_IN_USE: return "the handle holds an auction or a member already";
     case CALLAUCTION_ERROR_NO_AUCTION: return "the handle holds no auction";
     case CALLAUCTION_ERROR_NO_COMMAND: return "the struct is no command";
-    case CALLAUCTION_ERROR_FULL: return "as many commands were applied or recorded as may be";
+    case CALLAUCTION_ERROR_FULL: return "no call is left to the member";
     case CALLAUCTION_ERROR_BAD_LENGTH: return "an array has another length than the call wants";
     case CALLAUCTION_ERROR_NO_CONFIG: return "the struct is no config";
     case CALLAUCTION_ERROR_BUSY: return "another member's call has the board";

@@ -157,7 +157,7 @@ static void edges(const callauction_config *config) {
 
 /* A board of two calls is full after them, and its member has seen both. */
 static void full(void) {
-    callauction_config config = {1, 1000, 200, 4, 2, 0, 0};
+    callauction_config config = {1, 1000, 200, 4, 2, 0, 0, 1, 0};
     callauction_member two[2] = {{0}};
     callauction_command indicate = {.tag = CALLAUCTION_COMMAND_INDICATE};
     callauction_receipt receipt;
@@ -170,9 +170,60 @@ static void full(void) {
     for (int i = 0; i < 2; i++) WANT(callauction_board_leave(&two[i]) == CALLAUCTION_DONE);
 }
 
+/* The last calls of a board are the operator's, 16 where the config says nothing: another member finds it full before,
+ * and has seen all calls then.
+ */
+static void reserved(bool is_usual) {
+    const uint32_t reserve = is_usual ? 16 : 2;
+    callauction_config config = {1, 1000, 200, 8, reserve + 3, 0, 0, 0, 0}, found;
+    callauction_member two[2] = {{0}};
+    callauction_handle copy = {0}, over = {0};
+    callauction_command indicate = {.tag = CALLAUCTION_COMMAND_INDICATE};
+    const callauction_command uncross = {.tag = CALLAUCTION_COMMAND_UNCROSS};
+    const callauction_command three[] = {indicate, indicate, indicate};
+    callauction_entry entries[19];
+    callauction_receipt receipt, receipts[3];
+    callauction_reply reply;
+    callauction_day_state state;
+    uint32_t counts[2];
+    size_t applied = 7, written = 7;
+    if (!is_usual) config.has_reserve = 1, config.reserve = reserve;
+    WANT(callauction_board_open(two, 2, &config) == CALLAUCTION_DONE);
+    for (int i = 0; i < 2; i++) {
+        WANT(callauction_board_config_of(&two[i], &found) == CALLAUCTION_DONE);
+        WANT(found.has_reserve == 1 && found.reserve == reserve);
+    }
+    WANT(callauction_board_call(&two[1], &indicate, &receipt) == CALLAUCTION_DONE && receipt.number == 1);
+    WANT(callauction_open(&over, &config) == CALLAUCTION_DONE);
+    WANT(callauction_board_clone(&two[1], &copy) == CALLAUCTION_DONE);
+    WANT(callauction_board_clone(&two[1], &over) == CALLAUCTION_DONE);
+    WANT(callauction_board_apply_many(&two[1], three, 3, receipts, 3, &applied) == CALLAUCTION_ERROR_FULL);
+    WANT(applied == 2 && receipts[1].number == 3);
+    WANT(callauction_board_call(&two[1], &indicate, &receipt) == CALLAUCTION_ERROR_FULL && receipt.number == 1);
+    WANT(callauction_board_state(&two[1], &state) == CALLAUCTION_DONE);
+    WANT(state.calls == 3 && state.calls_left == reserve && state.calls_left_to_members == 0);
+    for (uint32_t i = 0; i < reserve; i++) {
+        WANT(callauction_board_call(&two[0], &uncross, &receipt) == CALLAUCTION_DONE && receipt.number == 4 + i);
+        WANT(callauction_board_call(&two[1], &indicate, &receipt) == CALLAUCTION_ERROR_FULL);
+    }
+    WANT(callauction_board_call(&two[0], &uncross, &receipt) == CALLAUCTION_ERROR_FULL);
+    WANT(callauction_board_close(two, 2, entries, 19, counts, 2, &written) == CALLAUCTION_DONE);
+    WANT(written == reserve + 3 && counts[0] == reserve && counts[1] == 3);
+    for (int i = 0; i < 2; i++) WANT(callauction_board_leave(&two[i]) == CALLAUCTION_DONE);
+    /* copies of its auction have its reserve */
+    callauction_handle *const copies[] = {&copy, &over};
+    indicate.member = 1;
+    for (int i = 0; i < 2; i++) {
+        WANT(callauction_config_of(copies[i], &found) == CALLAUCTION_DONE && found.reserve == reserve);
+        for (int k = 0; k < 2; k++) WANT(callauction_apply(copies[i], &indicate, &reply) == CALLAUCTION_DONE);
+        WANT(callauction_apply(copies[i], &indicate, &reply) == CALLAUCTION_ERROR_FULL);
+        WANT(callauction_close(copies[i]) == CALLAUCTION_DONE);
+    }
+}
+
 /* Many calls are each as one, with numbers that follow one another, up to the first error; the receipts after stay. */
 static void many(void) {
-    callauction_config config = {1, 1000, 200, 8, 6, 0, 0};
+    callauction_config config = {1, 1000, 200, 8, 6, 0, 0, 1, 0};
     callauction_member two[2] = {{0}}, none = {0};
     callauction_command enter = {.tag = CALLAUCTION_COMMAND_ENTER, .side = CALLAUCTION_SIDE_BID, .quantity = 5};
     callauction_command indicate = {.tag = CALLAUCTION_COMMAND_INDICATE, .member = 77}, bad = {.tag = 9};
@@ -204,7 +255,7 @@ static void many(void) {
 
 /* Two boards with one member exchanged are closed by no call, whatever was called on them; put back, both are. */
 static void mixed(uint32_t calls) {
-    callauction_config config = {1, 1000, 200, 8, 8, 0, 0};
+    callauction_config config = {1, 1000, 200, 8, 8, 0, 0, 1, 0};
     callauction_member one[3] = {{0}}, two[3] = {{0}}, moved;
     callauction_command enter = {.tag = CALLAUCTION_COMMAND_ENTER, .quantity = 5, .has_limit = 1, .limit = 200};
     callauction_entry entries[8];
@@ -235,7 +286,7 @@ static void mixed(uint32_t calls) {
 
 /* A look shows all that was called, whether somebody looked while it was or not. */
 static void looks_show_all(bool is_watched) {
-    callauction_config config = {1, 1000, 200, 8, 8, 0, 0};
+    callauction_config config = {1, 1000, 200, 8, 8, 0, 0, 1, 0};
     callauction_member members[3] = {{0}};
     callauction_command enter = {.tag = CALLAUCTION_COMMAND_ENTER, .side = CALLAUCTION_SIDE_BID, .quantity = 5};
     enter.has_limit = 1;
@@ -283,7 +334,7 @@ static void lists_alike(callauction_member *member, const callauction_handle *pl
 
 /* A copy of the board's auction goes on by itself, into an empty handle and over one of the same limits. */
 static void clones_alike(callauction_member *member, const callauction_handle *plain, size_t length) {
-    callauction_config config, other = {1, 999, 200, 65536, 10, 0, 0};
+    callauction_config config, other = {1, 999, 200, 65536, 10, 0, 0, 1, 0};
     callauction_handle copy = {0}, small = {0};
     callauction_command enter = {.tag = CALLAUCTION_COMMAND_ENTER, .side = CALLAUCTION_SIDE_BID, .quantity = 5};
     callauction_reply here, there;
@@ -330,7 +381,7 @@ static void shows_alike(callauction_member *member, const callauction_handle *pl
 }
 
 static void day(uint32_t threads, uint32_t calls, uint32_t looks, uint64_t seed) {
-    callauction_config config = {1, 1000, 200, 65536, threads * calls + 1, 0, 0};
+    callauction_config config = {1, 1000, 200, 65536, threads * calls + 1, 0, 0, 1, 0};
     callauction_member *members = calloc(threads, sizeof *members);
     work *works = calloc(threads, sizeof *works);
     pthread_t *ids = calloc(threads, sizeof *ids);
@@ -431,6 +482,8 @@ int main(int count, char **words) {
     uint32_t threads = count > 1 ? (uint32_t)atoi(words[1]) : 8, calls = count > 2 ? (uint32_t)atoi(words[2]) : 12500;
     uint32_t looks = count > 3 ? (uint32_t)atoi(words[3]) : 2;
     full();
+    reserved(true);
+    reserved(false);
     many();
     for (uint32_t calls = 0; calls < 3; calls++) mixed(calls);
     looks_show_all(false);

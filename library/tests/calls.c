@@ -13,7 +13,7 @@
     } while (0)
 
 enum { LOW = 190, HIGH = 210, TICKS = HIGH - LOW + 1 };
-static const callauction_config usual = {LOW, HIGH, 200, 8, 20, 0, 0};
+static const callauction_config usual = {LOW, HIGH, 200, 8, 20, 0, 0, 1, 0};
 
 static callauction_command order(uint8_t member, uint8_t side, uint32_t tick, uint64_t quantity) {
     callauction_command command = {.member = member, .tag = CALLAUCTION_COMMAND_ENTER, .side = side};
@@ -80,21 +80,21 @@ static void openings(void) {
         callauction_config config;
         uint32_t answer;
     } table[] = {
-        {{0, 210, 200, 8, 20, 0, 0}, CALLAUCTION_ERROR_BAD_BOUNDS},
-        {{211, 210, 200, 8, 20, 0, 0}, CALLAUCTION_ERROR_BAD_BOUNDS},
-        {{999990, 1000001, 999995, 8, 20, 0, 0}, CALLAUCTION_ERROR_BAD_BOUNDS},
-        {{1, 65537, 200, 8, 20, 0, 0}, CALLAUCTION_ERROR_BAD_BOUNDS},
-        {{1, 65536, 65536, 1, 1, 0, 0}, CALLAUCTION_DONE},
-        {{1000000, 1000000, 1000000, 1, 1, 0, 0}, CALLAUCTION_DONE},
-        {{LOW, HIGH, LOW - 1, 8, 20, 0, 0}, CALLAUCTION_ERROR_BAD_REFERENCE},
-        {{LOW, HIGH, HIGH + 1, 8, 20, 0, 0}, CALLAUCTION_ERROR_BAD_REFERENCE},
-        {{LOW, HIGH, 200, 0, 20, 0, 0}, CALLAUCTION_ERROR_BAD_CAPACITY},
-        {{LOW, HIGH, 200, 65537, 20, 0, 0}, CALLAUCTION_ERROR_BAD_CAPACITY},
-        {{LOW, HIGH, 200, 8, 0, 0, 0}, CALLAUCTION_ERROR_BAD_CAPACITY},
-        {{LOW, HIGH, 200, 8, 1048577, 0, 0}, CALLAUCTION_ERROR_BAD_CAPACITY},
-        {{LOW, HIGH, 200, 65536, 1048576, 1, 0}, CALLAUCTION_DONE},
-        {{0, 210, 211, 0, 0, 0, 0}, CALLAUCTION_ERROR_BAD_BOUNDS},
-        {{LOW, HIGH, 211, 0, 0, 0, 0}, CALLAUCTION_ERROR_BAD_REFERENCE},
+        {{0, 210, 200, 8, 20, 0, 0, 0, 0}, CALLAUCTION_ERROR_BAD_BOUNDS},
+        {{211, 210, 200, 8, 20, 0, 0, 0, 0}, CALLAUCTION_ERROR_BAD_BOUNDS},
+        {{999990, 1000001, 999995, 8, 20, 0, 0, 0, 0}, CALLAUCTION_ERROR_BAD_BOUNDS},
+        {{1, 65537, 200, 8, 20, 0, 0, 0, 0}, CALLAUCTION_ERROR_BAD_BOUNDS},
+        {{1, 65536, 65536, 1, 1, 0, 0, 0, 0}, CALLAUCTION_DONE},
+        {{1000000, 1000000, 1000000, 1, 1, 0, 0, 0, 0}, CALLAUCTION_DONE},
+        {{LOW, HIGH, LOW - 1, 8, 20, 0, 0, 0, 0}, CALLAUCTION_ERROR_BAD_REFERENCE},
+        {{LOW, HIGH, HIGH + 1, 8, 20, 0, 0, 0, 0}, CALLAUCTION_ERROR_BAD_REFERENCE},
+        {{LOW, HIGH, 200, 0, 20, 0, 0, 0, 0}, CALLAUCTION_ERROR_BAD_CAPACITY},
+        {{LOW, HIGH, 200, 65537, 20, 0, 0, 0, 0}, CALLAUCTION_ERROR_BAD_CAPACITY},
+        {{LOW, HIGH, 200, 8, 0, 0, 0, 0, 0}, CALLAUCTION_ERROR_BAD_CAPACITY},
+        {{LOW, HIGH, 200, 8, 1048577, 0, 0, 0, 0}, CALLAUCTION_ERROR_BAD_CAPACITY},
+        {{LOW, HIGH, 200, 65536, 1048576, 1, 0, 0, 0}, CALLAUCTION_DONE},
+        {{0, 210, 211, 0, 0, 0, 0, 0, 0}, CALLAUCTION_ERROR_BAD_BOUNDS},
+        {{LOW, HIGH, 211, 0, 0, 0, 0, 0, 0}, CALLAUCTION_ERROR_BAD_REFERENCE},
     };
     for (size_t i = 0; i < sizeof table / sizeof *table; i++) {
         callauction_handle auction = {0};
@@ -114,19 +114,23 @@ static void openings(void) {
     WANT(callauction_close(&auction) == CALLAUCTION_DONE);
 }
 
-/* A range may be any number with a flag of 1; without it, or with another flag, the struct is no config. */
+/* A range and a reserve may be any number with a flag of 1; without it, or with another flag, the struct is no config.
+ */
 static void the_config(void) {
     callauction_handle auction = {0};
-    callauction_config ranged = {LOW, HIGH, 200, 8, 20, 1, 3}, config;
+    callauction_config ranged = {LOW, HIGH, 200, 8, 20, 1, 3, 0, 0}, config;
     const callauction_config bad[] = {
-        {LOW, HIGH, 200, 8, 20, 7, 3},
-        {LOW, HIGH, 200, 8, 20, 0, 3},
-        {0, 0, 0, 0, 0, 2, 0},
+        {LOW, HIGH, 200, 8, 20, 7, 3, 0, 0},
+        {LOW, HIGH, 200, 8, 20, 0, 3, 0, 0},
+        {LOW, HIGH, 200, 8, 20, 0, 0, 2, 3},
+        {LOW, HIGH, 200, 8, 20, 1, 3, 0, 3},
+        {0, 0, 0, 0, 0, 2, 0, 0, 0},
     };
     for (size_t i = 0; i < sizeof bad / sizeof *bad; i++)
         WANT(callauction_open(&auction, &bad[i]) == CALLAUCTION_ERROR_NO_CONFIG);
     WANT(callauction_open(&auction, &ranged) == CALLAUCTION_DONE);
     WANT(callauction_config_of(&auction, &config) == CALLAUCTION_DONE && config.has_range == 1 && config.range == 3);
+    WANT(config.has_reserve == 1 && config.reserve == 0);
     WANT(callauction_close(&auction) == CALLAUCTION_DONE);
 }
 
@@ -174,6 +178,51 @@ static void a_full_auction(void) {
     WANT(callauction_display(&auction, &reply) == CALLAUCTION_DONE && reply.tag == CALLAUCTION_REPLY_UNPRICED);
     WANT(callauction_reset(&auction) == CALLAUCTION_DONE && calls_of(&auction) == 0);
     WANT(applied(&auction, ask).tag == CALLAUCTION_REPLY_UNPRICED && calls_of(&auction) == 1);
+    WANT(callauction_close(&auction) == CALLAUCTION_DONE);
+}
+
+/* The last calls are the operator's: of 20, with a reserve of 3, another member makes 17 at the most. */
+static void the_reserve(void) {
+    callauction_handle auction = {0}, copy = {0}, over = {0};
+    callauction_config config = usual;
+    callauction_command ask = other(1, CALLAUCTION_COMMAND_INDICATE, 0), none = {.member = 1};
+    callauction_command own = other(0, CALLAUCTION_COMMAND_INDICATE, 0);
+    callauction_command both[3] = {own, ask, own};
+    callauction_reply replies[3] = {{.tag = 99}, {.tag = 99}, {.tag = 99}};
+    callauction_day_state state;
+    size_t done = 77;
+    config.reserve = 3;
+    WANT(callauction_open(&auction, &config) == CALLAUCTION_DONE);
+    WANT(callauction_state(&auction, &state) == CALLAUCTION_DONE && state.calls_left_to_members == 17);
+    for (uint32_t i = 0; i < 16; i++) applied(&auction, ask);
+    WANT(callauction_clone(&auction, &copy) == CALLAUCTION_DONE);
+    applied(&auction, ask);
+    WANT(callauction_state(&auction, &state) == CALLAUCTION_DONE);
+    WANT(state.calls == 17 && state.calls_left == 3 && state.calls_left_to_members == 0);
+    WANT(callauction_apply(&auction, &ask, replies) == CALLAUCTION_ERROR_FULL && replies[0].tag == 99);
+    WANT(callauction_apply(&auction, &none, replies) == CALLAUCTION_ERROR_NO_COMMAND && calls_of(&auction) == 17);
+    WANT(callauction_apply_many(&auction, both, 3, replies, 3, &done) == CALLAUCTION_ERROR_FULL && done == 1);
+    WANT(replies[0].tag == CALLAUCTION_REPLY_UNPRICED && replies[1].tag == 99 && calls_of(&auction) == 18);
+    applied(&auction, own);
+    WANT(applied(&auction, other(0, CALLAUCTION_COMMAND_UNCROSS, 0)).tag == CALLAUCTION_REPLY_UNCROSSED);
+    WANT(callauction_apply(&auction, &own, replies) == CALLAUCTION_ERROR_FULL && calls_of(&auction) == 20);
+    /* copies have the reserve, and so has an auction that one is written over; a reset keeps it */
+    WANT(callauction_open(&over, &usual) == CALLAUCTION_DONE && callauction_clone(&copy, &over) == CALLAUCTION_DONE);
+    WANT(callauction_config_of(&over, &config) == CALLAUCTION_DONE && config.reserve == 3);
+    WANT(callauction_clone(&over, &auction) == CALLAUCTION_DONE);
+    applied(&auction, ask);
+    WANT(callauction_apply(&auction, &ask, replies) == CALLAUCTION_ERROR_FULL);
+    WANT(callauction_reset(&copy) == CALLAUCTION_DONE && callauction_state(&copy, &state) == CALLAUCTION_DONE);
+    WANT(state.calls_left == 20 && state.calls_left_to_members == 17);
+    WANT(callauction_close(&over) == CALLAUCTION_DONE && callauction_close(&copy) == CALLAUCTION_DONE);
+    WANT(callauction_close(&auction) == CALLAUCTION_DONE);
+    /* with as many as there are calls no other member makes any, and nothing overflows */
+    config = usual;
+    config.reserve = UINT32_MAX;
+    WANT(callauction_open(&auction, &config) == CALLAUCTION_DONE);
+    WANT(callauction_apply(&auction, &ask, replies) == CALLAUCTION_ERROR_FULL && calls_of(&auction) == 0);
+    WANT(applied(&auction, own).tag == CALLAUCTION_REPLY_UNPRICED);
+    WANT(callauction_state(&auction, &state) == CALLAUCTION_DONE && state.calls_left_to_members == 0);
     WANT(callauction_close(&auction) == CALLAUCTION_DONE);
 }
 
@@ -416,7 +465,8 @@ static bool is_state(const callauction_handle *auction, callauction_day_state wa
     callauction_day_state state = {0};
     WANT(callauction_state(auction, &state) == CALLAUCTION_DONE);
     return state.reference == wanted.reference && state.calls == wanted.calls &&
-           state.calls_left == wanted.calls_left && state.auction == wanted.auction &&
+           state.calls_left == wanted.calls_left && state.calls_left_to_members == wanted.calls_left_to_members &&
+           state.auction == wanted.auction &&
            state.in_call == wanted.in_call && state.extended == wanted.extended;
 }
 
@@ -435,23 +485,23 @@ static void the_state(void) {
     config.range = 3;
     WANT(callauction_open(&auction, &config) == CALLAUCTION_DONE);
     WANT(callauction_open(&over, &config) == CALLAUCTION_DONE);
-    WANT(is_state(&auction, (callauction_day_state){200, 0, 20, CALLAUCTION_AUCTION_OPENING, 1, 0}));
+    WANT(is_state(&auction, (callauction_day_state){200, 0, 20, 20, CALLAUCTION_AUCTION_OPENING, 1, 0}));
     WANT(applied(&auction, other(1, CALLAUCTION_COMMAND_UNCROSS, 0)).refusal == CALLAUCTION_REFUSAL_NOT_OPERATOR);
     WANT(uncrossed_at(&auction, 204) == CALLAUCTION_REPLY_INTERRUPTED);
-    WANT(is_state(&auction, (callauction_day_state){200, 4, 16, CALLAUCTION_AUCTION_OPENING, 1, 1}));
+    WANT(is_state(&auction, (callauction_day_state){200, 4, 16, 16, CALLAUCTION_AUCTION_OPENING, 1, 1}));
     applied(&auction, other(1, CALLAUCTION_COMMAND_INDICATE, 0));
     WANT(callauction_clone(&auction, &copy) == CALLAUCTION_DONE);
     WANT(callauction_clone(&auction, &over) == CALLAUCTION_DONE);
-    WANT(is_state(&copy, (callauction_day_state){200, 5, 15, CALLAUCTION_AUCTION_OPENING, 1, 1}));
+    WANT(is_state(&copy, (callauction_day_state){200, 5, 15, 15, CALLAUCTION_AUCTION_OPENING, 1, 1}));
     WANT(applied(&over, other(0, CALLAUCTION_COMMAND_UNCROSS, 0)).tag == CALLAUCTION_REPLY_UNCROSSED);
-    WANT(is_state(&over, (callauction_day_state){204, 6, 14, CALLAUCTION_AUCTION_INTRADAY, 1, 0}));
+    WANT(is_state(&over, (callauction_day_state){204, 6, 14, 14, CALLAUCTION_AUCTION_INTRADAY, 1, 0}));
     WANT(uncrossed_at(&over, 208) == CALLAUCTION_REPLY_INTERRUPTED);
-    WANT(is_state(&over, (callauction_day_state){204, 9, 11, CALLAUCTION_AUCTION_INTRADAY, 1, 1}));
+    WANT(is_state(&over, (callauction_day_state){204, 9, 11, 11, CALLAUCTION_AUCTION_INTRADAY, 1, 1}));
     WANT(callauction_clone(&over, &copy) == CALLAUCTION_DONE && callauction_reset(&copy) == CALLAUCTION_DONE);
-    WANT(is_state(&copy, (callauction_day_state){200, 0, 20, CALLAUCTION_AUCTION_OPENING, 1, 0}));
+    WANT(is_state(&copy, (callauction_day_state){200, 0, 20, 20, CALLAUCTION_AUCTION_OPENING, 1, 0}));
     WANT(applied(&over, other(0, CALLAUCTION_COMMAND_UNCROSS, 0)).tick == 208);
     WANT(applied(&over, other(0, CALLAUCTION_COMMAND_UNCROSS, 0)).auction == CALLAUCTION_AUCTION_CLOSING);
-    WANT(is_state(&over, (callauction_day_state){208, 11, 9, 0, 0, 0}));
+    WANT(is_state(&over, (callauction_day_state){208, 11, 9, 9, 0, 0, 0}));
     WANT(callauction_close(&auction) == CALLAUCTION_DONE && callauction_close(&copy) == CALLAUCTION_DONE);
     WANT(callauction_close(&over) == CALLAUCTION_DONE);
 }
@@ -560,6 +610,7 @@ int main(void) {
     the_config();
     no_commands();
     a_full_auction();
+    the_reserve();
     every_reply();
     many();
     the_ladder();

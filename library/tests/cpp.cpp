@@ -62,7 +62,8 @@ void replies_are_values() {
     WANT(auction.config()->range == 50);
     const auto state = auction.state();
     WANT(state && state->auction == ca::AuctionKind::intraday && state->extended && state->reference == 510);
-    WANT(state->calls == 14 && state->calls_left == 86);
+    WANT(state->calls == 14 && state->calls_left == 86 && state->calls_left_to_members == 86);
+    WANT(auction.config()->reserve == 0);
     const auto open = auction.orders();
     WANT(open && open->size() == 3 && (*open)[0].id == 5 && (*open)[1].id == 1 && (*open)[1].filled == 15);
     WANT(auction.orders(2)->at(0).id == 4 && auction.orders(7)->empty() && auction.expiring()->empty());
@@ -90,11 +91,11 @@ void prices_in_money_are_ticks() {
     const auto cents = ca::Ticks::by("0.01").value();
     WANT(cents.of("199.75").value() == 19975 && cents.of("7").value() == 700 && cents.of("1.150000").value() == 115);
     for (const char *price : {"199.755", "", ".", "1.", ".5", "-1", "1e2", "1,5", "1234567890", "0.0000000001"})
-        WANT(cents.of(price).error() == ca::Error::no_command);
+        WANT(cents.of(price).error() == ca::Error::no_price);
     const auto eighths = ca::Ticks::by("0.125").value();
     WANT(eighths.of("100.375").value() == 803 && !eighths.of("100.3").has_value());
     for (const char *size : {"0", "0.0", "x", "", "-0.01", "0.0000000001"})
-        WANT(ca::Ticks::by(size).error() == ca::Error::no_config);
+        WANT(ca::Ticks::by(size).error() == ca::Error::no_tick_size);
     WANT(ca::Ticks::by("0.000000001").value().of("999999999.999999999").value() == 999999999999999999);
     auto auction = opened({1, 65000, 20000, 10, 100, {}});
     reply<ca::Entered>(auction.apply(1, ca::Enter{ca::Side::bid, 5, cents.of("199.75").value()}));
@@ -105,7 +106,8 @@ void a_missing_value_throws() {
     try {
         static_cast<void>(ca::Ticks::by("0").value());
     } catch (const ca::BadResult &fault) {
-        WANT(fault.error() == ca::Error::no_config && fault.what() == ca::text(ca::Error::no_config));
+        WANT(fault.error() == ca::Error::no_tick_size);
+        WANT(std::string_view(fault.what()) == "a tick size is a decimal number above 0, with at most nine decimals");
         return;
     }
     WANT(false);
@@ -126,6 +128,8 @@ void owners_are_moved() {
     WANT(second.copy_into(third).has_value() && third.orders()->at(0).side == CALLAUCTION_SIDE_BID);
     auto small = opened({1, 10, 5, 1, 1, {}});
     WANT(second.copy_into(small).error() == ca::Error::in_use && *small.calls() == 0);
+    WANT(second.copy_into(second).has_value() && *second.calls() == 1);
+    WANT(first.copy_into(first).error() == ca::Error::no_auction);
 }
 
 bool is_outcome(const callauction_outcome &outcome, std::uint32_t id, std::uint64_t filled, std::uint64_t left) {
@@ -165,6 +169,25 @@ void a_day_is_carried_over() {
     WANT(next.orders()->at(2).quantity == 60 && next.orders()->at(2).peak == 20 && next.state()->reference == 490);
 }
 
+// The last calls are the operator's: none of an auction, 16 of a board, or as many as the config says.
+void a_reserve_is_the_operators() {
+    auto auction = opened({1, 1000, 500, 10, 3, {}, 2});
+    WANT(auction.state()->calls_left == 3 && auction.state()->calls_left_to_members == 1);
+    reply<ca::NoPrice>(auction.apply(1, ca::Indicate{}));
+    WANT(auction.apply(1, ca::Indicate{}).error() == ca::Error::full);
+    WANT(auction.clone()->apply(2, ca::Indicate{}).error() == ca::Error::full && auction.config()->reserve == 2);
+    WANT(reply<ca::Uncrossed>(auction.apply(0, ca::Uncross{})).auction == ca::AuctionKind::opening);
+    WANT(ca::Auction::open({1, 1000, 500, 10, 3, {}, -1}).error() == ca::Error::no_config);
+    auto usual = ca::Board::open(2, {1, 1000, 500, 10, 17});
+    WANT(usual && usual->member(0).state()->calls_left_to_members == 1);
+    WANT(usual->member(1).call(ca::Indicate{}) && usual->member(1).call(ca::Indicate{}).error() == ca::Error::full);
+    WANT(usual->member(1).auction()->config()->reserve == 16);
+    for (int count = 0; count < 16; count++) WANT(usual->member(0).call(ca::Indicate{}));
+    WANT(usual->member(0).call(ca::Indicate{}).error() == ca::Error::full);
+    auto without = ca::Board::open(2, {1, 1000, 500, 10, 1, {}, 0});
+    WANT(without && without->member(1).call(ca::Indicate{}));
+}
+
 void a_board_says_what_an_uncross_did() {
     auto board = ca::Board::open(3, day);
     WANT(board.has_value());
@@ -179,6 +202,7 @@ void a_board_says_what_an_uncross_did() {
     WANT(intraday && intraday->size() == 2 && (*intraday)[0].left == 0 && (*intraday)[1].id == 3);
     WANT(one.uncrossed_orders(ca::AuctionKind::closing)->empty());
     WANT(one.waiting([&] { return one.ladder(); })->calls == 5);
+    WANT(one.waiting([&] { return one.waiting([&] { return one.state(); }); })->calls == 5);
     const auto closing = board->close();
     WANT(closing && ca::uncrossed_orders(day, closing->entries, ca::AuctionKind::opening)->size() == 2);
     WANT(one.uncrossed_orders(ca::AuctionKind::opening).error() == ca::Error::closed);
@@ -188,7 +212,7 @@ void a_board_says_what_an_uncross_did() {
 }
 
 void a_board_is_closed() {
-    auto result = ca::Board::open(2, {1, 1000, 500, 10, 4, {}});
+    auto result = ca::Board::open(2, {1, 1000, 500, 10, 4, {}, 0});
     WANT(result.has_value());
     auto board = *std::move(result);
     auto operating = board.member(0), trading = board.member(1);
@@ -252,6 +276,7 @@ int main() {
     owners_are_moved();
     an_uncross_says_what_it_did();
     a_day_is_carried_over();
+    a_reserve_is_the_operators();
     a_board_says_what_an_uncross_did();
     a_board_is_closed();
     return 0;

@@ -13,7 +13,7 @@
 #include <string.h>
 #include <unistd.h>
 
-static const callauction_config config = {1, 1000, 500, 64, 6000, 0, 0};
+static const callauction_config config = {1, 1000, 500, 64, 6000, 0, 0, 0, 0};
 
 static int leave(const char *why) {
     fprintf(stderr, "memory: %s\n", why);

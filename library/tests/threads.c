@@ -7,7 +7,7 @@
 
 enum { COMMANDS = 60000 };
 static int rounds = 8;
-static const callauction_config config = {1, 1000, 500, 4096, 65536, 0, 0};
+static const callauction_config config = {1, 1000, 500, 4096, 65536, 0, 0, 0, 0};
 
 typedef struct day {
     uint64_t seed;
