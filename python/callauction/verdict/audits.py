@@ -1,23 +1,23 @@
 """The audit of an extract's events."""
 import os
 from collections.abc import Sequence
-from decimal import Decimal
 from typing import BinaryIO
 
 import numpy
 import pandas
 
 from callauction.course import Watch
-from callauction.prices import BadCellError, decimal_of, tick_size_of
+from callauction.prices import tick_size_of
 from callauction.verdict.events import read_zeros, refuse_limits, rows_of
 from callauction.verdict.findings import Verdict, verdict_of
 from callauction.verdict.joining import with_results
-from callauction.verdict.judging import Rules
-from callauction.verdict.mixed import corrected, refuse_days
-from callauction.verdict.ranges import range_of
+from callauction.verdict.judged import Rules
+from callauction.verdict.mixed import corrected, has_more, refuse_days, refuse_sums
+from callauction.verdict.ranges import argument, range_of
 from callauction.verdict.reading import Reading, Table, read_table
 from callauction.verdict.readings import judged_day
 from callauction.verdict.rows import BadRow, Doubt, Rows
+from callauction.verdict.units import without_noise
 from callauction.words import AUCTIONS
 
 
@@ -51,8 +51,8 @@ def audit_events(
     for a table of another form, ValueError for the other arguments, OSError, and ProgramError.
     """
     rules = rules_of(
-        reference, tick_size, range, low, high, auctions, reading.quantity == "total",
-        second_reference, second_range,
+        reference, tick_size, range, low, high, auctions, reading.quantity, second_reference,
+        second_range,
     )  # fmt: skip
     table = source if isinstance(source, Table) else read_table(source, reading)
     return judge(table, reading, rules, watch)
@@ -68,13 +68,17 @@ def judge(table: Table, reading: Reading, rules: Rules, watch: Watch = iter) -> 
 
 def judge_rows(rows: Rows, rules: Rules, watch: Watch = iter) -> Verdict:
     """The verdict on the rows of a day. Raises ExtractError and ProgramError."""
-    rows = with_results(rows)
+    rows, rules = without_noise(with_results(rows), rules)
+    whole = rows
     refuse_days(rows)
-    if rules.range is rules.second is None:
+    if not rules.has_range and has_more(rows, rules.due):
         rows = corrected(rows, rules.due)
     read_zeros(rows, rules.prices)
     refuse_limits(rows, rules.tick_size, rules.low, rules.high)
-    return verdict_of(judged_day(rows, rules, watch), rows, rules)
+    found = judged_day(rows, rules, whole, watch)
+    if found.unlawful:
+        refuse_sums(whole, rules.due)
+    return verdict_of(found, rows, rules)
 
 
 def short_rows(table: Table, rows: Rows, reading: Reading) -> list[BadRow]:
@@ -98,7 +102,7 @@ def before(line: object, rows: Rows, reading: Reading) -> int:
 
 def rules_of(
     reference: object, tick_size: object, range: object, low: object, high: object,
-    auctions: Sequence[str], has_totals: bool = False, second_reference: object = None,
+    auctions: Sequence[str], quantity: str = "", second_reference: object = None,
     second_range: object = None,
 ) -> Rules:  # fmt: skip
     """The rules of a day from the arguments of an audit. Raises ValueError."""
@@ -117,13 +121,6 @@ def rules_of(
         raise ValueError("second_reference and second_range: one needs the other")
     size = None if tick_size is None else tick_size_of(tick_size)
     return Rules(
-        first, size, spans[0], bottom, top, tuple(auctions), has_totals, spans[1], second
-    )
-
-
-def argument(name: str, value: object) -> Decimal:
-    """A decimal argument. Raises ValueError."""
-    try:
-        return decimal_of(value)
-    except BadCellError as fault:
-        raise ValueError(f"{name} {value!r} {fault}") from None
+        first, size, spans[0], bottom, top, tuple(auctions), quantity == "total", not quantity,
+        spans[1], second,
+    )  # fmt: skip

@@ -12,16 +12,9 @@ from callauction.verdict.audits import rules_of
 from callauction.verdict.cells import Short
 from callauction.verdict.columns import ColumnError
 from callauction.verdict.events import auctions_in, kinds_in, orders_in_time
-from callauction.verdict.instruments import (
-    TERMS,
-    Audited,
-    Market,
-    days_of,
-    market_of,
-    terms_of,
-)
-from callauction.verdict.judging import Rules
-from callauction.verdict.one_auction import BOOK_NAMES, NOT_NAMED
+from callauction.verdict.instruments import TERMS, Audited, Market, days_of, market_of, terms_of
+from callauction.verdict.judged import Rules
+from callauction.verdict.one_auction import BOOK_NAMES, auction_of
 from callauction.verdict.reading import Reading, Table, file_of, read_table
 from callauction.verdict.rows import UNCROSS
 from callauction.words import AUCTIONS
@@ -37,7 +30,7 @@ def found_in(
     reading = dataclasses.replace(reading, format="csv", sort=False)
     terms = {name: vars(asked)[name] for name in TERMS}
     if asked.by is None:
-        codes, rules = numpy.zeros(len(table.source), "i4"), rules_of(**terms_of(terms, ""))
+        codes, rules = numpy.zeros(len(table.source), "i4"), rules_of(**terms_of(terms))
         market = Market(table, reading, "", codes, ("",), {"": rules})
     else:
         days = days_of(asked.days, asked.by)
@@ -60,7 +53,8 @@ def _table(files: Mapping[str, bytes], reading: Reading, by: str | None) -> Tabl
     frames = [_with_events(frame, reading, event) for (frame, _), event in zip(read, events)]
     plain = dataclasses.replace(reading, format="csv", sort=False)
     table = read_table(pandas.concat(frames), plain, by)
-    table = dataclasses.replace(table, short=tuple(line for _, short in read for line in short))
+    short = tuple(line for _, lines in read for line in lines)
+    table = dataclasses.replace(table, short=short, is_whole=False)
     orders, others = orders_in_time(table, plain)
     return table.take(numpy.concatenate([orders, others]))
 
@@ -107,15 +101,15 @@ def _rules(market: Market, is_named: bool) -> dict[str, Rules | str]:
     owners = numpy.unique(market.codes[(only > 0) & (market.codes >= 0)])
     restricted = {market.names[code] for code in owners.tolist()}
     for name, rules in market.rules.items():
-        those = named.get(name, [])
         if isinstance(rules, str) or name not in market.names:
             found[name] = rules
-        elif len(those) != 1:
-            found[name] = f"it has {len(those)} rows uncross, and not one"
-        elif 0 < those[0] <= len(AUCTIONS):
-            found[name] = dataclasses.replace(rules, auctions=(AUCTIONS[those[0] - 1],))
-        elif name in restricted and not is_named:
-            found[name] = NOT_NAMED
-        else:
-            found[name] = dataclasses.replace(rules, auctions=rules.auctions[:1])
+            continue
+        those = named.get(name, [])
+        is_said = is_named and not any(0 < it <= len(AUCTIONS) for it in those)
+        said = rules.auctions[0] if is_said else None
+        try:
+            auction = auction_of(those, said, name in restricted)
+            found[name] = dataclasses.replace(rules, auctions=(auction,))
+        except ValueError as fault:
+            found[name] = str(fault)
     return found

@@ -13,7 +13,7 @@ import numpy
 import pandas
 from numpy.typing import NDArray
 
-from callauction.prices import BadCellError, decimal_of
+from callauction.prices import number_of
 from callauction.verdict import times
 
 Array = NDArray[numpy.generic]
@@ -49,6 +49,12 @@ class Cells:
         """The text of a cell without blanks around it."""
         begin = int(self.start[row])
         return self.buffer[begin : begin + int(self.length[row])].tobytes().decode().strip()
+
+    def layouts(self) -> tuple[Codes, Ints]:
+        """As codes, each cell with a 0 in place of each of its digits."""
+        is_digit = (self.buffer >= ord("0")) & (self.buffer <= ord("9"))
+        plain = numpy.where(is_digit, numpy.uint8(ord("0")), self.buffer)
+        return Cells(plain, self.start, self.length).codes()
 
     def stripped(self) -> "Cells":
         """The cells without blanks around them."""
@@ -95,11 +101,16 @@ class Cells:
         return again[codes], [*numbers]
 
 
+def numbered(values: Array) -> Ints:
+    """A number for each distinct value, in the order in which they are first."""
+    found: Ints = pandas.factorize(values)[0]
+    return found
+
+
 def paired_codes(one: Array, other: Array) -> Ints:
     """A number for each pair of numbers, none of which is below 0."""
     pairs = one.astype("i8") * (int(other.max(initial=0)) + 1) + other.astype("i8")
-    found: Ints = pandas.factorize(pairs)[0]
-    return found
+    return numbered(pairs)
 
 
 def _firsts(codes: Array) -> Ints:
@@ -204,10 +215,10 @@ def _factorized(column: "pandas.Series") -> tuple[Ints, list[object]]:
 def _text(value: object) -> str:
     """The text of a cell; a float is the shortest decimal that gives it."""
     if isinstance(value, float | Decimal):
-        try:
-            text = f"{decimal_of(value):f}"
-        except BadCellError:
+        number = number_of(value)
+        if number is None:
             return str(value)
+        text = f"{number:f}"
         return text.rstrip("0").rstrip(".") if isinstance(value, float) and "." in text else text
     return times.shown(value)
 

@@ -9,18 +9,12 @@ from callauction.verdict.cells import Ints, Mask
 from callauction.verdict.comparing import Difference, Trade
 from callauction.verdict.doubts import Doubts
 from callauction.verdict.rows import (
-    INTERRUPTED,
-    MARKET,
-    MISSING,
-    NEW,
-    NO_PRICE,
-    REPLACE,
-    STOPPED,
-    Rows,
-)
+    INTERRUPTED, MARKET, MISSING, NEW, NO_PRICE, REPLACE, STOPPED, Rows,
+)  # fmt: skip
 from callauction.words import AUCTIONS
 
 ONE_PRICE = "All trades of an auction are at its one price."
+PUBLISHED = "All trades of an auction are at its published price."
 SUMS = "The shares of each side's executed orders add up to the volume."
 LIMIT = "No order is executed beyond its limit."
 STOPS = "An uncross that is interrupted has a price, and executes nothing."
@@ -30,8 +24,10 @@ def with_certain(
     differences: tuple[Difference, ...], found: list[Difference]
 ) -> tuple[Difference, ...]:
     """The differences with those that are certain whatever wasn't read, in place of a doubtful one
-    of the same item and rows.
+    of the same item and rows. Trades beside a price that is wrong are no more than that.
     """
+    if any(it.item == "price" and not it.doubt for it in differences):
+        found = [it for it in found if it.rule != PUBLISHED]
     kept = [
         each for each in differences
         if not any(it.item == each.item and {*it.places} & {*each.places} for it in found)
@@ -48,8 +44,13 @@ class Certain:
         of_books = (row.place for row in rows.bad if row.is_blank)
         self.is_blank = any(place < 0 or rows.key[place] < 0 for place in of_books)
         """Whether it isn't known of some row which order it is of, if of any."""
-        self.has_all = held >= due and not self.is_blank
+        self.is_whole = bool(held >= due)
+        """Whether there is a row uncross for each auction."""
+
+    @property
+    def has_all(self) -> bool:
         """Whether no row of an uncross can be missing."""
+        return self.is_whole and not self.is_blank and self.doubts.gap is None
 
     def of(self, place: int, auction: int, traded: Ints, filled: Ints) -> list[Difference]:
         """The contradictions of an auction's uncross at a place with its trades and fills."""
@@ -60,12 +61,11 @@ class Certain:
         state = self.rows.state
         if not self.has_all or 0 < state[place] != 1 + auction:
             own = own[(state[own] > 0) & (state[own] == state[place])]
-        found = [*self._limits(place, traded)]
-        if len(own):
-            found += [*self._prices(place, own)]
+        found = [*self._limits(place, traded[~self.doubts.taken(traded)])]
         if len(own) == len(these) and len(own):
             found += [*self._volume(place, traded, filled)]
-        return found
+        own = own[~self.doubts.taken(own)]
+        return [*found, *self._prices(place, own)] if len(own) else found
 
     def _interruption(self, place: int, auction: int) -> Iterator[Difference]:
         """An interruption without a price, or with trades."""
@@ -74,36 +74,37 @@ class Certain:
             yield Difference("auction", INTERRUPTED, AUCTIONS[auction], (place,), rule=STOPS)
 
     def _prices(self, place: int, these: Ints) -> Iterator[Difference]:
-        """Trades of one auction at two prices, one of which may be the published one."""
-        rows = self.rows
+        """Trades of one auction at two prices, or at another one than the published."""
+        rows, published = self.rows, int(self.rows.price[place])
         at = rows.price[these]
-        prices = numpy.unique(numpy.concatenate([at, rows.price[[place]]]))
-        prices = prices[prices >= 0]
+        prices = numpy.unique(at[at >= 0])
+        first = (*(int(these[at == it][0]) for it in prices),)
+        text = f"trades at {' and '.join(str(rows.prices[it]) for it in prices[:3])}"
         if len(prices) > 1:
-            text = " and ".join(str(rows.prices[it]) for it in prices[:3])
-            first = [int(these[at == it][0]) for it in prices if (at == it).any()]
-            yield Difference(
-                "trade", f"trades at {text}", "at one price", (*first,), rule=ONE_PRICE
-            )
+            yield Difference("trade", text, "at one price", first, rule=ONE_PRICE)
+        elif len(prices) and published not in (prices[0], MISSING, NO_PRICE):
+            due = f"at the published {rows.prices[published]}"
+            yield Difference("trade", text, due, first, rule=PUBLISHED)
 
     def _volume(self, place: int, traded: Ints, filled: Ints) -> Iterator[Difference]:
         """Shares that don't add up to the published volume."""
         rows, volume = self.rows, int(self.rows.quantity[place])
         if volume < 0:
             return
-        if len(traded):
-            added = {int(rows.quantity[traded].sum())}
-        else:
+        sides = [traded]
+        if not len(traded):
             owners = self.entered[rows.key[filled]]
             if (owners < 0).any():
                 return
-            sides = (filled[rows.side[owners] == side] for side in (1, 2))
-            added = {int(rows.quantity[those].sum()) for those in sides}
-        end = self.doubts.of_end(place, traded, filled, volume)
+            sides = [filled[rows.side[owners] == side] for side in (1, 2)]
+        end = self.doubts.lost(place, traded, filled, volume)
         excused = bool(self.doubts.of_missing(None) or rows.dropped or end)
-        wrong = [it for it in added if it > volume or it < volume and not excused]
-        if wrong:
-            yield Difference("volume", volume, wrong[0], (place,), rule=SUMS)
+        for those in sides:
+            added, taken = int(rows.quantity[those].sum()), those[self.doubts.taken(those)]
+            least = added - int(rows.quantity[taken].sum())
+            if least > volume or added < volume and not excused:
+                yield Difference("volume", volume, added, (place,), rule=SUMS)
+                return
 
     def _limits(self, place: int, traded: Ints) -> Iterator[Difference]:
         """Trades beyond every limit that an order had."""
@@ -111,11 +112,14 @@ class Certain:
         if self.is_blank:
             return
         price = numpy.where(rows.price[traded] >= 0, rows.price[traded], rows.price[place])
+        lost = (it.since for it in rows.holes if it.is_blank and it.since < place)
+        is_below = self.entered > max(lost, default=-1)
         for side, keys in ((1, rows.bid), (2, rows.ask)):
             worst, is_known = self._worst(side)
             key = keys[traded]
             beyond = (price - worst[key]) * (1 if side == 1 else -1) > 0
-            for at in numpy.flatnonzero(beyond & is_known[key] & (price >= 0)).tolist():
+            beyond &= is_known[key] & is_below[key] & (price >= 0)
+            for at in numpy.flatnonzero(beyond).tolist():
                 row = int(traded[at])
                 pair = int(rows.bid[row]), int(rows.ask[row])
                 one = Trade(*pair, int(rows.quantity[row]), int(price[at]))
@@ -126,7 +130,7 @@ class Certain:
         and have a limit.
         """
         rows = self.rows
-        limits = numpy.flatnonzero((rows.kind == NEW) | (rows.kind == REPLACE))
+        limits = rows.of(NEW, REPLACE)
         key, at = rows.key[limits], rows.price[limits].astype("i8")
         worst = numpy.full(len(self.entered), MISSING, "i8")
         order = numpy.argsort(at if side == 1 else -at, kind="stable")

@@ -9,15 +9,26 @@ from callauction.verdict.cells import Bytes, Cells, Ints
 NONE = numpy.iinfo("i8").min
 """The number of a time that isn't there or can't be read."""
 SECOND = 10**9
-_CLOCK = re.compile(
-    r"(?:(?P<date>\d{4}-\d\d-\d\d|\d{8}|\d\d\.\d\d\.\d{4})[T \-])?"
-    r"(?P<hour>\d\d):(?P<minute>\d\d):(?P<second>\d\d)(?:[.,](?P<part>\d{1,9}))?"
-    r"(?P<zone>Z|[+-]\d\d:\d\d)?"
-)
+DAY = times.DAY_SECONDS * SECOND
 _AT_ONCE = 1 << 17
 
 
-def nanoseconds(cells: Cells) -> Ints:
+def dates_of(cells: Cells) -> str:
+    """Which of times.STROKES the dates of a column of times are (times.strokes_of)."""
+    start = cells.start[cells.length > 0]
+    if not (cells.buffer[start[:, None] + [1, 2]] == ord("/")).any():
+        return ""
+    codes, first = cells.layouts()
+    found = set[str]()
+    for number, row in enumerate(first.tolist()):
+        date = times.date_text(cells.text(row))
+        those = cells.take(numpy.flatnonzero(codes == number))
+        width = numpy.full(len(those), len(date))
+        found |= {*Cells(those.buffer, those.start, width).texts()[1]} if date else {""}
+    return times.strokes_of(found)
+
+
+def nanoseconds(cells: Cells, dates: str = "") -> Ints:
     """The time of each cell in nanoseconds, as verdict.times has it in seconds; NONE where there is
     none.
     """
@@ -25,25 +36,25 @@ def nanoseconds(cells: Cells) -> Ints:
     for length in numpy.unique(cells.length[cells.length > 0]):
         rows = numpy.flatnonzero(cells.length == length)
         for begin in range(0, len(rows), _AT_ONCE):
-            _read(cells, rows[begin : begin + _AT_ONCE], int(length), found)
+            _read(cells, rows[begin : begin + _AT_ONCE], int(length), found, dates)
     left = numpy.flatnonzero((found == NONE) & (cells.length > 0))
     if len(left):
         codes, texts = cells.take(left).texts()
-        found[left] = numpy.array([*map(nanosecond, texts), NONE], "i8")[codes]
+        found[left] = numpy.array([*(nanosecond(it, dates) for it in texts), NONE], "i8")[codes]
     return found
 
 
-def nanosecond(text: str) -> int:
+def nanosecond(text: str, dates: str = "") -> int:
     """The nanoseconds of one time, NONE where it is none or isn't whole in them."""
-    value = times.seconds(text)
+    value = times.seconds(text, dates)
     scaled = None if value is None else value * SECOND
     return NONE if scaled is None or scaled != int(scaled) or scaled >= 2**62 else int(scaled)
 
 
-def _read(cells: Cells, rows: Ints, length: int, found: Ints) -> None:
+def _read(cells: Cells, rows: Ints, length: int, found: Ints, dates: str) -> None:
     """Reads the cells of one length that are laid out as the first of them."""
-    layout = _CLOCK.fullmatch(cells.text(int(rows[0])))
-    if layout is None or layout.end() != length:
+    layout = times.CLOCK.fullmatch(cells.text(int(rows[0])))
+    if layout is None or layout.end() != length or layout["half"] or not layout["second"]:
         return
     signs = cells.buffer[cells.start[rows][:, None] + numpy.arange(length)]
     is_digit = (signs >= ord("0")) & (signs <= ord("9"))
@@ -58,7 +69,7 @@ def _read(cells: Cells, rows: Ints, length: int, found: Ints) -> None:
         begin, end = layout.span("date")
         width = numpy.full(len(rows), end - begin)
         codes, texts = Cells(cells.buffer, cells.start[rows] + begin, width).texts()
-        days = numpy.array([times.days(text) or 0 for text in texts], "i8")[codes]
+        days = numpy.array([times.days(text, dates) or 0 for text in texts], "i8")[codes]
         clock, good = clock + days * times.DAY_SECONDS, good & (days > 0)
     value = clock * SECOND
     if layout["part"] is not None:

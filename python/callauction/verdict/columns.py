@@ -5,6 +5,7 @@ from collections.abc import Collection, Iterable, Mapping
 
 EVENTS = ("new", "replace", "cancel", "uncross", "trade", "fill", "bust")
 """The kinds of rows; `bust` takes out a trade that has its orders and its shares."""
+KINDS = {word: place for place, word in enumerate(EVENTS)}
 EVENT_COLUMNS = {
     "event": f"{', '.join(EVENTS[:-1])} or {EVENTS[-1]}",
     "order": "the order's id",
@@ -32,48 +33,38 @@ NEEDED = ("event", "order", "side", "price", "quantity")
 """Columns without which no extract is read."""
 OTHER_NAMES = {"only": "restriction"}
 """Names that are read as another column's."""
-LIKELY = {
-    "action": "event",
-    "type": "event",
-    "orderid": "order",
-    "id": "order",
-    "ordernumber": "order",
-    "clientorderid": "order",
-    "trader": "member",
-    "participant": "member",
-    "account": "member",
-    "firm": "member",
-    "buysell": "side",
-    "bs": "side",
+_NAMES = {
+    "event": "action type",
+    "order": "orderid id ordernumber clientorderid",
+    "member": "trader participant account firm",
+    "side": "buysell bs",
+    "price": "limit limitprice limitpx px",
     "limit": "price",
-    "limitprice": "price",
-    "limitpx": "price",
-    "px": "price",
-    "price": "limit",
-    "qty": "quantity",
-    "size": "quantity",
-    "shares": "quantity",
-    "displayqty": "peak",
-    "visible": "peak",
-    "tradingrestriction": "restriction",
-    "timestamp": "time",
-    "datetime": "time",
-    "seq": "sequence",
-    "seqno": "sequence",
-    "phase": "auction",
-    "imbalance": "surplus",
-    "executed": "volume",
-    "buyorder": "bid",
-    "sellorder": "ask",
-    "buyer": "bid_member",
-    "seller": "ask_member",
-    "neworderid": "new_order",
+    "quantity": "qty size shares",
+    "peak": "displayqty visible",
+    "restriction": "tradingrestriction only",
+    "time": "timestamp datetime",
+    "sequence": "seq seqno",
+    "auction": "phase",
+    "surplus": "imbalance",
+    "volume": "executed",
+    "bid": "buyorder",
+    "ask": "sellorder",
+    "bid_member": "buyer",
+    "ask_member": "seller",
+    "new_order": "neworderid",
     "reply": "reply",
-    "only": "restriction",
 }
+LIKELY = {it: ours for ours, theirs in _NAMES.items() for it in theirs.split()}
 """Names of other systems in small letters without signs, and the column that each is likely to
 be.
 """
+
+
+_ID = re.compile(r"id$|nr$|nummer|number|ref|match|exec|deal")
+"""What a column of ids has in its name."""
+_TRADE_ID = re.compile(r"(trade|trd|exec|match|deal).*(id|no|nr|nummer|number|ref)$")
+"""What a column has in its name whose ids are the trades' own, not the rows'."""
 
 
 class ColumnError(ValueError):
@@ -83,6 +74,16 @@ class ColumnError(ValueError):
 def plain(name: str) -> str:
     """A name in small letters, without blanks and signs."""
     return re.sub(r"[^a-z0-9]", "", name.casefold())
+
+
+def is_id(name: str) -> bool:
+    """Whether a column seems to have ids."""
+    return bool(_ID.search(plain(name)))
+
+
+def is_trade_id(name: str) -> bool:
+    """Whether a column seems to have ids of trades, so that rows with different ones are two."""
+    return bool(_TRADE_ID.search(plain(name)))
 
 
 def likely(name: object, known: Collection[str]) -> str | None:

@@ -14,21 +14,22 @@ from callauction.statuses import DONE
 from callauction.verdict import books, shapes, showing
 from callauction.verdict.audits import audit_events
 from callauction.verdict.columns import EVENT_COLUMNS, ColumnError, likely
-from callauction.verdict.events import plain_frame, rows_of
+from callauction.verdict.events import plain_frame
 from callauction.verdict.findings import Verdict
 from callauction.verdict.instruments import (
-    TERMS,
-    Audited,
-    Market,
-    audited,
-    days_of,
-    market_of,
-    terms_of,
-)
+    TERMS, Audited, Market, audited, days_of, market_of, terms_of,
+)  # fmt: skip
 from callauction.verdict.journals import audit_journal
 from callauction.verdict.reading import GZIP, ExtractError, Reading, Table, read_table
+from callauction.verdict.times import STROKES
 from callauction.words import AUCTIONS
 
+TIMES = (
+    "Times are 8:50, 08:50:01, 08:50:01.123456789 (or ,123) or 8:50:01 PM; with a date before them "
+    "2026-11-27 (then a blank, T or -), 20261127, 27.11.2026, 2026/11/27 or 11/27/2026; with a "
+    "zone behind them Z, +01:00 or +0100; 20261127085001123; or a number, of an epoch's seconds, "
+    "milliseconds, microseconds or nanoseconds too."
+)
 _RECORD = re.compile(rb"(?:\xef\xbb\xbf)?\"?(?:day\"?,\"?\d|\d+\"?,)")
 """How a journal or an order file begins; an extract begins with the names of its columns."""
 
@@ -58,7 +59,7 @@ def add_options(parser: argparse.ArgumentParser) -> None:
 
 def add_reading(parser: argparse.ArgumentParser) -> None:
     """The options of how an extract is read."""
-    how = parser.add_argument_group("how an extract is read")
+    how = parser.add_argument_group("how an extract is read", TIMES)
     add = how.add_argument
     add("--columns", action="append", default=[], metavar="OURS=THEIRS,..", help="names of columns")
     add("--values", action="append", default=[], metavar="COLUMN:THEIRS=OURS,..", help="words")
@@ -73,6 +74,7 @@ def add_reading(parser: argparse.ArgumentParser) -> None:
     add("--quantity", choices=("open", "total"), help="what replaces have (open)")
     add("--pair", help="the column that joins both rows of a trade, each with order and side")
     add("--sort", action="store_true", default=None, help="sort the rows by time and sequence")
+    add("--dates", choices=STROKES, help="what dates as 3/4/2026 are (what all of them may be)")
     add("--ignore", action="append", default=[], metavar="COLUMN,..", help="columns; * for all")
 
 
@@ -85,7 +87,9 @@ def reading_of(asked: argparse.Namespace) -> Reading:
         "separator": "\t" if asked.separator == "\\t" else asked.separator,
         "ignore": _names(asked.ignore),
     }
-    plain = ("decimal", "thousands", "encoding", "where", "market", "quantity", "sort", "pair")
+    plain = (
+        "decimal", "thousands", "encoding", "where", "market", "quantity", "sort", "pair", "dates",
+    )  # fmt: skip
     return shapes.joined(shape, said | {name: getattr(asked, name) for name in plain})
 
 
@@ -105,9 +109,10 @@ def _pairs(option: str, texts: Sequence[str]) -> dict[str, str]:
 
 
 def _values(texts: Sequence[str]) -> dict[str, dict[str, str]]:
-    """The words of `--values`, by column. Raises UsageError."""
+    """The words of `--values`, by column; one text may have several. Raises UsageError."""
     found: dict[str, dict[str, str]] = collections.defaultdict(dict)
-    for text in texts:
+    next_column = rf",(?=(?:{'|'.join(EVENT_COLUMNS)}):)"
+    for text in (part for text in texts for part in re.split(next_column, text)):
         column, sign, pairs = text.partition(":")
         if not sign:
             raise UsageError(f"--values {text!r} is none such as side:B=bid,S=ask")
@@ -123,9 +128,10 @@ def _values(texts: Sequence[str]) -> dict[str, dict[str, str]]:
 # ---- what is audited
 
 
-def is_recorded(content: bytes) -> bool:
-    """Whether a file is a journal or an order file, and no extract."""
-    return not content.startswith(GZIP) and _RECORD.match(content) is not None
+def is_recorded(content: bytes, asked: argparse.Namespace) -> bool:
+    """Whether a file is a journal or an order file, and no extract, which a shape makes it."""
+    is_shaped = vars(asked).get("shape") is not None
+    return not is_shaped and not content.startswith(GZIP) and bool(_RECORD.match(content))
 
 
 def table_of(content: bytes, asked: argparse.Namespace) -> tuple[Table, Reading]:
@@ -134,7 +140,11 @@ def table_of(content: bytes, asked: argparse.Namespace) -> tuple[Table, Reading]
     try:
         return read_table(io.BytesIO(content), reading, vars(asked).get("by")), reading
     except ColumnError as fault:
-        raise ColumnError(f"{fault}; --columns OURS=THEIRS maps one, --ignore NAME passes it over")
+        unknown = r"unknown column '([^']*(?:isin|symbol|instrument|wkn))'"
+        found = re.search(unknown, str(fault), re.IGNORECASE)
+        by = f"; --by {found[1]} judges each instrument by itself" if found else ""
+        why = f"{fault}{by}; --columns OURS=THEIRS maps one, --ignore NAME passes it over"
+        raise ColumnError(why) from None
 
 
 def plain_table(content: bytes, asked: argparse.Namespace) -> pandas.DataFrame:
@@ -147,7 +157,7 @@ def plain_table(content: bytes, asked: argparse.Namespace) -> pandas.DataFrame:
             "--pair: a journal has a trade in one row: leave these rows out by --where, such as "
             "'ExecType != F', and say --pair ''"
         )
-    if reading.quantity != "open":
+    if reading.quantity == "total":
         raise UsageError("--quantity total: a journal needs what is open behind a replace")
     if table.short:
         line, why = table.short[0]
@@ -167,7 +177,7 @@ def verdict_of(content: bytes, asked: argparse.Namespace, watch: Watch = iter) -
     """The verdict on an extract of one instrument. Raises as audit."""
     table, reading = table_of(content, asked)
     terms = {name: vars(asked)[name] for name in TERMS}
-    return audit_events(table, reading=reading, watch=watch, **terms_of(terms, ""))
+    return audit_events(table, reading=reading, watch=watch, **terms_of(terms))
 
 
 def found_in(content: bytes, asked: argparse.Namespace, watch: Watch) -> list[Audited]:
@@ -175,7 +185,7 @@ def found_in(content: bytes, asked: argparse.Namespace, watch: Watch) -> list[Au
     if asked.by is None:
         return [audited("", verdict_of(content, asked, watch), asked.explain)]
     those = market(content, asked)
-    for line in those.table.notes.items():
+    for line in those.remarks.items():
         showing.remark("", "%s: %d" % line)
     return [*those.one_by_one(None, watch)]
 
@@ -191,12 +201,12 @@ def audit(content: bytes, asked: argparse.Namespace, watch: Watch = iter) -> int
     """Prints the verdict on a journal or an extract: the status. Raises UsageError, ExtractError,
     ColumnError, ValueError and ProgramError.
     """
-    if is_recorded(content):
+    if is_recorded(content, asked):
         journal = audit_journal(Day(content))
         print(journal)
         return journal.status
     if asked.check:
         table, reading = table_of(content, asked)
-        print("\n".join(showing.understood(table, rows_of(table, reading, ()), reading, asked)))
+        print("\n".join(showing.understood(table, reading, asked)))
         return DONE
     return showing.show(found_in(content, asked, watch), asked, [content])

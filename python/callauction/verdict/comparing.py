@@ -2,7 +2,7 @@
 apart from these, who traded with whom.
 """
 import dataclasses
-from collections.abc import Iterable
+from collections.abc import Iterable, Mapping
 
 import numpy
 
@@ -42,6 +42,16 @@ class Fill:
 Value = Trade | Fill | int | str | None
 
 
+def keys_of(made: Trade | Fill) -> tuple[int, ...]:
+    """The keys of the orders of a trade or a fill."""
+    return (made.bid, made.ask) if isinstance(made, Trade) else (made.order,)
+
+
+def members_of(made: Trade | Fill) -> tuple[str, ...]:
+    """The columns with their members, in the order of keys_of."""
+    return ("bid_member", "ask_member") if isinstance(made, Trade) else ("member",)
+
+
 @dataclasses.dataclass(frozen=True)
 class Difference:
     """A recorded value of an item that isn't the lawful one: None where there is no such trade or
@@ -58,6 +68,15 @@ class Difference:
     doubt: str = ""
     rule: str = ""
 
+    @property
+    def excess(self) -> int:
+        """How many shares more were recorded in a trade or a fill than are lawful."""
+        return _shares(self.recorded) - _shares(self.lawful)
+
+
+def _shares(value: Value) -> int:
+    return value.quantity if isinstance(value, Trade | Fill) else 0
+
 
 def doubted(differences: Iterable[Difference], why: str) -> tuple[Difference, ...]:
     """These differences, in doubt for this reason where they have none."""
@@ -66,12 +85,13 @@ def doubted(differences: Iterable[Difference], why: str) -> tuple[Difference, ..
 
 @dataclasses.dataclass(frozen=True)
 class Compared:
-    """The trades of an auction compared: what differs, and how many lawful pairs were recorded as
-    they are.
+    """The trades of an auction compared: what differs, how many lawful pairs were recorded as they
+    are, and the orders whose shares aren't the lawful ones.
     """
 
     differences: list[Difference]
     pairs: int
+    by_order: list[Difference] = dataclasses.field(default_factory=list)
 
 
 # ---- items
@@ -193,16 +213,16 @@ class _Trades:
         places = self._places()
         if is_right:
             both = [it for it in self.recorded if it in self.odd]
-            return Compared(self._both(both, places), same)
+            return Compared(self._both(both, places, self.recorded), same)
         both = [
             it for it, shares in self.lawful.items()
             if it in self.recorded and (self.recorded[it] != shares or it in self.odd)
         ]  # fmt: skip
-        found = paired([*self._both(both, places), *self._alone(places)])
+        found = paired([*self._both(both, places, self.lawful), *self._alone(places)])
         shares = filled.by_key(), due.by_key()
         places_of = self._places_by_order(*shares)
         by_order = paired(compared_shares(rows, *shares, self._price, places_of, self.many))
-        return Compared(by_order if len(by_order) < len(found) else found, same)
+        return Compared(by_order if len(by_order) < len(found) else found, same, by_order)
 
     def _shares(self, bid: Codes, ask: Codes, quantity: Ints) -> Sums:
         """The shares of each order, by its key, to which `many` is added on the side of asks."""
@@ -217,9 +237,12 @@ class _Trades:
                 found.setdefault(pair, []).append(place)
         return found
 
-    def _both(self, pairs: list[int], places: dict[int, list[int]]) -> list[Difference]:
-        """The differences of pairs that are recorded and, but for the pairing, lawful; one for all
-        of an auction's trades where they were recorded at one other price and are lawful else.
+    def _both(
+        self, pairs: list[int], places: dict[int, list[int]], shares: Mapping[int, int]
+    ) -> list[Difference]:
+        """The differences of pairs that are recorded and, but for the pairing, lawful, with these
+        shares; one for all of an auction's trades where they were recorded at one other price and
+        are lawful else.
         """
         prices, lawful = self.rows.prices, self._price
         at = {int(self.rows.price[place]) for pair in pairs for place in places[pair]}
@@ -235,7 +258,7 @@ class _Trades:
         for it in pairs:
             spots = tuple(places[it])
             other = _recorded_price(self.rows, spots, lawful)
-            one, due = self.recorded[it], self.lawful.get(it, self.recorded[it])
+            one, due = self.recorded[it], shares.get(it, self.recorded[it])
             found.append(self._difference(it, spots, (one, other), (due, lawful)))
         return found
 
@@ -282,11 +305,15 @@ class _Trades:
 
 
 def compared_fills(
-    rows: Rows, these: Ints, result: Result, allowed: int, stamps: Ints
+    rows: Rows, these: Ints, result: Result, owners: Ints, allowed: int, stamps: Ints
 ) -> list[Difference]:
-    """How these rows with an order's shares differ from the lawful fills."""
+    """How these rows with an order's shares differ from the lawful fills, or from each order's
+    member in `owners`.
+    """
     filled = sums(rows.key[these], rows.quantity[these])
-    odd = these[_at_other_prices(rows, these, result, allowed)]
+    owner, member = owners[rows.key[these]], rows.member[these]
+    of_others = (owner >= 0) & (member != MISSING) & (member != owner)
+    odd = these[_at_other_prices(rows, these, result, allowed) | of_others]
     if filled.agrees(result.fills) and not len(odd):
         return []
     places: dict[int, list[int]] = {}

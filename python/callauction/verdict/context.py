@@ -12,10 +12,10 @@ import pandas
 from callauction.program import Day
 from callauction.tables import BOOK, table_of
 from callauction.verdict.cells import Ints
-from callauction.verdict.judging import Judged, Rules
-from callauction.verdict.phases import Result, Uncross, sums
+from callauction.verdict.judged import Judged, Rules
+from callauction.verdict.phases import Result, Uncross, recorded_sums
 from callauction.verdict.ranges import Range
-from callauction.verdict.rows import MARKET, NEW, OWN, REPLACE, SIDES, Rows
+from callauction.verdict.rows import MARKET, NEW, REPLACE, SIDES, Rows
 from callauction.words import AUCTIONS
 
 
@@ -30,7 +30,7 @@ def price_text(price: Decimal, tick_size: Decimal | None) -> str:
 
 
 @dataclasses.dataclass(frozen=True, slots=True)
-class OpenOrder:
+class RestingOrder:
     """An open order: `key` is its number, `order` the present id; `since` is the time, and `row`
     the row, from which its place in time is.
     """
@@ -111,7 +111,7 @@ class Context:
     @functools.cached_property
     def entered(self) -> dict[int, int]:
         """By its key the row that enters an order."""
-        news = numpy.flatnonzero(self.rows.kind == NEW)
+        news = self.rows.of(NEW)
         return dict(zip(self.rows.key[news].tolist(), news.tolist()))
 
     @functools.cached_property
@@ -122,11 +122,11 @@ class Context:
         these = these[these < self.judged.place]
         return dict(zip(rows.key[these].tolist(), rows.new_id[these].tolist()))
 
-    def open_order(self, at: int) -> OpenOrder:
+    def open_order(self, at: int) -> RestingOrder:
         """The order at a place of the book."""
         book, rows = self.judged.book, self.rows
         key, price, since = int(book.key[at]), int(book.price[at]), int(book.since[at])
-        return OpenOrder(
+        return RestingOrder(
             key, self.order(key), self.member(key), SIDES[book.side[at]], int(book.quantity[at]),
             None if price == MARKET else rows.prices[price], rows.names.time(since),
             rows.labels[since],
@@ -140,18 +140,10 @@ class Context:
 
     @functools.cached_property
     def queues(self) -> dict[str, Ints]:
-        """The places in the book of the orders of each side that count, in their priority: market
-        orders, then the better limits, then those that are longer in the book.
-        """
+        """The places in the book of the orders of each side that count, in their priority."""
         book = self.judged.book
-        counts = (book.only <= 0) | (book.only == OWN[self.judged.auction])
-        found = {}
-        for number, sign in ((1, -1), (2, 1)):
-            these = numpy.flatnonzero(counts & (book.side == number))
-            price = book.price[these].astype("i8")
-            rank = numpy.where(price == MARKET, numpy.iinfo("i8").min, sign * price)
-            found[SIDES[number]] = these[numpy.argsort(rank, kind="stable")]
-        return found
+        counts = book.counted(self.judged.auction)
+        return {SIDES[side]: book.ranked(counts & (book.side == side)) for side in (1, 2)}
 
     @functools.cached_property
     def places(self) -> dict[int, tuple[str, int]]:
@@ -175,7 +167,8 @@ class Context:
     @functools.cached_property
     def recorded(self) -> dict[int, int]:
         """The shares that were recorded as executed of each order."""
-        return recorded_fills(self.judged, self.rows)
+        judged = self.judged
+        return recorded_sums(self.rows, judged.traded, judged.filled).by_key()
 
     @property
     def has_records(self) -> bool:
@@ -240,13 +233,3 @@ class Context:
         """The book before the uncross (tables.BOOK), in ticks. Raises ProgramError."""
         found = table_of(Day(self.uncross.journal()).printed("book"), BOOK)
         return found[found["auction"] == self.auction].reset_index(drop=True)
-
-
-def recorded_fills(judged: Judged, rows: Rows) -> dict[int, int]:
-    """The shares that were recorded as executed of each order, by its key."""
-    traded, filled = judged.traded, judged.filled
-    keys, shares = rows.key[filled], rows.quantity[filled]
-    if len(traded):
-        keys = numpy.concatenate([rows.bid[traded], rows.ask[traded]])
-        shares = numpy.tile(rows.quantity[traded], 2)
-    return sums(keys, shares).by_key()

@@ -2,21 +2,12 @@
 import dataclasses
 
 from callauction.verdict.comparing import FILL, Fill, Trade
-from callauction.verdict.judging import Judged, Judgement
+from callauction.verdict.judged import Judged, Judgement
 from callauction.verdict.rows import STOPPED, Rows
 
-PLURALS = {
-    "price": "prices",
-    "volume": "volumes",
-    "surplus": "surpluses",
-    "side": "sides",
-    "auction": "auctions",
-    "count": "counts",
-    "trade": "trades",
-    FILL: "fills",
-}
-"""The names of items in a coverage."""
 ITEMS = ("price", "volume", "surplus", "side", "auction", "count")
+PLURALS = {it: f"{it}{'es' if it == 'surplus' else 's'}" for it in (*ITEMS, "trade", FILL)}
+"""The names of items in a coverage."""
 OF_PRICES = ("volume", "surplus", "side")
 """Items that the rules give where there is a price."""
 PAIRINGS = "pairings"

@@ -6,42 +6,30 @@ of each.
 import dataclasses
 import datetime
 import fractions
-import itertools
-import math
-from collections.abc import Iterable, Iterator
+import functools
+from collections.abc import Iterable
 from decimal import Decimal
 
 import numpy
 
-from callauction.verdict import clocks, times
+from callauction.verdict import clocks
 from callauction.verdict.cells import Ints, Mask
-from callauction.verdict.comparing import Difference, Fill, Trade
-from callauction.verdict.phases import Book, Result, sums
+from callauction.verdict.comparing import Difference, Fill, Trade, keys_of, members_of
+from callauction.verdict.phases import Book, Result
 from callauction.verdict.reading import ExtractError
 from callauction.verdict.rows import (
-    CANCEL,
-    FILL,
-    MISSING,
-    NEW,
-    OWN,
-    REPLACE,
-    STOPPED,
-    TAKEN,
-    TRADE,
-    BadRow,
-    Doubt,
-    Rows,
-)
+    BAD, FILL, MISSING, NEW, STOPPED, TAKEN, TRADE, BadRow, Doubt, Rows,
+)  # fmt: skip
+from callauction.verdict.spelling import is_placeholder, respelled
+from callauction.verdict.ties import Ties
 from callauction.words import AUCTIONS
 
 MOST_FALLS = 10
 """Rows whose times fall more often, and in more than a tenth of all, are in no order of time."""
-DAY = times.DAY_SECONDS * clocks.SECOND
-MOST_CUTS, MOST_ORDERS = 64, 24
-"""How many moments of one time, and how many orders of the rows of one order, are tried."""
 NO_NAMES = "it isn't said which auctions the rows are of: --auctions says it"
 IN_A_PHASE = "is a trade within a call phase: audit-auction judges days with continuous trading"
-OUTSIDE = "rows of orders are before it, so it may be a trade outside of the auctions"
+MAY_BE_OUTSIDE = "may be a trade outside of the auctions"
+OUTSIDE = f"rows of orders are before it, so it {MAY_BE_OUTSIDE}"
 
 
 @dataclasses.dataclass(frozen=True)
@@ -57,7 +45,7 @@ def reason_of(rows: Iterable[BadRow], place: int) -> Reason | None:
     above = [row for row in rows if row.is_order and row.since < place]
     worst = next((row for row in above if row.is_blank), None)
     if worst is not None:
-        return Reason(f"it isn't known what {worst} does")
+        return Reason(worst.unknown)
     return Reason(f"an order may be missing: {above[0]}", True) if above else None
 
 
@@ -68,12 +56,39 @@ class Doubts:
         self, rows: Rows, uncrosses: Ints, orders: Ints, due: list[int], entered: Ints
     ) -> None:
         self.rows, self.uncrosses, self.orders, self.entered = rows, uncrosses, orders, entered
+        self.ties = Ties(rows, orders)
         self.falls = self._falls()
         self.other_day = self._other_day()
-        self.bad = sorted(rows.bad, key=lambda row: row.since)
+        self.odd = self._odd()
+        bad = [*map(self._with_time, rows.bad), *rows.holes]
+        self.bad = sorted(bad, key=lambda row: row.since)
+        unread = [row.place for row in rows.bad if row.is_order and row.place >= 0]
+        self.all_orders = numpy.union1d(orders, numpy.array(unread, "i8"))
+        """With those that can't be read."""
+        self.busts = [(row, self._named(row)) for row in rows.bad if row.is_bust]
+        has_busts = bool(len(rows.of(TAKEN)) or self.busts)
+        self.lost_busts = [it for it in rows.holes if has_busts or it.is_trade]
+        self.last_bust = max((it.since for it in rows.holes if has_busts), default=-1)
+        """Above which place a bust may be missing that contradictions go by."""
         self.gap = self._gap(due)
         self.within = self._within()
         self.unknown = self._unknown()
+
+    def _named(self, row: BadRow) -> set[int]:
+        """The orders that a bad row names."""
+        if row.place < 0:
+            return set()
+        rows, at = self.rows, row.place
+        return {int(rows.key[at]), int(rows.bid[at]), int(rows.ask[at])} - {MISSING, BAD}
+
+    def _with_time(self, row: BadRow) -> BadRow:
+        """A bad row, which may be above the uncross above it that has its time."""
+        above = int(numpy.searchsorted(self.uncrosses, row.place)) - 1
+        if row.place < 0 or above < 0 or not row.is_order:
+            return row
+        end, group = int(self.uncrosses[above]), self.rows.group
+        is_tied = bool((group[end : row.place] == group[row.place]).all())
+        return dataclasses.replace(row, since=min(row.since, end - 1)) if is_tied else row
 
     def _falls(self) -> int:
         """How many times of orders are before that of the row above. Raises ExtractError."""
@@ -90,13 +105,29 @@ class Doubts:
     def _other_day(self) -> Reason | None:
         """Why all books are in doubt: rows of orders have other dates than results, or several."""
         rows, known = self.rows, dict[datetime.date | None, int]()
-        starts = numpy.unique(rows.time[self.orders] // DAY, return_index=True)[1]
+        starts = numpy.unique(rows.time[self.orders] // clocks.DAY, return_index=True)[1]
         for place in [*self.uncrosses[:1].tolist(), *self.orders[starts].tolist()]:
-            known.setdefault(times.date_of(rows.names.time(place)), place)
+            known.setdefault(rows.names.date(place), place)
         labels = [rows.labels[place] for date, place in known.items() if date is not None][:2]
         if len(labels) < 2:
             return None
         return Reason(f"rows {labels[0]} and {labels[1]} are of two days: --where leaves one out")
+
+    def _odd(self) -> tuple[int, Reason] | None:
+        """From which place on the order of rows isn't known, as times can't be read, and why: the
+        call phase of the first one, or the day's begin where more than a tenth are so, or others
+        fall.
+        """
+        rows = self.rows
+        both = numpy.union1d(self.orders, self.uncrosses)
+        odd = both[rows.is_odd[both]]
+        if not len(odd):
+            return None
+        first, above = int(odd[0]), self.uncrosses[self.uncrosses < odd[0]]
+        is_few = len(odd) <= len(both) // 10 and not self.falls
+        text = f"the time of row {rows.labels[first]}, {rows.names.time(first)!r}, can't be read"
+        begin = int(above[-1]) if is_few and len(above) else -1
+        return begin, Reason(f"{text}, and which row came first decides")
 
     def _gap(self, due: list[int]) -> tuple[int, str] | None:
         """From which place on a row of an uncross may be missing, and why: the names of the
@@ -132,7 +163,11 @@ class Doubts:
             return Reason(self.gap[1])
         if len(self.within) and self.within[0] < place:
             return Reason(f"row {self.rows.labels[self.within[0]]} {IN_A_PHASE}")
-        return reason_of([*self.bad, *refused], place) or self.unknown or self.other_day
+        found = [reason_of([*self.bad, *refused], place), self.unknown, self.other_day]
+        if self.odd is not None and self.odd[0] < place:
+            found.insert(1, self.odd[1])
+        reasons = [it for it in found if it is not None]
+        return next((it for it in reasons if not it.lacks_orders), next(iter(reasons), None))
 
     def of_name(self, place: int) -> str:
         """Why an uncross may be another auction's than the due one, or late: that is no matter of
@@ -141,7 +176,7 @@ class Doubts:
         if self.gap is not None and place >= self.gap[0]:
             return self.gap[1]
         odd = (row for row in self.bad if row.doubt is Doubt.ANY and row.since < place)
-        return next((f"it isn't known what {row} does" for row in odd), "")
+        return next((row.unknown for row in odd), "")
 
     def _within(self) -> Ints:
         """The trades and fills within a call phase: they name no auction, and orders are before and
@@ -149,7 +184,7 @@ class Doubts:
         """
         rows, kind = self.rows, self.rows.kind
         made = numpy.flatnonzero(((kind == TRADE) | (kind == FILL)) & (rows.state <= 0))
-        parts = (made, self.orders, self.uncrosses)
+        parts = (made, self.all_orders, self.uncrosses)
         is_timed = all((rows.time[these] != clocks.NONE).all() for these in parts)
         at, orders, ends = (
             rows.time[these] if is_timed else these.astype("i8") for these in parts
@@ -161,19 +196,23 @@ class Doubts:
         began = numpy.searchsorted(orders, at) > numpy.searchsorted(orders, before, "right")
         goes_on = numpy.searchsorted(orders, after) > numpy.searchsorted(orders, at, "right")
         if is_timed and len(orders):
-            above, below = self._beside(made)
+            above, below, is_own = self._beside(made)
             began |= above & (at > before)
-            goes_on |= below & (at < after)
+            goes_on |= (below | is_own) & (at < after)
         found: Ints = made[began & goes_on & (after < last)]
         return found
 
-    def _beside(self, made: Ints) -> tuple[Mask, Mask]:
-        """Whether the row of an order above each trade or fill, and that below it, has its time."""
-        orders, time = self.orders, self.rows.time
+    def _beside(self, made: Ints) -> tuple[Mask, Mask, Mask]:
+        """Whether the row of an order above each trade or fill, and that below it, has its time,
+        and whether that above is of an order of it, above the next uncross.
+        """
+        rows, orders, time = self.rows, self.all_orders, self.rows.time
         place = numpy.searchsorted(orders, made)
         above, below = orders[numpy.maximum(place - 1, 0)], orders[place % len(orders)]
         is_above = (above < made) & (time[above] == time[made])
-        return is_above, (below > made) & (time[below] == time[made])
+        keys = (rows.bid[made], rows.ask[made], rows.key[made])
+        is_own = numpy.any([it == rows.key[above] for it in keys], axis=0) & is_above
+        return is_above, (below > made) & (time[below] == time[made]), is_own
 
     def _unknown(self) -> Reason | None:
         """Why all books of the day are in doubt: a trade or a fill, which may be a bad row, names
@@ -185,8 +224,8 @@ class Doubts:
         unread, own = numpy.zeros(len(rows.kind), bool), self.entered.copy()
         bad = (row.place for row in rows.bad if row.doubt is Doubt.TRADES)
         unread[[place for place in bad if place >= 0]] = True
-        for row in rows.bad:
-            if row.doubt is Doubt.ORDER and row.place >= 0:  # its row, which isn't read, enters it
+        for row in sorted(rows.bad, key=lambda it: -it.place):
+            if row.doubt is Doubt.ORDER and row.place >= 0:  # the first one enters it
                 own[rows.key[row.place]] = row.place
         for event, keys in ((TRADE, rows.bid), (TRADE, rows.ask), (FILL, rows.key)):
             these = numpy.flatnonzero(((rows.kind == event) | unread) & (keys >= 0))
@@ -196,72 +235,6 @@ class Doubts:
             return None
         why = f"row {rows.labels[min(named)]} is a trade of an order that no row enters"
         return Reason(why, True)
-
-    # ---- equal times
-
-    def cuts(self, place: int, these: Ints) -> Iterator[Ints]:
-        """The rows of a call phase, cut at another row of the uncross's time."""
-        orders, group = self.orders, self.rows.group
-        end = int(numpy.searchsorted(orders, place))
-        begin = end - len(these)
-        same = group[orders] == group[place]
-        above, below = same[begin:end][::-1][:MOST_CUTS], same[end:][:MOST_CUTS]
-        first = end - _leading(above)
-        for cut in range(first, end + _leading(below) + 1):
-            if cut != end:
-                yield orders[begin:cut]
-
-    def of_cut(self, place: int, these: Ints, before: Ints) -> str:
-        """Why another cut of a call phase may be the right one."""
-        return self._one_time(int(numpy.setxor1d(these, before)[0]), place)
-
-    def _one_time(self, one: int, other: int) -> str:
-        rows = f"rows {self.rows.labels[one]} and {self.rows.labels[other]}"
-        return f"{rows} have one time, and nothing says which was first"
-
-    def _sets(self, these: Ints) -> list[list[int]]:
-        """The replaces of one order at one time, where their order may decide something."""
-        rows = self.rows
-        if rows.is_ordered:
-            return []
-        order = these[numpy.argsort(rows.key[these], kind="stable")]
-        one, two = order[:-1], order[1:]
-        same = (rows.key[one] == rows.key[two]) & (rows.group[one] == rows.group[two])
-        parts = (rows.kind[two] == CANCEL) & (rows.quantity[two] > 0)
-        free = same & (rows.kind[one] == REPLACE) & ((rows.kind[two] == REPLACE) | parts)
-        differs = (rows.price[one] != rows.price[two]) | (rows.kept[one] != rows.kept[two])
-        free &= differs | (rows.quantity[one] != rows.quantity[two])
-        sets: dict[tuple[int, int], list[int]] = {}
-        for place in numpy.unique(numpy.concatenate([one[free], two[free]])).tolist():
-            sets.setdefault((int(rows.key[place]), int(rows.group[place])), []).append(place)
-        return [*sets.values()]
-
-    def carried(self, book: Book, above: Ints) -> str:
-        """Why the book that a phase before left is in doubt: such replaces of an order in it, where
-        the day has too many to try.
-        """
-        if self.orders_of_ties(self.orders)[1] is not None:
-            return ""
-        sets = [those for those in self._sets(above) if (book.key == self.rows.key[those[0]]).any()]
-        return self._one_time(*sets[0][:2]) if sets else ""
-
-    def orders_of_ties(self, these: Ints) -> tuple[str, list[Ints] | None]:
-        """Why an order's replaces at one time may be in another order, and the rows in each
-        other one; None where these are too many to try.
-        """
-        sets = self._sets(these)
-        if not sets:
-            return "", []
-        why = self._one_time(*sets[0][:2])
-        if math.prod(math.factorial(len(those)) for those in sets) > MOST_ORDERS:
-            return why, None
-        found = []
-        for ways in itertools.product(*[itertools.permutations(those) for those in sets]):
-            other = these.copy()
-            for those, way in zip(sets, ways):
-                other[numpy.searchsorted(these, those)] = way
-            found.append(other)
-        return why, found[1:]
 
     # ---- items, trades and fills
 
@@ -281,37 +254,117 @@ class Doubts:
         ]
 
     def of_trades(
-        self, found: list[Difference], book: Book, auction: int, result: Result,
-        traded: Ints, filled: Ints, place: int,
+        self, found: list[Difference], by_order: list[Difference], book: Book, auction: int,
+        result: Result, traded: Ints, filled: Ints, place: int,
     ) -> list[Difference]:  # fmt: skip
-        """The differences of an auction's trades and fills, with their doubts."""
-        why = self._of_ties(book, auction, result, traded, filled)
+        """The differences of an auction's trades and fills, with their doubts. Who traded with whom
+        is in doubt where all that differs by order is.
+        """
+        outside = self.outside(numpy.concatenate([traded, filled]), place)
+        own = (these[~numpy.isin(these, outside)] for these in (traded, filled))
+        why = self.ties.of_shares(book, auction, result, traded, filled)
+        why, strays = why or self.ties.of_shares(book, auction, result, *own), {*outside.tolist()}
         if why:
             return [
-                it if _has_lawful_orders(it) else dataclasses.replace(it, doubt=why)
+                dataclasses.replace(
+                    it, doubt=self._of_naming(it) if _has_lawful_orders(it)
+                    else self._of_stray(it, strays) or why,
+                )
                 for it in found
-            ]
-        outside = {*self.outside(numpy.concatenate([traded, filled]), place).tolist()}
-        end = self.of_end(place, traded, filled, result.volume)
-        return [dataclasses.replace(it, doubt=self._of_trade(it, outside, end)) for it in found]
+            ]  # fmt: skip
+        end = self.lost(place, traded, filled, result.volume)
+        of_orders = [self._of_trade(it, strays, end) for it in by_order]
+        chosen = of_orders[0] if all(of_orders) and of_orders else ""
+        return [
+            dataclasses.replace(
+                it, doubt=self._of_trade(it, strays, end) or self._of_naming(it)
+                or (chosen if it.recorded is not None and not _has_lawful_orders(it) else ""),
+            )
+            for it in found
+        ]  # fmt: skip
+
+    def _of_naming(self, each: Difference) -> str:
+        """Why the members of a trade or a fill may be right that has its lawful orders and price:
+        they are placeholders.
+        """
+        one, other, rows = each.recorded, each.lawful, self.rows
+        if not isinstance(one, Trade | Fill) or one != other:
+            return ""
+        names = [
+            rows.names.recorded(place, column, int(getattr(rows, column)[place]))
+            for place in each.places
+            for key, column in zip(keys_of(one), members_of(one))
+            if getattr(rows, column)[place] not in (MISSING, rows.member[self.entered[key]])
+        ]
+        if names and all(map(is_placeholder, names)):
+            return f"{names[0]!r} is no member of orders, and may stand for any"
+        return self._other_names
+
+    @functools.cached_property
+    def _other_names(self) -> str:
+        """Why no member of a trade or a fill is known: none is one that orders have, in any
+        spelling.
+        """
+        rows = self.rows
+        named = numpy.concatenate([rows.bid_member, rows.ask_member, rows.member[rows.of(FILL)]])
+        own = rows.member[rows.kind != FILL]
+        if numpy.isin(named[named >= 0], own).any() or respelled(rows):
+            return ""
+        return "no member of a trade is one of orders: the names may be others'"
 
     def outside(self, these: Ints, place: int) -> Ints:
-        """Which of these trades and fills may be of no auction: they name none, and rows of orders
-        are between them and the uncross, or around them.
+        """Which of these trades and fills may be of no auction, or of one whose row is missing:
+        they name none, and rows of orders are between them and the uncross, or around them, or
+        they have another time than it has.
         """
-        after = int(numpy.searchsorted(self.orders, place))
-        first = self.orders[after] if after < len(self.orders) else len(self.rows.kind)
-        is_after = (these > first) & (self.rows.state[these] <= 0)
-        found: Ints = these[is_after | numpy.isin(these, self.within)]
+        rows = self.rows
+        orders = self.all_orders
+        after = int(numpy.searchsorted(orders, place))
+        first = orders[after] if after < len(orders) else len(rows.kind)
+        is_other = these > first
+        if self.gap is not None:
+            is_other |= (these >= self.gap[0]) & (rows.time[these] != rows.time[place])
+        found: Ints = these[is_other & (rows.state[these] <= 0) | numpy.isin(these, self.within)]
         return found
 
-    def _of_trade(self, each: Difference, outside: set[int], end: str) -> str:
+    @property
+    def why_outside(self) -> str:
+        """Why such a trade may be another auction's, or of none."""
+        return OUTSIDE if self.gap is None else self.gap[1]
+
+    def strays_in(self, found: Iterable[Difference]) -> set[int]:
+        """The rows of extra trades and fills that may be another auction's, or of none."""
+        return {place for it in found if it.doubt == self.why_outside for place in it.places}
+
+    def below(self, strays: set[int]) -> str:
+        """Why the books below such rows are in doubt: their orders may have traded before."""
+        first = min(strays - {*self.within.tolist()}, default=None)
+        return "" if first is None else f"row {self.rows.labels[first]} {MAY_BE_OUTSIDE}"
+
+    def _of_stray(self, each: Difference, strays: set[int]) -> str:
+        """Why an extra trade or fill, whose rows are all such strays, may be of no auction."""
+        is_stray = each.lawful is None and each.places and {*each.places} <= strays
+        return self.why_outside if is_stray else ""
+
+    def _of_trade(self, each: Difference, strays: set[int], end: str) -> str:
         """Why the difference of a trade or a fill isn't certain."""
-        if each.lawful is None and each.places and {*each.places} <= outside:
-            return OUTSIDE
-        if each.recorded is None or _shares(each.recorded) < _shares(each.lawful):
+        why = self._of_stray(each, strays)
+        if why:
+            return why
+        if each.recorded is None or each.excess < 0:
             return self.of_missing(each.lawful) or end
-        return ""
+        return self.of_extra(each) if each.excess > 0 else ""
+
+    def lost(self, place: int, traded: Ints, filled: Ints, volume: int) -> str:
+        """Why trades or fills of an auction may be missing: a hole is below its uncross and above
+        the next one, or above it without an order between, or the file ends.
+        """
+        later = self.uncrosses[self.uncrosses > place].min(initial=len(self.rows.kind))
+        above = self.all_orders[self.all_orders < place].max(initial=-1)
+        for hole in self.rows.holes:
+            if hole.is_trade and above <= hole.since < later:
+                return f"a trade may be missing: {hole}"
+        return self.of_end(place, traded, filled, volume)
 
     def of_end(self, place: int, traded: Ints, filled: Ints, volume: int) -> str:
         """Why trades or fills of an auction may be missing below the file's end: it ends with them,
@@ -321,7 +374,7 @@ class Doubts:
         if end is None:
             return ""
         last = int(numpy.flatnonzero(rows.kind >= NEW)[-1])
-        ends = clocks.nanosecond(end.time)
+        ends = clocks.nanosecond(end.time, rows.names.dates)
         is_timed = clocks.NONE not in (ends, rows.time[last])
         if is_timed and abs(ends - int(rows.time[last])) > clocks.SECOND:
             return ""
@@ -330,23 +383,59 @@ class Doubts:
         is_whole = shares >= 2 * (volume if published < 0 else published)
         if is_whole or last != max(place, traded.max(initial=0), filled.max(initial=0)):
             return ""
-        return f"the file ends with row {rows.labels[last]}, and may be cut there"
+        own = rows.labels[last]
+        near = "" if end.label == own else f", less than a second after row {own}"
+        return f"the file ends with row {end.label}{near}, and may be cut there"
+
+    def of_extra(self, each: Difference) -> str:
+        """Why a trade or a fill may be one too many: a row that isn't read, which names one of its
+        orders or none at all, or one that is missing below it, may take it out.
+        """
+        keys, last = {*each.keys}, max(each.places, default=-1)
+        row = next((row for row, named in self.busts if not named or named & keys), None)
+        hole = next((it for it in self.lost_busts if it.since >= last), None)
+        if row is None and hole is not None:
+            return f"a missing row may take it out: {hole}"
+        return "" if row is None else f"a row that isn't read may take it out: {row}"
+
+    def taken(self, these: Ints) -> Mask:
+        """Which of these trades and fills such a row may take out."""
+        if not all(named for _, named in self.busts):
+            return numpy.ones(len(these), bool)
+        named = [*{key for _, own in self.busts for key in own}]
+        keys = (self.rows.bid[these], self.rows.ask[these], self.rows.key[these])
+        found: Mask = numpy.any([numpy.isin(it, named) for it in keys], axis=0)
+        return found | (these <= self.last_bust)
 
     def of_missing(self, lawful: object) -> str:
         """Why a trade or a fill may be missing among the rows alone, and which is that."""
         unread = next((row for row in self.rows.bad if row.is_trade), None)
         if unread is not None:
             return f"a trade isn't read: {unread}"
+        if half := self._half(lawful):
+            return half
         if isinstance(lawful, Trade | Fill) and self.rows.dropped:
             keys = (lawful.bid, lawful.ask) if isinstance(lawful, Trade) else (lawful.order,)
             if {*map(self.rows.names.order, keys)} & self.rows.dropped:
                 return "a trade of such an order doesn't meet --where"
         return self._of_busted(lawful)
 
+    def _half(self, lawful: object) -> str:
+        """Why a fill may be missing: a trade of its price has no row of its order's side."""
+        rows = self.rows
+        halves = numpy.flatnonzero(rows.is_half & (rows.kind == FILL))
+        if isinstance(lawful, Fill):
+            halves = halves[rows.side[halves] != rows.side[self.entered[lawful.order]]]
+            is_own = (rows.price[halves] == lawful.price) | (rows.price[halves] < 0)
+            halves = halves[is_own | (lawful.price < 0)]
+        if not len(halves):
+            return ""
+        return f"the trade of row {rows.labels[halves[0]]} has no row of its other side"
+
     def _of_busted(self, lawful: object) -> str:
         """Why a trade or a fill may be missing: a bust takes such a one out."""
         rows = self.rows
-        taken = numpy.flatnonzero(rows.kind == TAKEN)
+        taken = rows.of(TAKEN)
         if isinstance(lawful, Trade):
             taken = taken[(rows.bid[taken] == lawful.bid) & (rows.ask[taken] == lawful.ask)]
         elif isinstance(lawful, Fill):
@@ -354,81 +443,14 @@ class Doubts:
             taken = taken[numpy.any([it == lawful.order for it in keys], axis=0)]
         return f"a bust takes the trade of row {rows.labels[taken[0]]} out" if len(taken) else ""
 
-    def _of_ties(
-        self, book: Book, auction: int, result: Result, traded: Ints, filled: Ints
-    ) -> str:
-        """Why the shares of both sides may be lawful: rows of one time came in another order."""
-        rows = self.rows
-        these = traded if len(traded) else filled
-        if result.price is None or not len(these) or not _has_ties(rows.group[book.since]):
-            return ""
-        own = (book.only <= 0) | (book.only == OWN[auction])
-        reasons = []
-        for side, keys in ((1, rows.bid), (2, rows.ask)):
-            at = keys[these] if len(traded) else rows.key[these]
-            done = sums(at, rows.quantity[these])
-            most = max(done.keys.max(initial=0), book.key.max(initial=0))
-            by_key = numpy.zeros(int(most) + 1, "i8")
-            by_key[done.keys] = done.shares
-            shares, those = by_key[book.key], (book.side == side) & own
-            is_whole = shares[those if len(traded) else own].sum() == done.shares.sum()
-            why = self._tied(book, those, shares, result) if is_whole else None
-            if why is None:
-                return ""
-            reasons.append(why)
-        return next(filter(None, reasons), "")
-
-    def _tied(self, book: Book, those: Mask, shares: Ints, result: Result) -> str | None:
-        """Whether the shares of a side's orders are lawful in another order of rows of one time,
-        and which these are; None where they aren't.
-        """
-        rows = self.rows
-        these = _by_rank(book, those)
-        group, level = rows.group[book.since[these]], book.price[these]
-        step = (group[1:] != group[:-1]) | (level[1:] != level[:-1])
-        begins = numpy.flatnonzero(numpy.concatenate([[True], step])[: len(these)])
-        if not len(begins):
-            return None if result.volume else ""
-        quantity, done = book.quantity[these], shares[these]
-        whole, found = (numpy.add.reduceat(it, begins) for it in (quantity, done))
-        ends = numpy.cumsum(whole)
-        due = numpy.clip(result.volume - (ends - whole), 0, whole)
-        parts = numpy.add.reduceat(((done > 0) & (done < quantity)).astype("i8"), begins)
-        if (found != due).any() or (done > quantity).any() or parts.max() > 1:
-            return None
-        at = begins[min(int(numpy.searchsorted(ends, result.volume)), len(begins) - 1)]
-        tied = book.since[these[at : at + 2]].tolist()
-        return self._one_time(*tied) if len(tied) > 1 else ""
-
-
-def _leading(values: Mask) -> int:
-    """How many values are true before the first that isn't."""
-    return int(values.argmin()) if not values.all() else len(values)
-
-
-def _has_ties(group: Ints) -> bool:
-    return len(numpy.unique(group)) < len(group)
-
-
-def _by_rank(book: Book, those: Mask) -> Ints:
-    """The places in the book of a side's orders in their priority."""
-    these = numpy.flatnonzero(those)
-    if not len(these):
-        return these
-    sign = -1 if book.side[these[0]] == 1 else 1
-    at = book.price[these].astype("i8")
-    rank = numpy.where(at == MISSING, numpy.iinfo("i8").min, sign * at)
-    found: Ints = these[numpy.argsort(rank, kind="stable")]
-    return found
-
 
 def _has_lawful_orders(each: Difference) -> bool:
-    """Whether a trade has the lawful orders and shares, and differs in its price or members."""
+    """Whether a trade or a fill has the lawful orders and shares, and differs in its price or
+    members.
+    """
     one, other = each.recorded, each.lawful
     if isinstance(one, Trade) and isinstance(other, Trade):
         return (one.bid, one.ask, one.quantity) == (other.bid, other.ask, other.quantity)
+    if isinstance(one, Fill) and isinstance(other, Fill):
+        return (one.order, one.quantity) == (other.order, other.quantity)
     return isinstance(one, str)
-
-
-def _shares(value: object) -> int:
-    return value.quantity if isinstance(value, Trade | Fill) else 0

@@ -4,6 +4,7 @@ listed.
 import dataclasses
 import fractions
 import functools
+import itertools
 import re
 from collections.abc import Iterable, Iterator, Mapping
 from decimal import Decimal
@@ -12,173 +13,33 @@ from typing import Any
 import numpy
 import pandas
 
-from callauction.prices import BadCellError, decimal_of, whole_of
 from callauction.verdict import clocks, times
-from callauction.verdict.cells import Array, Cells, Codes, Ints, Mask, Source, paired_codes
-from callauction.verdict.columns import EVENTS, plain
+from callauction.verdict.again import drop_sent_again
+from callauction.verdict.cells import Cells, Codes, Ints, Mask, numbered, paired_codes
+from callauction.verdict.columns import EVENTS, KINDS
+from callauction.verdict.holes import find_holes, gaps_of, remark_of
 from callauction.verdict.joining import join_sides, take_busted
 from callauction.verdict.names import make_keys
 from callauction.verdict.reading import ExtractError, Reading, Table
 from callauction.verdict.rows import (
-    BAD,
-    BUST,
-    CANCEL,
-    CONTINUOUS,
-    FILL,
-    MARKET,
-    MISSING,
-    NEW,
-    NO_PRICE,
-    OUTSIDE,
-    REPLACE,
-    RESTRICTIONS,
-    SIDES,
-    STATES,
-    STOPPED,
-    TRADE,
-    UNCROSS,
-    BadRow,
-    Bytes,
-    Doubt,
-    Names,
-    Rows,
-)
+    BAD, BUST, CANCEL, CONTINUOUS, FILL, MARKET, MISSING, NEW, NO_PRICE, OUTSIDE, REPLACE,
+    RESTRICTIONS, SIDES, STATES, STOPPED, TRADE, UNCROSS, BadRow, Bytes, Doubt, Names, Rows,
+)  # fmt: skip
+from callauction.verdict.worded import EMPTY_PRICE, Columns
 
 _SIDE = {"bid": 1, "buy": 1, "ask": 2, "sell": 2}
 _SURPLUS_SIDE = {**_SIDE, "none": 0}
 _ONLY = {word: 1 + place for place, word in enumerate(RESTRICTIONS)}
 _STATE = {word: place for place, word in enumerate((*STATES, CONTINUOUS)) if word}
 _KEPT = {"true": 1, "false": 0, "1": 1, "0": 0}
-_NO_PRICE = ("none", "no price")
-_COUNTED = re.compile(r"(\D*)(\d{1,18})", re.ASCII)
-_THOUSANDS = re.compile(r"\d{1,3}\.\d{3}")
-_ID = re.compile(r"id$|nr$|nummer|number|ref|match|exec|deal")
-"""What a column of ids has in its name."""
 _NUMBERS = ("price", "quantity", "peak", "surplus", "trades", "volume")
-_UNREAD_PRICE = NO_PRICE + BAD
 WORDS = ("event", "side", "auction", "restriction")
 IDS = ("order", "new_order", "bid", "ask")
-FALLING = "times that come before that of the row above (sort reads rows by time)"
 NO_AUCTION = "a trade of continuous trading (audit-auction judges auctions of such days)"
 NO_TIME = "times that can't be read"
+STROKES = "dates of which it isn't known which number is the month (--dates dmy or mdy says it)"
 PEAKS = "peaks that the rules would refuse, left out: they decide nothing"
-AGAIN = "rows that were sent again, read once"
 ZEROS = "orders at the price 0, read as market orders (--low 0 reads limits)"
-
-
-class Columns:
-    """The columns of a table in our words."""
-
-    def __init__(self, source: Source, names: Mapping[str, str], reading: Reading) -> None:
-        self.source, self.names, self.reading = source, names, reading
-
-    def cells(self, name: str) -> Cells:
-        """The cells of a column that the table has."""
-        return self.source.cells(self.names[name])
-
-    def texts(self, name: str) -> tuple[Codes, list[str]]:
-        """A number for each text of a column in our words, MISSING for none, and the texts."""
-        if name not in self.names:
-            return numpy.full(len(self.source), MISSING, "i4"), []
-        codes, texts = self.cells(name).texts()
-        words = self.reading.values.get(name, {})
-        return codes, [words.get(text, text) for text in texts] if words else texts
-
-    def words(self, name: str, known: Mapping[str, int]) -> Bytes:
-        """What is known of each word of a column, MISSING for none, BAD for another word."""
-        codes, texts = self.texts(name)
-        found = [known.get(text.casefold(), BAD) if text else MISSING for text in texts]
-        return numpy.array([*found, MISSING], "i1")[codes]
-
-    def wholes(self, name: str) -> Ints:
-        """The whole number of each row, MISSING for none, BAD for another text, as 1.000 is beside
-        whole numbers, of which it isn't known that it is 1,000.
-        """
-        codes, texts = self.texts(name)
-        plain = [self.reading.plain(text) for text in texts]
-        is_whole = any(text.isdigit() and text != "0" for text in plain)
-        found = [
-            BAD if is_whole and _THOUSANDS.fullmatch(text) else self._whole(text) for text in plain
-        ]
-        return numpy.array([*found, MISSING], "i8")[codes]
-
-    def _whole(self, text: str) -> int:
-        try:
-            return whole_of(text) if text else MISSING
-        except BadCellError:
-            return BAD
-
-    def decimal(self, text: str) -> Decimal | None:
-        """The number that a text is, None where it is none."""
-        try:
-            return decimal_of(self.reading.plain(text))
-        except BadCellError:
-            return None
-
-    def prices(self, given: Iterable[Decimal]) -> tuple[Codes, list[Decimal], Mask]:
-        """The number of each row's price among all prices, or MARKET, NO_PRICE or _UNREAD_PRICE;
-        the prices, which rise; and which cells have a word for a market order.
-        """
-        codes, texts = self.texts("price")
-        values = [self.decimal(text) for text in texts]
-        prices = sorted({*given, *(it for it in values if it is not None)})
-        places: dict[Decimal | None, int] = {price: at for at, price in enumerate(prices)}
-        other = (NO_PRICE if it.casefold() in _NO_PRICE else _UNREAD_PRICE for it in texts)
-        found = [places.get(value, word) for value, word in zip(values, other)]
-        market = [self._is_market(text, value) for text, value in zip(texts, values)]
-        array = numpy.array([*found, MARKET], "i4")[codes]
-        return array, prices, numpy.array([*market, False])[codes]
-
-    def _is_market(self, text: str, value: Decimal | None) -> bool:
-        words = [word.casefold() for word in self.reading.market]
-        return text.casefold() in words or (
-            value is not None and any(value == _number(word) for word in words)
-        )
-
-    def sequence(self) -> Ints | None:
-        """The order of each row among those of one time; None where the table has no such column,
-        or texts without an order, which count for what is equal alone where rows aren't sorted.
-        Raises ExtractError.
-        """
-        if "sequence" not in self.names:
-            return None
-        codes, texts = self.texts("sequence")
-        keys = [self._counted(text) for text in texts]
-        known = [key for key in keys if key is not None]
-        if len(known) < len(keys) or len({prefix for prefix, _ in known}) > 1:
-            if self.reading.sort:
-                raise ExtractError("sequence has texts that have no order: leave it out")
-            return codes.astype("i8")
-        ranks = {key: place for place, key in enumerate(sorted({*known}))}
-        return numpy.array([*(ranks[key] for key in known), MISSING], "i8")[codes]
-
-    def _counted(self, text: str) -> tuple[str, Decimal] | None:
-        """What is before a number, and the number; None where the text is no such. A decimal is
-        none beside whole numbers, as 1.000 is of which it isn't known that it is 1,000.
-        """
-        plain = self.reading.plain(text)
-        value = self.decimal(text)
-        if value is not None:
-            return "." * ("." in plain), value
-        value = times.seconds(plain)
-        if value is not None:
-            return "", value
-        found = _COUNTED.fullmatch(plain)
-        return (found[1], Decimal(found[2])) if found else None
-
-    def content(self, rows: Ints) -> Ints:
-        """A number for each of some rows, which is equal where all cells are."""
-        found, source = numpy.zeros(len(rows), "i8"), self.source.take(rows)
-        for name in source.names:
-            found = paired_codes(found, source.cells(name).codes()[0] + 1)
-        return found
-
-
-def _number(word: str) -> Decimal | None:
-    try:
-        return decimal_of(word)
-    except BadCellError:
-        return None
 
 
 def rows_of(
@@ -190,25 +51,10 @@ def rows_of(
     columns, order, time = _ordered(table, reading, instrument)
     lead = numpy.zeros(len(order), "i4") if instrument is None else instrument[order]
     sequence = columns.sequence()
-    price, prices, is_market = columns.prices(given)
-    ids, first = _ids(columns, lead)
-    member, members = columns.texts("member")
-    names = Names(columns.source, first, _theirs(columns), members, table.names)
-    none = numpy.full(len(order), MISSING, "i4")
-    bid_member, ask_member = (_members(columns, f"{it}_member", members) for it in SIDES[1:])
-    rows = Rows(
-        columns.source.labels, columns.words("event", _kinds()), time, ids["order"],
-        ids.get("new_order", none), columns.words("side", _SURPLUS_SIDE), price,
-        columns.wholes("quantity"), columns.words("restriction", _ONLY),
-        columns.words("kept", _KEPT), columns.words("auction", _STATE),
-        columns.wholes("surplus"), columns.wholes("trades"), ids.get("bid", none),
-        ids.get("ask", none), bid_member, ask_member, member, _groups(time, sequence, lead),
-            prices, names, bool(reading.market), dropped=_dropped(table, columns.names, reading),
-        makes_results=reading.results == "trades", end=table.end,
-    )  # fmt: skip
-    if rows.end is not None and reading.sort:
-        rows.end = rows.end._replace(time="")
+    rows, is_market = _read(columns, table, given, time, _groups(time, sequence, lead), lead)
     kind = rows.kind.copy()
+    if reading.sort and "time" in columns.names:
+        rows.slack = _slack(columns, kind)
     _look_at_orders(rows, columns, is_market)
     pairs = columns.source.cells(reading.pair).codes()[0] if reading.pair else None
     join_sides(rows, pairs, lead)
@@ -217,19 +63,61 @@ def rows_of(
     unread = numpy.array([it.place for it in rows.bad], "i8")
     is_new = (kind[unread] < 0) | (kind[unread] == NEW)
     ids_unread = numpy.concatenate([rows.key[unread[is_new]], rows.new_id[unread]])
-    _drop_sent_again(rows, columns, sequence, lead)
+    drop_sent_again(rows, columns, sequence, lead)
+    rows.number = columns.row_numbers()
+    if instrument is None and table.is_whole:
+        gaps = gaps_of(rows.number, *dropped_numbers(table, reading))
+        find_holes(rows, gaps)
+        rows.notes.update(remark_of(gaps))
     make_keys(rows, ids_unread)
     take_busted(rows)
-    unread_times = numpy.flatnonzero((time == clocks.NONE) & _has(columns, "time"))
-    if len(unread_times):
-        cell = columns.cells("time").text(int(unread_times[0]))
-        rows.notes[f"{NO_TIME}, such as {cell!r}"] += len(unread_times)
+    if rows.is_odd.any():
+        cell = columns.cells("time").text(int(rows.is_odd.argmax()))
+        rows.notes[f"{NO_TIME}, such as {cell!r}"] += int(rows.is_odd.sum())
+        rows.notes[STROKES] += times.is_stroked(times.date_text(cell))
     return rows
+
+
+def dropped_numbers(table: Table, reading: Reading) -> list[Ints]:
+    """The numbers in a sequence of the rows that don't meet all conditions, where there are some.
+    """
+    if table.dropped is None:
+        return []
+    return [Columns(table.dropped, table.names, reading).row_numbers()]
+
+
+def _read(
+    columns: Columns, table: Table, given: Iterable[Decimal], time: Ints, groups: Ints, lead: Codes
+) -> tuple[Rows, Mask]:
+    """The rows as they are in columns, and which have a word for a market order."""
+    reading, none = columns.reading, numpy.full(len(time), MISSING, "i4")
+    price, prices, is_market = columns.prices(given)
+    ids, first = _ids(columns, lead)
+    member, members = columns.texts("member")
+    names = Names(
+        columns.source, first, _theirs(columns), members, table.names, dates=table.dates
+    )
+    bid_member, ask_member = (_members(columns, f"{it}_member", members) for it in SIDES[1:])
+    end = table.end
+    if end is not None and reading.sort:
+        end = end._replace(time="")
+    rows = Rows(
+        columns.source.labels, columns.words("event", KINDS), time, ids["order"],
+        ids.get("new_order", none), columns.words("side", _SURPLUS_SIDE), price,
+        columns.wholes("quantity"), columns.words("restriction", _ONLY),
+        columns.words("kept", _KEPT), columns.words("auction", _STATE),
+        columns.wholes("surplus"), columns.wholes("trades"), ids.get("bid", none),
+        ids.get("ask", none), bid_member, ask_member, member, groups, prices, names,
+        bool(reading.market), (time == clocks.NONE) & _has(columns, "time"),
+        dropped=_dropped(table, columns.names, reading),
+        makes_results=reading.results == "trades", end=end,
+    )  # fmt: skip
+    return rows, is_market
 
 
 def kinds_in(table: Table, reading: Reading) -> Bytes:
     """The number of each row's event, below 0 for none."""
-    return Columns(table.source, table.names, reading).words("event", _kinds())
+    return Columns(table.source, table.names, reading).words("event", KINDS)
 
 
 def auctions_in(table: Table, reading: Reading) -> tuple[Bytes, Bytes]:
@@ -252,10 +140,6 @@ def orders_in_time(table: Table, reading: Reading) -> tuple[Ints, Ints]:
         assert ranks is not None
         orders = orders[numpy.argsort(ranks, kind="stable")]
     return orders, others
-
-
-def _kinds() -> dict[str, int]:
-    return {word: place for place, word in enumerate(EVENTS)}
 
 
 def _theirs(columns: Columns) -> tuple[str, ...]:
@@ -281,17 +165,88 @@ def _ordered(
     order: Ints = numpy.argsort(lead, kind="stable")
     columns, time = _timed(table, order, reading)
     if reading.sort:
-        unread = numpy.flatnonzero((time == clocks.NONE) & _has(columns, "time"))
-        if len(unread):
-            cell = columns.cells("time").text(int(unread[0]))
-            raise ExtractError(f"sort: {len(unread):,} times can't be read, such as {cell!r}")
+        _refuse_unread(columns, time)
+        _refuse_forms(columns, lead[order])
         known = numpy.where(time != clocks.NONE, numpy.arange(len(time)), 0)
         keys = (time[numpy.maximum.accumulate(known)], lead[order])
         sequence = columns.sequence()
         again = numpy.lexsort(keys if sequence is None else (sequence, *keys))
+        if (again[1:] < again[:-1]).any():
+            _refuse_untimed(columns, time)
         order = order[again]
         columns, time = _timed(table, order, reading)
     return columns, order, time
+
+
+def _refuse_unread(columns: Columns, time: Ints) -> None:
+    """Raises ExtractError where times can't be read by which rows are sorted."""
+    is_unread = (time == clocks.NONE) & _has(columns, "time")
+    kinds = columns.words("event", KINDS)
+    unread = numpy.flatnonzero(is_unread & (_has(columns, "order") | (kinds > CANCEL)))
+    if len(unread):
+        first = int(unread[0])
+        cell, label = columns.cells("time").text(first), columns.source.labels[first]
+        hint = " (say --dates dmy or mdy)" * times.is_stroked(times.date_text(cell))
+        many = f"{len(unread):,} times can't be read to sort rows"
+        raise ExtractError(f"{many}, such as {cell!r} in row {label}{hint}")
+
+
+def _refuse_untimed(columns: Columns, time: Ints) -> None:
+    """Raises ExtractError where rows without a time have no place among those that are sorted:
+    those of orders, of results, and of trades that name no auction.
+    """
+    if "time" not in columns.names:
+        return
+    kinds = columns.words("event", KINDS)
+    is_order = (kinds >= NEW) & (kinds <= CANCEL) & _has(columns, "order")
+    is_trade = ((kinds == TRADE) | (kinds == FILL)) & ~_has(columns, "auction")
+    untimed = numpy.flatnonzero((time == clocks.NONE) & (is_order | is_trade | (kinds == UNCROSS)))
+    if len(untimed):
+        label = columns.source.labels[untimed[0]]
+        raise ExtractError(
+            f"sort: {len(untimed):,} rows have no time, such as row {label}, so that nothing says "
+            "where they belong"
+        )
+
+
+def _refuse_forms(columns: Columns, lead: Codes) -> None:
+    """Raises ExtractError where times of one instrument have a date or a zone and others none, so
+    that it isn't known which is first.
+    """
+    if "time" not in columns.names:
+        return
+    cells = columns.cells("time")
+    codes, first = cells.layouts()
+    texts = [cells.text(int(row)) for row in first]
+    forms = [times.form_of(text) for text in texts]
+    known = {it: place for place, it in enumerate(filter(None, dict.fromkeys(forms)))}
+    if len(known) < 2:
+        return
+    own = numpy.array([*(known.get(it, -1) if it else -1 for it in forms), -1])[codes]
+    for one, other in itertools.combinations(range(len(known)), 2):
+        both = numpy.intersect1d(lead[own == one], lead[own == other])
+        if len(both):
+            is_own = lead == both[0]
+            rows = [int((is_own & (own == it)).argmax()) for it in (one, other)]
+            labels = " and ".join(str(columns.source.labels[row]) for row in rows)
+            shown = " and ".join(repr(cells.text(row)) for row in rows)
+            raise ExtractError(
+                f"sort: rows {labels} have times of two forms, {shown}: write all in one, each "
+                "with a date and a zone, or none"
+            )
+
+
+def _slack(columns: Columns, kind: Bytes) -> int:
+    """The step of the times of results where those of orders have a finer one, else 0."""
+    cells = columns.cells("time")
+    codes, first = cells.layouts()
+    steps = [times.step_of(cells.text(int(row))) for row in first]
+    of_rows = numpy.array([*steps, 0], "i8")[codes]
+    own, due = (
+        int(of_rows[(kind >= least) & (kind <= most) & (codes >= 0)].min(initial=clocks.DAY))
+        for least, most in ((UNCROSS, UNCROSS), (NEW, CANCEL))
+    )
+    return own if due < own < clocks.DAY else 0
 
 
 def _timed(table: Table, order: Ints, reading: Reading) -> tuple[Columns, Ints]:
@@ -301,7 +256,7 @@ def _timed(table: Table, order: Ints, reading: Reading) -> tuple[Columns, Ints]:
     columns = Columns(source, table.names, reading)
     if "time" not in table.names:
         return columns, numpy.full(len(order), clocks.NONE, "i8")
-    return columns, clocks.nanoseconds(columns.cells("time"))
+    return columns, clocks.nanoseconds(columns.cells("time"), table.dates)
 
 
 def _ids(columns: Columns, lead: Codes) -> tuple[dict[str, Codes], Ints]:
@@ -319,7 +274,10 @@ def _ids(columns: Columns, lead: Codes) -> tuple[dict[str, Codes], Ints]:
         own = paired_codes(numpy.repeat(lead, len(names))[filled], codes[filled])
         codes[filled] = own
         first = filled[numpy.unique(own, return_index=True)[1]] if len(own) else first
-    return dict(zip(names, codes.reshape(-1, len(names)).T.copy())), first
+    found = dict(zip(names, codes.reshape(-1, len(names)).T.copy()))
+    if "new_order" in found:
+        found["new_order"][columns.is_empty("new_order")] = MISSING
+    return found, first
 
 
 def _members(columns: Columns, name: str, known: list[str]) -> Codes:
@@ -333,7 +291,7 @@ def _groups(time: Ints, sequence: Ints | None, lead: Codes) -> Ints:
     """Equal numbers for rows of one instrument, time and sequence, or time alone where sequences
     fall; numbers of their own for rows without a time.
     """
-    found = paired_codes(lead, _codes(time))
+    found = paired_codes(lead, numbered(time))
     if sequence is not None:
         order = numpy.argsort(found, kind="stable")
         one, two = order[:-1], order[1:]
@@ -341,7 +299,7 @@ def _groups(time: Ints, sequence: Ints | None, lead: Codes) -> Ints:
         found = paired_codes(found, numpy.where(numpy.isin(found, falls), 0, sequence + 1))
     own = time == clocks.NONE
     found[own] = len(time) + numpy.flatnonzero(own)
-    return _codes(found)
+    return numbered(found)
 
 
 def _dropped(table: Table, names: Mapping[str, str], reading: Reading) -> frozenset[str]:
@@ -349,7 +307,7 @@ def _dropped(table: Table, names: Mapping[str, str], reading: Reading) -> frozen
     if table.dropped is None:
         return frozenset()
     columns = Columns(table.dropped, names, reading)
-    kinds = columns.words("event", _kinds())
+    kinds = columns.words("event", KINDS)
     these = numpy.flatnonzero((kinds == TRADE) | (kinds == FILL))
     found = Columns(table.dropped.take(these), names, reading)
     return frozenset(text for name in ("order", "bid", "ask") for text in found.texts(name)[1])
@@ -358,21 +316,39 @@ def _dropped(table: Table, names: Mapping[str, str], reading: Reading) -> frozen
 # ---- rows that can't be read
 
 
-def _refuse(
-    rows: Rows, columns: Columns, which: Mask, name: str, why: str, doubt: Doubt | None = None
-) -> None:
+_DOUBTS = {NEW: Doubt.ORDER, TRADE: Doubt.TRADES, FILL: Doubt.TRADES, BUST: Doubt.BUST}
+"""What a row of each kind leaves in doubt that can't be read; of others the books."""
+
+
+def _refuse(rows: Rows, columns: Columns, which: Mask, name: str, why: str) -> None:
     """Notes rows whose cell of a column is missing or can't be read, for the reason `why`."""
     for place in numpy.flatnonzero(which & (rows.kind != BAD)):
-        cell = columns.cells(name).text(int(place)) if name in columns.names else ""
-        text = f"{name} {cell!r} {why}" if cell else f"{name} is missing"
-        is_new = rows.kind[place] == NEW
-        if name == "price" and cell.isalpha() and rows.kind[place] in (NEW, REPLACE):
-            text += f" (--market {cell} reads a market order)"
-        if name == "price" and re.search(r"[$€£¥]|\d ?[A-Z]{3}$", cell):
-            text += " (is it with a currency? leave that out)"
-        if name == "quantity" and re.search(r"\d\D\d{3}$", cell):
-            text += " (--thousands says what parts thousands)"
-        rows.refuse(place, text, doubt or (Doubt.ORDER if is_new else Doubt.BOOKS))
+        text = _unread(rows, columns, int(place), name, why)
+        rows.refuse(place, text, _DOUBTS.get(int(rows.kind[place]), Doubt.BOOKS))
+
+
+def _lose(rows: Rows, columns: Columns, which: Mask, name: str, why: str) -> None:
+    """Notes cells of uncrosses that can't be read."""
+    for place in numpy.flatnonzero(which).tolist():
+        text = _unread(rows, columns, place, name, why)
+        rows.bad.append(BadRow(place, rows.labels[place], text, Doubt.ITEM, place))
+
+
+def _unread(rows: Rows, columns: Columns, place: int, name: str, why: str) -> str:
+    """What can't be read in a row, for the reason `why`, and what helps."""
+    cell = columns.cells(name).text(place) if name in columns.names else ""
+    if not cell:
+        return f"{name} is missing"
+    text, kind = f"{name} {cell!r} {why}", rows.kind[place]
+    if name == "price" and cell.isalpha() and kind in (NEW, REPLACE):
+        text += f" (--market {cell} reads a market order)"
+    if name == "price" and re.search(r"[$€£¥]|\d ?[A-Z]{3}$|^[A-Z]{3} ?\d", cell):
+        text += " (is it with a currency? leave that out)"
+    if name == "price" and columns.reading.decimal == "." and re.fullmatch(r"-?\d+,\d+", cell):
+        text += " (--decimal , says what parts decimals)"
+    if name == "quantity" and re.search(r"\d\D\d{3}$", cell):
+        text += " (--thousands says what parts thousands)"
+    return text
 
 
 def _none_of(words: Iterable[str]) -> str:
@@ -395,6 +371,11 @@ def _look_at_orders(rows: Rows, columns: Columns, is_market: Mask) -> None:
     is_limit = is_new | (kind == REPLACE)
     _refuse(rows, columns, (is_limit | is_cancel) & (rows.key < 0), "order", "")
     _refuse(rows, columns, is_new & (rows.side <= 0), "side", _none_of(_SIDE))
+    unread = is_cancel & (rows.quantity == BAD)
+    if unread.any():
+        rows.quantity[unread & columns.is_empty("quantity")] = MISSING
+    if not rows.has_market:
+        rows.price[is_limit & (rows.price == EMPTY_PRICE)] = MARKET
     quantity = is_limit & (rows.quantity < 0) | is_cancel & (rows.quantity == BAD)
     _refuse(rows, columns, quantity, "quantity", _NO_WHOLE)
     unread = rows.price < MARKET
@@ -408,20 +389,20 @@ def _look_at_orders(rows: Rows, columns: Columns, is_market: Mask) -> None:
 
 def _look_at_results(rows: Rows, columns: Columns) -> None:
     """Refuses rows of trades that can't be read, and the cells of uncrosses that can't."""
-    kind, doubt = rows.kind, Doubt.TRADES
+    kind = rows.kind
     is_alone = (kind == BUST) & (rows.key >= 0) & (rows.bid < 0) & (rows.ask < 0)
     is_trade, is_fill = (kind == TRADE) | (kind == BUST) & ~is_alone, (kind == FILL) | is_alone
     both = is_trade | is_fill
     rows.state[(kind == UNCROSS) & (rows.state == OUTSIDE)] = BAD
     for place in numpy.flatnonzero(both & (rows.state == OUTSIDE)):
         rows.refuse(place, NO_AUCTION, Doubt.BOOKS)
-    _refuse(rows, columns, is_fill & (rows.key < 0), "order", "", doubt)
-    _refuse(rows, columns, is_trade & (rows.bid < 0), "bid", "", doubt)
-    _refuse(rows, columns, is_trade & (rows.ask < 0), "ask", "", doubt)
-    _refuse(rows, columns, both & (rows.quantity < 0), "quantity", _NO_WHOLE, doubt)
-    _refuse(rows, columns, both & (rows.price < MARKET), "price", _NO_DECIMAL, doubt)
+    _refuse(rows, columns, is_fill & (rows.key < 0), "order", "")
+    _refuse(rows, columns, is_trade & (rows.bid < 0), "bid", "")
+    _refuse(rows, columns, is_trade & (rows.ask < 0), "ask", "")
+    _refuse(rows, columns, both & (rows.quantity < 0), "quantity", _NO_WHOLE)
+    _refuse(rows, columns, both & (rows.price < MARKET), "price", _NO_DECIMAL)
     named = (rows.state == BAD) | (rows.state == STOPPED)
-    _refuse(rows, columns, both & named, "auction", _none_of(STATES[1:-1]), doubt)
+    _refuse(rows, columns, both & named, "auction", _none_of(STATES[1:-1]))
     uncross = kind == UNCROSS
     volume = columns.wholes("volume")
     rows.quantity = numpy.where(uncross & (volume != MISSING), volume, rows.quantity)
@@ -450,100 +431,12 @@ def _is_zero(rows: Rows) -> Mask:
     return found
 
 
-def _lose(rows: Rows, columns: Columns, which: Mask, name: str, why: str) -> None:
-    """Notes cells of uncrosses that can't be read."""
-    for place in numpy.flatnonzero(which):
-        cell = columns.cells(name).text(int(place)) if name in columns.names else ""
-        text = f"{name} {cell!r} {why}" if cell else f"{name} {why}"
-        rows.bad.append(BadRow(int(place), rows.labels[place], text, Doubt.ITEM, int(place)))
-
-
 def _look_at_peaks(rows: Rows, columns: Columns) -> None:
     """Counts the peaks that the rules would refuse."""
     if "peak" in columns.names:
         peak = columns.wholes("peak")
         odd = (peak <= 0) | (peak > rows.quantity) | (rows.price == MARKET)
         rows.notes[PEAKS] += int((odd & (peak != MISSING) & (rows.kind == NEW)).sum())
-
-
-# ---- rows that were sent again
-
-
-def _drop_sent_again(rows: Rows, columns: Columns, sequence: Ints | None, lead: Codes) -> None:
-    """Leaves out rows that were sent again: all cells the same, and the sequence and the time; or,
-    without sequences, the time, where a second one would change nothing. One of another's sequence
-    and time with other cells is a bad one.
-    """
-    if sequence is None:
-        these = numpy.concatenate([_repeatable(rows), _with_ids(rows, columns)])
-        if len(these) > 1:
-            content = pandas.Series(columns.content(these))
-            again = content.duplicated() & ~_has_others(rows, these, content)
-            _drop(rows, these[again.to_numpy()])
-        return
-    marks = paired_codes(paired_codes(lead, _codes(rows.time)), sequence + 1)
-    twice = pandas.Series(marks).duplicated(keep=False).to_numpy()
-    these = numpy.flatnonzero(twice & (sequence >= 0) & (rows.kind != BAD))
-    if len(these) < 2:
-        return
-    _drop(rows, these[pandas.Series(columns.content(these)).duplicated().to_numpy()])
-    left = these[rows.kind[these] != BAD]
-    for place in left[pandas.Series(marks[left]).duplicated().to_numpy()]:
-        doubt = Doubt.TRADES if rows.kind[place] in (TRADE, FILL) else Doubt.BOOKS
-        cell = columns.cells("sequence").text(int(place))
-        rows.refuse(place, f"sequence {cell!r} is another row's", doubt)
-
-
-def _has_others(rows: Rows, these: Ints, content: "pandas.Series") -> "pandas.Series":
-    """Which of these rows are results of an auction that has others too: the last one counts."""
-    is_result = (rows.kind[these] == UNCROSS) & (rows.state[these] != STOPPED)
-    of_auction = pandas.Series(numpy.where(is_result, rows.state[these], MISSING))
-    return (content.groupby(of_auction).transform("nunique") > 1) & (of_auction > 0)
-
-
-def _with_ids(rows: Rows, columns: Columns) -> Ints:
-    """The rows of trades and fills with an id of another one, which has the same cells, in a column
-    that isn't read; none where rows with other cells have one id.
-    """
-    these = numpy.flatnonzero((rows.kind == TRADE) | (rows.kind == FILL))
-    read = {*columns.names.values(), *columns.reading.columns.values(), columns.reading.pair}
-    for name in columns.source.names:
-        if name in read or not _ID.search(plain(name)):
-            continue
-        ids = pandas.Series(columns.source.cells(name).codes()[0][these])
-        if ids.min() < 0 or ids.nunique() < 2:
-            continue
-        twice = ids.duplicated(keep=False).to_numpy()
-        if len({*columns.content(these[twice]).tolist()}) == ids[twice].nunique():
-            return numpy.asarray(these[twice])
-    return numpy.asarray(these[:0])
-
-
-def _codes(values: Array) -> Ints:
-    found: Ints = pandas.factorize(values)[0]
-    return found
-
-
-def _drop(rows: Rows, again: Ints) -> None:
-    rows.kind[again] = BAD
-    rows.notes[AGAIN] += len(again)
-
-
-def _repeatable(rows: Rows) -> Ints:
-    """The rows of which a second one at the same time, or a second entry or named uncross at any
-    place, changes nothing.
-    """
-    kind = rows.kind
-    named = (kind == UNCROSS) & (rows.state > 0) & (rows.time != clocks.NONE)
-    whole = (kind == REPLACE) | (kind == UNCROSS) & ~named | (kind == CANCEL) & (rows.quantity <= 0)
-    tied = numpy.flatnonzero(whole & (numpy.bincount(rows.group)[rows.group] > 1))
-    marks = paired_codes(rows.group[tied] * 8 + kind[tied], rows.key[tied] + 1)
-    news, named = numpy.flatnonzero(kind == NEW), numpy.flatnonzero(named)
-    twice = [
-        these[pandas.Series(values).duplicated(keep=False).to_numpy()]
-        for these, values in ((tied, marks), (news, rows.key[news]), (named, rows.state[named]))
-    ]
-    return numpy.sort(numpy.concatenate(twice))
 
 
 # ---- limits that no order may have

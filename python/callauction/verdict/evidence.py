@@ -26,7 +26,7 @@ def facts_of(contents: Iterable[bytes], words: Sequence[str]) -> dict[str, str]:
         program = "none"
     now = datetime.datetime.now(datetime.UTC).isoformat(timespec="seconds")
     files = " ".join(hashlib.sha256(content).hexdigest() for content in contents)
-    command = shlex.join(["python3", "-m", "callauction", *words])
+    command = shlex.join(["python3", "-P", "-m", "callauction", *words])
     return dict(zip(FACTS, (callauction.__version__, program, files, now, command)))
 
 

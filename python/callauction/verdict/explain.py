@@ -4,8 +4,10 @@ and in the extract's ids, members, times and prices. The first sentence says mos
 from collections.abc import Iterator
 
 from callauction.reasons import explain as explain_book
-from callauction.verdict.comparing import FILL, PRIORITY, Difference, Fill, Trade
-from callauction.verdict.context import Context, OpenOrder
+from callauction.verdict.comparing import (
+    FILL, PRIORITY, Difference, Fill, Trade, keys_of, members_of,
+)  # fmt: skip
+from callauction.verdict.context import Context, RestingOrder
 from callauction.verdict.rows import INTERRUPTED, MARKET, MISSING, OWN, RESTRICTIONS, SIDES
 
 PRICE_ITEMS = ("volume", "surplus", "side")
@@ -161,15 +163,16 @@ def _of_trade(context: Context, difference: Difference) -> Iterator[str]:
         yield f"Its orders trade in the {lawful}, and not in the {context.auction}."
         return
     if isinstance(recorded, Trade | Fill):
-        for key in _keys(recorded):
+        for key in keys_of(recorded):
             yield from _of_closed(context, key)
-        if isinstance(recorded, Trade) and isinstance(lawful, Trade):
+        if isinstance(lawful, Trade | Fill):
             yield from _of_members(context, difference, recorded, lawful)
         yield from _of_trade_price(context, recorded)
+        yield from _of_open(context, recorded)
+    yield from _of_queue(context, difference)
     if len(difference.places) > 1 and isinstance(recorded, Trade | Fill):
         labels = (str(context.rows.labels[place]) for place in difference.places)
         yield f"Rows {', '.join(labels)} record it together."
-    yield from _of_queue(context, difference)
     if isinstance(lawful, Trade) and (lawful.bid, lawful.ask) in context.begins:
         yield _of_spans(context, lawful)
     price = context.lawful_price
@@ -177,8 +180,12 @@ def _of_trade(context: Context, difference: Difference) -> Iterator[str]:
         yield f"All trades of an auction are at its price, {context.price(price)}."
 
 
-def _keys(trade: Trade | Fill) -> tuple[int, ...]:
-    return (trade.bid, trade.ask) if isinstance(trade, Trade) else (trade.order,)
+def _of_open(context: Context, recorded: Trade | Fill) -> Iterator[str]:
+    """Which order of a trade or a fill has fewer shares open than were recorded."""
+    for key in keys_of(recorded):
+        if key in context.at and context.open_order(context.at[key]).quantity < recorded.quantity:
+            order = context.open_order(context.at[key])
+            yield f"{order.order} has {order.quantity:,} open, and no {recorded.quantity:,}."
 
 
 def _of_closed(context: Context, key: int) -> Iterator[str]:
@@ -197,7 +204,7 @@ def _of_closed(context: Context, key: int) -> Iterator[str]:
         yield f"{context.order(key)} {when}."
 
 
-def _of_excluded(context: Context, order: OpenOrder) -> Iterator[str]:
+def _of_excluded(context: Context, order: RestingOrder) -> Iterator[str]:
     """Why an open order can't trade in the auction, where it can't."""
     price = context.lawful_price
     only = int(context.judged.book.only[context.at[order.key]])
@@ -218,24 +225,22 @@ def _a(side: str) -> str:
     return "a bid" if side == "bid" else "an ask"
 
 
-def recorded_member(context: Context, difference: Difference, side: str) -> str:
-    """The member that a trade's rows have for a side, empty where they have none."""
-    rows, column = context.rows, f"{side}_member"
-    numbers = getattr(rows, column)
+def recorded_member(context: Context, difference: Difference, column: str) -> str:
+    """The member that the rows of a trade or a fill have in a column, empty for none."""
+    numbers = getattr(context.rows, column)
     place = next((it for it in difference.places if numbers[it] != MISSING), None)
     if place is None:
         return ""
-    return rows.names.cell(place, column) or rows.names.member(numbers[place])
+    return context.rows.names.recorded(place, column, int(numbers[place]))
 
 
 def _of_members(
-    context: Context, difference: Difference, recorded: Trade, lawful: Trade
+    context: Context, difference: Difference, recorded: Trade | Fill, lawful: Trade | Fill
 ) -> Iterator[str]:
     """Whose the orders are, where another member was recorded."""
-    for side in ("bid", "ask"):
-        key = getattr(lawful, side)
-        name, owner = recorded_member(context, difference, side), context.member(key)
-        if getattr(recorded, side) == key and name and owner and name != owner:
+    for one, key, column in zip(keys_of(recorded), keys_of(lawful), members_of(recorded)):
+        name, owner = recorded_member(context, difference, column), context.member(key)
+        if one == key and name and owner and name != owner:
             yield f"{context.order(key)} is an order of {owner}, not of {name}."
 
 
@@ -247,10 +252,13 @@ def _of_trade_price(context: Context, recorded: Trade | Fill) -> Iterator[str]:
 
 
 def _of_queue(context: Context, difference: Difference) -> Iterator[str]:
-    """Who comes before whom, or how much falls to an order."""
-    places = context.places
+    """Who comes before whom, and how much falls to an order: first to one that has other shares
+    than the lawful ones.
+    """
+    places, shares = context.places, list[tuple[bool, int]]()
     for side, gaps in context.gaps.items():
         named = [it for it in difference.keys if it in places and places[it][0] == side]
+        shares += [(key not in gaps, key) for key in named]
         first_over, first_under = context.first_gaps[side]
         late = next((key for key in named if gaps.get(key, 0) > 0), first_over)
         early = next((key for key in named if gaps.get(key, 0) < 0), first_under)
@@ -258,11 +266,11 @@ def _of_queue(context: Context, difference: Difference) -> Iterator[str]:
             if places[early] < places[late]:
                 orders = (context.open_order(context.at[key]) for key in (early, late))
                 yield _before(context, *orders)
-        for key in named:
-            yield _share(context, context.open_order(context.at[key]))
+    for _, key in sorted(shares, key=lambda it: it[0]):
+        yield _share(context, context.open_order(context.at[key]))
 
 
-def _before(context: Context, early: OpenOrder, late: OpenOrder) -> str:
+def _before(context: Context, early: RestingOrder, late: RestingOrder) -> str:
     """The sentence that an order comes before another, and why."""
     if early.price == late.price:
         at = "at market" if early.price is None else f"at {context.price(early.price)}"
@@ -276,12 +284,12 @@ def _before(context: Context, early: OpenOrder, late: OpenOrder) -> str:
     return f"{names[0]}, stands before {names[1]}"
 
 
-def _entered(order: OpenOrder) -> str:
+def _entered(order: RestingOrder) -> str:
     when = f"entered {order.since}" if order.since else f"entered in row {order.row}"
     return f"{order.order} {when}"
 
 
-def _share(context: Context, order: OpenOrder) -> str:
+def _share(context: Context, order: RestingOrder) -> str:
     """How much of the volume falls to an order, and how much to those before it."""
     place, count = context.places[order.key][1] + 1, len(context.queues[order.side])
     return (

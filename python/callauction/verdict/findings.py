@@ -8,17 +8,13 @@ import pandas
 from callauction import statuses
 from callauction.reasons import Explanation
 from callauction.verdict import jumps
-from callauction.verdict.comparing import Difference, Fill, Trade, Value
+from callauction.verdict.comparing import Difference, Fill, Trade, Value, members_of
 from callauction.verdict.context import Context
 from callauction.verdict.coverage import Coverage, coverage_of
 from callauction.verdict.explain import (
-    book_sentences,
-    effect_of,
-    recorded_member,
-    rule_of,
-    sentences_of,
-)
-from callauction.verdict.judging import Judged, Judgement, Rules
+    book_sentences, effect_of, recorded_member, rule_of, sentences_of,
+)  # fmt: skip
+from callauction.verdict.judged import Judged, Judgement, Rules
 from callauction.verdict.orders import orders_of
 from callauction.verdict.queue import AROUND, queue_of
 from callauction.verdict.rows import NO_PRICE, BadRow, Rows
@@ -116,7 +112,7 @@ class Verdict:
         found = sentences_of(context, difference)
         found += [finding.effect] * bool(finding.effect)
         if finding.doubt:
-            found.append(f"In doubt: {finding.doubt}.")
+            found.append(f"In doubt: {finding.doubt}{'' if finding.doubt.endswith('?') else '.'}")
         unread = sum(row.is_order for row in self.bad_rows)
         if unread:
             found.append(
@@ -235,18 +231,29 @@ def _finding(number: int, context: Context, those: Sequence[Difference]) -> Find
     labels = [context.rows.labels[place] for place in whole.places] or [context.label]
     moved = (f"{each.item}: recorded {one}, lawful {other}"
              for each in others for one, other in [_both(context, each)])  # fmt: skip
+    own = whole.places and context.rows.names.time(whole.places[0])
     return Finding(
-        number, labels[0], context.time, context.auction, first.item, recorded, lawful,
-        first.doubt or rule_of(context, whole), (*labels,), (context, whole), first.doubt,
+        number, labels[0], own or context.time, _auction(context, first), first.item, recorded,
+        lawful, first.doubt or rule_of(context, whole), (*labels,), (context, whole), first.doubt,
         effect_of(context, first), (*moved,),
     )  # fmt: skip
+
+
+def _is_elsewhere(difference: Difference) -> bool:
+    """Whether a trade or a fill is another auction's, which is what is lawful then."""
+    return isinstance(difference.lawful, str) and isinstance(difference.recorded, Trade | Fill)
+
+
+def _auction(context: Context, difference: Difference) -> str:
+    """The auction of a difference, of a trade of another one that one."""
+    return str(difference.lawful) if _is_elsewhere(difference) else context.auction
 
 
 def _both(context: Context, difference: Difference) -> tuple[str, str]:
     """The recorded and the lawful value of a difference."""
     recorded = _shown(context, difference, difference.recorded)
     lawful = _shown(context, difference, difference.lawful)
-    if isinstance(difference.lawful, str) and isinstance(difference.recorded, Trade | Fill):
+    if _is_elsewhere(difference):
         return f"{recorded} in the {context.auction}", f"in the {lawful}"
     return recorded, lawful
 
@@ -258,7 +265,7 @@ def _shown(context: Context, difference: Difference, value: Value) -> str:
     if isinstance(value, Trade):
         return _trade(context, value, difference)
     if isinstance(value, Fill):
-        return f"{context.order(value.order)} {value.quantity:,}{_at(context, value.price)}"
+        return _fill(context, value, difference)
     if isinstance(value, str):
         return value
     if difference.item == "price":
@@ -270,9 +277,17 @@ def _at(context: Context, price: int) -> str:
     return f" at {context.price(context.rows.prices[price])}" if price >= 0 else ""
 
 
+def _fill(context: Context, fill: Fill, difference: Difference) -> str:
+    """A fill in the extract's names, with its member where another one was recorded."""
+    member, owner = recorded_member(context, difference, "member"), context.member(fill.order)
+    name = owner if fill is difference.lawful else member
+    shown = f" ({name})" if member and owner not in ("", member) else ""
+    return f"{context.order(fill.order)}{shown} {fill.quantity:,}{_at(context, fill.price)}"
+
+
 def _trade(context: Context, trade: Trade, difference: Difference) -> str:
     """A trade in the extract's names, with its members where these were recorded."""
-    recorded = [recorded_member(context, difference, side) for side in ("bid", "ask")]
+    recorded = [recorded_member(context, difference, it) for it in members_of(trade)]
     members = recorded
     if trade is difference.lawful and any(recorded):
         members = [context.member(trade.bid), context.member(trade.ask)]

@@ -2,8 +2,9 @@
 
 A log has lines of `tag=value` parted by any sign, or is a CSV file headed by tags or names. Columns
 have the names of the standard, of the tags in NAMES. Market data (MsgType W and X) with the price
-of an auction is a row where trades of the instrument are next to it (_Phase.is_result); else it is
-an indication. What else is done to a message is in _Log.
+of an auction is a row where trades of the instrument are next to it (_Phase.is_result), or where it
+names one that has no price and no trades, the last time that it does; else it is an indication.
+What else is done to a message is in _Log.
 """
 import csv
 import dataclasses
@@ -64,12 +65,12 @@ Pairs = list[tuple[str, str]]
 Message = dict[str, str]
 
 
-class LogError(ValueError):
+class MessageLogError(ValueError):
     """A file isn't a log of FIX messages; one line."""
 
 
 @dataclasses.dataclass(frozen=True)
-class Log:
+class MessageLog:
     """The rows of a log, the lines that can't be read, what else was met, and whether a message is
     behind the last row, so that the log wasn't cut there.
     """
@@ -80,8 +81,8 @@ class Log:
     is_ended: bool
 
 
-def table_of(text: str, separator: str) -> Log:
-    """The table of a log. Raises LogError."""
+def table_of(text: str, separator: str) -> MessageLog:
+    """The table of a log. Raises MessageLogError."""
     log = _Log()
     if _BEGIN.search(text):
         for line, pairs in _tagged(text, log):
@@ -131,12 +132,12 @@ def _field(sign: str) -> "re.Pattern[str]":
 
 def _fields(text: str, separator: str, log: "_Log") -> Iterator[tuple[int, Pairs]]:
     """The rows of a CSV file headed by tags or names, of as many fields as the header. Raises
-    LogError.
+    MessageLogError.
     """
     reader = csv.reader(io.StringIO(text, newline=""), delimiter=separator)
     header = [_name(it) for it in next(reader)]
     if not {"ExecType", "OrderID"} & {*header}:
-        raise LogError(
+        raise MessageLogError(
             "the file has neither FIX messages (8=FIX) nor a header with ExecType or 150 "
             "(separator says what parts its fields)"
         )
@@ -188,6 +189,11 @@ class _Log:
         self.known: set[tuple[str, str]] = set()
         self.matches: dict[tuple[str, str], str] = {}
         self.phases: dict[str, _Phase] = {}
+        self.empty: dict[tuple[str, str], tuple[int, int, Message]] = {}
+        """By instrument and session the last market data of an auction without a price, and where.
+        """
+        self.held: set[tuple[str, str]] = set()
+        """The instruments and sessions of auctions with trades or a price."""
         self.last = 0
 
     def lost(self, line: int, text: str) -> None:
@@ -259,9 +265,13 @@ class _Log:
     def _trade(self, message: Message, phase: _Phase) -> None:
         mark = _instrument(message), message.get("ExecID", "")
         self.matches[mark] = message.get("TrdMatchID", "")
-        if message.get("TradingSessionSubID", "") == _CONTINUOUS:
+        own = _session(message)
+        if own[1] == _CONTINUOUS:
             self._forget(phase)
             return
+        self.held.add(own)
+        if own[1] not in _AUCTIONS:
+            self.held |= {it for it in self.empty if it[0] == own[0]}
         if phase.trades < 0:
             phase.trades, phase.price = len(self.rows), message.get("LastPx", "")
         if phase.result is not None and not phase.is_done and phase.is_result(phase.result[1]):
@@ -289,7 +299,12 @@ class _Log:
         kept = ("Symbol", "SecurityID", "TradingSessionID", "TradingSessionSubID", "MsgSeqNum")
         found |= {name: message[name] for name in kept if name in message}
         found |= {"ExecType": RESULT, "TransactTime": time}
-        phase = self._phase(message)
+        phase, own = self._phase(message), _session(message)
+        self.empty.pop(own, None)
+        is_none = _number(found["LastQty"]) == 0 == _number(found["LastPx"] or "0")
+        if own[1] in _AUCTIONS and is_none:
+            self.empty[own] = len(self.rows), line, found
+            return
         if phase.trades >= 0 and not phase.is_done and phase.is_result(found):
             self._result(phase, line, found)
             return
@@ -299,6 +314,7 @@ class _Log:
     def _result(self, phase: _Phase, line: int, found: Message) -> None:
         """Puts a result above the first of its trades."""
         self._put(phase.trades - 0.5, line, found)
+        self.held.add(_session(found))
         phase.result, phase.is_done = None, True
 
     def _forget(self, phase: _Phase) -> None:
@@ -312,17 +328,20 @@ class _Log:
         get = message.get
         self.rows.append((place, line, "\x1f".join([get(name, "") for name in HEADER])))
 
-    def table(self) -> Log:
-        """The table of what was added. Raises LogError."""
+    def table(self) -> MessageLog:
+        """The table of what was added. Raises MessageLogError."""
         if not self.rows:
-            raise LogError("the log has no execution report (35=8)")
+            raise MessageLogError("the log has no execution report (35=8)")
         for phase in self.phases.values():
             self._forget(phase)
+        for own, (place, line, found) in self.empty.items():
+            if own not in self.held:
+                self._put(place - 0.5, line, found)
         rows = sorted(self.rows, key=lambda row: row[0])
         texts, lines = [text for _, _, text in rows], [line for _, line, _ in rows]
         source, short = parted_source(HEADER, texts, lines)
         is_ended = self.last > max(lines)
-        return Log(source, (*self.short, *short), +self.notes, is_ended)
+        return MessageLog(source, (*self.short, *short), +self.notes, is_ended)
 
 
 def _number(text: str) -> Decimal | str:
@@ -334,6 +353,11 @@ def _number(text: str) -> Decimal | str:
 
 def _instrument(message: Message) -> str:
     return message.get("SecurityID", "") or message.get("Symbol", "")
+
+
+def _session(message: Message) -> tuple[str, str]:
+    """The instrument and the session of a message."""
+    return _instrument(message), message.get("TradingSessionSubID", "")
 
 
 def _entries(pairs: Iterable[tuple[str, str]]) -> list[Message]:

@@ -3,8 +3,9 @@ import dataclasses
 import functools
 import multiprocessing
 import os
+import re
 from collections.abc import Iterable, Iterator, Mapping, Sequence
-from typing import BinaryIO, NamedTuple, TypedDict, cast
+from typing import Any, BinaryIO, NamedTuple
 
 import numpy
 import pandas
@@ -13,13 +14,15 @@ from callauction.course import Watch
 from callauction.program import ProgramError
 from callauction.verdict.audits import before, judge_rows, rules_of, short_rows
 from callauction.verdict.cells import Codes, Ints, Source
-from callauction.verdict.columns import EVENTS, ColumnError, refuse_unknown
+from callauction.verdict.columns import KINDS, ColumnError, refuse_unknown
 from callauction.verdict.coverage import PLURALS, Coverage
-from callauction.verdict.events import Columns, rows_of
+from callauction.verdict.events import dropped_numbers, rows_of
 from callauction.verdict.findings import INCOMPLETE, STATUSES, Finding, Verdict
-from callauction.verdict.judging import Rules
+from callauction.verdict.holes import Gap, find_holes, gaps_of, remark_of
+from callauction.verdict.judged import Rules
 from callauction.verdict.reading import ExtractError, Reading, Table, columns_of, read_table
-from callauction.verdict.rows import TRADE, BadRow, Doubt, Rows
+from callauction.verdict.rows import BUST, FILL, TRADE, BadRow, Doubt, Rows
+from callauction.verdict.worded import Columns
 from callauction.words import AUCTIONS
 
 TERMS = (
@@ -47,19 +50,26 @@ judged; and how many findings are doubtful.
 """
 RECORD = (
     "instrument", "kind", "rows", "time", "auction", "item", "recorded", "lawful", "why", "effect",
-    "moved",
+    "moved", "verdict",
 )  # fmt: skip
 """The columns of findings: `kind` is `certain` or `doubtful`, `rows` are parted by blanks, `why` is
-the rule, or why a finding is doubtful, `effect` and `moved` (parted by semicolons) are a Finding's.
+the rule, or why a finding is doubtful, `effect` and `moved` (parted by semicolons) are a Finding's,
+`verdict` is the instrument's. One without findings has a row of the kind `none`, with the fault as
+`why` where it can't be judged.
 """
+NO_FINDING = "none"
 PARTS = 4
 """How many parts of the instruments each worker is given, one after the other."""
 FEW = 20_000
 """Rows that aren't worth another process."""
 
 
+_THOUSANDS = re.compile(r"\d{1,3}(,\d{3})+")
+
 Name = tuple[str, ...]
 """The texts of an instrument's columns."""
+Terms = dict[str, Any]
+"""What a day was opened with, as the arguments of audit_events."""
 
 
 class Days(NamedTuple):
@@ -67,19 +77,6 @@ class Days(NamedTuple):
 
     columns: Name
     terms: Mapping[Name, Mapping[str, object]]
-
-
-class Terms(TypedDict):
-    """What a day was opened with, as the arguments of audit_events."""
-
-    reference: object
-    tick_size: object
-    range: object
-    low: object
-    high: object
-    auctions: Sequence[str]
-    second_reference: object
-    second_range: object
 
 
 class TermsError(ValueError):
@@ -103,8 +100,8 @@ class Audited:
     bad_rows: int = 0
     first: str | None = None
     fault: str = ""
-    records: tuple[Mapping[str, object], ...] = ()
-    """The findings (RECORD)."""
+    found: tuple[Mapping[str, object], ...] = ()
+    """The findings, without the verdict (RECORD)."""
     ranges: tuple[str, ...] = ()
     is_unread: bool = False
     """Whether the fault is one of the file, and not of what the day was opened with."""
@@ -117,6 +114,13 @@ class Audited:
             "doubtful": self.doubtful, "coverage": counts, "bad_rows": self.bad_rows,
             "remarks": [*self.remarks], "ranges": [*self.ranges], "fault": self.fault,
         }  # fmt: skip
+
+    @property
+    def records(self) -> list[Mapping[str, object]]:
+        """The findings, or that there are none (RECORD)."""
+        none = dict.fromkeys(RECORD, "")
+        none |= {"instrument": self.name, "kind": NO_FINDING, "why": self.fault}
+        return [{**it, "verdict": self.word} for it in self.found or (none,)]
 
     def row(self) -> dict[str, object]:
         """Its row (COLUMNS)."""
@@ -137,19 +141,24 @@ def audited(name: str, verdict: Verdict, is_explained: bool = False) -> Audited:
     return Audited(
         name, verdict.word, len(verdict.findings), len(verdict.doubtful), (*lines,),
         (*verdict.remarks(),), verdict.coverage, len(verdict.bad_rows), first,
-        records=tuple(_record(name, it) for it in found), ranges=(*verdict.ranges(),),
+        found=tuple(_record(name, it) for it in found), ranges=(*verdict.ranges(),),
     )  # fmt: skip
 
 
 def _record(name: str, finding: Finding) -> Mapping[str, object]:
-    """A finding as a row of a table (RECORD)."""
+    """A finding as a row of a table (RECORD), without the verdict."""
     rows = " ".join(map(str, finding.rows))
     values = (
         name, "doubtful" if finding.doubt else "certain", rows, finding.time, finding.auction,
-        finding.item, finding.recorded, finding.lawful, finding.rule, finding.effect,
+        finding.item, _bare(finding.recorded), _bare(finding.lawful), finding.rule, finding.effect,
         "; ".join(finding.moved),
     )  # fmt: skip
     return dict(zip(RECORD, values))
+
+
+def _bare(value: str) -> str:
+    """A value as a machine reads it: of a number alone its digits."""
+    return value.replace(",", "") if _THOUSANDS.fullmatch(value) else value
 
 
 def _lines(verdict: Verdict, finding: Finding, is_explained: bool) -> Iterator[str]:
@@ -178,10 +187,45 @@ class Market:
         """The rows that have no instrument."""
         return numpy.flatnonzero(self.codes < 0)
 
+    @functools.cached_property
+    def _numbers(self) -> Ints:
+        """The number of each row in a sequence, below 0 for none."""
+        return Columns(self.table.source, self.table.names, self.reading).row_numbers()
+
+    @functools.cached_property
+    def _shared_gaps(self) -> list[Gap] | None:
+        """The gaps of a sequence that the instruments share, each number of which is of one; none
+        of books, and None where each has its own.
+        """
+        if not self.table.is_whole:
+            return []
+        known = numpy.flatnonzero((self._numbers >= 0) & (self.codes >= 0))
+        keys: tuple[Ints, Ints] = self.codes[known].astype("i8"), self._numbers[known]
+        codes, numbers = (it[numpy.lexsort(keys)] for it in keys)
+        if ((numbers[1:] == numbers[:-1]) & (codes[1:] != codes[:-1])).any():
+            return None
+        return gaps_of(self._numbers, *dropped_numbers(self.table, self.reading))
+
+    @functools.cached_property
+    def _dropped(self) -> Mapping[str, Ints]:
+        """The numbers of each instrument's rows that don't meet all conditions."""
+        dropped = self.table.dropped
+        if dropped is None:
+            return {}
+        codes, names = _named(dropped, columns_of(self.by, dropped.names))
+        [numbers] = dropped_numbers(self.table, self.reading)
+        return {",".join(name): numbers[codes == code] for code, name in enumerate(names)}
+
+    @property
+    def remarks(self) -> Mapping[str, int]:
+        """What was met in the file, and how often."""
+        return {**self.table.notes, **remark_of(self._shared_gaps or [])}
+
     def one_by_one(self, workers: int | None, watch: Watch = iter) -> Iterator[Audited]:
         """The verdicts in the order of the names; first what belongs to no instrument."""
         if len(self._lost):
-            why = f"{len(self._lost):,} rows have no {self.by}"
+            many = len(self._lost)
+            why = f"{many:,} row{'s have' if many > 1 else ' has'} no {self.by}"
             yield Audited("", FAULT, fault=why, is_unread=True)
         for name in sorted({*self.rules} - {*self.names}):
             yield Audited(name, FAULT, fault="it is among the days, and no row is of it")
@@ -194,6 +238,7 @@ class Market:
         size = -(-len(order) // (PARTS * count))
         parts = [order[begin : begin + size] for begin in range(0, len(order), size)]
         _MARKETS.append(self)
+        _ = self._shared_gaps, self._dropped  # once for all processes
         try:
             with multiprocessing.get_context("fork").Pool(count) as pool:
                 found = pool.imap(_part, parts)
@@ -233,11 +278,17 @@ class Market:
         """The verdict on an instrument that can be judged."""
         rules = self.rules[name]
         assert isinstance(rules, Rules)
-        return self._judged(self._rows_of([self.names.index(name)])[0], rules)
+        return self._judged(name, self._rows_of([self.names.index(name)])[0], rules)
 
-    def _judged(self, rows: Rows, rules: Rules) -> Verdict:
+    def _judged(self, name: str, rows: Rows, rules: Rules) -> Verdict:
         rows.bad += short_rows(self.table, rows, self.reading)
         rows.bad += self._lost_rows(rows)
+        gaps = self._shared_gaps
+        if gaps is None:
+            own = self._dropped.get(name)
+            gaps = gaps_of(rows.number, *([] if own is None else [own]))
+            rows.notes.update(remark_of(gaps))
+        find_holes(rows, gaps)
         return judge_rows(rows, rules)
 
     def _rules(self, number: int) -> Rules | str:
@@ -249,24 +300,26 @@ class Market:
         if isinstance(rules, str):
             return Audited(name, FAULT, fault=rules)
         try:
-            return audited(name, self._judged(rows, rules), self.is_explained)
+            return audited(name, self._judged(name, rows, rules), self.is_explained)
         except ExtractError as fault:
             return _unread(name, fault)
         except (ValueError, ProgramError) as fault:
             return Audited(name, FAULT, fault=str(fault))
 
     def _lost_rows(self, rows: Rows) -> list[BadRow]:
-        """The rows without an instrument, which may be of this one: the first of orders and the
-        first of trades.
+        """The rows without an instrument, which may be of this one: the first of each
+        doubt.
         """
         lost = self._lost
         if not len(lost):
             return []
         columns = Columns(self.table.source.take(lost), self.table.names, self.reading)
-        kinds = columns.words("event", {word: place for place, word in enumerate(EVENTS)})
+        kinds = columns.words("event", KINDS)
         found = []
-        is_trade, is_known = kinds >= TRADE, kinds >= 0
-        parts = {Doubt.ANY: ~is_known, Doubt.TRADES: is_trade, Doubt.BOOKS: is_known & ~is_trade}
+        parts = {
+            Doubt.ANY: kinds < 0, Doubt.TRADES: (kinds == TRADE) | (kinds == FILL),
+            Doubt.BUST: kinds == BUST, Doubt.BOOKS: (kinds >= 0) & (kinds < TRADE),
+        }  # fmt: skip
         for doubt, which in parts.items():
             those = lost[which]
             if len(those):
@@ -318,12 +371,11 @@ def market_of(
     keys = {name: tuple(name[place] for place in of_days) for name in names}
     given = {name: days.terms.get(key, {}) for name, key in keys.items()}
     given |= {key: days.terms[key] for key in days.terms if key not in keys.values()}
-    has_totals = reading.quantity == "total"
     rules: dict[str, Rules | str] = {}
     for name, own in given.items():
         text = ",".join(name)
         try:
-            rules[text] = rules_of(**terms_of({**terms, **own}, text), has_totals=has_totals)
+            rules[text] = rules_of(**terms_of({**terms, **own}), quantity=reading.quantity)
         except ValueError as fault:
             rules[text] = str(fault)
     return Market(table, reading, by, codes, tuple(map(",".join, names)), rules)
@@ -338,7 +390,9 @@ def days_of(source: pandas.DataFrame | str | os.PathLike[str] | None, by: str) -
     is_frame = isinstance(source, pandas.DataFrame)
     frame: pandas.DataFrame = source
     if not is_frame:
-        frame = pandas.read_csv(source, dtype="str", keep_default_na=False)
+        with open(source, encoding="utf-8-sig", newline="") as file:
+            separator = max(",;\t", key=file.readline().count)
+        frame = pandas.read_csv(source, sep=separator, dtype="str", keep_default_na=False)
     columns = tuple(name for name in dict.fromkeys([by, *by.split(",")]) if name in frame)
     if not columns:
         raise ColumnError(f"the days have no column {by!r}")
@@ -352,26 +406,20 @@ def days_of(source: pandas.DataFrame | str | os.PathLike[str] | None, by: str) -
     return Days(columns, terms)
 
 
-def terms_of(given: Mapping[str, object], name: str) -> Terms:
+def terms_of(given: Mapping[str, object]) -> Terms:
     """The arguments of an audit. Raises TermsError where one is missing."""
     missing = [f"--{it.replace('_', '-')}" for it in TERMS[:2] if given.get(it) is None]
     if missing:
         raise TermsError(
-            f"{name or 'the file'} has order events: say {' and '.join(missing)} (the last price "
+            f"there are order events: say {' and '.join(missing)} (the last price "
             "before the day is the reference; the tick size is none where it depends on the price)"
         )
-    size, auctions = given["tick_size"], given.get("auctions") or AUCTIONS
-    names = auctions.split(",") if isinstance(auctions, str) else cast("Sequence[str]", auctions)
-    return {
-        "reference": given["reference"],
-        "tick_size": None if size == NO_TICK_SIZE else size,
-        "range": given.get("range"),
-        "low": given.get("low"),
-        "high": given.get("high"),
-        "auctions": names,
-        "second_reference": given.get("second_reference"),
-        "second_range": given.get("second_range"),
-    }
+    found: Terms = {name: given.get(name) for name in TERMS}
+    auctions = found["auctions"] or AUCTIONS
+    found["auctions"] = auctions.split(",") if isinstance(auctions, str) else auctions
+    if found["tick_size"] == NO_TICK_SIZE:
+        found["tick_size"] = None
+    return found
 
 
 def audit_instruments(

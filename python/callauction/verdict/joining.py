@@ -7,18 +7,8 @@ import numpy
 
 from callauction.verdict.cells import Codes, Ints, paired_codes
 from callauction.verdict.rows import (
-    BAD,
-    BUST,
-    FILL,
-    MISSING,
-    SIDES,
-    STOPPED,
-    TAKEN,
-    TRADE,
-    UNCROSS,
-    Doubt,
-    Rows,
-)
+    BAD, BUST, FILL, MISSING, SIDES, STOPPED, TAKEN, TRADE, UNCROSS, Doubt, Rows,
+)  # fmt: skip
 
 ONE_SIDED = "trades without the row of their other side, read as fills of their orders"
 BUSTED = "trades that busts take out"
@@ -33,6 +23,7 @@ def join_sides(rows: Rows, codes: Codes | None, instrument: Codes) -> None:
     """Makes one trade of two rows, each of an order and its side, with one number in `codes`, one
     quantity and one price; where any is left of an instrument, all of it are fills of their orders.
     """
+    rows.is_half = numpy.zeros(len(rows.kind), bool)
     is_trade = (rows.kind == TRADE) | (rows.kind == BUST)
     alone = numpy.flatnonzero(is_trade & (rows.bid < 0) & (rows.ask < 0) & (rows.key >= 0))
     for number in numpy.unique(instrument[alone]).tolist():
@@ -44,6 +35,8 @@ def _join(rows: Rows, alone: Ints, codes: Codes | None) -> None:
     bids, asks = _both(rows, alone, codes)
     if 2 * len(bids) < len(alone):
         made = alone[rows.kind[alone] == TRADE]
+        if codes is not None:
+            rows.is_half[_halves(rows, made, codes)] = True
         rows.kind[made] = FILL
         rows.notes[ONE_SIDED] += len(made)
         return
@@ -54,6 +47,16 @@ def _join(rows: Rows, alone: Ints, codes: Codes | None) -> None:
             array[first] = own[those]
             setattr(rows, name, array)
     rows.kind[second] = BAD
+
+
+def _halves(rows: Rows, these: Ints, codes: Codes) -> Ints:
+    """Which of these rows of trades are one side alone of what a column joins, where some are both.
+    """
+    own, side = codes[these], rows.side[these]
+    sides = [numpy.unique(own[(side == it) & (own >= 0)]) for it in (1, 2)]
+    both = numpy.intersect1d(*sides)
+    found: Ints = these[(own >= 0) & (side > 0) & ~numpy.isin(own, both)]
+    return found if len(both) else found[:0]
 
 
 def _both(rows: Rows, these: Ints, codes: Codes | None) -> tuple[Ints, Ints]:
@@ -77,10 +80,10 @@ def take_busted(rows: Rows) -> None:
     """Takes out the trade or the fill of each bust: the last one above it, else the first below;
     a bust without one is a bad row.
     """
-    busts = numpy.flatnonzero(rows.kind == BUST)
+    busts = rows.of(BUST)
     if not len(busts):
         return
-    these = numpy.flatnonzero((rows.kind == TRADE) | (rows.kind == FILL))
+    these = rows.of(TRADE, FILL)
     known: dict[tuple[int, ...], list[int]] = {}
     for place in these.tolist():
         known.setdefault(_mark(rows, place), []).append(place)
@@ -89,7 +92,7 @@ def take_busted(rows: Rows) -> None:
         those = known.get(_mark(rows, place), [])
         own = [it for it in those if price < 0 or rows.price[it] in (price, MISSING)]
         if not own:
-            rows.refuse(place, _NO_TRADE, Doubt.TRADES)
+            rows.refuse(place, _NO_TRADE, Doubt.BUST)
             continue
         taken = max((it for it in own if it < place), default=own[0])
         those.remove(taken)
@@ -110,7 +113,7 @@ def with_results(rows: Rows) -> Rows:
     """The rows of an instrument with a row `uncross` above the first trade of each auction that
     trades name and no such row does; its price is theirs, and nothing else of it is known.
     """
-    uncrosses = numpy.flatnonzero(rows.kind == UNCROSS)
+    uncrosses = rows.of(UNCROSS)
     held = {*rows.state[uncrosses].tolist()} - {STOPPED}
     made = numpy.flatnonzero(
         ((rows.kind == TRADE) | (rows.kind == FILL)) & (rows.state > 0) & (rows.state != STOPPED)
@@ -129,6 +132,7 @@ def with_results(rows: Rows) -> Rows:
     found.names = dataclasses.replace(rows.names, places=places)
     found.bad = [dataclasses.replace(it, place=_moved(it.place, at), since=_moved(it.since, at))
                  for it in rows.bad]  # fmt: skip
+    found.holes = [dataclasses.replace(it, since=_moved(it.since, at)) for it in rows.holes]
     for place in (at + numpy.arange(len(at))).tolist():
         _make_result(found, place)
     found.notes[MADE] += len(at)

@@ -6,8 +6,7 @@ the day with the fewest differences is taken, so one fault is one finding.
 """
 import dataclasses
 from collections import Counter
-from collections.abc import Iterable, Iterator, Sequence
-from decimal import Decimal
+from collections.abc import Collection, Iterator, Sequence
 
 import numpy
 
@@ -16,46 +15,21 @@ from callauction.verdict import clocks, comparing
 from callauction.verdict.cells import Ints
 from callauction.verdict.certain import Certain, with_certain
 from callauction.verdict.comparing import (
-    NAMED,
-    PRIORITY,
-    Difference,
-    compared_fills,
-    compared_items,
-    compared_trades,
-    doubted,
-)
-from callauction.verdict.doubts import OUTSIDE, Doubts, Reason
-from callauction.verdict.events import FALLING
+    NAMED, PRIORITY, Compared, Difference, compared_fills, compared_items, compared_trades, doubted,
+)  # fmt: skip
+from callauction.verdict.doubts import Doubts, Reason
+from callauction.verdict.judged import NONE, Judged, Judgement, Moment, Path, Rules, State
 from callauction.verdict.phases import (
-    NOTHING,
-    BeyondError,
-    Book,
-    Result,
-    Sums,
-    Taken,
-    advance,
-    empty,
-    indicated,
-    sums,
+    NOTHING, BeyondError, Book, Result, Sums, Taken, advance, empty, indicated, recorded_sums,
     uncross,
-)
-from callauction.verdict.ranges import Range
+)  # fmt: skip
 from callauction.verdict.rows import (
-    CANCEL,
-    FILL,
-    MISSING,
-    NEW,
-    NO_PRICE,
-    OWN,
-    STATES,
-    STOPPED,
-    TRADE,
-    UNCROSS,
-    BadRow,
+    CANCEL, FILL, MISSING, NEW, NO_PRICE, OF_ORDERS, OWN, STATES, STOPPED, TRADE, UNCROSS, BadRow,
     Rows,
-)
+)  # fmt: skip
 from callauction.words import AUCTIONS
 
+FALLING = "times that come before that of the row above (sort reads rows by time)"
 CLOSED_CANCELS = "cancels of orders that were executed or cancelled before"
 LATE_CANCELS = "cancels after the last auction"
 NO_UNCROSS = "trades and fills without any row uncross, which aren't compared"
@@ -68,153 +42,10 @@ MOST_MOMENTS = 25
 """How many moments are tried for an uncross that seems to be at a wrong one."""
 MOST_PATHS = 12
 """How many courses of a day are followed at a time."""
+Mark = tuple[object, ...]
+"""By what a difference is known in another judgement."""
 SUMS = ("price", "volume", "surplus", "side")
 """The items that fix the sums of both sides at the price."""
-NONE = numpy.zeros(0, "i8")
-
-
-@dataclasses.dataclass(frozen=True)
-class Rules:
-    """What a day was opened with: the first reference, how far a price may lie from the reference
-    (None for any distance), the step between two prices where it is known, the bounds of prices,
-    and its auctions; and a second reference with its range, where there is one.
-    """
-
-    reference: Decimal
-    tick_size: Decimal | None = None
-    range: Range | None = None
-    low: Decimal | None = None
-    high: Decimal | None = None
-    auctions: tuple[str, ...] = AUCTIONS
-    has_totals: bool = False
-    """Whether replaces say the total of an order, and not what is open."""
-    second: Range | None = None
-    second_reference: Decimal | None = None
-
-    @property
-    def prices(self) -> list[Decimal]:
-        """The prices that are said."""
-        said = (self.reference, self.low, self.high, self.second_reference)
-        return [it for it in said if it is not None]
-
-    @property
-    def due(self) -> list[int]:
-        """The numbers of its auctions."""
-        return [AUCTIONS.index(name) for name in self.auctions]
-
-    def ranges(self, reference: Decimal, second: Decimal | None) -> list[tuple[Range, Decimal]]:
-        """The ranges around the present references, each with its own."""
-        both = ((self.range, reference), (self.second, second))
-        return [(span, at) for span, at in both if span is not None and at is not None]
-
-
-@dataclasses.dataclass(frozen=True)
-class State:
-    """What is open before a call phase, the number of the reference, the shares of each order that
-    were executed where replaces say totals, whether the auction was interrupted before, and the
-    number of the current auction among those of the day.
-    """
-
-    book: Book
-    reference: int
-    executed: Ints | None
-    is_extended: bool = False
-    ended: int = 0
-    second: int = MISSING
-    """The number of the second reference; after an auction with a price it is that price."""
-
-
-@dataclasses.dataclass(frozen=True)
-class Judged:
-    """An uncross: its row, its auction, the book, what the rules give, and how what was published
-    differs. `result` is None after the day's end, or where the program can't hold the book.
-    """
-
-    place: int
-    auction: int
-    differences: tuple[Difference, ...]
-    result: Result | None = None
-    book: Book = dataclasses.field(default_factory=empty)
-    reference: int = MISSING
-    is_extended: bool = False
-    """Whether the auction was interrupted before."""
-    is_interrupted: bool = False
-    items: frozenset[str] = frozenset()
-    traded: Ints = dataclasses.field(default_factory=lambda: NONE)
-    filled: Ints = dataclasses.field(default_factory=lambda: NONE)
-    pairs: int = 0
-    """How many lawful pairs of orders were recorded as they are."""
-    is_ended: bool = False
-    """Whether the auction is over after the uncross."""
-    fills: Sums = Sums(NONE, NONE)
-    """The shares by which the day goes on."""
-    taken: int = 0
-    """How many rows of orders are before it."""
-    beyond: str = ""
-    second: int = MISSING
-    """The number of the second reference."""
-
-    @property
-    def certain(self) -> list[Difference]:
-        """The differences that are certain."""
-        return [each for each in self.differences if not each.doubt]
-
-
-@dataclasses.dataclass(frozen=True)
-class Judgement:
-    """All uncrosses of a day in their order, how many were due, the rows that couldn't be read or
-    that the rules refuse, and what is worth to know. `has_trades` and `has_fills` say what the
-    extract has of any auction; `doubt` why what is lawful may be none.
-    """
-
-    uncrosses: tuple[Judged, ...]
-    due: int
-    bad_rows: tuple[BadRow, ...]
-    notes: Counter[str]
-    has_trades: bool
-    has_fills: bool
-    doubt: str = ""
-
-    @property
-    def unlawful(self) -> set[int]:
-        """The places of the uncrosses with certain differences."""
-        return {each.place for each in self.uncrosses if each.certain}
-
-
-@dataclasses.dataclass(frozen=True)
-class Path:
-    """A course of the day up to an uncross; `taken` counts the rows of orders before it, `waiting`
-    has the trades and fills that wait for the end of an interrupted auction, and `doubt` says why
-    the books are in doubt from here on.
-    """
-
-    judged: tuple[Judged, ...]
-    state: State
-    taken: int = 0
-    waiting: tuple[Ints, Ints] = (NONE, NONE)
-    refused: tuple[BadRow, ...] = ()
-    closed: int = 0
-    doubt: str = ""
-
-    def with_last(self, **changes: object) -> "Path":
-        """The path with another last uncross."""
-        last = dataclasses.replace(self.judged[-1], **changes)
-        return dataclasses.replace(self, judged=(*self.judged[:-1], last))
-
-
-@dataclasses.dataclass(frozen=True)
-class Moment:
-    """An uncross on a path at its moment: its number, its row, its auction, and the rows of its
-    call phase and of its trades and fills.
-    """
-
-    number: int
-    place: int
-    path: Path
-    auction: int
-    these: Ints
-    traded: Ints
-    filled: Ints
 
 
 class Judge:
@@ -225,14 +56,14 @@ class Judge:
     def __init__(self, rows: Rows, rules: Rules) -> None:
         self.rows, self.rules, self.due = rows, rules, rules.due
         kind = rows.kind
-        self.uncrosses = numpy.flatnonzero(kind == UNCROSS)
-        self.orders = numpy.flatnonzero((kind >= NEW) & (kind <= CANCEL))
+        self.uncrosses = rows.of(UNCROSS)
+        self.orders = rows.of(*OF_ORDERS)
         keys = (array.max(initial=-1) for array in (rows.key, rows.bid, rows.ask))
         self.room = numpy.zeros(int(max(keys)) + 2, "i8")
         self.entered, self.owners = (numpy.full(len(self.room), MISSING, "i8") for _ in range(2))
-        news = numpy.flatnonzero(kind == NEW)
+        news = rows.of(NEW)
         self.entered[rows.key[news]], self.owners[rows.key[news]] = news, rows.member[news]
-        traded, filled = numpy.flatnonzero(kind == TRADE), numpy.flatnonzero(kind == FILL)
+        traded, filled = rows.of(TRADE), rows.of(FILL)
         self.has_trades, self.has_fills = len(traded) > 0, len(filled) > 0
         self.stamps = numpy.full(len(kind), MISSING, "i8")
         self.traded, self.filled = self._by_uncross(traded), self._by_uncross(filled)
@@ -274,8 +105,11 @@ class Judge:
         return self._judgement(best)
 
     def _count(self, path: Path) -> tuple[int, int]:
-        """How many differences a course has, and how many certain ones."""
-        found = [each for those in self._reconciled(path.judged) for each in those]
+        """How many differences a course has, but for names of members, which each has, and how many
+        certain ones.
+        """
+        both = (each for those in self._reconciled(path.judged) for each in those)
+        found = [each for each in both if each.recorded != each.lawful]
         return len(found), sum(not each.doubt for each in found)
 
     def _reconciled(self, judged: Sequence[Judged]) -> list[list[Difference]]:
@@ -333,7 +167,7 @@ class Judge:
             word = STATES[max(0, self.rows.state[place])] or "uncross"
             late = Difference("auction", word, "day over", (place,))
             found = doubted([late], self._of_name(path.judged, place, self._why(path, place)))
-            yield _longer(path, Judged(place, MISSING, found, traded=traded, filled=filled))
+            yield path.longer(Judged(place, MISSING, found, traded=traded, filled=filled))
             return
         these = self.orders[path.taken : int(numpy.searchsorted(self.orders, place))]
         moment = Moment(number, place, path, self.due[ended], these, traded, filled)
@@ -360,7 +194,7 @@ class Judge:
         traded, filled = (numpy.concatenate(it) for it in zip((traded, filled), named))
         found = tuple(self.contradictions.of(place, auction, traded, filled))
         judged = Judged(place, auction, found, traded=traded, filled=filled, beyond=why)
-        return _longer(path, judged)
+        return path.longer(judged)
 
     def _courses(self, moment: Moment, is_moved: bool | None) -> list[Path]:
         """The courses after an uncross at its row; where that differs, at another row of its time,
@@ -372,51 +206,77 @@ class Judge:
             return found
         try:
             others = self._of_ties(moment, found)
-            return others or (self._moved(moment, first) if is_moved else []) or found
+            if others and not others[0].judged[-1].certain:
+                return others
+            return (self._moved(moment, first) if is_moved else []) or others or found
         except BeyondError:
             self.left_out.add(moment.place)
             return found
 
     def _of_ties(self, moment: Moment, found: list[Path]) -> list[Path]:
-        """The courses in which rows of one time came in another order, where what was published
-        may be lawful by that; none where it can't be.
+        """The courses in which rows of one time came in another order, where more of what was
+        published is lawful by that, the most; none where no more is.
         """
         last, these = found[0].judged[-1], moment.these
-        if self.contradictions.of(last.place, last.auction, last.traded, last.filled):
-            return []
-        differences = last.differences
-        for before in self.doubts.cuts(moment.place, these):
-            other = [*self._variants(dataclasses.replace(moment, these=before))]
-            if self.clears(other[0].judged[-1], differences):
-                why = self.doubts.of_cut(moment.place, these, before)
-                return [self._in_doubt(each, differences, why) for each in other]
-        why, others = self.doubts.orders_of_ties(these)
-        for before in others or ():
-            other = [*self._variants(dataclasses.replace(moment, these=before))]
-            if self.clears(other[0].judged[-1], differences):
-                return [self._in_doubt(each, differences, why) for each in other]
+        cuts = self.doubts.ties.cuts(moment.place, these)
+        why, others = self.doubts.ties.orders_of_ties(these)
+        ways = [*((it, self.doubts.ties.of_cut(moment.place, these, it)) for it in cuts)]
+        best = list[Path]()
+        for before, reason in [*ways, *((it, why) for it in others or ())]:
+            courses = self._read_so(moment, before, found, reason)
+            if courses and (not best or len(_certain(courses)) < len(_certain(best))):
+                best = courses
+            if best and not _certain(best):
+                return best
         if others is not None:
             above = self.orders[: moment.path.taken]
-            why = self.doubts.carried(moment.path.state.book, above)
-        return [self._in_doubt(each, differences, why) for each in found] if why else []
+            why = self.doubts.ties.carried(moment.path.state.book, above)
+        why = self.doubts.ties.untried(moment.place) or why * (others is not None)
+        if why:
+            return [self._in_doubt(each, last.differences, why) for each in found]
+        return best
 
-    def clears(self, other: Judged, differences: Iterable[Difference]) -> bool:
-        """Whether a judgement has no certain difference, nor one of these certain ones in doubt for
-        an order alone that no row enters, which no reading enters.
+    def _read_so(
+        self, moment: Moment, before: Ints, found: list[Path], why: str
+    ) -> list[Path]:
+        """The courses of an uncross with these rows before it, where they clear what differs in
+        those that were found, or some of it; these where they may, as the program can't hold so
+        many.
+        """
+        differences = found[0].judged[-1].differences
+        certain, left = {marked(it) for it in _certain(found)}, set[Mark]()
+        try:
+            other = [*self._variants(dataclasses.replace(moment, these=before))]
+            left = self.left_in(other[0].judged[-1]) & certain
+            if {marked(it) for it in _certain(other)} - certain or left == certain:
+                return []
+        except BeyondError:
+            other = found
+        return [self._in_doubt(each, differences, why, left) for each in other]
+
+    def left_in(self, other: Judged) -> set[Mark]:
+        """What a judgement leaves certain, and what it has in doubt for an order alone that no row
+        enters, which no reading enters.
         """
         unknown = self.doubts.unknown
-        left = {_mark(it) for it in other.differences if unknown and it.doubt == unknown.text}
-        return not other.certain and not any(
-            _mark(it) in left for it in differences if not it.doubt
-        )
+        return {
+            marked(it)
+            for it in other.differences
+            if not it.doubt or unknown and it.doubt == unknown.text
+        }
 
-    def _in_doubt(self, path: Path, differences: tuple[Difference, ...], why: str) -> Path:
+    def _in_doubt(
+        self, path: Path, differences: tuple[Difference, ...], why: str,
+        left: Collection[Mark] = (),
+    ) -> Path:  # fmt: skip
         """The path with these differences of its last uncross, in doubt but for those that no book
-        could give.
+        could give, or that are left in each.
         """
-        last = path.judged[-1]
+        last, above = path.judged[-1], path.judged[:-1]
         certain = self.contradictions.of(last.place, last.auction, last.traded, last.filled)
-        found = self._doubted(differences, why, last.place, path.judged[:-1])
+        kept = [it for it in differences if marked(it) in left]
+        others = tuple(it for it in differences if marked(it) not in left)
+        found = (*kept, *self._doubted(others, why, last.place, above))
         found = with_certain(found, certain)
         return dataclasses.replace(path.with_last(differences=found), doubt=path.doubt or why)
 
@@ -498,7 +358,7 @@ class Judge:
     def _doubt_stop(self, items: dict[str, Difference | None], why: str = "") -> None:
         """An interruption, in whose place the auction's end is lawful, is in doubt without a range.
         """
-        if self.rules.range is self.rules.second is None:
+        if not self.rules.has_range:
             why = NO_RANGE
         wrong = items.get("auction")
         if wrong is not None:
@@ -511,38 +371,51 @@ class Judge:
         as such.
         """
         rows, place = self.rows, moment.place
-        own = self._of(NAMED + moment.auction)
-        both = zip((moment.traded, moment.filled), own)
-        traded, filled = (numpy.concatenate(each) for each in both)
-        moment = dataclasses.replace(moment, traded=traded, filled=filled)
+        moment = self._with_named(moment)
         items = compared_items(rows, place, result, 1 + moment.auction)
         if wrong is not None:
             items["auction"] = wrong
         elif rows.state[place] == STOPPED:
             self._doubt_stop(items)
-        is_wrong = items.get("price") is not None
-        says_none = is_wrong and rows.price[place] == NO_PRICE
-        allowed = int(rows.price[place]) if is_wrong and not says_none else MISSING
-        found, pairs = list[Difference](), 0
-        if self.has_trades and (len(traded) or not says_none):
-            made = compared_trades(rows, traded, result, self.owners, allowed, self.stamps)
-            found, pairs = made.differences, made.pairs
-            if rows.count[place] == len(traded):  # a wrong one follows from the trades
-                items["count"] = None
-        if self.has_fills and (len(filled) or not says_none):
-            found = [*found, *compared_fills(rows, filled, result, allowed, self.stamps)]
-        if found:
-            found = self.doubts.of_trades(
-                found, taken.book, moment.auction, result, traded, filled, place
-            )
-            found = self._without_outside(found, moment, result, allowed)
-        if rows.state[place] == STOPPED and self.rules.range is self.rules.second is None:
-            found = [*doubted(found, NO_RANGE)]
-        self._doubt_count(moment, items, found, result)
+        found, pairs = self._of_trades(moment, taken.book, result, items.get("price") is not None)
+        strays = self.doubts.strays_in(found)
+        self._doubt_count(moment, items, found, result, len(moment.traded) - len(strays))
         judged = self._judged(moment, taken, result, items, found)
         judged = dataclasses.replace(judged, is_ended=True, pairs=pairs)
+        doubt = moment.path.doubt or self.doubts.below(strays)
+        moment = dataclasses.replace(moment, path=dataclasses.replace(moment.path, doubt=doubt))
         for state, fills in self._next_states(moment, taken, result):
             yield self._path(moment, dataclasses.replace(judged, fills=fills), taken, state)
+
+    def _with_named(self, moment: Moment) -> Moment:
+        """A moment with the trades and fills that name its auction too."""
+        both = zip((moment.traded, moment.filled), self._of(NAMED + moment.auction))
+        traded, filled = (numpy.concatenate(each) for each in both)
+        return dataclasses.replace(moment, traded=traded, filled=filled)
+
+    def _of_trades(
+        self, moment: Moment, book: Book, result: Result, is_wrong: bool
+    ) -> tuple[list[Difference], int]:
+        """How the trades and fills of an auction differ, and how many lawful pairs are recorded;
+        `is_wrong` says that its price isn't lawful.
+        """
+        rows, place, traded, filled = self.rows, moment.place, moment.traded, moment.filled
+        says_none = is_wrong and rows.price[place] == NO_PRICE
+        allowed = int(rows.price[place]) if is_wrong and not says_none else MISSING
+        made, found = Compared([], 0), list[Difference]()
+        if self.has_trades and (len(traded) or not says_none):
+            made = compared_trades(rows, traded, result, self.owners, allowed, self.stamps)
+        if self.has_fills and (len(filled) or not says_none):
+            found = compared_fills(rows, filled, result, self.owners, allowed, self.stamps)
+        found = [*made.differences, *found]
+        if found:
+            found = self.doubts.of_trades(
+                found, made.by_order, book, moment.auction, result, traded, filled, place
+            )
+            found = self._without_outside(found, moment, result, allowed)
+        if rows.state[place] == STOPPED and not self.rules.has_range:
+            found = [*doubted(found, NO_RANGE)]
+        return found, made.pairs
 
     def _without_outside(
         self, found: list[Difference], moment: Moment, result: Result, allowed: int
@@ -558,22 +431,28 @@ class Judge:
         inner = compared_trades(rows, own, result, self.owners, allowed, stamps).differences
         outer = compared_trades(rows, outside, NOTHING, self.owners, MISSING, stamps).differences
         fewer = len(inner) < sum(not each.doubt for each in found)
-        return [*inner, *doubted(outer, OUTSIDE)] if fewer else found
+        return [*inner, *doubted(outer, self.doubts.why_outside)] if fewer else found
 
     def _doubt_count(
         self, moment: Moment, items: dict[str, Difference | None], found: list[Difference],
-        result: Result,
+        result: Result, many: int,
     ) -> None:  # fmt: skip
-        """A count of trades follows from the pairing, which isn't law."""
+        """A count of trades follows from the pairing, which isn't law, and a wrong one from so many
+        trades of the auction.
+        """
         count, recorded = items.get("count"), int(self.rows.count[moment.place])
         if count is None:
             return
         bids, asks = len(numpy.unique(result.bid)), len(numpy.unique(result.ask))
-        if not self.has_trades and max(bids, asks) <= recorded <= bids * asks:
+        open_ones = [it for it in found if it.doubt not in ("", self.doubts.why_outside)]
+        why = next((it.doubt for it in open_ones), "")
+        if self.has_trades and recorded == many:
+            items["count"] = None
+        elif not self.has_trades and max(bids, asks) <= recorded <= bids * asks:
             why = "another pairing has another count"
             items["count"] = dataclasses.replace(count, doubt=why)
-        elif found and found[0].doubt and recorded >= len(moment.traded):
-            items["count"] = dataclasses.replace(count, doubt=found[0].doubt)
+        elif recorded >= many or any(it.excess > 0 for it in open_ones):
+            items["count"] = dataclasses.replace(count, doubt=why)
 
     def _judged(
         self, moment: Moment, taken: Taken, result: Result,
@@ -586,7 +465,7 @@ class Judge:
         if differences:
             refused = (*moment.path.refused, *taken.refused)
             reason = self._reason(moment, refused)
-            differences = self._with_reason(differences, items, reason, moment)
+            differences = self._with_reason(differences, items, reason, moment, taken.book)
         if any(each.doubt for each in differences):
             certain = self.contradictions.of(
                 moment.place, moment.auction, moment.traded, moment.filled
@@ -607,19 +486,25 @@ class Judge:
 
     def _with_reason(
         self, differences: tuple[Difference, ...], items: dict[str, Difference | None],
-        reason: Reason | None, moment: Moment,
+        reason: Reason | None, moment: Moment, book: Book,
     ) -> tuple[Difference, ...]:  # fmt: skip
-        """The differences in doubt for a reason, but for those that a missing order can't change:
-        whether a replace kept its place, and all where the sums at the price are those of the book.
+        """The differences in doubt for a reason, but for those that a missing order can't change,
+        where no execution above of their orders is in doubt: whether a replace kept its place, and
+        all where the sums at the price are those of the book, and no such order is in it.
         """
-        is_fixed = all(item in items and items[item] is None for item in SUMS)
-        if reason is None or reason.lacks_orders and is_fixed:
+        if reason is None:
             return differences
-        found = self._doubted(differences, reason.text, moment.place, moment.path.judged)
+        above = moment.path.judged
+        found = self._doubted(differences, reason.text, moment.place, above)
         if not reason.lacks_orders:
             return found
+        is_fixed = all(item in items and items[item] is None for item in SUMS)
+        open_ones = (each for it in above for each in it.differences if each.doubt)
+        touched = {key for each in open_ones for key in each.keys}
+        is_fixed = is_fixed and not touched & {*book.key.tolist()}
         return tuple(
-            one if one.item == PRIORITY else other for one, other in zip(differences, found)
+            one if (is_fixed or one.item == PRIORITY) and not touched & {*one.keys} else other
+            for one, other in zip(differences, found)
         )
 
     def _of_name(self, above: tuple[Judged, ...], place: int, why: str) -> str:
@@ -658,7 +543,7 @@ class Judge:
             path, state=state, taken=path.taken + len(moment.these),
             refused=(*path.refused, *taken.refused), closed=path.closed + taken.closed,
         )  # fmt: skip
-        return _longer(longer, judged)
+        return longer.longer(judged)
 
     # ---- what is open next
 
@@ -672,22 +557,14 @@ class Judge:
         references = [now if result.price is None else result.price]
         if published != MISSING:
             references.insert(0, now if published == NO_PRICE else published)
-        recorded = self._recorded(moment)
+        done = recorded_sums(self.rows, moment.traded, moment.filled)
         several = [result.fills]
-        if len(recorded.keys) and not recorded.agrees(result.fills):
-            several.insert(0, recorded)
+        if len(done.keys) and not done.agrees(result.fills):
+            several.insert(0, done)
         for fills in several:
             for reference in dict.fromkeys(references):
                 is_priced = published >= 0 or result.price is not None
                 yield self._state(moment, taken, reference, fills, is_priced), fills
-
-    def _recorded(self, moment: Moment) -> Sums:
-        """The shares of each order that were recorded as executed."""
-        rows, traded = self.rows, moment.traded
-        if len(traded):
-            keys = numpy.concatenate([rows.bid[traded], rows.ask[traded]])
-            return sums(keys, numpy.tile(rows.quantity[traded], 2))
-        return sums(rows.key[moment.filled], rows.quantity[moment.filled])
 
     def _state(
         self, moment: Moment, taken: Taken, reference: int, fills: Sums, is_priced: bool
@@ -709,9 +586,8 @@ class Judge:
 
     def _later(self, moment: Moment) -> list[int]:
         """The places of rows after the uncross that entered orders of its recorded trades."""
-        rows, own = self.rows, self._of(NAMED + moment.auction)
-        both = zip((moment.traded, moment.filled), own)
-        traded, filled = (numpy.concatenate(each) for each in both)
+        rows, moment = self.rows, self._with_named(moment)
+        traded, filled = moment.traded, moment.filled
         keys = numpy.concatenate([rows.bid[traded], rows.ask[traded], rows.key[filled]])
         places = self.entered[keys]
         found: list[int] = places[places > moment.place].tolist()
@@ -765,7 +641,7 @@ class Judge:
         for auction in sorted({*self.due} - ended):
             traded, filled = self._of(NAMED + auction)
             made = compared_trades(rows, traded, NOTHING, self.owners, MISSING, stamps)
-            fills = compared_fills(rows, filled, NOTHING, MISSING, stamps)
+            fills = compared_fills(rows, filled, NOTHING, self.owners, MISSING, stamps)
             why = f"the {AUCTIONS[auction]} has no row uncross"
             found += doubted([*made.differences, *fills], why)
         if not path.judged or not found:
@@ -796,10 +672,11 @@ class Judge:
         return Judgement(judged, due, tuple(bad), +notes, self.has_trades, self.has_fills)
 
 
-def _mark(each: Difference) -> tuple[object, ...]:
+def _certain(courses: list[Path]) -> list[Difference]:
+    """The certain differences of the last uncross on the first of several courses."""
+    return courses[0].judged[-1].certain
+
+
+def marked(each: Difference) -> Mark:
     """What is recorded in a difference, or else lawful, and the rule of its own."""
     return each.item, each.places, each.recorded or each.lawful, each.rule
-
-
-def _longer(path: Path, judged: Judged) -> Path:
-    return dataclasses.replace(path, judged=(*path.judged, judged))

@@ -2,25 +2,31 @@
 import dataclasses
 from collections.abc import Iterator, Sequence
 
-from callauction.verdict.comparing import Difference, Fill, Trade
+from callauction.verdict.comparing import Difference, Fill, Trade, keys_of
 from callauction.verdict.context import Context
 
 
 def grouped(context: Context, differences: Sequence[Difference]) -> list[list[Difference]]:
     """The differences of an uncross, those of trades and fills that are of one jump being one
-    group, in which those of most shares come first.
+    group; of these, and in each, those of most shares come first, behind the published items.
     """
-    movable = [it for it in differences if isinstance(it.recorded or it.lawful, Trade | Fill)]
+    movable = [it for it in differences if _is_made(it)]
     if len(movable) < 2 or context.judged.result is None:
         return [[each] for each in differences]
     jump_of = {key: number for number, keys in enumerate(_jumps(context)) for key in keys}
     groups: dict[tuple[object, ...], list[Difference]] = {}
     for place, each in enumerate(differences):
         jump = next((jump_of[key] for key in each.keys if key in jump_of), None)
-        is_moved = jump is not None and isinstance(each.recorded or each.lawful, Trade | Fill)
+        is_moved = jump is not None and _is_made(each)
         mark = (jump, each.doubt) if is_moved else (None, place)
         groups.setdefault(mark, []).append(each)
-    return [sorted(those, key=_shares, reverse=True) for those in groups.values()]
+    found = [sorted(those, key=_shares, reverse=True) for those in groups.values()]
+    return sorted(found, key=lambda those: (_is_made(those[0]), -_shares(those[0])))
+
+
+def _is_made(each: Difference) -> bool:
+    """Whether a difference is of a trade or a fill."""
+    return isinstance(each.recorded or each.lawful, Trade | Fill)
 
 
 def _jumps(context: Context) -> Iterator[list[int]]:
@@ -42,17 +48,9 @@ def _shares(each: Difference) -> int:
     """How many shares a difference moves."""
     values = [it for it in (each.recorded, each.lawful) if isinstance(it, Trade | Fill)]
     shares = [it.quantity for it in values]
-    if len(values) > 1 and _is_one(values):
+    if len(values) > 1 and keys_of(values[0]) == keys_of(values[1]):
         return abs(shares[0] - shares[1])
     return max(shares, default=0)
-
-
-def _is_one(values: Sequence[Trade | Fill]) -> bool:
-    """Whether two values are of the same orders."""
-    one, other = (
-        (it.bid, it.ask) if isinstance(it, Trade) else (it.order,) for it in values
-    )
-    return one == other
 
 
 def joined(those: Sequence[Difference]) -> Difference:

@@ -4,6 +4,7 @@ that aren't lawful.
 import pathlib
 import re
 from collections.abc import Mapping
+from urllib.parse import quote
 
 import pandas
 
@@ -13,35 +14,41 @@ from callauction.verdict import page
 from callauction.verdict.findings import LAWFUL
 from callauction.verdict.instruments import FAULT, Audited, Market
 
+ORDER = ("unlawful", FAULT, "incomplete", LAWFUL)
+"""Which instruments come first, by their verdicts."""
 COLUMNS = ("verdict", "findings", "doubtful", "rows not read", "compared", "what is first")
 
 
 def write(
     market: Market, path: pathlib.Path, title: str, facts: Mapping[str, str], watch: Watch
 ) -> None:
-    """Writes the page of a market, and beside it a folder of its name with those of instruments.
-    `watch` is given the instruments, then the pages. Raises ProgramError and OSError.
+    """Writes the page of a market, and beside it a folder of its name with those of instruments,
+    which are linked. `watch` is given the instruments, then the pages. Raises ProgramError and
+    OSError.
     """
-    found = [*market.one_by_one(None, watch)]
-    folder = path.with_suffix("")
-    links: dict[str, str] = {}
-    for each in watch([it for it in found if it.word not in (LAWFUL, FAULT)]):
-        file = folder / f"{_file_name(each.name, {*links.values()})}.html"
+    found = sorted(market.one_by_one(None, watch), key=lambda each: ORDER.index(each.word))
+    folder, files = path.with_suffix(""), dict[str, str]()
+    names = [each.name for each in found if each.word not in (LAWFUL, FAULT)]
+    for name in names:
+        files[name] = _file_name(name, {*files.values()})
+    for place, name in enumerate(watch(names)):
         folder.mkdir(exist_ok=True)
-        text = page.html_of(market.verdict(each.name), f"{title}: {each.name}", iter, facts)
-        file.write_text(text, encoding="utf-8")
-        links[each.name] = f"{folder.name}/{file.name}"
+        beside = {"before": names[place - 1 : place], "next": names[place + 1 : place + 2]}
+        pages = {f"All of {title}": f"../{quote(path.name)}"}
+        pages |= {f"{word}: {it}": files[it] for word, those in beside.items() for it in those}
+        text = page.html_of(market.verdict(name), f"{title}: {name}", iter, facts, pages)
+        (folder / files[name]).write_text(text, encoding="utf-8")
+    links = {name: f"{quote(folder.name)}/{file}" for name, file in files.items()}
     path.write_text(_html_of(found, title, facts, links), encoding="utf-8")
 
 
 def _file_name(name: str, taken: set[str]) -> str:
     """A name for the file of an instrument, which no other has."""
     plain = re.sub(r"[^A-Za-z0-9.-]", "_", name).strip(".") or "_"
-    known = {link.rpartition("/")[2].removesuffix(".html") for link in taken}
-    found, count = plain, 1
-    while found in known:
+    found, count = f"{plain}.html", 1
+    while found in taken:
         count += 1
-        found = f"{plain}-{count}"
+        found = f"{plain}-{count}.html"
     return found
 
 
@@ -60,17 +67,16 @@ def _first(each: Audited) -> str:
 def _html_of(
     found: list[Audited], title: str, facts: Mapping[str, str], links: Mapping[str, str]
 ) -> str:
-    """The page: those that are unlawful come first, then the others that aren't lawful."""
+    """The page of instruments in this order."""
     words = [each.word for each in found]
-    counts = ", ".join(f"{words.count(word):,} {word}" for word in dict.fromkeys(sorted(words)))
+    counts = ", ".join(f"{words.count(word):,} {word}" for word in ORDER if word in words)
     look = "good" if {*words} == {LAWFUL} else "bad"
     text = f'<p class="{look}">{counted(len(found), "instrument")}: <strong>{counts}</strong>.</p>'
-    order = ("unlawful", FAULT, "incomplete", LAWFUL)
     rows = [
         (each.name or "(none)", each.word, each.findings, each.doubtful, each.bad_rows,
          _compared(each), _first(each))
-        for each in sorted(found, key=lambda each: order.index(each.word))
+        for each in found
     ]  # fmt: skip
     frame = pandas.DataFrame(rows, columns=["instrument", *COLUMNS])
     text += html_table(frame, "Instruments", "instruments", COLUMNS[1:4], links, len(rows))
-    return html_page(title, [("Verdict", text), *evidence_parts(facts)], "desk")
+    return html_page(title, [("Verdict", text), *evidence_parts(facts)], "desk market")

@@ -2,29 +2,18 @@
 results, a result and its correction.
 """
 import dataclasses
-import itertools
 from collections.abc import Iterator, Sequence
 
 import numpy
+import pandas
 
-from callauction.verdict import clocks, times
+from callauction.verdict import clocks
 from callauction.verdict.cells import Ints
 from callauction.verdict.reading import ExtractError
 from callauction.verdict.rows import (
-    BAD,
-    CANCEL,
-    FILL,
-    MISSING,
-    NEW,
-    STOPPED,
-    TRADE,
-    UNCROSS,
-    BadRow,
-    Doubt,
-    Rows,
-)
+    BAD, FILL, MISSING, NEW, OF_ORDERS, STOPPED, TRADE, UNCROSS, BadRow, Doubt, Rows,
+)  # fmt: skip
 from callauction.words import AUCTIONS
-
 
 def _results(rows: Rows) -> Ints:
     """The rows uncross that publish something of an auction that ended."""
@@ -42,7 +31,7 @@ def refuse_days(rows: Rows) -> None:
     """
     results, days = _results(rows), list[tuple[str, int]]()
     for place in results.tolist():
-        date = times.date_of(rows.names.time(place))
+        date = rows.names.date(place)
         days += [(str(date), place)] if date is not None else []
     (first, one), (last, other) = min(days, default=("", 0)), max(days, default=("", 0))
     if first != last:
@@ -68,6 +57,59 @@ def _refuse(rows: Rows, both: tuple[int, int], what: str, how: str) -> None:
     )
 
 
+# ---- two markets
+
+
+def refuse_markets(rows: Rows, due: Sequence[int]) -> None:
+    """Raises ExtractError where a column that isn't read tells results of one auction apart, and
+    has these texts in entries too: it may be of two markets or instruments.
+    """
+    groups, results = [*doubled(rows, due).values()], _results(rows)
+    if not groups and (len(results) <= len(due) or (rows.state[results] > 0).any()):
+        return
+    for name in rows.names.unread:
+        for one, other in _told_apart(rows, due, groups, name):
+            texts = [rows.names.their_cell(place, name) for place in (one, other)]
+            raise ExtractError(
+                f"rows {rows.labels[one]} and {rows.labels[other]} are results of one auction, of "
+                f"{texts[0]} and {texts[1]} in {name}: say --by {name}, or keep one by --where "
+                f"'{name} == {texts[0]}'"
+            )
+
+
+def refuse_sums(rows: Rows, due: Sequence[int]) -> None:
+    """Raises ExtractError where there are more results than auctions, and the trades of one add up
+    to the volumes of its results, which are others, as those of two markets do.
+    """
+    made = rows.of(TRADE, FILL)
+    for those in doubled(rows, due).values() if has_more(rows, due) else ():
+        own, volumes = made[rows.state[made] == rows.state[those[0]]], rows.quantity[those]
+        shares = 2 * rows.quantity[own].sum() - rows.quantity[own[rows.kind[own] == FILL]].sum()
+        is_other = volumes.min() > 0 and len(numpy.unique(volumes)) == len(volumes)
+        if is_other and shares == 2 * volumes.sum():
+            _refuse(rows, (int(those[0]), int(those[1])), "results of two markets", "--where")
+
+
+def _told_apart(
+    rows: Rows, due: Sequence[int], groups: Sequence[Ints], name: str
+) -> Iterator[tuple[int, int]]:
+    """Two results of each auction that have other texts of a column, all of whose texts in results
+    are in entries; where no result has a name, each text has one for each auction.
+    """
+    results, news = _results(rows), rows.of(NEW)
+    codes = rows.names.codes(numpy.concatenate([results, news]), name)
+    own = codes[: len(results)]
+    if not len(own) or not numpy.isin(own, codes[len(results) :]).all() or own.min() < 0:
+        return
+    counts = numpy.unique(own, return_counts=True)[1]
+    if (rows.state[results] <= 0).all() and len(counts) > 1 and counts.min() >= len(due):
+        groups = [results]
+    for those in groups:
+        numbers = own[numpy.searchsorted(results, those)]
+        if (numbers != numbers[0]).any():
+            yield int(those[0]), int(those[numbers != numbers[0]][0])
+
+
 # ---- a file of orders and one of results
 
 
@@ -76,8 +118,8 @@ def refuse_parts(rows: Rows, due: Sequence[int]) -> None:
     names, are in another order than the rows. One result above the orders of its auction is a fault
     of its own where its trades are below them.
     """
-    orders = numpy.flatnonzero((rows.kind >= NEW) & (rows.kind <= CANCEL))
-    ends = numpy.flatnonzero(rows.kind == UNCROSS)
+    orders = rows.of(*OF_ORDERS)
+    ends = rows.of(UNCROSS)
     names = rows.state[ends] - 1
     if len(names) > 1 and names.tolist() == [*due][::-1]:
         raise ExtractError("results are in reverse order (is the newest row first?): say --sort")
@@ -97,11 +139,12 @@ def refuse_parts(rows: Rows, due: Sequence[int]) -> None:
 
 def _by_time(rows: Rows, orders: Ints, ends: Ints) -> Ints:
     """The rows of orders below all results, and above or below all uncrosses where all entries are,
-    that by their times aren't there; below all uncrosses those of several alone.
+    that by their times aren't there; below all uncrosses those of several alone. A copy of a row
+    above says nothing.
     """
     at, end = rows.time[orders], numpy.sort(rows.time[ends])
-    texts = [rows.names.time(int(it[0])) for it in (orders, ends)]
-    slack = clocks.SECOND if ":" in texts[1] else 0
+    is_dated = [rows.names.date(int(it[0])) is not None for it in (orders, ends)]
+    slack = clocks.SECOND if ":" in rows.names.time(int(ends[0])) else 0
     last = numpy.flatnonzero((rows.kind >= UNCROSS) & (rows.kind <= FILL))[-1]
     news = orders[rows.kind[orders] == NEW]
     wrong = (orders > last) & (at < end[-1])
@@ -111,8 +154,9 @@ def _by_time(rows: Rows, orders: Ints, ends: Ints) -> Ints:
         phases = numpy.searchsorted(end, at, "right")
         early = (orders > ends[-1]) & (phases < len(end))
         wrong |= early & (len(numpy.unique(phases[early])) > 1)
-    is_dated = [times.date_of(text) is not None for text in texts]
-    found: Ints = orders[wrong & (is_dated[0] == is_dated[1])]
+    names = ("time", "kind", "key", "quantity", "price")
+    copies = pandas.DataFrame({it: getattr(rows, it)[orders] for it in names}).duplicated()
+    found: Ints = orders[wrong & (is_dated[0] == is_dated[1]) & ~copies.to_numpy()]
     return found
 
 
@@ -128,46 +172,27 @@ def _untimed(rows: Rows, orders: Ints, ends: Ints) -> Ints:
 # ---- a result and its correction
 
 
+def has_more(rows: Rows, due: Sequence[int]) -> bool:
+    """Whether there are more results than auctions, also such that say nothing."""
+    return int(((rows.kind == UNCROSS) & (rows.state != STOPPED)).sum()) > len(due)
+
+
 def corrected(rows: Rows, due: Sequence[int]) -> Rows:
-    """The rows, where there are more results than auctions with the last one of an auction in the
-    place of the one above its trades, else of the first, and the others as bad rows.
+    """The rows with the last result of an auction that has several in the place of the one above
+    its trades, else of the first, and the others as bad rows.
     """
-    results = _results(rows)
     for number, those in doubled(rows, due).items():
-        rows = _corrected(rows, results, those, f"the {AUCTIONS[number]}")
+        rows = with_last(rows, those, number)
     return rows
 
 
 def doubled(rows: Rows, due: Sequence[int]) -> dict[int, Ints]:
-    """By its number the results of an auction that has several, where there are more of them than
-    auctions.
-    """
+    """By its number the results of an auction that has several."""
     results = _results(rows)
     names = rows.state[results] - 1
     names[(names < 0) & (len(due) == 1)] = due[0]
     those = {it: results[names == it] for it in due if due.count(it) == 1}
-    return {it: own for it, own in those.items() if len(own) > 1 and len(results) > len(due)}
-
-
-def unnamed(rows: Rows, due: Sequence[int]) -> Iterator[list[Ints]]:
-    """Where results that name no auction are more than the auctions: in each way in which some are
-    of one auction with the next one, the results of each such auction.
-    """
-    results = _results(rows)
-    more = len(results) - len(due)
-    if more < 1 or len(due) < 2 or (rows.state[results] > 0).any():
-        return
-    for joined in itertools.combinations(range(1, len(results)), more):
-        begins = [place for place in range(1, len(results)) if place not in joined]
-        yield [those for those in numpy.split(results, begins) if len(those) > 1]
-
-
-def as_one(rows: Rows, groups: Sequence[Ints]) -> Rows:
-    """The rows with the last one of these results of an auction in the place of all of them."""
-    results = _results(rows)
-    for those in groups:
-        rows = _corrected(rows, results, those, "its auction")
-    return rows
+    return {it: own for it, own in those.items() if len(own) > 1}
 
 
 def _moment(rows: Rows, those: Ints, end: int) -> int:
@@ -179,13 +204,15 @@ def _moment(rows: Rows, those: Ints, end: int) -> int:
     return int(those[those < made[0]][-1] if len(made) else those[0])
 
 
-def _corrected(rows: Rows, results: Ints, those: Ints, auction: str) -> Rows:
+def with_last(rows: Rows, those: Ints, auction: int) -> Rows:
     """The rows with the last of these results of an auction alone, at their moment."""
+    results = _results(rows)
     others = results[(results > those[0]) & ~numpy.isin(results, those)]
     at = _moment(rows, those, int(others.min(initial=len(rows.kind))))
     bad, kind, last = [*rows.bad], rows.kind.copy(), int(those[-1])
+    what = f"a later result of the {AUCTIONS[auction]}, read in its place"
     for place in those[:-1].tolist():
-        why = f"row {rows.labels[last]} is a later result of {auction}, read in its place"
+        why = f"row {rows.labels[last]} is {what}"
         bad.append(BadRow(place, rows.labels[place], why, Doubt.ITEM, place))
     kind[those] = BAD
     kind[at] = UNCROSS

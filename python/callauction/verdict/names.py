@@ -32,20 +32,22 @@ def make_keys(rows: Rows, unread: Codes) -> None:
 def _entered(rows: Rows, count: int) -> Ints:
     """By its id the row that enters it first, MISSING where none does."""
     found = numpy.full(count + 1, MISSING, "i8")
-    news = numpy.flatnonzero(rows.kind == NEW)
+    news = rows.of(NEW)
     found[rows.key[news][::-1]] = news[::-1]
     return found
 
 
 def _without_second(rows: Rows, count: int, entered: Ints) -> tuple[int, Ints]:
-    """Refuses rows that enter an id again; one that is entered on both sides is two orders."""
-    news = numpy.flatnonzero(rows.kind == NEW)
+    """Refuses rows that enter an id again, which may correct the first as long as that isn't
+    cancelled; one that is entered on both sides is two orders.
+    """
+    news = rows.of(NEW)
     second = news[entered[rows.key[news]] != news]
     quotes = second[rows.side[second] != rows.side[entered[rows.key[second]]]]
     if len(quotes):
         count = _part_quotes(rows, numpy.unique(rows.key[quotes]), count)
         entered = _entered(rows, count)
-        news = numpy.flatnonzero(rows.kind == NEW)
+        news = rows.of(NEW)
         second = news[entered[rows.key[news]] != news]
     for place in second:
         first = entered[rows.key[place]]
@@ -53,7 +55,10 @@ def _without_second(rows: Rows, count: int, entered: Ints) -> tuple[int, Ints]:
         why = f"order {order!r} was entered before, in row {rows.labels[first]}"
         if rows.member[first] != rows.member[place]:
             why += ", by another member (are ids a member's own? join both)"
-        rows.refuse(place, why, Doubt.BOOKS)
+        between = slice(int(first), int(place))
+        is_gone = (rows.kind[between] == CANCEL) & (rows.key[between] == rows.key[place])
+        is_other = is_gone.any() and rows.time[place] != rows.time[first]
+        rows.refuse(place, why, Doubt.BOOKS, None if is_other else int(first))
     return count, entered
 
 
@@ -99,7 +104,7 @@ def _refuse_other_ids(rows: Rows, root: Ints) -> None:
 
 def _refuse_unknown(rows: Rows, entered: Ints, unread: set[int]) -> None:
     """Refuses rows of orders that no row above enters."""
-    events = numpy.flatnonzero((rows.kind == REPLACE) | (rows.kind == CANCEL))
+    events = rows.of(REPLACE, CANCEL)
     owner = entered[rows.key[events]]
     for place in events[(owner < 0) | (owner > events)]:
         is_unread = int(rows.key[place]) in unread
@@ -111,7 +116,7 @@ def _refuse_unknown(rows: Rows, entered: Ints, unread: set[int]) -> None:
 
 def _refuse_foreign(rows: Rows, entered: Ints) -> None:
     """Refuses replaces by others than the order's member, and counts such cancels."""
-    events = numpy.flatnonzero((rows.kind == REPLACE) | (rows.kind == CANCEL))
+    events = rows.of(REPLACE, CANCEL)
     owner = entered[rows.key[events]]
     one, other = rows.member[events], rows.member[owner]
     foreign = events[(one >= 0) & (other >= 0) & (one != other)]

@@ -5,10 +5,11 @@ from collections.abc import Mapping
 import numpy
 import pandas
 
-from callauction.verdict.audits import argument, judge, rules_of
+from callauction.verdict.audits import judge, rules_of
 from callauction.verdict.columns import EVENT_COLUMNS, ColumnError, refuse_unknown
 from callauction.verdict.events import orders_in_time, rows_of
 from callauction.verdict.findings import Verdict
+from callauction.verdict.ranges import argument
 from callauction.verdict.reading import ExtractError, Reading, read_table
 from callauction.verdict.rows import NEW, UNCROSS, Rows
 from callauction.words import AUCTIONS
@@ -65,25 +66,32 @@ def audit_auction(
     read = dataclasses.replace(reading, columns={}, where=(), sort=False, ignore=())
     table = read_table(events, read)
     table = table.take(numpy.concatenate(orders_in_time(table, read)))
+    table = dataclasses.replace(table, is_whole=False)
     rows = rows_of(table, read, [argument("reference", reference)])
-    auctions = (_named(rows, auction),)
+    auctions = (_held(rows, auction),)
     rules = rules_of(
-        reference, tick_size, range, low, high, auctions, False, second_reference, second_range
+        reference, tick_size, range, low, high, auctions, "open", second_reference, second_range
     )
     return judge(table, read, rules)
 
 
-def _named(rows: Rows, said: str | None) -> str:
-    """Which auction is said, or the one row `uncross` names; any where that decides nothing. Raises
-    ValueError.
-    """
-    states = rows.state[rows.kind == UNCROSS]
+def _held(rows: Rows, said: str | None) -> str:
+    """Which auction the rows are of. Raises ValueError."""
+    states, only = rows.state[rows.of(UNCROSS)].tolist(), rows.only[rows.of(NEW)]
     if len(states) != 1:
         raise ValueError(f"published has {len(states)} uncrosses, and not one")
-    state = int(states[0])
-    if said is not None or 0 < state <= len(AUCTIONS):
-        return said or AUCTIONS[state - 1]
-    if (rows.only[rows.kind == NEW] > 0).any():
+    return auction_of(states, said, bool((only > 0).any()))
+
+
+def auction_of(states: list[int], said: str | None, is_restricted: bool) -> str:
+    """Which auction is said, or the one row `uncross` with these names names; any where that
+    decides nothing, as no order is for one auction alone. Raises ValueError.
+    """
+    if len(states) != 1:
+        raise ValueError(f"it has {len(states)} rows uncross, and not one")
+    if said is not None or 0 < states[0] <= len(AUCTIONS):
+        return said or AUCTIONS[states[0] - 1]
+    if is_restricted:
         raise ValueError(NOT_NAMED)
     return AUCTIONS[0]
 

@@ -7,12 +7,11 @@ import dataclasses
 from collections.abc import Iterable
 from decimal import Decimal
 
-import numpy
 import pandas
 
-from callauction.verdict.context import recorded_fills
-from callauction.verdict.judging import Judged, Judgement, Rules
-from callauction.verdict.rows import CANCEL, MARKET, NEW, OWN, SIDES, Rows
+from callauction.verdict.judged import Judged, Judgement, Rules
+from callauction.verdict.phases import recorded_sums
+from callauction.verdict.rows import CANCEL, MARKET, NEW, OF_ORDERS, OWN, SIDES, Rows
 
 ORDERS = {
     "order": "object",
@@ -60,7 +59,7 @@ class _Course:
         self.orders: dict[int, _Order] = {}
         self.open: dict[int, _Order] = {}
         self.executed: collections.Counter[int] = collections.Counter()
-        self.places = numpy.flatnonzero((rows.kind >= NEW) & (rows.kind <= CANCEL)).tolist()
+        self.places = rows.of(*OF_ORDERS).tolist()
         self.taken = self.ended = 0
 
     def uncross(self, judged: Judged, is_last: bool) -> None:
@@ -146,9 +145,9 @@ class _Course:
 def orders_of(judgement: Judgement, rows: Rows, rules: Rules) -> pandas.DataFrame:
     """The orders of an extract that the rules accept, with what became of each (ORDERS)."""
     course = _Course(judgement, rows, rules)
-    recorded: collections.Counter[int] = collections.Counter()
+    shares: collections.Counter[int] = collections.Counter()
     for judged in judgement.uncrosses:
-        recorded.update(recorded_fills(judged, rows))
+        shares.update(recorded_sums(rows, judged.traded, judged.filled).by_key())
     those = [judged for judged in judgement.uncrosses if judged.result is not None]
     for place, judged in enumerate(those, 1):
         course.uncross(judged, place == len(those))
@@ -158,7 +157,7 @@ def orders_of(judgement: Judgement, rows: Rows, rules: Rules) -> pandas.DataFram
         course.take(course.places[course.taken :])
     has_records = judgement.has_trades or judgement.has_fills
     found = [
-        course.row(order, recorded[key] if has_records else None)
+        course.row(order, shares[key] if has_records else None)
         for key, order in course.orders.items()
     ]
     return pandas.DataFrame(found, columns=[*ORDERS], dtype="object").astype(ORDERS)

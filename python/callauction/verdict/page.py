@@ -3,6 +3,7 @@ with its rule and its queue, then the auctions, the members and the orders. See 
 """
 import fractions
 import html
+import re
 import textwrap
 from collections.abc import Callable, Iterator, Mapping
 from decimal import Decimal
@@ -13,26 +14,13 @@ from matplotlib.axes import Axes
 from callauction import plot
 from callauction.course import Watch
 from callauction.pages import (
-    BOOKED,
-    caption_of,
-    counted,
-    evidence_parts,
-    html_image,
-    html_page,
-    html_table,
-    near_price,
+    BOOKED, caption_of, counted, evidence_parts, html_image, html_page, html_table, near_price,
     new_figure,
-)
+)  # fmt: skip
 from callauction.verdict import stamps
 from callauction.verdict.context import Context, price_text
-from callauction.verdict.findings import (
-    LAWFUL,
-    MOST_BAD_ROWS,
-    Finding,
-    Verdict,
-    frame_of,
-)
-from callauction.verdict.judging import Judged, Rules
+from callauction.verdict.findings import LAWFUL, MOST_BAD_ROWS, Finding, Verdict, frame_of
+from callauction.verdict.judged import Judged, Rules
 from callauction.verdict.orders import members_of
 from callauction.verdict.rows import INTERRUPTED
 
@@ -43,6 +31,8 @@ MOST_EXPLAINED = 50
 UNIT = "limits as prices, quantities in shares"
 TITLE = 38
 """How many letters a line of a picture's title has at most."""
+_JOINED = "\xa0"
+"""A blank at which no line of a title ends, as it does behind a comma."""
 QUEUED = ("open", "recorded", "lawful")
 """The columns of a queue that count shares."""
 Part = tuple[str, str]
@@ -50,16 +40,17 @@ Part = tuple[str, str]
 
 
 def html_of(
-    verdict: Verdict, title: str, watch: Watch = iter, facts: Mapping[str, str] = {}
-) -> str:
-    """The report of a verdict; `facts` says what it is of and by. `watch` is given the auctions,
-    such as tqdm.tqdm. Raises ProgramError.
+    verdict: Verdict, title: str, watch: Watch = iter, facts: Mapping[str, str] = {},
+    pages: Mapping[str, str] = {},
+) -> str:  # fmt: skip
+    """The report of a verdict; `facts` says what it is of and by, and `pages` has links to others.
+    `watch` is given the auctions, such as tqdm.tqdm. Raises ProgramError.
     """
     parts = [_first(verdict), *_explained(verdict)]
     parts += [_auction(verdict, judged) for judged in watch(_judged(verdict))]
     orders = verdict.orders()
     parts += [_members(orders), _orders(orders, verdict.rules), *_bad_rows(verdict)]
-    return html_page(title, [*stamps.shortened(parts), *evidence_parts(facts)], "desk")
+    return html_page(title, [*stamps.shortened(parts), *evidence_parts(facts)], "desk", pages)
 
 
 def _judged(verdict: Verdict) -> list[Judged]:
@@ -193,8 +184,8 @@ def _draw(context: Context, axes: Axes) -> None:
     limits = [None if it is pandas.NA else at(context.named(it)) for it in book["limit"]]
     book["limit"] = pandas.Series(limits, book.index, dtype="Int64")
     plot.book(book, reference=at(context.reference), named=named, ax=axes)
-    title = textwrap.wrap(axes.get_title("left").partition("\n")[2], TITLE)
-    axes.set_title("\n".join(title), loc="left")
+    title = re.sub(r"(?<!,) ", _JOINED, axes.get_title("left").partition("\n")[2])
+    axes.set_title("\n".join(textwrap.wrap(title, TITLE)).replace(_JOINED, " "), loc="left")
 
 
 def _step(tick_size: Decimal | None, prices: list[Decimal]) -> fractions.Fraction:

@@ -14,7 +14,9 @@ from callauction.arrays import COMMAND, Structs
 from callauction.limits import MOST_CALLS, MOST_OPEN, MOST_TICKS
 from callauction.verdict import engine
 from callauction.verdict.cells import Array, Codes, Ints, Mask
-from callauction.verdict.rows import CANCEL, MARKET, NEW, REPLACE, BadRow, Bytes, Doubt, Rows
+from callauction.verdict.rows import (
+    CANCEL, MARKET, NEW, OWN, REPLACE, SIDES, BadRow, Bytes, Doubt, Rows,
+)  # fmt: skip
 from callauction.words import AUCTIONS, CommandTag, Refusal, ReplyTag
 
 GONE = -1
@@ -46,6 +48,22 @@ class Book:
 
     def __len__(self) -> int:
         return len(self.key)
+
+    def counted(self, auction: int) -> Mask:
+        """Which orders count in an auction."""
+        found: Mask = (self.only <= 0) | (self.only == OWN[auction])
+        return found
+
+    def ranked(self, which: Mask) -> Ints:
+        """The places of orders of one side in their priority: market orders, then the better
+        limits, then those that are longer in the book.
+        """
+        these = numpy.flatnonzero(which)
+        price = self.price[these].astype("i8")
+        limit = numpy.where(self.side[these] == SIDES.index("bid"), -price, price)
+        rank = numpy.where(price == MARKET, numpy.iinfo("i8").min, limit)
+        found: Ints = these[numpy.argsort(rank, kind="stable")]
+        return found
 
 
 def empty() -> Book:
@@ -108,6 +126,14 @@ def sums(keys: Ints | Codes, shares: Ints) -> Sums:
     begins = numpy.flatnonzero(numpy.concatenate([[True], keys[1:] != keys[:-1]])[: len(keys)])
     added: Ints = numpy.add.reduceat(shares, begins) if len(begins) else shares
     return Sums(keys[begins].astype("i8"), added)
+
+
+def recorded_sums(rows: Rows, traded: Ints, filled: Ints) -> Sums:
+    """The shares of each order that were recorded as executed: of trades, else of fills."""
+    if not len(traded):
+        return sums(rows.key[filled], rows.quantity[filled])
+    keys = numpy.concatenate([rows.bid[traded], rows.ask[traded]])
+    return sums(keys, numpy.tile(rows.quantity[traded], 2))
 
 
 NOTHING = Result(None, 0, 0, 0, *(numpy.zeros(0, kind) for kind in ("i4", "i4", "i8")))
@@ -175,6 +201,9 @@ def _refused(rows: Rows, places: Ints, refusals: Array) -> list[BadRow]:
         name = Refusal(number).name.title().replace("_", "")
         doubt = Doubt.ORDER if rows.kind[place] == NEW else Doubt.BOOKS
         why = f"the rules say refused {number} {name}"
+        if number == Refusal.PAST_AUCTION:
+            only = rows.names.cell(place, "restriction")
+            why += f": restriction {only!r}, an auction that isn't held or is over"
         found.append(BadRow(place, rows.labels[place], why, doubt, place))
     return found
 

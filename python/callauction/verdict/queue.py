@@ -8,17 +8,8 @@ import pandas
 from callauction.verdict.context import Context
 
 COLUMNS = (
-    "side",
-    "place",
-    "order",
-    "member",
-    "since",
-    "row",
-    "price",
-    "open",
-    "recorded",
-    "lawful",
-)
+    "side", "place", "order", "member", "since", "row", "price", "open", "recorded", "lawful",
+)  # fmt: skip
 """`place` is the order's from 1 among those of its side, `since` the time from which its place in
 time is, `price` its limit (None is a market order's), `open` its open shares before the uncross,
 `recorded` and `lawful` the shares that were executed of it (`<NA>` where nothing was recorded).

@@ -45,15 +45,20 @@ def _decimal(number: Fraction) -> Decimal:
     return Decimal(number.numerator) / Decimal(number.denominator)
 
 
+def argument(name: str, value: object, shown: object = None) -> Decimal:
+    """A decimal argument, which a fault shows as it is or as it was said. Raises ValueError."""
+    try:
+        return decimal_of(value)
+    except BadCellError as fault:
+        raise ValueError(f"{name} {value if shown is None else shown!r} {fault}") from None
+
+
 def range_of(name: str, value: object) -> Range | None:
     """The range of an argument: a decimal, or a text such as `2%`. Raises ValueError."""
     if value is None:
         return None
     is_percent = isinstance(value, str) and value.strip().endswith("%")
-    try:
-        width = decimal_of(str(value).strip()[:-1].strip() if is_percent else value)
-    except BadCellError as fault:
-        raise ValueError(f"{name} {value!r} {fault}") from None
+    width = argument(name, str(value).strip()[:-1].strip() if is_percent else value, value)
     if width < 0:
         raise ValueError(f"{name} {value} is below 0")
     return Range(width, Decimal(100) if is_percent else None)

@@ -14,35 +14,21 @@ from typing import BinaryIO, Literal, NamedTuple
 import numpy
 import pandas
 
-from callauction.prices import BadCellError, decimal_of
-from callauction.verdict import fix, times
+from callauction.prices import number_of
+from callauction.verdict import clocks, fix, times
 from callauction.verdict.cells import (
-    Codes,
-    Ints,
-    MadeSource,
-    Mask,
-    Short,
-    Source,
-    by_kind,
-    frame_source,
-    text_source,
-)
+    Codes, Ints, MadeSource, Mask, Short, Source, by_kind, frame_source, text_source,
+)  # fmt: skip
 from callauction.verdict.columns import (
-    EVENT_COLUMNS,
-    EVENTS,
-    NEEDED,
-    ColumnError,
-    kinds_of,
-    plain,
-    refuse_unknown,
-    renamed,
-)
+    EVENT_COLUMNS, EVENTS, KINDS, NEEDED, ColumnError, kinds_of, plain, refuse_unknown, renamed,
+)  # fmt: skip
 
 GZIP = b"\x1f\x8b"
 ROW = "row"
 """The name of the index: a row of a file is named by its line, one of a frame by its label."""
 UNCROSS = EVENTS.index("uncross")
 """The first event that isn't of an order."""
+NO_ROWS = "files with a header and no rows"
 LEFT_OUT = "trades, fills and results that don't meet --where"
 _BOOKS = (b"PK\3\4", b"\xd0\xcf\x11\xe0")
 """How an archive begins, as a workbook is one, and how an older workbook does."""
@@ -100,10 +86,14 @@ class Reading:
     """Words or numbers in `price` that mean a market order; with any of them an empty price of an
     order is a fault.
     """
-    quantity: Literal["open", "total"] = "open"
-    """What the quantity of a replace is: open after it, or with what was executed before."""
+    quantity: Literal["", "open", "total"] = ""
+    """What the quantity of a replace is: open after it, or with what was executed before; empty is
+    open, as long as the other reading doesn't make a day lawful.
+    """
     sort: bool = False
     """Whether rows are sorted by time, then by sequence, then as they come."""
+    dates: Literal["", "dmy", "mdy"] = ""
+    """What dates with strokes are, as 3/4/2026; empty for what all of them may be."""
     ignore: Collection[str] = ()
     """Columns that are passed over; `*` is each unknown one."""
     pair: str = ""
@@ -145,6 +135,10 @@ class Table:
     notes: Mapping[str, int] = dataclasses.field(default_factory=dict)
     """What else was met in a file, and how often."""
     end: "End | None" = None
+    dates: str = ""
+    """What dates with strokes are (times.STROKES), empty where that isn't known."""
+    is_whole: bool = True
+    """Whether numbers of sequences that it hasn't are missing, as they aren't of a book."""
 
     @property
     def left_out(self) -> int:
@@ -191,6 +185,9 @@ def read_table(
     names = _names(found, reading, used)
     met = _meeting(found, conditions, reading)
     found, names = _with_kinds(found, names, reading)
+    dates: str = reading.dates
+    if "time" in names and not dates:
+        dates = clocks.dates_of(found.cells(names["time"]))
     end = table.end
     if end is not None and "time" in names and len(found):
         end = end._replace(time=found.cells(names["time"]).text(len(found) - 1))
@@ -202,7 +199,7 @@ def read_table(
     if dropped is not None:
         notes[LEFT_OUT] = int((_kinds(dropped, names["event"], reading) >= UNCROSS).sum())
     return dataclasses.replace(
-        table, source=kept, dropped=dropped, names=names, end=end, notes=+notes
+        table, source=kept, dropped=dropped, names=names, end=end, notes=+notes, dates=dates
     )
 
 
@@ -287,8 +284,7 @@ def _kinds(source: Source, theirs: str, reading: Reading) -> Codes:
     """
     codes, texts = source.cells(theirs).texts()
     words = reading.values.get("event", {})
-    kinds = {word: place for place, word in enumerate(EVENTS)}
-    found = [kinds.get(words.get(text, text).casefold(), -len(EVENTS)) for text in texts]
+    found = [KINDS.get(words.get(text, text).casefold(), -len(EVENTS)) for text in texts]
     return numpy.array([*found, -len(EVENTS)], "i4")[codes]
 
 
@@ -320,10 +316,13 @@ def file_of(source: str | os.PathLike[str] | BinaryIO, reading: Reading) -> Tabl
     if reading.format == "fix":
         try:
             log = fix.table_of(content.decode(), reading.separator)
-        except fix.LogError as fault:
+        except fix.MessageLogError as fault:
             raise ExtractError(str(fault)) from None
         end = None if log.is_ended else _end(log.source, False)
         return Table(log.source, log.short, notes=log.notes, end=end)
+    if content.count(b"\x00") > len(content) // 3:
+        little = content[1:2] == b"\x00"
+        raise ExtractError(f"the file is UTF-16: say encoding utf-16-{'le' if little else 'be'}")
     if _MARKED.match(content):
         raise ExtractError("this is JSON, XML or HTML, and no table: save it as CSV")
     content = _SIGNED.sub(b"\n", content)
@@ -334,7 +333,9 @@ def file_of(source: str | os.PathLike[str] | BinaryIO, reading: Reading) -> Tabl
     except csv.Error as fault:
         raise ExtractError(f"the file is no CSV file: {fault}") from None
     _look_at_header(found.names, reading.separator)
-    return Table(found, short, end=_end(found, not content.endswith((b"\n", b"\r"))))
+    notes = {} if len(found) or short else {NO_ROWS: 1}
+    end = _end(found, not content.endswith((b"\n", b"\r")))
+    return Table(found, short, notes=notes, end=end)
 
 
 def _end(source: Source, is_cut: bool) -> End | None:
@@ -404,22 +405,21 @@ class _Condition:
         """
         if self.sign in ("==", "!="):
             return [(text == self.value) == (self.sign == "==") for text in texts]
-        wanted = _comparable(self.value, reading)
+        dates = reading.dates or times.strokes_of(map(times.date_text, [self.value, *texts]))
+        wanted = _comparable(self.value, reading, dates)
         if wanted is None:
             raise ConditionError(f"where: {self.value!r} is neither a number nor a time")
-        found = {text: _comparable(text, reading) for text in texts}
+        found = {text: _comparable(text, reading, dates) for text in texts}
         odd = next((text for text, value in found.items() if value is None), None)
         if odd is not None:
             raise ExtractError(f"where: {self.name} has {odd!r}, neither a number nor a time")
         return [it is not None and _COMPARED[self.sign](it, wanted) for it in found.values()]
 
 
-def _comparable(text: str, reading: Reading) -> Decimal | None:
+def _comparable(text: str, reading: Reading, dates: str) -> Decimal | None:
     """The number or the time that a text is, None where it is neither."""
-    try:
-        return decimal_of(reading.plain(text))
-    except BadCellError:
-        return times.seconds(text)
+    number = number_of(reading.plain(text))
+    return times.seconds(text, dates) if number is None else number
 
 
 def _condition(text: str, columns: Collection[str]) -> _Condition:

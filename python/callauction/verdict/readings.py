@@ -3,6 +3,7 @@ import dataclasses
 import functools
 import itertools
 from collections.abc import Callable, Iterator
+from typing import Any
 
 import numpy
 import pandas
@@ -11,30 +12,25 @@ from callauction.course import Watch
 from callauction.verdict import clocks
 from callauction.verdict.cells import Codes, Ints
 from callauction.verdict.comparing import doubted
-from callauction.verdict.judging import Judge, Judged, Judgement, Rules
-from callauction.verdict.mixed import as_one, corrected, doubled, refuse_parts, unnamed
+from callauction.verdict.judged import Judged, Judgement, Rules
+from callauction.verdict.judging import SUMS, Judge, Mark, marked
+from callauction.verdict.lots import in_shares, lot_of
+from callauction.verdict.mixed import corrected, doubled, has_more, refuse_markets, refuse_parts
 from callauction.verdict.reading import End
+from callauction.verdict.repeated import amended, copies, second_trades
 from callauction.verdict.rows import (
-    BAD,
-    CANCEL,
-    FILL,
-    INTERRUPTED,
-    MARKET,
-    NEW,
-    REPLACE,
-    STOPPED,
-    TRADE,
-    UNCROSS,
-    Bytes,
-    Doubt,
-    Rows,
-)
+    BAD, FILL, INTERRUPTED, MARKET, NEW, OF_ORDERS, REPLACE, TRADE, UNCROSS, Bytes, Doubt, Rows,
+)  # fmt: skip
+from callauction.verdict.spelling import respelled
+from callauction.verdict.units import in_one_unit, why_two_units
+from callauction.verdict.unnamed import Named, namings, with_names
 
 TWICE = "each trade has two rows: is there one for each side?"
 UNCHANGED = "replaces have no price: is it unchanged? --market says the word for market orders"
+TOTALS = "replaces may say an order's whole quantity, and not what is open: --quantity says which"
 PERCENT = "the range may be a percentage"
 CORRECTED = "an auction has two results: the later one may correct the other"
-UNNAMED = "there are more results than auctions, and none says which auction it is of"
+UNNAMED = "a result may be missing or correct another, and none says which auction it is of"
 MOST_READINGS = 64
 """How many readings are tried."""
 Day = tuple[Rows, Rules]
@@ -42,10 +38,11 @@ Change = tuple[Callable[[Day], Day], str]
 """What is read otherwise, and why."""
 
 
-def judged_day(rows: Rows, rules: Rules, watch: Watch = iter) -> Judgement:
-    """The judgement of a day. What differs is in doubt where another reading, or several together,
-    leave no certain difference in such an auction and bring none into another; so is a lawful day
-    whose rows are in another order than their times. Raises ExtractError and ProgramError.
+def judged_day(rows: Rows, rules: Rules, whole: Rows, watch: Watch = iter) -> Judgement:
+    """The judgement of a day; `whole` has the results that others correct too. What differs is in
+    doubt where another reading, or several together, haven't it and bring no other certain
+    difference; so is a lawful day whose rows are in another order than their times. Raises
+    ExtractError and ProgramError.
     """
     judge = Judge(rows, rules)
     found = judge.judge(watch)
@@ -57,46 +54,53 @@ def judged_day(rows: Rows, rules: Rules, watch: Watch = iter) -> Judgement:
     if not found.unlawful:
         return found
     refuse_parts(rows, rules.due)
-    ways = [*_changes(found, rows, rules), _orders_of_ties(judge)]
-    if falls:
-        ways.append([(lambda day: (_by_time(day[0]), day[1]), falls)])
+    refuse_markets(whole, rules.due)
+    ways = [*_changes(found, rows, rules), _orders_of_ties(judge), *_over_uncrosses(judge, found)]
+    falls, across = falls or _falls(rows, True), _across(rows)
+    moves = ((_by_time, falls), (_by_all_times, across))
+    ways.append([(functools.partial(_in_order, move), why) for move, why in moves if why])
     combined = itertools.product(*([None, *those] for those in ways if those))
     readings = ([each for each in it if each is not None] for it in combined)
+    first = found
     for those in sorted(filter(None, readings), key=len)[:MOST_READINGS]:
-        found = _without(found, (rows, rules), those)
+        found = _without(found, first, (rows, rules), those)
     return found
 
 
-def _without(found: Judgement, day: Day, those: list[Change]) -> Judgement:
-    """The judgement with what the day in these other readings hasn't in doubt."""
+def _without(found: Judgement, first: Judgement, day: Day, those: list[Change]) -> Judgement:
+    """The judgement with what the day in these other readings hasn't in doubt, where they bring no
+    certain difference that the first judgement hasn't.
+    """
     if not found.unlawful:
         return found
     for change, _ in those:
         day = change(day)
     judge = Judge(*day)
-    other = judge.judged_within(found.unlawful)
-    if other is None or other.unlawful - found.unlawful:
+    other = judge.judged_within(first.unlawful)
+    if other is None:
         return found
-    before = {each.place: each.differences for each in found.uncrosses}
-    cleared = found.unlawful - {
-        each.place
-        for each in other.uncrosses
-        if not judge.clears(each, before.get(each.place, ()))
-    }
-    if not cleared:
-        return found
-    return _in_doubt(found, cleared, "; ".join(why for _, why in those))
+    before = {each.place: each for each in first.uncrosses}
+    left = dict[int, set[Mark]]()
+    for each in other.uncrosses:
+        above = before.get(each.place)
+        marks = {marked(it) for it in each.certain}
+        if marks - {marked(it) for it in (above.certain if above else ())}:
+            return found
+        left[each.place] = judge.left_in(each)
+    return _cleared(found, left, "; ".join(why for _, why in those))
 
 
-def _in_doubt(found: Judgement, which: set[int], why: str) -> Judgement:
-    """The judgement with the differences of the uncrosses at these places in doubt."""
+def _cleared(found: Judgement, left: dict[int, set[Mark]], why: str) -> Judgement:
+    """The judgement with what isn't left of an uncross at a place in doubt."""
 
-    def doubt(each: Judged) -> Judged:
-        if each.place not in which:
-            return each
-        return dataclasses.replace(each, differences=doubted(each.differences, why))
+    def cleared(each: Judged) -> Judged:
+        own = left.get(each.place, set())
+        those = tuple(
+            it if marked(it) in own else doubted([it], why)[0] for it in each.differences
+        )
+        return dataclasses.replace(each, differences=those)
 
-    return dataclasses.replace(found, uncrosses=tuple(map(doubt, found.uncrosses)))
+    return dataclasses.replace(found, uncrosses=tuple(map(cleared, found.uncrosses)))
 
 
 def _doubted(found: Judgement, other: Judgement, why: str) -> Judgement:
@@ -111,66 +115,117 @@ def _doubted(found: Judgement, other: Judgement, why: str) -> Judgement:
 
 def _changes(found: Judgement, rows: Rows, rules: Rules) -> Iterator[list[Change]]:
     """What may be read otherwise in rows of this order."""
-    again = _second_trades(rows)
+    again = second_trades(rows)
     if len(again):
-        kind = rows.kind.copy()
-        kind[again] = BAD
-        yield [(functools.partial(_of_kinds, kind), TWICE)]
-    if corrected(rows, rules.due) is not rows and not _has_stops(found, rows, rules):
+        yield [_without_rows(rows, again, TWICE)]
+    if _may_correct(found, rows, rules):
         yield [(lambda day: (corrected(day[0], day[1].due), day[1]), CORRECTED)]
-    joined = [functools.partial(_as_one, groups) for groups in unnamed(rows, rules.due)]
-    if joined and rules.range is rules.second is None:
-        stops = numpy.flatnonzero(rows.kind == UNCROSS).tolist()
-        joined += [functools.partial(_stopped, place) for place in stops]
-    yield [(change, UNNAMED) for change in joined]
-    copies = _copies(rows)
-    single = [copies[at : at + 1] for at in range(len(copies))] if len(copies) > 1 else []
-    yield [_without_copies(rows, those) for those in ([copies] * bool(len(copies)) + single)[:5]]
+    ways = namings(found, rows, rules)
+    yield [(functools.partial(_with_names, way), UNNAMED) for way in ways]
+    those = copies(rows, found)
+    is_second = numpy.isin(those, again)
+    those = those[numpy.argsort(is_second, kind="stable")]
+    single = [those[at : at + 1] for at in range(len(those))] if len(those) > 1 else []
+    has_others = not is_second.all()
+    yield [
+        _without_rows(rows, each, f"row {rows.labels[each[0]]} is there twice: is it one?")
+        for each in ([those] * has_others + single)[:5]
+    ]
+    earlier, why = amended(rows)
+    if len(earlier):
+        yield [_without_rows(rows, earlier, why)]
     if rows.end is not None and rows.end.is_cut:
         why = f"the file ends within a line, and row {rows.end.label} may be cut"
         yield [(functools.partial(_cut_off, rows.end), why)]
+    spelled = respelled(rows)
+    if spelled is not None:
+        yield [(functools.partial(_respelled, spelled[0]), spelled[1])]
     price = _filled_prices(rows)
     if price is not None:
-        yield [(lambda day: (dataclasses.replace(day[0], price=price), day[1]), UNCHANGED)]
+        yield [(functools.partial(_priced, price), UNCHANGED)]
     if rules.range is not None and rules.range.whole is None and rules.reference:
         span = dataclasses.replace(rules.range, whole=rules.reference)
-        percent = dataclasses.replace(rules, range=span)
-        yield [(lambda day: (day[0], percent), PERCENT)]
+        yield [(functools.partial(_ruled, dict(range=span)), PERCENT)]
+    if rules.may_have_totals and _replaces_executed(found, rows):
+        yield [(functools.partial(_ruled, dict(has_totals=True)), TOTALS)]
+    if lot := lot_of(found):
+        yield [(functools.partial(_in_place, it), why) for it, why in in_shares(rows, lot)]
+    why = why_two_units(rows, rules.reference)
+    if why:  # the last, as prices have other numbers then
+        yield [(lambda day: (in_one_unit(day[0], day[1].reference), day[1]), why)]
 
 
-def _without_copies(rows: Rows, copies: Ints) -> Change:
-    """The change that leaves these rows out, which are there twice."""
+def _ruled(changes: dict[str, Any], day: Day) -> Day:
+    """The day by other rules."""
+    return day[0], dataclasses.replace(day[1], **changes)
+
+
+def _in_place(other: Rows, day: Day) -> Day:
+    """The day with the quantities of other rows."""
+    return dataclasses.replace(day[0], quantity=other.quantity, surplus=other.surplus), day[1]
+
+
+def _replaces_executed(found: Judgement, rows: Rows) -> bool:
+    """Whether a row replaces an order of which shares were executed above."""
+    these = rows.of(REPLACE)
+    return any(
+        numpy.isin(rows.key[these[these > it.place]], it.fills.keys).any()
+        for it in found.uncrosses
+    )
+
+
+def _without_rows(rows: Rows, these: Ints, why: str) -> Change:
+    """The change that leaves rows out."""
     kind = rows.kind.copy()
-    kind[copies] = BAD
-    why = f"row {rows.labels[copies[0]]} is there twice: is it one?"
+    kind[these] = BAD
     return functools.partial(_of_kinds, kind), why
 
 
-def _has_stops(found: Judgement, rows: Rows, rules: Rules) -> bool:
-    """Whether the range interrupts the first of an auction's results, so that a later one is that
-    of the extended call phase.
+def _may_correct(found: Judgement, rows: Rows, rules: Rules) -> bool:
+    """Whether a later result of an auction may correct another: where there aren't more of them
+    than auctions the name of one may be wrong instead, so the other must say another fault. None
+    does where the range interrupts the first, as then a later one is that of its extension.
     """
-    firsts = {int(those[0]) for those in doubled(rows, rules.due).values()}
-    those = (it for each in found.uncrosses if each.place in firsts for it in each.differences)
-    return any(it.item == "auction" and it.lawful == INTERRUPTED for it in those)
+    groups = doubled(rows, rules.due).values()
+    by_place = {each.place: each.differences for each in found.uncrosses}
+    firsts = [it for own in groups for it in by_place.get(int(own[0]), ()) if not it.doubt]
+    is_stop = any(it.item == "auction" and it.lawful == INTERRUPTED for it in firsts)
+    others = [by_place.get(place, ()) for own in groups for place in own[:-1].tolist()]
+    is_wrong = all(any(it.item in SUMS for it in those) for those in others)
+    return bool(groups) and not is_stop and (has_more(rows, rules.due) or is_wrong)
 
 
-def _as_one(groups: list[Ints], day: Day) -> Day:
-    """The day with these results as one each."""
-    return as_one(day[0], groups), day[1]
-
-
-def _stopped(place: int, day: Day) -> Day:
-    """The day with a result as an interruption."""
-    state = day[0].state.copy()
-    state[place] = STOPPED
-    return dataclasses.replace(day[0], state=state), day[1]
+def _with_names(way: Named, day: Day) -> Day:
+    """The day with its results named in this way."""
+    return with_names(day[0], day[1].due, way), day[1]
 
 
 def _orders_of_ties(judge: Judge) -> list[Change]:
     """The other orders of an order's replaces at one time."""
-    why, others = judge.doubts.orders_of_ties(judge.orders)
+    why, others = judge.doubts.ties.orders_of_ties(judge.orders)
     return [(functools.partial(_reordered, judge.orders, other), why) for other in others or ()]
+
+
+def _over_uncrosses(judge: Judge, found: Judgement) -> Iterator[list[Change]]:
+    """The other moments of each uncross among the rows of its time, where what differs may be by
+    these.
+    """
+    certain = [it for each in found.uncrosses for it in each.certain]
+    named = all(it.keys for it in certain)
+    keys = {key for it in certain for key in it.keys} if named else set[int]()
+    for place in judge.uncrosses.tolist():
+        ways = judge.doubts.ties.over(place, keys)
+        yield [(functools.partial(_moved, moved), why) for moved, why in ways]
+
+
+def _in_order(move: Callable[[Rows], Rows], day: Day) -> Day:
+    """The day with its rows in another order."""
+    return move(day[0]), day[1]
+
+
+def _moved(places: Ints, day: Day) -> Day:
+    """The day with its rows in another order, each on its side of the uncross of its time."""
+    return dataclasses.replace(day[0].moved(places), is_cut=True), day[1]
 
 
 def _reordered(orders: Ints, other: Ints, day: Day) -> Day:
@@ -180,34 +235,31 @@ def _reordered(orders: Ints, other: Ints, day: Day) -> Day:
     return dataclasses.replace(day[0].moved(moved), is_ordered=True), day[1]
 
 
-def _second_trades(rows: Rows) -> Ints:
-    """The second row of each of several trades, where each has two; else none."""
-    trades = numpy.flatnonzero(rows.kind == TRADE)
-    keys = [rows.quantity[trades], *(side[trades].astype("i8") for side in (rows.ask, rows.bid))]
-    order: Ints = numpy.lexsort(keys)
-    is_even = len(order) > 3 and len(order) % 2 == 0
-    one, two = order[: len(order) & -2 : 2], order[1::2]
-    if not is_even or any(not numpy.array_equal(it[one], it[two]) for it in keys):
-        return numpy.zeros(0, "i8")
-    found: Ints = trades[order[1::2]]
-    return found
+def _respelled(other: Rows, day: Day) -> Day:
+    """The day with the ids and the members of other rows, and with the rows that these read."""
+    names = ("key", "bid", "ask", "bid_member", "ask_member", "member")
+    changed = {name: getattr(other, name) for name in names}
+    lost = [row for row in day[0].bad if row.kind != BAD and other.kind[row.place] >= NEW]
+    kind = day[0].kind.copy()
+    kind[[row.place for row in lost]] = [row.kind for row in lost]
+    bad = [row for row in day[0].bad if row not in lost]
+    return dataclasses.replace(day[0], kind=kind, bad=bad, **changed), day[1]
 
 
-def _copies(rows: Rows) -> Ints:
-    """The rows of trades and fills that are the same as one above, which isn't the next one, and
-    those of cancels of some shares that are.
+def _priced(price: Codes, day: Day) -> Day:
+    """The day with these prices, and without a replace that is the same as the one above it of its
+    order and time then.
     """
-    parts = (rows.kind == CANCEL) & (rows.quantity > 0)
-    made = numpy.flatnonzero((rows.kind == TRADE) | (rows.kind == FILL) | parts)
-    names = ("kind", "time", "key", "bid", "ask", "quantity", "price", "state", "member",
-             "bid_member", "ask_member")  # fmt: skip
-    frame = pandas.DataFrame({name: getattr(rows, name)[made] for name in names})
-    again = frame.duplicated().to_numpy()
-    if again.any():
-        is_next = (frame == frame.shift()).all(axis=1).to_numpy()
-        again[1:] &= ~is_next[1:] | (made[1:] != made[:-1] + 1) | parts[made[1:]]
-    found: Ints = made[again]
-    return found
+    rows = day[0]
+    price = numpy.where((rows.kind == NEW) | (rows.kind == REPLACE), price, rows.price)
+    these = rows.of(REPLACE)
+    frame = pandas.DataFrame({
+        "key": rows.key[these], "group": rows.group[these], "price": price[these],
+        "quantity": rows.quantity[these], "kept": rows.kept[these], "id": rows.new_id[these],
+    })  # fmt: skip
+    kind = rows.kind.copy()
+    kind[these[frame.duplicated().to_numpy()]] = BAD
+    return dataclasses.replace(rows, price=price, kind=kind), day[1]
 
 
 def _of_kinds(kind: Bytes, day: Day) -> Day:
@@ -236,8 +288,8 @@ def _filled_prices(rows: Rows) -> Codes | None:
     """The prices with those of replaces without one as they were before; None where none is, or a
     replace says a price that is unchanged.
     """
-    these = numpy.flatnonzero((rows.kind == NEW) | (rows.kind == REPLACE))
-    order = these[numpy.lexsort((these, rows.key[these]))]
+    these = rows.of(NEW, REPLACE)
+    order = these[numpy.lexsort((these, rows.key[these].astype("i8")))]
     at, is_replace = rows.price[order], rows.kind[order] == REPLACE
     last = numpy.maximum.accumulate(
         numpy.where((at != MARKET) | ~is_replace, numpy.arange(len(order)), 0)
@@ -252,23 +304,23 @@ def _filled_prices(rows: Rows) -> Codes | None:
 # ---- the order of times
 
 
-def _order_of_times(rows: Rows) -> tuple[Ints, Ints, Ints]:
+def _order_of_times(rows: Rows, has_late: bool = False) -> tuple[Ints, Ints, Ints]:
     """The rows of orders with a time that isn't after that of their uncross, which would be another
-    day's; their call phases; and where each comes among them by its time.
+    day's, or with `has_late` all; their call phases; and where each comes among them by its time.
     """
-    orders = numpy.flatnonzero((rows.kind >= NEW) & (rows.kind <= CANCEL))
-    ends = numpy.flatnonzero(rows.kind == UNCROSS)
+    orders = rows.of(*OF_ORDERS)
+    ends = rows.of(UNCROSS)
     phase = numpy.searchsorted(ends, orders)
     at = rows.time[orders]
     end = numpy.concatenate([rows.time[ends], [clocks.NONE]])[phase]
-    timed = (at != clocks.NONE) & ((end == clocks.NONE) | (at <= end))
+    timed = (at != clocks.NONE) & ((end == clocks.NONE) | (at <= end) | has_late)
     orders, phase = orders[timed], phase[timed]
     return orders, phase, numpy.lexsort((at[timed], phase))
 
 
-def _falls(rows: Rows) -> str:
+def _falls(rows: Rows, has_late: bool = False) -> str:
     """That the times of a call phase fall, and where first; empty where they don't."""
-    orders, phase, _ = _order_of_times(rows)
+    orders, phase, _ = _order_of_times(rows, has_late)
     at = rows.time[orders]
     falls = numpy.flatnonzero((at[1:] < at[:-1]) & (phase[1:] == phase[:-1]))
     if not len(falls):
@@ -283,3 +335,46 @@ def _by_time(rows: Rows) -> Rows:
     moved = numpy.arange(len(rows.kind))
     moved[orders] = orders[order]
     return rows.moved(moved)
+
+
+def _all_times(rows: Rows) -> Ints:
+    """The places of all rows in the order of their times, of the day where only some have a date;
+    one without a time stays below the one above it.
+    """
+    is_timed = rows.time != clocks.NONE
+    is_dated = rows.time[is_timed] >= clocks.DAY
+    at = rows.time
+    if is_dated.any() and not is_dated.all():
+        at = numpy.where(is_timed, at % clocks.DAY, clocks.NONE)
+    known = numpy.where(is_timed, numpy.arange(len(at)), 0)
+    return numpy.argsort(at[numpy.maximum.accumulate(known)], kind="stable")
+
+
+def _across(rows: Rows) -> str:
+    """That a row of an order is on another side of an uncross than by its time, and which is the
+    first; empty where none is.
+    """
+    orders, ends, place = rows.of(*OF_ORDERS), rows.of(UNCROSS), numpy.argsort(_all_times(rows))
+    phases = (numpy.searchsorted(it[ends], it[orders]) for it in (numpy.arange(len(place)), place))
+    own, due = (numpy.asarray(each) for each in phases)
+    odd = numpy.flatnonzero(own != due)
+    if not len(odd):
+        return ""
+    first = int(odd[0])
+    end = rows.labels[ends[min(own[first], due[first])]]
+    side = "below" if own[first] < due[first] else "above"
+    return f"by its time row {rows.labels[orders[first]]} is {side} row {end}"
+
+
+def _by_all_times(rows: Rows) -> Rows:
+    """The rows in the order of their times, over uncrosses too."""
+    order = _all_times(rows)
+    place = numpy.append(numpy.argsort(order), -1)
+    bad = [
+        dataclasses.replace(it, place=int(place[it.place]), since=int(place[it.since]))
+        for it in rows.bad
+    ]
+    at = order if rows.names.places is None else rows.names.places[order]
+    names = dataclasses.replace(rows.names, places=at)
+    holes = [dataclasses.replace(it, since=int(place[it.since])) for it in rows.holes]
+    return dataclasses.replace(rows.moved(order), bad=bad, holes=holes, names=names)

@@ -2,6 +2,7 @@
 each with what that leaves in doubt.
 """
 import dataclasses
+import datetime
 import enum
 from collections import Counter
 from collections.abc import Mapping
@@ -11,12 +12,15 @@ from typing import Any
 import numpy
 from numpy.typing import NDArray
 
-from callauction.verdict.cells import Array, Codes, Ints, Source
+from callauction.verdict import times
+from callauction.verdict.cells import Array, Codes, Ints, Mask, Source
 from callauction.verdict.reading import End
 from callauction.words import AUCTIONS
 
 Bytes = NDArray[numpy.int8]
 NEW, REPLACE, CANCEL, UNCROSS, TRADE, FILL, BUST = range(7)
+OF_ORDERS = (NEW, REPLACE, CANCEL)
+"""The kinds of rows of orders."""
 MISSING, BAD = -1, -2
 """A cell that is empty, and one that can't be read."""
 TAKEN = -3
@@ -43,6 +47,7 @@ class Doubt(enum.Enum):
     BOOKS = "the books from some row on"
     ORDER = "the books from some row on, which lack an order"
     TRADES = "which trades are missing"
+    BUST = "which trades were taken out"
     ANY = "the books from some row on, and which trades are missing"
     ITEM = "one published item"
 
@@ -50,7 +55,7 @@ class Doubt(enum.Enum):
 @dataclasses.dataclass(frozen=True, slots=True)
 class BadRow:
     """A row that can't be read or that no lawful board takes, why, and what that leaves in doubt,
-    from behind the place `since` on.
+    from behind the place `since` on; `kind` is what it was read as.
     """
 
     place: int
@@ -58,6 +63,7 @@ class BadRow:
     why: str
     doubt: Doubt
     since: int = -1
+    kind: int = BAD
 
     @property
     def is_order(self) -> bool:
@@ -74,8 +80,37 @@ class BadRow:
         """Whether it may be a trade or a fill."""
         return self.doubt in (Doubt.TRADES, Doubt.ANY)
 
+    @property
+    def is_bust(self) -> bool:
+        """Whether it may take a trade or a fill out, as a row of another event may."""
+        return self.doubt is Doubt.BUST or self.doubt is Doubt.ANY and self.place >= 0
+
+    @property
+    def unknown(self) -> str:
+        """That it isn't known what the row does."""
+        return f"it isn't known what {self} does"
+
     def __str__(self) -> str:
         return f"row {self.label}: {self.why}"
+
+
+class Hole(BadRow):
+    """Rows that may be missing, as no row has these numbers of a sequence."""
+
+    __slots__ = ()
+
+    @classmethod
+    def of(cls, doubt: Doubt, since: int, first: int, last: int) -> "Hole":
+        """The hole of these numbers behind a place, named by the first one."""
+        numbers = f"the number {first}" if first == last else f"the numbers {first} to {last}"
+        return cls(-1, first, f"no row has {numbers} of the sequence", doubt, since)
+
+    @property
+    def unknown(self) -> str:
+        return f"rows may be missing: {self}"
+
+    def __str__(self) -> str:
+        return self.why
 
 
 @dataclasses.dataclass(frozen=True)
@@ -95,6 +130,8 @@ class Names:
     base: int = 0
     places: Ints | None = None
     """Where rows are in the table, where some are there twice."""
+    dates: str = ""
+    """What dates with strokes are (times.STROKES)."""
 
     def order(self, key: int) -> str:
         """The text of an id, which of a key is the first one of its order."""
@@ -109,11 +146,33 @@ class Names:
         """The time of a row as it is there, empty for none."""
         return self.cell(place, "time")
 
+    def date(self, place: int) -> datetime.date | None:
+        """The date of a row's time; None where it has none."""
+        return times.date_of(self.time(place), self.dates)
+
     def cell(self, place: int, column: str) -> str:
         """The text of a row in one of our columns, empty where the table hasn't it."""
         theirs = self.theirs.get(column)
+        return "" if theirs is None else self.their_cell(place, theirs)
+
+    def their_cell(self, place: int, column: str) -> str:
+        """The text of a row in a column of the table's."""
         place = place if self.places is None else int(self.places[place])
-        return "" if theirs is None else self._cell(place + self.begin, theirs)
+        return self._cell(place + self.begin, column)
+
+    def recorded(self, place: int, column: str, number: int) -> str:
+        """The member of a trade's or a fill's row in one of our columns, as it is there."""
+        return self.cell(place, column) or self.member(number)
+
+    @property
+    def unread(self) -> list[str]:
+        """The table's columns that aren't read."""
+        return [name for name in self.source.names if name not in self.theirs.values()]
+
+    def codes(self, places: Ints, column: str) -> Codes:
+        """A number for each distinct text of rows in a column of the table's, -1 for none."""
+        at = places if self.places is None else self.places[places]
+        return self.source.take(at + self.begin).cells(column).texts()[0]
 
     def _cell(self, row: int, column: str) -> str:
         return self.source.take(numpy.array([row])).cells(column).text(0)
@@ -149,9 +208,23 @@ class Rows:
     names: Names
     has_market: bool
     """Whether a word for market orders was said, so that an empty price is none."""
+    is_odd: Mask
+    """Which rows have a time that can't be read."""
+    number: Ints = dataclasses.field(default_factory=lambda: numpy.zeros(0, "i8"))
+    """The number of each row in a sequence, below 0 for none."""
+    is_half: Mask = dataclasses.field(default_factory=lambda: numpy.zeros(0, bool))
+    """Which rows are one side of a trade whose other side has no row, as those of others have."""
     is_ordered: bool = False
     """Whether an order's own rows of one time are in their right order."""
+    is_cut: bool = False
+    """Whether rows of an uncross's time are on their right side of it."""
+    slack: int = 0
+    """From how many nanoseconds on a row of an order is another moment's than an uncross: of rows
+    that were sorted the step of coarser times of results, else 0.
+    """
     bad: list[BadRow] = dataclasses.field(default_factory=list)
+    holes: list[Hole] = dataclasses.field(default_factory=list)
+    """Where rows may be missing, which are no bad rows."""
     notes: Counter[str] = dataclasses.field(default_factory=Counter)
     dropped: frozenset[str] = frozenset()
     """The ids of orders in trades and fills that don't meet the conditions."""
@@ -160,10 +233,16 @@ class Rows:
     end: End | None = None
     """The end of the file, where it is one, without a time where rows are sorted."""
 
+    def of(self, *kinds: int) -> Ints:
+        """The places of the rows of these kinds."""
+        found: Ints = numpy.flatnonzero(numpy.isin(self.kind, kinds)).astype("i8")
+        return found
+
     def refuse(self, place: int, why: str, doubt: Doubt, since: int | None = None) -> None:
         """Notes a row as a bad one, which is nothing from then on."""
         begin = int(place) if since is None else since
-        self.bad.append(BadRow(int(place), self.labels[place], why, doubt, begin))
+        kind = int(self.kind[place])
+        self.bad.append(BadRow(int(place), self.labels[place], why, doubt, begin, kind))
         self.kind[place] = BAD
 
     def with_said(self, place: int, other: int | None) -> "Rows":
@@ -179,7 +258,7 @@ class Rows:
         return {name: it for name, it in arrays.items() if isinstance(it, numpy.ndarray)}
 
     def moved(self, places: Ints) -> "Rows":
-        """The rows in another order, in which none goes over an uncross or a bad row."""
+        """The rows in another order, the bad ones staying where they are."""
         parts = {name: it[places] for name, it in self._parts().items()}
         return dataclasses.replace(self, **parts)
 
@@ -198,4 +277,4 @@ class Rows:
         ]
         names = dataclasses.replace(self.names, begin=begin, base=base)
         notes = Counter(self.notes)
-        return dataclasses.replace(self, **parts, bad=bad, names=names, notes=notes)
+        return dataclasses.replace(self, **parts, bad=bad, holes=[], names=names, notes=notes)

@@ -6,12 +6,14 @@ from collections.abc import Mapping
 from typing import Any
 
 from callauction.verdict.reading import Reading
+from callauction.verdict.times import STROKES
 
 FOLDER = pathlib.Path(__file__).with_name("systems")
 _TABLES = ("columns", "values")
 _LISTS = ("where", "market", "ignore")
 _CHOICES = {
     "quantity": ("open", "total"), "results": ("rows", "trades"), "format": ("csv", "fix"),
+    "dates": (*STROKES,),
 }  # fmt: skip
 
 

@@ -4,22 +4,26 @@ import json
 import sys
 from collections.abc import Iterator, Sequence
 
+import numpy
+
 from callauction.verdict import shapes
 from callauction.verdict.audits import short_rows
 from callauction.verdict.columns import EVENT_COLUMNS, EVENTS
 from callauction.verdict.coverage import Coverage
+from callauction.verdict.events import rows_of
 from callauction.verdict.evidence import facts_of, write_findings, write_rows
 from callauction.verdict.findings import MOST_BAD_ROWS, STATUSES, counts_of
 from callauction.verdict.instruments import Audited, Days, market_of, worst_of
 from callauction.verdict.reading import ExtractError, Reading, Table
-from callauction.verdict.rows import Rows
 
 
 def show(found: list[Audited], asked: argparse.Namespace, contents: Sequence[bytes]) -> int:
-    """Prints verdicts on what was read, and writes the files that are asked for: the status. Raises
-    ExtractError and ValueError where no instrument can be judged, and OSError.
+    """Prints verdicts on what was read, and writes the files that are asked for: the status, which
+    `asked` has before the first line, as nobody may read these. Raises ExtractError and ValueError
+    where no instrument can be judged, and OSError.
     """
     facts = facts_of(contents, asked.words)
+    asked.status = STATUSES[worst_of(each.word for each in found)]
     if asked.findings is not None:
         write_findings(found, asked.findings, facts)
     if asked.output is not None:
@@ -73,18 +77,23 @@ def _sum(found: list[Audited], name: str) -> tuple[int, int]:
     return sum(compared for compared, _ in counts), sum(of for _, of in counts)
 
 
-def understood(
-    table: Table, rows: Rows, reading: Reading, asked: argparse.Namespace
-) -> Iterator[str]:
+def understood(table: Table, reading: Reading, asked: argparse.Namespace) -> Iterator[str]:
     """How each column was understood, and how many rows of each event there are."""
+    codes = None
+    if asked.by:
+        market = market_of(table, reading, asked.by, Days((), {}), {})
+        known = numpy.flatnonzero(market.codes >= 0)
+        table, codes = table.take(known), market.codes[known]
+    rows = rows_of(table, reading, (), codes)
     if asked.shape is not None:
         yield f"shape: {shapes.path_of(asked.shape)}"
     for ours, meaning in EVENT_COLUMNS.items():
         theirs = table.names.get(ours)
         yield f"{ours}: not in the table" if theirs is None else f"{ours}: {theirs} ({meaning})"
     if asked.by:
-        names = market_of(table, reading, asked.by, Days((), {}), {}).names
-        yield f"by: {asked.by}, {len(names)} instruments"
+        yield f"by: {asked.by}, {len(market.names)} instruments"
+        if lost := int((market.codes < 0).sum()):
+            yield f"rows without {asked.by} {lost}"
     for number, event in enumerate(EVENTS):
         yield f"rows {event} {int((rows.kind == number).sum())}"
     yield f"rows left out {table.left_out}"

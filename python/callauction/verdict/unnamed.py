@@ -1,0 +1,120 @@
+"""Results that don't say which auction they are of: in which ways they may be those of a day."""
+import dataclasses
+import enum
+from collections.abc import Iterator, Sequence
+
+import numpy
+
+from callauction.verdict.cells import Ints
+from callauction.verdict.judged import Judgement, Rules
+from callauction.verdict.mixed import with_last
+from callauction.verdict.rows import FILL, MISSING, SAID, STOPPED, TRADE, UNCROSS, Rows
+
+MOST_RESULTS, MOST_ODD = 8, 2
+"""How many results are named, and how many of them and of the auctions may be corrected or have
+none.
+"""
+
+
+class Role(enum.Enum):
+    """What a result may be of its auction."""
+
+    END = "its result"
+    STOP = "its interruption"
+    EARLIER = "one that the next one corrects"
+
+
+Named = tuple[tuple[int, Role], ...]
+"""Of which auction of the day each result is, by its place among them, and as what."""
+
+
+def namings(found: Judgement, rows: Rows, rules: Rules) -> list[Named]:
+    """The ways in which results without names may be those of the auctions, where they aren't
+    fewer: those by which fewest were corrected or are missing come first. Until one is wrong, may
+    be an interruption for which no range is said, or may be corrected, all are as they were judged.
+    """
+    results, due = _ends(rows), rules.due
+    is_few = len(due) <= len(results) <= MOST_RESULTS
+    if not is_few or len({*due}) < len(due) or (rows.state[results] > 0).any():
+        return []
+    stops = _stops(found, rows, results)
+    earlier = [*_corrected_by_next(rows, results, len(results) > len(due)), False]
+    first = _judged(found, rules, dict(zip(results.tolist(), stops)))
+    ways = [first[:-1] if first and earlier[len(first) - 1] else first]
+    for place in range(len(ways[0]), len(results)):
+        roles = [Role.END, *[Role.STOP] * stops[place], *[Role.EARLIER] * earlier[place]]
+        ways = [it for way in ways for it in _longer(way, len(due), roles)]
+    odd = {way: _odd(way, len(due)) for way in ways}
+    return sorted((way for way in odd if odd[way] <= MOST_ODD), key=odd.__getitem__)
+
+
+def _ends(rows: Rows) -> Ints:
+    """The rows uncross that aren't recorded as interruptions."""
+    return numpy.flatnonzero((rows.kind == UNCROSS) & (rows.state != STOPPED))
+
+
+def _stops(found: Judgement, rows: Rows, results: Ints) -> list[bool]:
+    """Which results may be interruptions: they have a price, and neither trades of their time nor a
+    count of them, as others have.
+    """
+    made = ((rows.kind == TRADE) | (rows.kind == FILL)).any() or (rows.count[results] >= 0).any()
+    both = ((it.place, numpy.concatenate([it.traded, it.filled])) for it in found.uncrosses)
+    busy = [place for place, own in both if (rows.time[own] == rows.time[place]).any()]
+    are = (rows.price[results] >= 0) & (rows.count[results] <= 0) & ~numpy.isin(results, busy)
+    return [bool(it and made) for it in are]
+
+
+def _corrected_by_next(rows: Rows, results: Ints, is_more: bool) -> list[bool]:
+    """Which results the next one may correct: it says another thing, and where there aren't more
+    results than auctions one other thing alone.
+    """
+    said = numpy.array([getattr(rows, name)[results] for name in SAID])
+    one, two = said[:, :-1], said[:, 1:]
+    both = (one != MISSING) & (two != MISSING)
+    count = ((one != two) & both).sum(axis=0)
+    return [bool(it > 0 if is_more else it == 1) for it in count]
+
+
+def _judged(found: Judgement, rules: Rules, stops: dict[int, bool]) -> Named:
+    """What the first results were judged to be."""
+    names: list[tuple[int, Role]] = []
+    for each in found.uncrosses:
+        if each.place not in stops:
+            continue
+        number = sum(role is Role.END for _, role in names)
+        is_open = stops[each.place] and not rules.has_range
+        if each.differences or is_open or number >= len(rules.due):
+            break
+        names.append((number, Role.STOP if each.is_interrupted else Role.END))
+    return tuple(names)
+
+
+def _longer(way: Named, many: int, roles: Sequence[Role]) -> Iterator[Named]:
+    """A naming of some results with each way in which the next one may have one of these roles."""
+    last, role = way[-1] if way else (-1, Role.END)
+    first = last + (role is Role.END)
+    for number in range(first, last + 1 if role is Role.EARLIER else many):
+        for each in roles:
+            longer = (*way, (number, each))
+            is_again = each is Role.STOP and number == last
+            if not is_again and _odd(longer, number) <= MOST_ODD:
+                yield longer
+
+
+def _odd(way: Named, many: int) -> int:
+    """How many results are corrected, and how many of the first auctions have none."""
+    ended = {number for number, role in way if role is Role.END}
+    return sum(role is Role.EARLIER for _, role in way) + sum(it not in ended for it in range(many))
+
+
+def with_names(rows: Rows, due: Sequence[int], way: Named) -> Rows:
+    """The rows with the results named in this way, those that are corrected as bad rows."""
+    results, state = _ends(rows), rows.state.copy()
+    state[results] = [STOPPED if role is Role.STOP else 1 + due[it] for it, role in way]
+    rows = dataclasses.replace(rows, state=state)
+    numbers = numpy.array([MISSING if role is Role.STOP else it for it, role in way])
+    for number in numpy.unique(numbers[numbers >= 0]).tolist():
+        those = results[numbers == number]
+        if len(those) > 1:
+            rows = with_last(rows, those, due[number])
+    return rows

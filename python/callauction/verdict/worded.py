@@ -1,0 +1,165 @@
+"""The columns of a table in our words and numbers, each distinct text of which is read once."""
+import functools
+import re
+from collections.abc import Iterable, Mapping
+from decimal import Decimal
+
+import numpy
+
+from callauction.prices import BadCellError, number_of, whole_of
+from callauction.verdict import times
+from callauction.verdict.cells import Cells, Codes, Ints, Mask, Source, paired_codes
+from callauction.verdict.reading import ExtractError, Reading
+from callauction.verdict.rows import BAD, MARKET, MISSING, NO_PRICE, Bytes
+
+_NO_PRICE = ("none", "no price")
+EMPTY = ("null", "n/a", "#n/a", "nan", "-", "--")
+"""Words for an empty cell, in small letters, in columns of orders that may be empty."""
+_MAY_BE_EMPTY = ("member", "peak", "restriction", "kept")
+_COUNTED = re.compile(r"(\D*)(\d{1,18})", re.ASCII)
+_OF_TIMES = ":"
+"""What sequences that are times count by."""
+_THOUSANDS = re.compile(r"\d{1,3}\.\d{3}")
+_UNREAD_PRICE = NO_PRICE + BAD
+EMPTY_PRICE = _UNREAD_PRICE - 1
+"""The price of a word for an empty cell, which rows of orders alone may have."""
+
+
+class Columns:
+    """The columns of a table in our words."""
+
+    def __init__(self, source: Source, names: Mapping[str, str], reading: Reading) -> None:
+        self.source, self.names, self.reading = source, names, reading
+
+    def cells(self, name: str) -> Cells:
+        """The cells of a column that the table has."""
+        return self.source.cells(self.names[name])
+
+    def texts(self, name: str) -> tuple[Codes, list[str]]:
+        """A number for each text of a column in our words, MISSING for none, and the texts."""
+        if name not in self.names:
+            return numpy.full(len(self.source), MISSING, "i4"), []
+        codes, texts = self.cells(name).texts()
+        words = self.reading.values.get(name, {})
+        texts = [words.get(text, text) for text in texts] if words else texts
+        if name in _MAY_BE_EMPTY:
+            codes = numpy.where(_of_words(codes, texts), numpy.int32(MISSING), codes)
+        return codes, texts
+
+    def is_empty(self, name: str) -> Mask:
+        """Which rows have a word for an empty cell."""
+        return _of_words(*self.texts(name))
+
+    def words(self, name: str, known: Mapping[str, int]) -> Bytes:
+        """What is known of each word of a column, MISSING for none, BAD for another word."""
+        codes, texts = self.texts(name)
+        found = [known.get(text.casefold(), BAD) if text else MISSING for text in texts]
+        return numpy.array([*found, MISSING], "i1")[codes]
+
+    def wholes(self, name: str) -> Ints:
+        """The whole number of each row, MISSING for none, BAD for another text, as 1.000 is beside
+        whole numbers, of which it isn't known that it is 1,000.
+        """
+        codes, texts = self.texts(name)
+        plain = [self.reading.plain(text) for text in texts]
+        is_whole = any(text.isdigit() and text != "0" for text in plain)
+        found = [
+            BAD if is_whole and _THOUSANDS.fullmatch(text) else self._whole(text) for text in plain
+        ]
+        return numpy.array([*found, MISSING], "i8")[codes]
+
+    def _whole(self, text: str) -> int:
+        try:
+            return whole_of(text) if text else MISSING
+        except BadCellError:
+            return BAD
+
+    def decimal(self, text: str) -> Decimal | None:
+        """The number that a text is, None where it is none."""
+        return number_of(self.reading.plain(text))
+
+    def prices(self, given: Iterable[Decimal]) -> tuple[Codes, list[Decimal], Mask]:
+        """The number of each row's price among all prices, or MARKET, NO_PRICE, EMPTY_PRICE or
+        _UNREAD_PRICE; the prices, which rise; and which cells have a word for a market order.
+        """
+        codes, texts = self.texts("price")
+        values = [self.decimal(text) for text in texts]
+        prices = sorted({*given, *(it for it in values if it is not None)})
+        places: dict[Decimal | None, int] = {price: at for at, price in enumerate(prices)}
+        words = {**dict.fromkeys(_NO_PRICE, NO_PRICE), **dict.fromkeys(EMPTY, EMPTY_PRICE)}
+        other = (words.get(it.casefold(), _UNREAD_PRICE) for it in texts)
+        found = [places.get(value, word) for value, word in zip(values, other)]
+        market = [self._is_market(text, value) for text, value in zip(texts, values)]
+        array = numpy.array([*found, MARKET], "i4")[codes]
+        return array, prices, numpy.array([*market, False])[codes]
+
+    def _is_market(self, text: str, value: Decimal | None) -> bool:
+        words = [word.casefold() for word in self.reading.market]
+        return text.casefold() in words or (
+            value is not None and any(value == number_of(word) for word in words)
+        )
+
+    def sequence(self) -> Ints | None:
+        """The order of each row among those of one time; None where the table has no such column,
+        or texts without an order, which count for what is equal alone where rows aren't sorted.
+        Raises ExtractError.
+        """
+        if "sequence" not in self.names:
+            return None
+        codes, keys = self._sequences
+        known = [key for key in keys if key is not None]
+        if len(known) < len(keys) or len({prefix for prefix, _ in known}) > 1:
+            if self.reading.sort:
+                raise ExtractError("sequence has texts that have no order: leave it out")
+            return codes.astype("i8")
+        ranks = {key: place for place, key in enumerate(sorted({*known}))}
+        return numpy.array([*(ranks[key] for key in known), MISSING], "i8")[codes]
+
+    @functools.cached_property
+    def _sequences(self) -> tuple[Codes, list[tuple[str, Decimal] | None]]:
+        """A number for each text of the sequences, and what each text counts."""
+        codes, texts = self.texts("sequence")
+        return codes, [self._counted(text) for text in texts]
+
+    def row_numbers(self) -> Ints:
+        """The whole number of each row's sequence, MISSING for none; for all where some count in
+        another way, as times do.
+        """
+        none = numpy.full(len(self.source), MISSING, "i8")
+        if "sequence" not in self.names:
+            return none
+        codes, keys = self._sequences
+        ways = {it and it[0] for it in keys}
+        if len(ways) != 1 or ways & {None, _OF_TIMES}:
+            return none
+        found = [int(it[1]) if it and it[1] == int(it[1]) else MISSING for it in keys]
+        numbers: Ints = numpy.array([*found, MISSING], "i8")[codes]
+        return numbers
+
+    def _counted(self, text: str) -> tuple[str, Decimal] | None:
+        """What is before a number, and the number; None where the text is no such. A decimal is
+        none beside whole numbers, as 1.000 is of which it isn't known that it is 1,000.
+        """
+        if text.isascii() and text.isdigit():
+            return "", Decimal(text)
+        plain = self.reading.plain(text)
+        value = self.decimal(text)
+        if value is not None:
+            return "." * ("." in plain), value
+        value = times.seconds(plain)
+        if value is not None:
+            return _OF_TIMES, value
+        found = _COUNTED.fullmatch(plain)
+        return (found[1], Decimal(found[2])) if found else None
+
+    def content(self, rows: Ints) -> Ints:
+        """A number for each of some rows, which is equal where all cells are."""
+        found, source = numpy.zeros(len(rows), "i8"), self.source.take(rows)
+        for name in source.names:
+            found = paired_codes(found, source.cells(name).codes()[0] + 1)
+        return found
+
+
+def _of_words(codes: Codes, texts: list[str]) -> Mask:
+    """Which rows have one of EMPTY."""
+    return numpy.array([*(text.casefold() in EMPTY for text in texts), False])[codes]
