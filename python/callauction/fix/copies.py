@@ -36,12 +36,16 @@ class CopySeat(Seat):
         secret = self.desk.venue.secrets["operator"]
         return tokens.is_same(password, secret) and self._hellos.takes()
 
+    def _enters(self, given: Given) -> bool:
+        """No order is one of its."""
+        return False
+
     def lost(self) -> None:
         """Its connection has ended, and with it no order."""
 
-    async def is_done(self, number: int) -> bool:
+    async def is_done(self, given: Given, number: int) -> bool:
         """Waits until it may speak again."""
-        await self.turn(self._bucket)
+        await self.allowed(self._bucket)
         return False
 
     def refuse_type(self, given: Given, event: str) -> None:

@@ -1,5 +1,6 @@
 """The dictionaries of the messages that the venue speaks, for QuickFIX here and at a client:
-`python3 -m callauction.fix.dictionaries FOLDER` writes FIX44.xml, FIXT11.xml and FIX50SP2.xml.
+`python3 -m callauction.fix.dictionaries FOLDER` writes FIX44.xml, FIXT11.xml and FIX50SP2.xml into
+a folder, which is made where it is missing.
 
 FIX 5.0SP2 is FIX 4.4 in two files, those of the session and all others, with few tags more.
 """
@@ -10,6 +11,9 @@ from xml.etree import ElementTree
 
 SOURCE = pathlib.Path(__file__).with_name("FIX44.xml")
 TRANSPORT, APPLICATION = "FIXT11.xml", "FIX50SP2.xml"
+USAGE = """usage: python3 -P -m callauction.fix.dictionaries FOLDER
+Writes FIX44.xml, FIXT11.xml and FIX50SP2.xml for a client of QuickFIX into FOLDER, and makes it
+where it is missing."""
 VERSIONS = {
     TRANSPORT: {"type": "FIXT", "major": "1", "minor": "1"},
     APPLICATION: {"type": "FIX", "major": "5", "minor": "0", "servicepack": "2"},
@@ -58,7 +62,8 @@ def part(root: ElementTree.Element, name: str) -> ElementTree.Element:
 
 
 def write(folder: pathlib.Path) -> None:
-    """Writes all three. Raises OSError."""
+    """Writes all three, into a folder that may be new. Raises OSError."""
+    folder.mkdir(parents=True, exist_ok=True)
     (folder / SOURCE.name).write_bytes(SOURCE.read_bytes())
     for name in (TRANSPORT, APPLICATION):
         (folder / name).write_bytes(ElementTree.tostring(made(name)))
@@ -66,14 +71,19 @@ def write(folder: pathlib.Path) -> None:
 
 def main() -> int:
     """Writes the dictionaries; answers the status."""
-    if len(sys.argv) != 2 or not pathlib.Path(sys.argv[1]).is_dir():
-        print("dictionaries: one word is needed, a folder that is there", file=sys.stderr)
+    words = sys.argv[1:]
+    if words in (["--help"], ["-h"]):
+        print(USAGE)
+        return 0
+    if len(words) != 1 or not words[0] or words[0].startswith("-"):
+        print(f"callauction.fix.dictionaries: one folder is needed\n{USAGE}", file=sys.stderr)
         return 2
     try:
-        write(pathlib.Path(sys.argv[1]))
+        write(pathlib.Path(words[0]))
         return 0
     except OSError as fault:
-        print(f"dictionaries: {fault}", file=sys.stderr)
+        why = f"{fault.filename}: {fault.strerror}"
+        print(f"callauction.fix.dictionaries: {why}", file=sys.stderr)
         return 3
 
 

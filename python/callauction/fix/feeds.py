@@ -1,13 +1,22 @@
 """What a session asks of boards as they are now and as they change, until it ends: market data, and
 the phases of auctions.
 """
+import asyncio
 import dataclasses
 import time
 from collections.abc import Callable, Sequence
 from typing import TYPE_CHECKING
 
 from callauction.fix import snapshots
-from callauction.fix.refusals import DUPLICATE, ENTRY_TYPE, TOO_MUCH, UNSUPPORTED, SeatError
+from callauction.fix.refusals import (
+    DEPTH,
+    DUPLICATE,
+    ENTRY_TYPE,
+    TOO_MUCH,
+    UNSUPPORTED,
+    UPDATE_TYPE,
+    SeatError,
+)
 from callauction.fix.snapshots import Rows
 from callauction.fix.tags import Given, Groups, Pairs, Tag, Type
 from callauction.venue.instrument import Instrument
@@ -23,8 +32,12 @@ ONCE, ON, OFF = "0", "1", "2"
 """SubscriptionRequestType."""
 WHOLE, CHANGES = "0", "1"
 """MDUpdateType."""
+DEPTHS = ("0", "1")
+"""MarketDepth: all of the book, of which the best limits are shown alone, and these."""
 NEW, CHANGE, DELETE = "0", "1", "2"
 """MDUpdateAction."""
+SEEN_SECONDS = 1.0
+"""How long the market of a program that doesn't answer is waited for, by all that is said after."""
 MOST_FEEDS = 64
 """What a session may ask for at a time."""
 HALTED = "1"
@@ -40,7 +53,7 @@ OF_AUCTION = dict(zip(AUCTIONS, ("2", "6", "4")))
 """TradingSessionSubID of an auction."""
 AFTER = "5"
 """The one of a day that is over."""
-Send = Callable[[Type, Pairs, Groups], None]
+Send = Callable[[Type, Pairs, Groups], object]
 
 
 @dataclasses.dataclass
@@ -124,6 +137,17 @@ def phase_of(venue: Venue, board: Instrument) -> Pairs:
     return [*found, (Tag.TRAD_SES_END_TIME, ends)]
 
 
+async def seen(board: Instrument) -> None:
+    """Looks at a board; one whose program doesn't answer soon stays as it was last seen. Raises
+    MessageError where it has halted.
+    """
+    look = asyncio.create_task(board.refresh())
+    look.add_done_callback(lambda it: it.cancelled() or it.exception())  # which nobody may ask for
+    await asyncio.wait({look}, timeout=SEEN_SECONDS)
+    if look.done():
+        look.result()
+
+
 class Feeds:
     """The subscriptions of a connection, and the boards of which something is new."""
 
@@ -169,34 +193,39 @@ class Feeds:
     # ---- requests
 
     @staticmethod
-    async def ask_data(seat: "Seat", pairs: Pairs, given: Given, number: int) -> None:
+    async def ask_data(seat: "Seat", rows: Pairs, given: Given, number: int) -> None:
         """MarketDataRequest. Raises MessageError."""
-        await seat.feeds._ask_data(seat, pairs, given)
+        await seat.feeds._ask_data(seat, rows, given)
 
     @staticmethod
-    async def ask_phases(seat: "Seat", pairs: Pairs, given: Given, number: int) -> None:
+    async def ask_phases(seat: "Seat", rows: Pairs, given: Given, number: int) -> None:
         """TradingSessionStatusRequest. Raises MessageError."""
         await seat.feeds._ask_phases(seat, given)
 
-    async def _ask_data(self, seat: "Seat", pairs: Pairs, given: Given) -> None:
+    async def _ask_data(self, seat: "Seat", asked: Pairs, given: Given) -> None:
         """Answers what is asked of the market. Raises MessageError."""
         request, how = given[Tag.MD_REQ_ID], given[Tag.SUBSCRIPTION_REQUEST_TYPE]
         if how == OFF:
             self._data.pop(request, None)
             return
-        types = frozenset(value for tag, value in pairs if tag == Tag.MD_ENTRY_TYPE)
+        types = frozenset(value for tag, value in asked if tag == Tag.MD_ENTRY_TYPE)
         update = given.get(Tag.MD_UPDATE_TYPE, WHOLE)
-        if how not in (ONCE, ON) or update not in (WHOLE, CHANGES):
-            raise SeatError(UNSUPPORTED, "SubscriptionRequestType or MDUpdateType isn't 0 or 1")
+        if how not in (ONCE, ON):
+            raise SeatError(UNSUPPORTED, "SubscriptionRequestType is 0, 1 or 2")
+        if given[Tag.MARKET_DEPTH] not in DEPTHS:
+            raise SeatError(DEPTH, "MarketDepth is 0 or 1: the best limits are shown alone")
+        if update not in (WHOLE, CHANGES):
+            raise SeatError(UPDATE_TYPE, "MDUpdateType is 0 or 1")
         if not types <= {*snapshots.TYPES}:
             raise SeatError(ENTRY_TYPE, f"MDEntryType is one of {', '.join(snapshots.TYPES)}")
-        boards = [seat.named_board(value) for tag, value in pairs if tag == Tag.SYMBOL]
+        named = (seat.named_board(value) for tag, value in asked if tag == Tag.SYMBOL)
+        boards = [*dict.fromkeys(named)]
         data = Data(request, types, frozenset(it.board.market for it in boards), update == WHOLE)
         if how == ON:
             self.check_room(request, self._data)
             seat.desk.watch(seat)
+        await asyncio.gather(*map(seen, boards))
         for board in boards:
-            await board.refresh()
             rows = snapshots.rows_of(board, self._levels(board))
             data.last[board.board.market] = {it: row for it, row in rows.items() if it in types}
         for market, rows in data.last.items():

@@ -1,23 +1,27 @@
 """The FIX front of a venue: sessions of members, beside those who come by pages or WebSocket.
 
-What a session was sent is in a file of the venue's folder; what it said is in the log.
+What a session was sent is in a file of the venue's folder, or follows from the log, which has what
+it said.
 """
 import asyncio
 import contextlib
 import functools
 import logging
 import pathlib
+import re
+import socket
 import ssl
 import tempfile
-from collections.abc import AsyncIterator, Coroutine, Sequence
+from collections.abc import AsyncIterator, Callable, Container, Coroutine
 from typing import Any
 
-from callauction.fix import dictionaries, requests, resets
+from callauction.fix import requests, resets
 from callauction.fix._quickfix import Engine
 from callauction.fix.copies import CopySeat
 from callauction.fix.orders import Report
 from callauction.fix.sent import Sent
 from callauction.fix.seats import Act, Desk, Seat
+from callauction.fix.settings import settings_of
 from callauction.fix.streams import Stream
 from callauction.fix.tags import (
     FIX44,
@@ -26,49 +30,58 @@ from callauction.fix.tags import (
     Pairs,
     Tag,
     Type,
-    event_of,
     now,
-    packed,
     pairs_of,
 )
 from callauction.fix.wires import STATES, Wire
 from callauction.venue import gates, tokens
-from callauction.venue.fix_terms import VENUE, Terms
+from callauction.venue.fix_terms import Terms
 from callauction.venue.instrument import OPERATOR, Instrument
-from callauction.venue.messages import MessageError
+from callauction.venue.messages import ERRORS, MessageError
 from callauction.venue.recovery import Entry, Message
 from callauction.venue.serving import AddressError
 from callauction.venue.venue import Venue
 
 NOTICES = logging.getLogger("callauction.venue")
-SETTINGS = """[DEFAULT]
-ConnectionType=acceptor
-SocketAcceptPort=0
-HeartBtInt=30
-StartTime=00:00:00
-EndTime=00:00:00
-TimestampPrecision=6
-DataDictionary={dictionaries}/FIX44.xml
-"""
-SESSION = "[SESSION]\nBeginString={begin}\nSenderCompID={venue}\nTargetCompID={member}\n"
-OF_FIXT = """DefaultApplVerID=FIX.5.0SP2
-TransportDataDictionary={dictionaries}/FIXT11.xml
-AppDataDictionary={dictionaries}/FIX50SP2.xml
-"""
+REFUSED = "a Logon is refused: "
+"""How what the module says of a Logon that isn't taken begins."""
 TICK, PAUSE = 1.0, 0.5
 CLOSE_SECONDS, CLOSE_PAUSE = 0.5, 0.01
 """How long the end waits for the last bytes."""
 OTHER_FILES = 8
+OWED_SECONDS, OWED_PAUSE = 8.0, 0.02
+"""How long connections wait for reports that are made again: clients wait for 10 s, or longer."""
 RESET_SECONDS, RESET_PAUSE = 10.0, 0.02
 """How long the reset of a session waits for what that has said."""
-MORE: dict[Type, Act] = {
+MORE: dict[str, Act] = {
     Type.MASS_CANCEL: requests.cancel_all,
     Type.MASS_STATUS: requests.show_all,
     Type.LIST_REQUEST: requests.show_list,
 }
 """What a member's session takes beside orders, the market and phases."""
+MOST_AT_ONCE = 16
+"""How many sessions have their turn, and how many reports wait, before the log, the program and the
+clients are given what there is.
+"""
+MOST_AGE = 2
+"""Seconds after which the time in the log is none at which the report of a command was sent."""
 MOST_CONNECTIONS, MOST_OF_ADDRESS = 256, 64
 """Connections at once, and those of one address on which nobody has logged on."""
+COUNTED = {
+    "received": "messages that came by FIX",
+    "sent": "messages that were sent by FIX",
+    "rejects": "messages by FIX that refuse one, 35=3 and 35=j",
+    "resends": "messages by FIX that were sent again",
+}
+"""What the module counts."""
+DIGITS = re.compile("[0-9]+")
+"""What differs in texts of one kind."""
+UNANSWERED = "{} isn't reset: not all that it said is answered: resume what has halted first"
+ENDS = "the venue ends: what was answered stays"
+REMOVED = "the operator has removed this member, whose orders are cancelled"
+"""Why a session ends, in its Logout."""
+Outgoing = tuple[int, bytes, int, bool]
+"""What is to be sent: on which connection, the bytes, up to which number, whether it ends then."""
 
 
 class Front:
@@ -84,7 +97,7 @@ class Front:
         self.files = MOST_CONNECTIONS + OTHER_FILES
         self._sent = Sent(venue.folder, venue.day.is_synced)
         self._sent.log.on_fault = self._failed
-        desk = Desk(venue, self._stream, self._tell, self._send, self._watch, MORE)
+        desk = Desk(venue, self._stream, self._tell, self._send, self._next, self._watch, MORE)
         seats = [Seat(it, name, self._begin_of(it), desk) for it, name in terms.sessions.items()]
         if terms.copy:
             seats.append(CopySeat(terms.copy, self._begin_of(terms.copy), desk))
@@ -95,12 +108,26 @@ class Front:
         self._streams: dict[str, Stream] = {}
         self._wires: dict[int, Wire] = {}
         self._tasks: set[asyncio.Task[None]] = set()
-        self._is_ready = self._is_writing = self._has_failed = False
-        self._wakes, self._news = asyncio.Event(), asyncio.Event()
+        self._is_ready = self._is_woken = self._is_writing = self._has_failed = False
+        self._held: dict[int, list[Outgoing]] = {}
+        self._due: dict[Seat, None] = {}
+        self._turns = self._unsent = self._steps = 0
+        self._news = asyncio.Event()
         self._on: dict[Seat, Wire] = {}
         self._listener: gates.Listener | None = None
+        self._sockets: list[socket.socket] = []
+        self._counts: Callable[[], dict[str, int]] = dict
         self._resetting: set[Seat] = set()
         venue.on_entry, venue.reset_session = self._entered, self._reset
+
+    def measures(self) -> dict[str, tuple[str, float]]:
+        """What operations see of it: sessions that are on, and messages since its begin."""
+        counts = self._counts()
+        found: dict[str, tuple[str, float]] = {}
+        found["fix_sessions_connected"] = "sessions by FIX that are connected", len(self._on)
+        for name, what in COUNTED.items():
+            found[f"fix_{name}_total"] = what, counts.get(name, 0)
+        return found
 
     # ---- begin and end
 
@@ -110,10 +137,15 @@ class Front:
         try:
             sockets = gates.listening(self._terms.host, self._terms.port)
         except OSError as fault:
-            raise AddressError(f"fix: can't listen: {fault.strerror}") from None
+            where = self._terms.host, self._terms.port
+            text = gates.why_not(*where, fault, "another `address`")
+            raise AddressError(f"fix: {text}") from None
         try:
             with tempfile.TemporaryDirectory() as folder:
-                self.engine = Engine(self._settings(pathlib.Path(folder)), self._accepts)
+                sessions = {it.comp_id: it.begin for it in self._seats.values()}
+                text = settings_of(pathlib.Path(folder), sessions)
+                self.engine = Engine(text, self._accepts)
+                self._counts = self.engine.counts
         except (RuntimeError, OSError) as fault:
             raise AddressError(f"fix: {fault}") from None
         if self._venue.is_known:
@@ -121,23 +153,24 @@ class Front:
         else:
             self._start(self._begin())
         self._start(self._sent.log.run())
-        self._start(self._write())
         self._start(self._tick())
         self._start(self._feed())
-        self._listener = gates.Listener(self.gates, sockets, lambda: Wire(self), context)
+        self._sockets = sockets
+        self._start(self._listen(context))
         try:
             yield f"fix      {named(self._terms.host)}:{sockets[0].getsockname()[1]}"
         finally:
             await self._close()
 
-    def _settings(self, folder: pathlib.Path) -> str:
-        """QuickFIX's settings, with dictionaries in a folder, which it reads as it begins."""
-        dictionaries.write(folder)
-        found = SETTINGS.format(dictionaries=folder)
-        for seat in self._seats.values():
-            found += SESSION.format(begin=seat.begin, venue=VENUE, member=seat.comp_id)
-            found += OF_FIXT.format(dictionaries=folder) if seat.begin == FIXT else ""
-        return found
+    async def _listen(self, context: ssl.SSLContext | None) -> None:
+        """Takes connections, which wait for a while where a session owes reports, as it can't begin
+        before they are made again.
+        """
+        loop = asyncio.get_running_loop()
+        last = loop.time() + OWED_SECONDS
+        while any(it.owed for it in self._seats.values()) and loop.time() < last:
+            await asyncio.sleep(OWED_PAUSE)
+        self._listener = gates.Listener(self.gates, self._sockets, lambda: Wire(self), context)
 
     def _begin_of(self, comp_id: str) -> str:
         """How the messages of a session begin."""
@@ -150,10 +183,15 @@ class Front:
             await asyncio.sleep(PAUSE)
         for seat in self._seats.values():
             await self._admit(seat)
-            sent = self._sent.restore(self.engine, seat.session)
-            events = (event_of(it, seat.comp_id, seat.epoch) for it in sent)
-            seat.told = {event for event in events if event}
-            seat.cancels = has_asked(sent)
+            for text in self._sent.former.pop(seat.session, []):
+                seat.learn(pairs_of(text))
+                await self._give_way()
+            sent = self._sent.earlier(seat.session)
+            for number, text in sent.items():
+                self.engine.restore(seat.session, number, text)
+                seat.recall(pairs_of(text))
+                await self._give_way()
+            self._owe(seat, sent)
             seat.lost()
             found = self.engine.expected(seat.session)
             if (last := seat.expected()) != found:
@@ -164,6 +202,26 @@ class Front:
             self._start(stream.run())
         for seat in self._seats.values():
             self._start(self._serve(seat))
+
+    async def _give_way(self) -> None:
+        """Lets others have their turn after a few of many steps: a program that has answered is
+        taken for one that hangs where nobody hears it.
+        """
+        self._steps += 1
+        if self._steps % MOST_AT_ONCE == 0:
+            await asyncio.sleep(0)
+
+    def _owe(self, seat: Seat, sent: Container[int]) -> None:
+        """Finds the reports that an earlier run may have sent under the numbers that the log says,
+        but for numbers under which something else was sent: they are stored under these before the
+        session may begin, all others after them.
+        """
+        those = {event: it for event, it in seat.promised.items() if event not in seat.told}
+        seat.owed = {event: it for event, it in those.items() if it and it not in sent}
+        seat.promised = {}
+        last = max([self.engine.next(seat.session) - 1, *seat.owed.values()])
+        self.engine.set_next(seat.session, last + 1)
+        self._sent.reach(seat.session, last)
 
     async def _admit(self, seat: Seat) -> None:
         """Has the venue know the member of a session, whose password a file keeps if it is new."""
@@ -187,12 +245,16 @@ class Front:
         def ended(task: "asyncio.Task[None]") -> None:
             self._tasks.discard(task)
             if not task.cancelled() and (fault := task.exception()):
-                NOTICES.critical("the FIX front has failed: start the venue again", exc_info=fault)
-                self._end()
+                self._fail(fault)
 
         task = asyncio.get_running_loop().create_task(work)
         self._tasks.add(task)
         task.add_done_callback(ended)
+
+    def _fail(self, fault: BaseException) -> None:
+        """Ends by a fault."""
+        NOTICES.critical("the FIX front has failed: start the venue again", exc_info=fault)
+        self._end()
 
     def _end(self) -> None:
         """Takes nothing more, and ends all connections."""
@@ -201,6 +263,8 @@ class Front:
             task.cancel()
         if self._listener is not None:
             self._listener.close()
+        for each in self._sockets:
+            each.close()
         for wire in self._wires.values():
             wire.end()
 
@@ -209,11 +273,13 @@ class Front:
         self._is_ready = False
         for number in self._wires:
             with contextlib.suppress(RuntimeError):
-                self.engine.log_out(number, "the venue ends")
-        self._wakes.set()
+                self.engine.log_out(number, ENDS)
+        self._flush()
+        self._write()
         with contextlib.suppress(TimeoutError):
             async with asyncio.timeout(CLOSE_SECONDS):
-                while self._wakes.is_set() or self._is_writing:
+                await self._sent.log.written()
+                while self._is_writing:
                     await asyncio.sleep(CLOSE_PAUSE)
         self._end()
         self._sent.log.close()
@@ -232,7 +298,7 @@ class Front:
         none, but that has to show that somebody is there.
         """
         seat = self._seats[session]
-        if not self._is_ready or seat in self._resetting:
+        if not self._is_ready or seat.owed or seat in self._resetting:
             return False
         if not seat.takes(password.decode("latin-1")):
             return False
@@ -246,10 +312,10 @@ class Front:
         self._wires[number] = wire
         return number
 
-    def heard(self, number: int) -> Seat | None:
-        """Something was said on a connection: whose it is."""
-        self._drain()
-        return self._seats.get(self.engine.session_on(number))
+    def heard(self, wire: Wire) -> Seat | None:
+        """Something was said on a connection, which is to be taken: whose it is."""
+        self._drain(wire.address)
+        return wire.seat or self._seats.get(self.engine.session_on(wire.number))
 
     def begun(self, wire: Wire) -> None:
         """A connection is somebody's now."""
@@ -279,6 +345,22 @@ class Front:
                 if not wire.is_slow:
                     seat.feeds.send(functools.partial(self._send, seat))
 
+    def leave(self, wire: Wire, code: str) -> None:
+        """Ends the session of a connection, for one of the ERRORS of messages: a removed member's
+        once it was told of its orders. Where the venue ends, all do.
+        """
+        is_removed = wire.member is not None and wire.member.is_removed
+        if code != "halted":
+            self._start(self._leave(wire, REMOVED if is_removed else ERRORS[code]))
+
+    async def _leave(self, wire: Wire, text: str) -> None:
+        """Ends the session of a connection, once its orders are taken out where they are."""
+        if text == REMOVED and wire.seat is not None:
+            await wire.seat.taken_out()
+        if wire.number in self._wires:
+            self.engine.log_out(wire.number, text)
+            self._drain()
+
     def lost(self, wire: Wire) -> None:
         """A connection has ended."""
         self._wires.pop(wire.number, None)
@@ -293,16 +375,23 @@ class Front:
         self._venue.watchers.pop(wire, None)
         self._venue.show_members()
 
-    def _drain(self) -> None:
-        """Takes what sessions say."""
-        self._wakes.set()
-        for what, session, text in self.engine.drain():
-            if what == "message":
-                self._seats[session].put(text)
-            elif what == "begins":
+    def _drain(self, address: str = "") -> None:
+        """Learns what has happened to sessions, and what they have said, which is to be taken; a
+        Logon that is refused came from this address.
+        """
+        self._wake()
+        for what, session, text in self.engine.events():
+            if what == "begins":
                 self._seats[session].cancels = text == b"Y"
             else:
-                NOTICES.info("fix: %s %s %s", what, session, text.decode("latin-1"))
+                said = text.decode("latin-1")
+                source = f", from {address}" if said.startswith(REFUSED) else ""
+                kind = {"of": f"{what} {session} {DIGITS.sub('', said)}{source}"}
+                NOTICES.info("fix: %s %s %s%s", what, session, said, source, extra=kind)
+        for session, given, rows in self.engine.said():
+            seat = self._seats[session]
+            seat.put(given, rows)
+            self._due[seat] = None
 
     async def _tick(self) -> None:
         """Lets sessions know the time, and ends the orders of a round that was left."""
@@ -311,36 +400,88 @@ class Front:
             self._sent.log.retry()
             self.engine.tick()
             self._drain()
+            if not self._is_writing and self._sent.waits(self.engine):
+                self._write()
             for stream in self._streams.values():
                 stream.end_before(self._venue.round.number)
 
-    async def _write(self) -> None:
-        """Sends what sessions have to send, once it is on the disk."""
-        while True:
-            await self._wakes.wait()
-            self._wakes.clear()
-            self._is_writing = True
-            found = self.engine.outgoing()
-            numbers = (number for number, *_ in found if number in self._wires)
-            sessions = {it for number in numbers if (it := self.engine.session_on(number))}
-            lines = (line for it in sessions for line in self._sent.lines_of(self.engine, it))
-            if text := "\n".join(lines):
-                written = asyncio.Event()
-                self._sent.log.append(text, written.set)
-                await written.wait()
-            if self._has_failed:
-                self._has_failed = False
-                NOTICES.warning("fix goes on")
-            for number, data, is_last in found:
-                if wire := self._wires.get(number):
-                    wire.send(data, is_last)
-            self._is_writing = False
+    def _wake(self) -> None:
+        """Takes soon what sessions have said, and sends what they have to send."""
+        if not self._is_woken:
+            self._is_woken = True
+            asyncio.get_running_loop().call_soon(self._flush)
 
-    def _send(self, seat: Seat, kind: str, pairs: Pairs, groups: Groups) -> None:
-        """Stores a message, and sends it soon where its session is on."""
-        rows = [(tag, first, [packed(row) for row in rows]) for tag, first, rows in groups]
-        self.engine.send(seat.session, kind, packed(pairs), rows)
-        self._wakes.set()
+    def _flush(self) -> None:
+        """Takes what sessions have said, and sends what they have to send."""
+        self._is_woken, self._turns = False, 0
+        self.take()
+        if self._due:
+            self._wake()
+        self._send_out()
+
+    def take(self) -> None:
+        """Takes what sessions have said, of a few before the log and the program see to that."""
+        while self._due and self._turns < MOST_AT_ONCE:
+            seat = next(iter(self._due))
+            del self._due[seat]
+            self._turns += 1
+            seat.turn()
+
+    def _send_out(self) -> None:
+        """Sends what sessions have to send, as far as a crash can't take it."""
+        self._unsent = 0
+        for each in self.engine.outgoing():
+            self._offer(each)
+        if self._held and not self._is_writing:
+            self._write()
+
+    def _offer(self, those: Outgoing) -> None:
+        """Sends bytes, or holds them."""
+        number, data, last, is_last = those
+        if (wire := self._wires.get(number)) is None:
+            return
+        if number in self._held or (wire.seat and not self._sent.is_safe(wire.seat.session, last)):
+            self._held.setdefault(number, []).append(those)
+        else:
+            wire.send(data, is_last)
+
+    def _write(self) -> None:
+        """Writes what sessions were sent, and sends then what waits for that."""
+        self._is_writing = True
+        seats = (it for it in self._seats.values() if not it.owed and it not in self._resetting)
+        self._sent.write(self.engine, [it.session for it in seats], self._written)
+
+    def _written(self) -> None:
+        """What was to be written is."""
+        self._is_writing = False
+        if self._has_failed:
+            self._has_failed = False
+            NOTICES.warning("fix goes on")
+        held, self._held = self._held, {}
+        for those in held.values():
+            for each in those:
+                self._offer(each)
+        if self._held:
+            self._write()
+
+    def _next(self, seat: Seat) -> int:
+        """The number of the next message to a session."""
+        return self.engine.next(seat.session)
+
+    def _send(
+        self,
+        seat: Seat,
+        kind: str,
+        pairs: Pairs,
+        groups: Groups,
+        promised: int = 0,
+        time: str = "",
+    ) -> int:
+        """Stores a message, and sends it soon where its session is on: its number. It isn't written
+        where that is the promised one, and says that it was sent at this time.
+        """
+        self._wake()
+        return self.engine.send(seat.session, kind, pairs, groups, promised, time)
 
     async def _reset(self, comp_id: str) -> None:
         """Ends a session, and begins it anew with what its journals gave so far. Raises
@@ -349,16 +490,17 @@ class Front:
         seat = next((it for it in self._seats.values() if it.comp_id == comp_id), None)
         if seat is None or not self._is_ready:
             raise MessageError("bad_message", f"there is no session {comp_id}")
+        if seat in self._resetting:
+            raise MessageError("bad_phase", f"{comp_id} is being reset")
         self._resetting.add(seat)
         try:
             if (wire := self._on.get(seat)) is not None:
                 wire.cut()
             await asyncio.wait_for(self._ended(seat), RESET_SECONDS)
             begin_anew = functools.partial(resets.begin_anew, self.engine, seat)
-            await self._sent.begin_anew(seat.session, begin_anew)
+            await self._sent.begin_anew(self.engine, seat.session, begin_anew)
         except TimeoutError:
-            text = f"{comp_id} isn't reset: not all that it said is answered"
-            raise MessageError("halted", text) from None
+            raise MessageError("halted", UNANSWERED.format(comp_id)) from None
         finally:
             self._resetting.discard(seat)
 
@@ -385,24 +527,30 @@ class Front:
         if seat is not None and message.number < 0:
             seat.entered(board, message, entry)
         if entry is not None:
-            self._stream(board).put(message, entry)
+            try:
+                self._stream(board).put(message, entry)
+            except Exception as fault:  # it is nobody else's
+                self._fail(fault)
 
     def _tell(self, report: Report) -> None:
         """Sends a member what it wasn't sent yet."""
         seat = self._by_member.get(report.member)
-        if seat is not None and report.event not in seat.told:
-            seat.told.add(report.event)
-            pairs = [*report.pairs, (Tag.TRANSACT_TIME, now())]
-            self._send(seat, report.type, pairs, report.groups)
-
-
-def has_asked(sent: Sequence[bytes]) -> bool:
-    """Whether the last Logon among what was sent says that orders end with the connection."""
-    for text in reversed(sent):
-        given = dict(pairs_of(text))
-        if given[Tag.MSG_TYPE] == Type.LOGON:
-            return given.get(Tag.CANCELS_ON_DISCONNECT) == "Y"
-    return False
+        if seat is None or report.event in seat.told:
+            return
+        seat.told.add(report.event)
+        promised = seat.promised.pop(report.event, 0)
+        time = report.time or now()
+        pairs: Pairs = [*report.pairs, (Tag.TRANSACT_TIME, time)]
+        if number := seat.owed.pop(report.event, 0):
+            self.engine.store(seat.session, number, report.type, pairs, time)
+            return
+        if not now(MOST_AGE) <= time <= now():
+            promised = 0
+        if self._send(seat, report.type, pairs, report.groups, promised, time) == promised:
+            self._sent.follows(seat.session, promised)
+        self._unsent += 1
+        if self._unsent >= MOST_AT_ONCE:
+            self._send_out()
 
 
 def named(host: str) -> str:

@@ -1,14 +1,12 @@
 """The numbers of messages by FIX in the venue: a member's other ones are above 0, these below."""
-import dataclasses
-from typing import Self
+from typing import NamedTuple, Self
 
 PART, EPOCH = 32, 64
 """At which bit the part of a message and the epoch of a session begin."""
 MASK = (1 << (EPOCH - PART)) - 1
 
 
-@dataclasses.dataclass(frozen=True, slots=True)
-class Number:
+class Number(NamedTuple):
     """A message by its MsgSeqNum, 0 for none that came; which of the deletions that it came to,
     from 1, else 0; and how often its session was reset before.
     """

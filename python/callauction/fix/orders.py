@@ -2,8 +2,9 @@
 same entries give the same messages with the same ids, before and after a restart.
 """
 import dataclasses
-from collections.abc import Mapping
-from decimal import Decimal
+import functools
+from collections.abc import Mapping, Sequence
+from decimal import Context, Decimal
 
 from callauction.fix.tags import (
     CLOSING,
@@ -39,20 +40,43 @@ REJECTED = {
 TOO_LATE = "0"
 NOT_CHANGED = {Refusal.UNKNOWN_ORDER: "1", Refusal.DAY_OVER: TOO_LATE}
 """CxlRejReason of the program's refusals."""
+SENTENCES = {
+    Refusal.BAD_QUANTITY: "OrderQty (38) is from 1 to 1000000000",
+    Refusal.BAD_PEAK: "a peak (111, 1138) is from 1 to OrderQty, of a limit order",
+    Refusal.BOOK_FULL: "there are as many open orders as may be",
+    Refusal.UNKNOWN_ORDER: "there is no such open order",
+    Refusal.DAY_OVER: "the day is over",
+    Refusal.PAST_AUCTION: "the auction that TimeInForce (59) names is over",
+}
+"""What the program's refusals say, but for that of a limit."""
+ENDS = {
+    Status.FILLED: "is filled",
+    Status.EXPIRED: "has expired",
+    Status.CANCELED: "is cancelled",
+}
+"""How an order has ended."""
 OTHER = "99"
 ENTER, DELETE = "enter", "delete"
 TIMES = {"opening": OPENING, "closing": CLOSING}
-ENDED = (Status.CANCELED, Status.REJECTED, Status.EXPIRED, Status.DONE)
-CENT = Decimal("0.000001")
-"""To what an average price is rounded."""
+ENDED = (Status.CANCELED, Status.REJECTED, Status.EXPIRED)
+NOT_KEPT = "no order is kept for another day or round"
+"""What is said of one till cancelled that has expired."""
+MOST_PRICES = 4096
+"""How many ticks are kept with their prices."""
+DIGITS = Context(prec=15)
+"""How many digits of an average price are sent: as many as a float of FIX may have."""
 CLIENT, ORIGIN, TIME = (str(int(it)) for it in (Tag.CL_ORD_ID, Tag.ORIG_CL_ORD_ID, 59))
-"""What the log keeps beside a message of a member by FIX."""
+NUMBER, WHEN, SAID = (
+    str(int(it)) for it in (Tag.MSG_SEQ_NUM, Tag.TRANSACT_TIME, Tag.TEXT)
+)
+"""What the log keeps beside a message of a member by FIX; the last three are of the report of it.
+"""
 
 
-@dataclasses.dataclass(frozen=True, slots=True)
+@dataclasses.dataclass(slots=True)
 class Report:
     """A message to a member; `event` is its id, by which it is sent once. What is for the operator
-    has OPERATOR as its member.
+    has OPERATOR as its member; `time` is its TransactTime, empty for now.
     """
 
     member: str
@@ -60,13 +84,17 @@ class Report:
     event: str
     pairs: Pairs
     groups: Groups = dataclasses.field(default_factory=list)
+    time: str = ""
 
 
 @dataclasses.dataclass(slots=True)
 class Held:
-    """An order, and the id that its member last gave it; `paid` is in ticks times shares."""
+    """An order, its OrderID, and the id that its member last gave it; `paid` is in ticks times
+    shares.
+    """
 
     order: int
+    name: str
     member: str
     client: str
     side: str
@@ -81,14 +109,16 @@ class Held:
     status: Status = Status.NEW
 
     @classmethod
-    def of(cls, message: Message, entry: Entry) -> "Held":
-        """A new order, whose number is 0 where it was refused."""
-        fields = entry.record.split(",")[2:] + ["", ""]
-        side, quantity, limit, peak, only = fields[:5]
+    def of(cls, board: str, message: Message, entry: Entry, fields: Sequence[str]) -> "Held":
+        """A new order of a board, by its record after `enter`; its number is 0 where it was
+        refused.
+        """
+        side, quantity, limit, peak, only = [*fields, "", ""][:5]
         note, shares = message.note, int(quantity)
         client, time = note.get(CLIENT, ""), note.get(TIME, DAY)
         number = entry.order or 0
-        return cls(number, message.member, client, side, shares, limit, peak, only, time, shares)
+        name, member = f"{board}.{number}" if number else NONE, message.member
+        return cls(number, name, member, client, side, shares, limit, peak, only, time, shares)
 
 
 class Orders:
@@ -96,6 +126,7 @@ class Orders:
 
     def __init__(self, board: Instrument) -> None:
         self._board = board
+        self._price = functools.lru_cache(MOST_PRICES)(board.terms.price)
         self._open: dict[int, Held] = {}
         self._by_client: dict[tuple[str, str], Held] = {}
 
@@ -109,37 +140,53 @@ class Orders:
 
     def event(self, place: int) -> str:
         """The id of what an entry comes to."""
-        return f"{self._board.board.key}.{place}"
+        return entry_event(self._board, place)
 
     # ---- entries
 
     def take(self, message: Message, entry: Entry) -> Report:
         """What the entry of a member's command is sent as."""
-        event, word = self.event(entry.place), entry.record.split(",")[1]
-        if word == ENTER:
-            return self._entered(Held.of(message, entry), entry, event)
-        held = self._open.get(int(entry.record.split(",")[2]))
-        if held is None or entry.reply.startswith("refused"):
-            return self._kept(held, message, entry, event)
-        return self._edited(held, message, entry, event)
+        found = self._taken(message, entry, self.event(entry.place))
+        found.time = message.note.get(WHEN, "")
+        return found
+
+    def _taken(self, message: Message, entry: Entry, event: str) -> Report:
+        """The report of an entry."""
+        fields = entry.record.split(",")
+        if fields[1] == ENTER:
+            held = Held.of(self._board.board.key, message, entry, fields[2:])
+            return self._entered(held, entry, event)
+        known = self._open.get(int(fields[2]))
+        if known is None or entry.reply.startswith("refused"):
+            return self._kept(known, message, entry, event)
+        return self._edited(known, message, entry, event)
 
     def _kept(self, held: Held | None, message: Message, entry: Entry, event: str) -> Report:
         """An order wasn't changed, perhaps as it has ended."""
         asked = Asked.of(message, entry.record.split(",")[1] == DELETE)
         ended = self.of_client(message.member, asked.origin) if held is None else None
         reason = TOO_LATE if ended else reason_of(NOT_CHANGED, entry.reply)
-        return refusal(message.member, event, asked, held or ended, reason, entry.reply)
+        text = ended_text(ended) if ended and not ended.open else self._said(entry.reply)
+        return refusal(message.member, event, asked, held or ended, reason, text)
 
     def _entered(self, held: Held, entry: Entry, event: str) -> Report:
         """A new order was taken or refused."""
         if not held.order:
             held.status = Status.REJECTED
             reason = reason_of(REJECTED, entry.reply)
-            more = [(Tag.ORD_REJ_REASON, reason), (Tag.TEXT, entry.reply)]
+            more = [(Tag.ORD_REJ_REASON, reason), (Tag.TEXT, self._said(entry.reply))]
             return self.report(held, event, Status.REJECTED, [*more])
         self._open[held.order] = held
         self._named(held)
         return self.report(held, event, Status.NEW)
+
+    def _said(self, reply: str) -> str:
+        """A refusal of the program in a sentence, and in its words."""
+        refusal, terms = Refusal(int(reply.split(" ")[1])), self._board.terms
+        sentence = SENTENCES.get(refusal, "")
+        if refusal is Refusal.BAD_LIMIT:
+            sentence = f"Price (44) is from {terms.price(terms.low)} to {terms.price(terms.high)}"
+        return f"{sentence} ({reply})" if sentence else reply
 
     def _edited(self, held: Held, message: Message, entry: Entry, event: str) -> Report:
         """An order was changed or deleted."""
@@ -149,6 +196,7 @@ class Orders:
         more = [(Tag.ORIG_CL_ORD_ID, origin)] if origin else []
         fields = entry.record.split(",")
         if fields[1] == DELETE:
+            more += [(Tag.TEXT, message.note[SAID])] if SAID in message.note else []
             self._end(held, Status.CANCELED)
             return self.report(held, event, Status.CANCELED, [*more])
         held.open, held.limit = int(fields[3]), fields[4]
@@ -185,7 +233,7 @@ class Orders:
             held.status = Status.PARTLY if held.open else Status.FILLED
             more: Pairs = [
                 (Tag.LAST_QTY, str(trade.quantity)),
-                (Tag.LAST_PX, self._board.terms.price(trade.tick)),
+                (Tag.LAST_PX, self._price(trade.tick)),
                 (Tag.TRD_MATCH_ID, f"{self._board.board.key}.{trade.number}"),
             ]
             found.append(self.report(held, f"{event}.{trade.number}{letter}", Exec.TRADE, more))
@@ -196,7 +244,7 @@ class Orders:
         sides = []
         for number in (trade.bid, trade.ask):
             held = self._open[number]
-            side: Pairs = [(Tag.SIDE, CODES[held.side]), (Tag.ORDER_ID, str(number))]
+            side: Pairs = [(Tag.SIDE, CODES[held.side]), (Tag.ORDER_ID, held.name)]
             side += [(Tag.CL_ORD_ID, held.client)] if held.client else []
             sides.append([*side, (Tag.ACCOUNT, held.member)])
         pairs: Pairs = [
@@ -204,7 +252,7 @@ class Orders:
             (Tag.PREVIOUSLY_REPORTED, "N"),
             (Tag.SYMBOL, self._board.board.market),
             (Tag.LAST_QTY, str(trade.quantity)),
-            (Tag.LAST_PX, self._board.terms.price(trade.tick)),
+            (Tag.LAST_PX, self._price(trade.tick)),
             (Tag.TRADE_DATE, now()[:8]),
             (Tag.TRD_MATCH_ID, f"{self._board.board.key}.{trade.number}"),
         ]
@@ -220,17 +268,18 @@ class Orders:
             return []
         if held.order in seen.after and not seen.is_over:
             return []
-        is_done = seen.is_over and held.time == GOOD_TILL_CANCEL
-        self._end(held, Status.DONE if is_done else Status.EXPIRED)
-        return [self.report(held, f"{event}.x{held.order}", held.status)]
+        return [self._expired(held, event)]
 
     def over(self) -> list[Report]:
         """What the end of the board's round does to the orders that are open."""
-        event, found = f"{self._board.board.key}.end", []
-        for held in [*self._open.values()]:
-            self._end(held, Status.EXPIRED)
-            found.append(self.report(held, f"{event}.x{held.order}", Status.EXPIRED))
-        return found
+        event = f"{self._board.board.key}.end"
+        return [self._expired(held, event) for held in [*self._open.values()]]
+
+    def _expired(self, held: Held, event: str) -> Report:
+        """An order has ended by itself. FIX's done for day would be one that goes on tomorrow."""
+        self._end(held, Status.EXPIRED)
+        more: Pairs = [(Tag.TEXT, NOT_KEPT)] if held.time == GOOD_TILL_CANCEL else []
+        return self.report(held, f"{event}.x{held.order}", Status.EXPIRED, more)
 
     # ---- reports
 
@@ -238,7 +287,7 @@ class Orders:
         """An ExecutionReport of an order as it is now."""
         left = 0 if held.status in ENDED else held.open
         pairs: Pairs = [
-            (Tag.ORDER_ID, str(held.order) if held.order else NONE),
+            (Tag.ORDER_ID, held.name),
             (Tag.EXEC_ID, event),
             (Tag.EXEC_TYPE, kind),
             (Tag.ORD_STATUS, held.status),
@@ -259,14 +308,19 @@ class Orders:
         """The type of an order, and its price."""
         if held.limit == AT_MARKET:
             return [(Tag.ORD_TYPE, MARKET)]
-        return [(Tag.ORD_TYPE, LIMIT), (Tag.PRICE, self._board.terms.price(int(held.limit)))]
+        return [(Tag.ORD_TYPE, LIMIT), (Tag.PRICE, self._price(int(held.limit)))]
 
     def _average(self, held: Held) -> str:
         """The average price of what was filled."""
         if not held.filled:
             return "0"
         paid = held.paid * self._board.terms.grid.tick_size
-        return format((Decimal(paid) / held.filled).quantize(CENT).normalize(), "f")
+        return format(DIGITS.divide(paid, Decimal(held.filled)).normalize(), "f")
+
+
+def entry_event(board: Instrument, place: int) -> str:
+    """The id of what an entry of a board comes to."""
+    return f"{board.board.key}.{place}"
 
 
 @dataclasses.dataclass(frozen=True)
@@ -284,20 +338,32 @@ class Asked:
         return cls(note.get(CLIENT, NONE), note.get(ORIGIN, NONE), is_cancel)
 
 
+def ended_text(held: Held, is_over: bool = False) -> str:
+    """Why an order that has ended can't be changed, perhaps on a day that is over."""
+    end = ENDS.get(held.status, "was never entered")
+    return f"the order {end}{': the day is over' if is_over else ''}"
+
+
 def reason_of(reasons: Mapping[Refusal, str], reply: str) -> str:
     """The reason of FIX for a refusal of the program."""
     return reasons.get(Refusal(int(reply.split(" ")[1])), OTHER)
 
 
 def refusal(
-    member: str, event: str, asked: Asked, held: Held | None, reason: str, text: str
+    member: str,
+    event: str,
+    asked: Asked,
+    held: Held | None,
+    reason: str,
+    text: str,
+    status: Status = Status.REJECTED,
 ) -> Report:
-    """An OrderCancelReject of an order as it is now."""
+    """An OrderCancelReject of an order as it is now, or of this status where none is known."""
     pairs: Pairs = [
-        (Tag.ORDER_ID, str(held.order) if held else NONE),
+        (Tag.ORDER_ID, held.name if held else NONE),
         (Tag.CL_ORD_ID, asked.client),
         (Tag.ORIG_CL_ORD_ID, asked.origin),
-        (Tag.ORD_STATUS, held.status if held else Status.REJECTED),
+        (Tag.ORD_STATUS, held.status if held else status),
         (Tag.CXL_REJ_RESPONSE_TO, "1" if asked.is_cancel else "2"),
         (Tag.CXL_REJ_REASON, reason),
         (Tag.TEXT, text),

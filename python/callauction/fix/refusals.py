@@ -4,6 +4,7 @@ from typing import TYPE_CHECKING
 from callauction.fix.orders import CLIENT, ORIGIN, Asked, Report, refusal
 from callauction.fix.tags import (
     CODES,
+    DAY,
     FIXT,
     NONE,
     Exec,
@@ -21,6 +22,8 @@ if TYPE_CHECKING:
     from callauction.fix.seats import Seat
 
 UNKNOWN_SYMBOL, CLOSED, TOO_MUCH, UNKNOWN, DUPLICATE, UNSUPPORTED = "1", "2", "3", "5", "6", "11"
+ENDED, QUANTITY = "4", "13"
+"""The reason where an order has ended: too late; where a quantity can't be one of an order."""
 REASONS = {
     "unknown_instrument": UNKNOWN_SYMBOL,
     "not_now": CLOSED,
@@ -31,13 +34,20 @@ REASONS = {
 }
 """OrdRejReason of what the venue refuses."""
 OTHER = "99"
-CANCEL_REASONS = {UNKNOWN: "1", CLOSED: "2", DUPLICATE: "6"}
+CANCEL_REASONS = {ENDED: "0", UNKNOWN: "1", CLOSED: "2", DUPLICATE: "6"}
 """CxlRejReason of an OrdRejReason."""
 MASS_REASONS = {UNKNOWN_SYMBOL: "1", UNSUPPORTED: "0"}
 """MassCancelRejectReason of an OrdRejReason."""
-ENTRY_TYPE = "entry type"
-"""The reason of a request for market data that there isn't."""
-DATA_REASONS = {UNKNOWN_SYMBOL: "0", DUPLICATE: "1", TOO_MUCH: "2", ENTRY_TYPE: "8"}
+DEPTH, UPDATE_TYPE, ENTRY_TYPE = "depth", "update type", "entry type"
+"""The reasons of a request for market data that there isn't."""
+DATA_REASONS = {
+    UNKNOWN_SYMBOL: "0",
+    DUPLICATE: "1",
+    TOO_MUCH: "2",
+    DEPTH: "5",
+    UPDATE_TYPE: "6",
+    ENTRY_TYPE: "8",
+}
 """MDReqRejReason of an OrdRejReason."""
 NOT_CANCELLED = "0"
 """The MassCancelResponse of a mass cancel that wasn't done."""
@@ -53,23 +63,38 @@ NO_SYMBOL = "[N/A]"
 
 
 class SeatError(MessageError):
-    """A message that isn't done; `reason` is its OrdRejReason."""
+    """A message that isn't done; `reason` is its OrdRejReason, and `status` what the order is that
+    it names where none is known.
+    """
+
+    status = Status.REJECTED
 
     def __init__(self, reason: str, text: str) -> None:
         super().__init__("bad_message", text)
         self.reason = reason
 
 
+class PendingError(SeatError):
+    """What an order is can't be said before its instrument has answered, which has halted."""
+
+    def __init__(self, status: Status, text: str) -> None:
+        super().__init__(CLOSED, f"{text}: this order waits there")
+        self.status = status
+
+
 def refuse(seat: "Seat", given: Given, event: str, fault: MessageError) -> None:
     """Says that nothing was done, and why."""
     reason = fault.reason if isinstance(fault, SeatError) else REASONS.get(fault.code, OTHER)
+    status = fault.status if isinstance(fault, SeatError) else Status.REJECTED
     kind = given[Tag.MSG_TYPE]
+    if kind in (Type.ENTER, Type.CANCEL, Type.REPLACE):
+        seat.keep(given)
     if kind in (Type.CANCEL, Type.REPLACE):
         client, origin = given[Tag.CL_ORD_ID], given[Tag.ORIG_CL_ORD_ID]
         asked = Asked(client, origin, kind == Type.CANCEL)
         code = CANCEL_REASONS.get(reason, OTHER)
         held = seat.held(given, origin)
-        seat.desk.tell(refusal(seat.name, event, asked, held, code, fault.text))
+        seat.desk.tell(refusal(seat.name, event, asked, held, code, fault.text, status))
     elif kind == Type.MASS_CANCEL:
         code = MASS_REASONS.get(reason, OTHER)
         pairs: Pairs = [(Tag.MASS_CANCEL_RESPONSE, NOT_CANCELLED)]
@@ -79,16 +104,23 @@ def refuse(seat: "Seat", given: Given, event: str, fault: MessageError) -> None:
         answer, pairs = ANSWERS[Type(kind)], refused_request(given, event, reason)
         seat.desk.send(seat, answer, [*pairs, (Tag.TEXT, fault.text)], [])
     else:
-        tell_rejected(seat, given, event, reason, fault.text)
+        tell_rejected(seat, given, event, reason, fault.text, status)
 
 
 def tell_mass_cancelled(seat: "Seat", given: Given, event: str, more: Pairs) -> None:
     """Answers a mass cancel, with the number of orders that it took out so far."""
     copied = (Tag.CL_ORD_ID, Tag.MASS_CANCEL_REQUEST_TYPE, Tag.SYMBOL, Tag.SIDE)
-    pairs: Pairs = [(Tag.ORDER_ID, event), *((tag, given[tag]) for tag in copied if tag in given)]
-    pairs += [(Tag.MASS_ACTION_REPORT_ID, event)] if seat.begin == FIXT else []
     count = str(seat.deleted[int(given[Tag.MSG_SEQ_NUM])])
+    pairs: Pairs = [(tag, given[tag]) for tag in copied if tag in given]
     pairs += [(Tag.TOTAL_AFFECTED_ORDERS, count), *more]
+    seat.keep(given, pairs)
+    tell_mass_answer(seat, event, pairs)
+
+
+def tell_mass_answer(seat: "Seat", event: str, answer: Pairs) -> None:
+    """Says what is the answer to a mass cancel, perhaps once more."""
+    pairs: Pairs = [(Tag.ORDER_ID, event), *answer]
+    pairs += [(Tag.MASS_ACTION_REPORT_ID, event)] if seat.begin == FIXT else []
     seat.desk.tell(Report(seat.name, Type.MASS_CANCELED, event, pairs))
 
 
@@ -119,24 +151,40 @@ def refused_request(given: Given, event: str, reason: str) -> Pairs:
     ]
 
 
-def tell_rejected(seat: "Seat", given: Given, event: str, reason: str, text: str) -> None:
-    """Says that an order wasn't taken, or that there is none of which to say anything."""
-    is_new = given[Tag.MSG_TYPE] == Type.ENTER
-    copied = (Tag.CL_ORD_ID, Tag.MASS_STATUS_REQ_ID)
+def tell_rejected(
+    seat: "Seat", given: Given, event: str, reason: str, text: str, status: Status
+) -> None:
+    """Says that an order wasn't taken, or that there is none of which to say anything yet."""
+    is_rejected = status == Status.REJECTED
+    is_new = given[Tag.MSG_TYPE] == Type.ENTER and is_rejected
+    copied = (Tag.CL_ORD_ID, Tag.ORD_STATUS_REQ_ID, Tag.MASS_STATUS_REQ_ID)
+    empty = [(Tag.TOT_NUM_REPORTS, "0"), (Tag.LAST_RPT_REQUESTED, "Y")]
     pairs: Pairs = [
         (Tag.ORDER_ID, NONE),
         *((tag, given[tag]) for tag in copied if tag in given),
+        *(empty if given[Tag.MSG_TYPE] == Type.MASS_STATUS else []),
         (Tag.EXEC_ID, event),
         (Tag.EXEC_TYPE, Status.REJECTED if is_new else Exec.STATUS),
-        (Tag.ORD_STATUS, Status.REJECTED),
+        (Tag.ORD_STATUS, status),
         (Tag.SYMBOL, given.get(Tag.SYMBOL, NO_SYMBOL)),
         (Tag.SIDE, given.get(Tag.SIDE, NO_SIDE)),
         (Tag.ORDER_QTY, given.get(Tag.ORDER_QTY, "0")),
         *((tag, "0") for tag in (Tag.LEAVES_QTY, Tag.CUM_QTY, Tag.AVG_PX)),
-        (Tag.ORD_REJ_REASON, reason),
+        *([(Tag.ORD_REJ_REASON, reason)] if is_rejected else []),
         (Tag.TEXT, text),
     ]
+    pairs += asked_of(given) if is_new else []
     seat.desk.tell(Report(seat.name, Type.REPORT, event, pairs))
+
+
+def asked_of(given: Given) -> Pairs:
+    """What a new order asked for that its report has too."""
+    copied = (Tag.ORD_TYPE, Tag.PRICE, Tag.MAX_FLOOR)
+    pairs: Pairs = [(tag, given[tag]) for tag in copied if tag in given]
+    pairs.append((Tag.TIME_IN_FORCE, given.get(Tag.TIME_IN_FORCE, DAY)))
+    if Tag.MAX_FLOOR not in given and Tag.DISPLAY_QTY in given:
+        pairs.append((Tag.MAX_FLOOR, given[Tag.DISPLAY_QTY]))
+    return pairs
 
 
 def given_of(board: Instrument, message: Message, number: int) -> Given:

@@ -7,21 +7,27 @@ import re
 from callauction.fix.orders import Held, Orders
 from callauction.fix.refusals import (
     ALL,
+    DUPLICATE,
+    OTHER,
     UNKNOWN,
     UNSUPPORTED,
     SeatError,
+    tell_mass_answer,
     tell_mass_cancelled,
 )
-from callauction.fix.seats import Seat, side_of
+from callauction.fix.seats import USED, Seat, is_sent_again, side_of
 from callauction.fix.tags import Exec, Given, Groups, Pairs, Tag, Type
 from callauction.venue.instrument import Instrument
 from callauction.venue.messages import MessageError
+from callauction.venue.recovery import Entry
 
 OF_ONE, OF_ALL = "1", "7"
 """MassCancelRequestType and MassStatusReqType: of an instrument, of all."""
 LIST_OF_ONE, LIST_OF_ALL = "0", "4"
 """SecurityListRequestType."""
 CURRENCY = re.compile("[A-Z]{3}")
+REPORTS_A_MESSAGE = 10
+"""How many reports of a mass status count as a message of its member, as all of them are kept."""
 
 
 def boards_of(seat: Seat, given: Given, tag: Tag, one: str, every: str) -> list[Instrument]:
@@ -33,64 +39,101 @@ def boards_of(seat: Seat, given: Given, tag: Tag, one: str, every: str) -> list[
     return seat.boards()
 
 
-async def orders_of(seat: Seat, given: Given, board: Instrument) -> list[Held]:
+def orders_of(seat: Seat, given: Given, board: Instrument) -> list[Held]:
     """The open orders of a request on a board, perhaps of one side. Raises MessageError."""
     side = side_of(given) if Tag.SIDE in given else ""
-    return [it for it in await seat.open_orders(board) if side in ("", it.side)]
+    return [it for it in seat.open_orders(board) if side in ("", it.side)]
 
 
-async def cancel_all(seat: Seat, pairs: Pairs, given: Given, number: int) -> None:
-    """OrderMassCancelRequest: deletes orders, then says how many. Raises MessageError where no
-    order can be deleted now.
+async def cancel_all(seat: Seat, rows: Pairs, given: Given, number: int) -> None:
+    """OrderMassCancelRequest: deletes orders, then says how many, and where some stay open, once
+    more to one that is sent again. Raises MessageError where no order can be deleted
+    now.
     """
+    if seat.is_used(given, number):
+        answer = seat.mass.get(given[Tag.CL_ORD_ID])
+        if not is_sent_again(given) or not answer:
+            raise SeatError(DUPLICATE, USED)
+        tell_mass_answer(seat, seat.refusal_of(number), answer)
+        return
     boards = boards_of(seat, given, Tag.MASS_CANCEL_REQUEST_TYPE, OF_ONE, OF_ALL)
     kind = given[Tag.MASS_CANCEL_REQUEST_TYPE]
     note = {ALL: f"{kind} {given[Tag.CL_ORD_ID]}"}
-    faults: list[MessageError] = []
-    for board in boards:
-        try:
-            seat.desk.venue.check_running()
-            board.check_open()
-            await delete(seat, board, await orders_of(seat, given, board), number, note)
-        except MessageError as fault:
-            faults.append(fault)
-    if len(faults) == len(boards):
-        raise faults[0]
-    response = (Tag.MASS_CANCEL_RESPONSE, kind)
-    tell_mass_cancelled(seat, given, seat.refusal_of(number), [response])
+    deleting = (deleted(seat, given, it, number, note) for it in boards)
+    found = await asyncio.gather(*deleting)
+    faults = {board: fault for board, fault in zip(boards, found) if fault is not None}
+    left = [it for it in faults if it.awaits(seat.name) or orders_of(seat, given, it)]
+    texts = (f"{it.board.market} ({faults[it].text})" for it in left)
+    text = f"not cancelled, and still open: {', '.join(texts)}"
+    if not seat.deleted[number] and (left or len(faults) == len(boards)):
+        raise SeatError(OTHER, text) if left else faults[boards[0]]
+    more: Pairs = [(Tag.MASS_CANCEL_RESPONSE, kind)]
+    more += [(Tag.MASS_CANCEL_REJECT_REASON, OTHER), (Tag.TEXT, text)] if left else []
+    tell_mass_cancelled(seat, given, seat.refusal_of(number), more)
+
+
+async def deleted(
+    seat: Seat, given: Given, board: Instrument, number: int, note: dict[str, str]
+) -> MessageError | None:
+    """Deletes the orders of a mass cancel on a board: why one may stay open, None where none does.
+    """
+    try:
+        await delete(seat, given, board, number, note)
+    except MessageError as fault:
+        return fault
+    return None
 
 
 async def delete(
-    seat: Seat, board: Instrument, orders: list[Held], number: int, note: dict[str, str]
+    seat: Seat, given: Given, board: Instrument, number: int, note: dict[str, str]
 ) -> None:
-    """Deletes orders, as parts of a message. Raises MessageError."""
-    venue, member = seat.desk.venue, seat.member
-    sent = [venue.submit(member, seat.deletion(board, it, number, note))[0] for it in orders]
-    if sent:
-        await asyncio.wait(sent)
-    await seat.desk.stream(board).until_now()
+    """Deletes the orders of a mass cancel on a board, as parts of a message. Raises MessageError
+    where one may stay open.
+    """
+    venue = seat.desk.venue
+    await seat.until_known(board)
+    venue.check_running()
+    board.check_open()
+    sent: list[asyncio.Future[Entry]] = []
+    try:
+        for it in orders_of(seat, given, board):
+            part = seat.deletion(board, it.order, number, note)
+            sent.append(venue.submit(seat.member, part)[0])
+    finally:
+        await seat.until_answered(board, sent)
+        await seat.desk.stream(board).until_now()
+    for answer in sent:
+        answer.result()
 
 
-async def show_all(seat: Seat, pairs: Pairs, given: Given, number: int) -> None:
-    """OrderMassStatusRequest: a report of each open order. Raises MessageError where there is
-    none.
+async def show_all(seat: Seat, rows: Pairs, given: Given, number: int) -> None:
+    """OrderMassStatusRequest: a report of each open order, the last with the instruments that have
+    halted before they answered all. Raises MessageError where there is none.
     """
     found: list[tuple[Orders, Held]] = []
+    late: list[str] = []
     for board in boards_of(seat, given, Tag.MASS_STATUS_REQ_TYPE, OF_ONE, OF_ALL):
+        try:
+            await seat.until_known(board)
+        except MessageError:
+            late.append(board.board.market)
         orders = seat.desk.stream(board).orders
-        found += [(orders, it) for it in await orders_of(seat, given, board)]
+        found += [(orders, it) for it in orders_of(seat, given, board)]
+    text = f"halted, and what was sent isn't answered yet: {', '.join(late)}" if late else ""
     if not found:
-        raise SeatError(UNKNOWN, "there is no open order")
+        raise SeatError(UNKNOWN, f"there is no open order{'; ' * bool(text)}{text}")
     request = (Tag.MASS_STATUS_REQ_ID, given[Tag.MASS_STATUS_REQ_ID])
     for place, (orders, held) in enumerate(found, 1):
         is_last = place == len(found)
-        event = seat.refusal_of(number if is_last else f"{number}.{place}")
+        event = seat.refusal_of(number if is_last else f"{number}-{place}")
         more: Pairs = [request, (Tag.TOT_NUM_REPORTS, str(len(found)))]
         more.append((Tag.LAST_RPT_REQUESTED, "Y" if is_last else "N"))
+        more += [(Tag.TEXT, text)] if text and is_last else []
         seat.desk.tell(orders.report(held, event, Exec.STATUS, more))
+    seat.member.bucket.charge(len(found) // REPORTS_A_MESSAGE)
 
 
-async def show_list(seat: Seat, pairs: Pairs, given: Given, number: int) -> None:
+async def show_list(seat: Seat, rows: Pairs, given: Given, number: int) -> None:
     """SecurityListRequest. Raises MessageError."""
     boards = boards_of(
         seat, given, Tag.SECURITY_LIST_REQUEST_TYPE, LIST_OF_ONE, LIST_OF_ALL
@@ -101,19 +144,18 @@ async def show_list(seat: Seat, pairs: Pairs, given: Given, number: int) -> None
         (Tag.SECURITY_REQUEST_RESULT, "0"),
         (Tag.TOT_NO_RELATED_SYM, str(len(boards))),
     ]
-    rows = [row_of(it) for it in boards]
-    groups: Groups = [(int(Tag.NO_RELATED_SYM), int(Tag.SYMBOL), rows)]
+    groups: Groups = [(int(Tag.NO_RELATED_SYM), int(Tag.SYMBOL), [row_of(it) for it in boards])]
     seat.desk.send(seat, Type.LIST, head, groups)
 
 
 def row_of(board: Instrument) -> Pairs:
     """An instrument in a list."""
     terms = board.terms
-    row: Pairs = [
-        (Tag.SYMBOL, board.board.market),
+    row: Pairs = [(Tag.SYMBOL, board.board.market)]
+    row += [(Tag.CURRENCY, terms.currency)] if CURRENCY.fullmatch(terms.currency) else []
+    row += [
         (Tag.MIN_PRICE_INCREMENT, format(terms.grid.tick_size, "f")),
         (Tag.LOW_LIMIT_PRICE, terms.price(terms.low)),
         (Tag.HIGH_LIMIT_PRICE, terms.price(terms.high)),
     ]
-    row += [(Tag.CURRENCY, terms.currency)] if CURRENCY.fullmatch(terms.currency) else []
     return row + ([(Tag.TEXT, terms.title)] if terms.title else [])

@@ -3,7 +3,7 @@ all that the journals gave so far is sent anew as PossResend.
 """
 from callauction.fix._quickfix import Engine
 from callauction.fix.seats import Seat
-from callauction.fix.tags import Tag, body_of, event_of, packed, pairs_of, refusal_of
+from callauction.fix.tags import Tag, body_of, event_of, pairs_of, refusal_of
 
 
 def begin_anew(engine: Engine, seat: Seat) -> None:
@@ -18,6 +18,5 @@ def begin_anew(engine: Engine, seat: Seat) -> None:
             seat.told.add(event)
             pairs = pairs_of(text)
             body, groups = body_of(pairs)
-            rows = [(tag, first, [packed(row) for row in those]) for tag, first, those in groups]
             body.append((int(Tag.POSS_RESEND), "Y"))
-            engine.send(seat.session, dict(pairs)[Tag.MSG_TYPE], packed(body), rows)
+            engine.send(seat.session, dict(pairs)[Tag.MSG_TYPE], body, groups)

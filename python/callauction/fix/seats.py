@@ -7,19 +7,38 @@ import asyncio
 import collections
 import contextlib
 import dataclasses
+import functools
 import re
-from collections.abc import Awaitable, Callable, Mapping
+from collections.abc import Awaitable, Callable, Collection, Mapping
 from typing import Any
 
-from callauction.fix.orders import CLIENT, ORIGIN, TIME, TIMES, Asked, Held, Report, refusal
+from callauction.fix.orders import (
+    CLIENT,
+    NUMBER,
+    ORIGIN,
+    SAID,
+    SENTENCES,
+    TIME,
+    TIMES,
+    WHEN,
+    Asked,
+    Held,
+    Report,
+    ended_text,
+    entry_event,
+    refusal,
+)
 from callauction.fix.feeds import Feeds
 from callauction.fix.numbering import Number
 from callauction.fix.refusals import (
     ALL,
     DUPLICATE,
+    ENDED,
     OTHER,
+    QUANTITY,
     UNKNOWN,
     UNSUPPORTED,
+    PendingError,
     SeatError,
     given_of,
     refuse,
@@ -42,50 +61,74 @@ from callauction.fix.tags import (
     Status,
     Tag,
     Type,
-    pairs_of,
+    event_in,
+    now,
     refusal_of,
 )
+from callauction.limits import MOST_NUMBER
 from callauction.venue import messages
 from callauction.venue.fix_terms import VENUE
 from callauction.venue.instrument import Instrument
 from callauction.venue.log import SOURCE
 from callauction.venue.members import Member
+from callauction.venue.phases import Phase
 from callauction.venue.messages import MessageError, Order
 from callauction.venue.rates import Bucket
 from callauction.venue.recovery import Entry, Message
 from callauction.venue.venue import Venue
 from callauction.words import MARKET as AT_MARKET
+from callauction.words import Refusal
 
 TOO_FAST_SECONDS = 0.05
 """How long a member that speaks too fast isn't heard."""
 MOST_LETTERS = 64
 MOST_UNANSWERED = 256
-"""Commands of a member that aren't answered yet."""
+"""Commands of a member to a board that aren't answered yet."""
+HALT_PAUSE = 0.1
+"""Seconds between two looks at whether a board has halted whose answer is waited for."""
 ONLY = {OPENING: "opening", CLOSING: "closing", DAY: "", GOOD_TILL_CANCEL: ""}
-SHARES = re.compile(r"([0-9]{1,10})(?:\.0*)?")
-LOST = b""
+MOST_DIGITS = len(str(MOST_NUMBER)) + 1
+SHARES = re.compile(r"0*(0|[1-9][0-9]*)(?:\.0*)?")
+FLOAT = re.compile(r"(?=\.?[0-9])([0-9]{0,30})(?:\.([0-9]{0,30}))?")
+"""A price by the standard: 20.05, 20., .05."""
+LOST: Given = {}
 """What comes in a session's queue when its connection is lost, whose orders are to end with it."""
 NOT_DONE = "it wasn't executed before its venue or program ended, and a gap came in its place"
+USED = "this ClOrdID was used"
+GONE = "the connection has ended, or its venue: CancelOrdersOnDisconnect (8013=Y)"
+PENDING = {"enter": Status.PENDING_NEW, "change": Status.PENDING_REPLACE}
+PENDING["delete"] = Status.PENDING_CANCEL
+"""What an order is whose command isn't answered yet."""
+OF_CLIENTS = (Type.CANCEL_REJECT, Type.MASS_CANCELED)
+"""Messages that answer one whose ClOrdID is used then, beside reports."""
+OF_MASS = (11, 54, 55, 58, 530, 531, 532, 533)
+"""The tags of what is said to a mass cancel, but for its own id."""
+Answers = Collection["asyncio.Future[Entry]"]
+
+
 @dataclasses.dataclass(eq=False)
 class Desk:
     """What a seat needs of its front: the stream of a board, and how messages are sent, those that
-    are an event once; `watch` has its session hear of what changes, and `more` has what it takes
-    beside orders.
+    are an event once; the number of the `next` one; `watch` has its session hear of what changes,
+    and `more` has what it takes beside orders.
     """
 
     venue: Venue
     stream: Callable[[Instrument], Stream]
     tell: Callable[[Report], None]
-    send: Callable[["Seat", str, Pairs, Groups], None]
+    send: Callable[["Seat", str, Pairs, Groups], int]
+    next: Callable[["Seat"], int]
     watch: Callable[["Seat"], None]
-    more: "Mapping[Type, Act]"
+    more: "Mapping[str, Act]"
 
 
 class Seat:
     """A member's session. `told` has the events that its store has, `numbers` its messages in the
     log, and whether they were executed, both since it was last reset, for the `epoch`th time;
+    `clients` has who used a ClOrdID, and `mass` what was said to mass cancels by theirs;
     `cancels` says whether its orders end with its connection; `heard` is called when all that came
-    was taken.
+    was taken. `promised` has the events whose reports aren't sent yet, and the numbers that the log
+    says for them, 0 for none; `owed` those that an earlier run may have sent under their numbers.
     """
 
     def __init__(self, comp_id: str, name: str, begin: str, desk: Desk) -> None:
@@ -95,16 +138,23 @@ class Seat:
         self.epoch, self.cancels = 0, False
         self.numbers: dict[int, bool] = {}
         self.clients: dict[str, Number] = {}
+        self.mass: dict[str, Pairs] = {}
         self.deleted: collections.Counter[int] = collections.Counter()
+        self.promised: dict[str, int] = {}
+        self.owed: dict[str, int] = {}
         self.address = ""
+        self._member: Member | None = None
         self.heard: Callable[[], None] = lambda: None
         self._lost: dict[int, tuple[Instrument, Message]] = {}
         self._parts: collections.Counter[int] = collections.Counter()
-        self._came: collections.deque[bytes] = collections.deque()
+        self._came: collections.deque[tuple[Given, Pairs]] = collections.deque()
         self._wakes = asyncio.Event()
-        self._unanswered: set[asyncio.Future[Entry]] = set()
+        self._unanswered: dict[asyncio.Future[Entry], Instrument] = {}
+        self._awaited: set[int] = set()
+        self._greatest, self._is_waiting = 0, False
+        self._fault: Exception | None = None
         self.feeds = Feeds(desk.venue)
-        self._does: dict[Type, Act] = {
+        self._does: dict[str, Act] = {
             Type.ENTER: Seat._enter,
             Type.CANCEL: Seat._edit,
             Type.REPLACE: Seat._edit,
@@ -124,10 +174,11 @@ class Seat:
     @property
     def member(self) -> Member:
         """Whose session it is. Raises MessageError where the venue hasn't it."""
-        found = self.desk.venue.members.named(self.name)
-        if found is None:
+        if self._member is None:
+            self._member = self.desk.venue.members.named(self.name)
+        if self._member is None:
             raise MessageError("bad_token")
-        return found
+        return self._member
 
     @property
     def watcher(self) -> Member | None:
@@ -154,15 +205,47 @@ class Seat:
         missing = self.numbers.keys() - settled
         return min(missing) if missing else max(settled, default=0) + 1
 
-    def put(self, text: bytes) -> None:
-        """It says this."""
-        self._came.append(text)
-        self._wakes.set()
+    def put(self, given: Given, rows: Pairs) -> None:
+        """It says this, with these fields in groups; it is taken in its `turn`."""
+        self._came.append((given, rows))
+
+    def turn(self) -> None:
+        """Takes what came: new orders at once where nothing has to be waited for."""
+        try:
+            while self._is_waiting and self._came and self._enters(self._came[0][0]):
+                self._came.popleft()
+        except Exception as fault:  # which ends what serves it
+            self._fault = fault
+        if self._came:
+            self._wakes.set()
+        else:
+            self.heard()
+
+    def _enters(self, given: Given) -> bool:
+        """Takes a new order where nothing has to be waited for: whether it did."""
+        if given is LOST or given[Tag.MSG_TYPE] != Type.ENTER:
+            return False
+        number, member = int(given[Tag.MSG_SEQ_NUM]), self.member
+        event, is_known = self.refusal_of(number), given[Tag.CL_ORD_ID] in self.clients
+        if is_known or event in self.told or -self.number(number).key in member.done:
+            return False
+        if self._is_full(given) or not member.bucket.takes():
+            return False
+        self._lost.pop(number, None)  # it has come again
+        before = SOURCE.set(self.address)
+        try:
+            self._enter_new(given, number)
+        except MessageError as fault:
+            refuse(self, given, event, fault)
+        finally:
+            SOURCE.reset(before)
+        return True
 
     def lost(self) -> None:
         """Its connection has ended, or had as the venue began."""
         if self.cancels:
-            self.put(LOST)
+            self.put(LOST, [])
+            self.turn()
 
     def entered(self, board: Instrument, message: Message, entry: Entry | None) -> None:
         """A message of it in the log has its entry, or never had one."""
@@ -177,6 +260,9 @@ class Seat:
             if not number.message:
                 return
         is_done = entry is not None and not number.part
+        if entry is not None and not number.part:
+            self._awaited.discard(number.message)
+            self.promised[entry_event(board, entry.place)] = int(message.note.get(NUMBER, "0"))
         self.numbers[number.message] = self.numbers.get(number.message, False) or is_done
         if self.numbers[number.message]:
             self._lost.pop(number.message, None)
@@ -188,64 +274,84 @@ class Seat:
         while self.is_busy or self._unanswered:
             await asyncio.sleep(TOO_FAST_SECONDS)
 
+    async def taken_out(self) -> None:
+        """Waits until it was told all that its boards answer, but for what has halted."""
+        for board in self.boards():
+            while board.awaits(self.name) and not (board.engine.halted or self.desk.venue.halted):
+                await asyncio.sleep(HALT_PAUSE)
+            await self.desk.stream(board).until_now()
+
     def begin_anew(self, epoch: int) -> None:
         """Its session was reset, so often so far."""
         self.epoch = epoch
         self.told, self.numbers, self._lost = set(), {}, {}
+        self.promised, self.owed, self._awaited, self._greatest = {}, {}, set(), 0
         self.deleted.clear()
         self._parts.clear()
 
     async def serve(self) -> None:
         """Takes its messages, one after the other."""
-        while True:
+        while self._fault is None:
             while self._came:
-                await self._take(self._came[0])
+                await self._take(*self._came[0])
                 self._came.popleft()
             self.heard()
             self._wakes.clear()
+            self._is_waiting = True
             await self._wakes.wait()
+            self._is_waiting = False
+        raise self._fault
 
-    async def _take(self, text: bytes) -> None:
+    async def _take(self, given: Given, rows: Pairs) -> None:
         """Takes a message, unless it was taken before."""
-        if text == LOST:
+        if given is LOST:
             await self._withdraw()
             return
-        pairs = pairs_of(text)
-        given: Given = dict(pairs)
-        if given[Tag.MSG_TYPE] == Type.GAP:
+        kind = given[Tag.MSG_TYPE]
+        if kind == Type.GAP:
             self._gap(int(given[Tag.NEW_SEQ_NO]))
             return
         number = int(given[Tag.MSG_SEQ_NUM])
         event = self.refusal_of(number)
         self._lost.pop(number, None)  # it has come again
-        if event in self.told or await self.is_done(number):
+        if event in self.told or await self.is_done(given, number):
             return
         SOURCE.set(self.address)
         try:
-            if (act := self._does.get(Type(given[Tag.MSG_TYPE]))) is None:
+            if (act := self._does.get(kind)) is None:
                 self.refuse_type(given, event)
             else:
-                await act(self, pairs, given, number)
+                await act(self, rows, given, number)
         except MessageError as fault:
             refuse(self, given, event, fault)
 
     def refuse_type(self, given: Given, event: str) -> None:
         """Says that it may not do this: a member may do all that the dictionary has."""
 
-    async def turn(self, bucket: Bucket) -> None:
+    async def allowed(self, bucket: Bucket) -> None:
         """Waits until a member may speak again."""
         while not bucket.takes():
             await asyncio.sleep(TOO_FAST_SECONDS)
 
-    async def is_done(self, number: int) -> bool:
+    async def is_done(self, given: Given, number: int) -> bool:
         """Whether a message was executed before; one that wasn't waits until it may be."""
         member = self.member
         if -self.number(number).key in member.done:
             return True
-        await self.turn(member.bucket)
-        if len(self._unanswered) >= MOST_UNANSWERED:
-            await asyncio.wait(self._unanswered, return_when=asyncio.FIRST_COMPLETED)
+        if not member.bucket.takes():
+            await self.allowed(member.bucket)
+        while self._is_full(given):
+            await asyncio.sleep(HALT_PAUSE)
         return False
+
+    def _is_full(self, given: Given) -> bool:
+        """Whether as much waits for answers of a message's board as may, which hasn't halted."""
+        if len(self._unanswered) < MOST_UNANSWERED:
+            return False
+        name = given.get(Tag.SYMBOL)
+        boards = self._unanswered.values()
+        waiting = [it for it in boards if name in (it.board.market, it.board.name)]
+        return len(waiting) >= MOST_UNANSWERED and waiting[0].engine.halted is None
 
     def number(self, message: int, part: int = 0) -> Number:
         """The number in the venue of a message, or of a part of it."""
@@ -269,6 +375,12 @@ class Seat:
         """The board of a name. Raises MessageError."""
         return self.desk.venue.instrument_of(name, self.watcher)
 
+    def open_board(self, given: Given) -> Instrument:
+        """The board of a message, which takes orders. Raises MessageError."""
+        board = self.board(given)
+        board.check_open()
+        return board
+
     def boards(self) -> list[Instrument]:
         """All boards that it sees."""
         return [*self.desk.venue.boards_of(self.watcher).values()]
@@ -281,97 +393,186 @@ class Seat:
             return None
         return self.desk.stream(board).orders.of_client(self.name, client)
 
-    async def open_orders(self, board: Instrument) -> list[Held]:
-        """Its open orders on a board, once what was sent before is answered."""
-        if self._unanswered:
-            await asyncio.wait(self._unanswered)
-        stream = self.desk.stream(board)
-        await stream.until_now()
-        return stream.orders.open_of(self.name)
+    async def until_answered(self, board: Instrument, answers: Answers) -> None:
+        """Waits for answers of a board. Raises MessageError where one is left as it halts."""
+        waiting = {it for it in answers if not it.done()}
+        while waiting:
+            self.desk.venue.check_running()
+            if board.engine.halted is not None:
+                raise MessageError("halted", f"{board.board.market} has halted and hasn't answered")
+            _, waiting = await asyncio.wait(waiting, timeout=HALT_PAUSE)
+
+    def unanswered(self, board: Instrument) -> Answers:
+        """The answers of a board that it waits for."""
+        return [it for it, where in self._unanswered.items() if where is board]
+
+    def open_orders(self, board: Instrument) -> list[Held]:
+        """Its open orders on a board, by what was answered so far."""
+        return self.desk.stream(board).orders.open_of(self.name)
+
+    async def until_known(self, board: Instrument) -> None:
+        """Waits until what was sent to a board is answered. Raises MessageError where it halts."""
+        await self.until_answered(board, self.unanswered(board))
+        await self.desk.stream(board).until_now()
 
     async def _settled(self, given: Given, client: str) -> Held | None:
-        """The order that an id names, once what was sent before is answered. Raises MessageError.
+        """The order that an id names, once what was sent before is answered. Raises MessageError,
+        PendingError where it isn't answered as its board has halted.
         """
         board = self.board(given)
         number = self.clients.get(client)
         if done := self.member.done.get(-number.key) if number else None:
-            await asyncio.wait([done.answer])
+            try:
+                await self.until_answered(board, [done.answer])
+            except MessageError as fault:
+                raise PendingError(PENDING[done.record.partition(",")[0]], fault.text) from None
         stream = self.desk.stream(board)
         await stream.until_now()
         return stream.orders.of_client(self.name, client)
 
     async def _is_known(self, given: Given, number: int) -> bool:
-        """Whether an id was another message's, and this one is sent again as PossResend: what
-        became of the order is said then. Raises MessageError where it is none.
+        """Whether an id was another message's, and this one is sent again: what became of the order
+        is said then. Raises MessageError where it is none.
         """
-        client, own = given[Tag.CL_ORD_ID], self.number(number)
-        if len(client) > MOST_LETTERS:
-            raise SeatError(UNSUPPORTED, f"ClOrdID has at most {MOST_LETTERS} letters")
-        if self.clients.get(client, own) == own:
+        if not self.is_used(given, number):
             return False
-        held = await self._settled(given, client)
-        if given.get(Tag.POSS_RESEND) != "Y" or held is None:
-            raise SeatError(DUPLICATE, "this ClOrdID was used")
+        is_again = is_sent_again(given)
+        held = await self._settled(given, given[Tag.CL_ORD_ID]) if is_again else None
+        if held is None:
+            raise SeatError(DUPLICATE, USED)
         orders = self.desk.stream(self.board(given)).orders
         self.desk.tell(orders.report(held, self.refusal_of(number), Exec.STATUS))
         return True
 
+    def is_used(self, given: Given, number: int) -> bool:
+        """Whether an id was another message's. Raises SeatError where it is none."""
+        check_client(given)
+        own = self.number(number)
+        return self.clients.get(given[Tag.CL_ORD_ID], own) != own
+
+    def keep(self, given: Given, answer: Pairs = []) -> None:
+        """The id of a message is its own for the day, also where it was refused, but as too long;
+        a mass cancel's with what is said to it.
+        """
+        if len(client := given[Tag.CL_ORD_ID]) <= MOST_LETTERS:
+            self.clients.setdefault(client, self.number(int(given[Tag.MSG_SEQ_NUM])))
+            if answer:
+                self.mass.setdefault(client, answer)
+
+    def recall(self, pairs: Pairs) -> None:
+        """Recalls a message that it was sent in an earlier run, since its last reset."""
+        given = dict(pairs)
+        if event := event_in(given, self.comp_id, self.epoch):
+            self.told.add(event)
+        if given[Tag.MSG_TYPE] == Type.LOGON:
+            self.cancels = given.get(Tag.CANCELS_ON_DISCONNECT) == "Y"
+        self.learn(pairs)
+
+    def learn(self, pairs: Pairs) -> None:
+        """Learns what it was told in an earlier run of a message that wasn't executed."""
+        given = dict(pairs)
+        event = event_in(given, self.comp_id, self.epoch)
+        number = event.removeprefix(self.refusal_of(""))
+        given[Tag.MSG_SEQ_NUM] = number if number.isdecimal() else "0"  # from before a reset
+        is_refused = given.get(Tag.EXEC_TYPE) == Status.REJECTED
+        is_own = event.startswith(refusal_of(self.comp_id, "", 0))
+        if is_own and (is_refused or given[Tag.MSG_TYPE] in OF_CLIENTS):
+            is_mass = given[Tag.MSG_TYPE] == Type.MASS_CANCELED
+            self.keep(given, [it for it in pairs if is_mass and it[0] in OF_MASS])
+
     # ---- orders that are sent
 
-    def _submit(self, given: Given, number: int, asked: dict[str, Any], time: str) -> None:
+    def _submit(
+        self, given: Given, number: int, board: Instrument, record: str, time: str
+    ) -> None:
         """Sends a command, with its ids beside it in the log. Raises MessageError."""
-        venue, member = self.desk.venue, self.member
-        board = self.board(given)
-        board.check_open()
-        order = messages.order_of(board.terms, asked | {"number": number})
-        note = {CLIENT: given[Tag.CL_ORD_ID], ORIGIN: given.get(Tag.ORIG_CL_ORD_ID, ""), TIME: time}
-        note = {name: value for name, value in note.items() if value}
-        own = self.number(number)
-        order = dataclasses.replace(order, number=-own.key, note=note)
-        answer, _ = venue.submit(member, order)
-        self.clients[given[Tag.CL_ORD_ID]] = own
-        self._unanswered.add(answer)
+        client, own, promised = given[Tag.CL_ORD_ID], self.number(number), self._promised()
+        note = {CLIENT: client, WHEN: now()}
+        if promised:
+            note[NUMBER] = str(promised)
+        if Tag.ORIG_CL_ORD_ID in given:
+            note[ORIGIN] = given[Tag.ORIG_CL_ORD_ID]
+        if time:
+            note[TIME] = time
+        order = Order(-own.key, board.terms.name, record, note)
+        answer, _ = self.desk.venue.submit(self.member, order)
+        self._greatest = promised or self._greatest
+        self._awaited.add(number)
+        self.clients[client] = own
+        self._unanswered[answer] = board
         answer.add_done_callback(lambda it: self._answered(given, number, it))
+
+    def _promised(self) -> int:
+        """The number under which the next command will be answered if nothing else comes before
+        that, 0 where this was said of another command.
+        """
+        found = self.desk.next(self) + len(self._awaited) + len(self.promised)
+        return found if found > self._greatest else 0
 
     def _answered(self, given: Given, number: int, answer: "asyncio.Future[Entry]") -> None:
         """A command was answered, perhaps by a fault: then it wasn't executed."""
-        self._unanswered.discard(answer)
+        self._unanswered.pop(answer, None)
         fault = None if answer.cancelled() else answer.exception()
         if isinstance(fault, MessageError):
-            self.clients.pop(given[Tag.CL_ORD_ID], None)
+            self._awaited.discard(number)
             refuse(self, given, self.refusal_of(number), fault)
 
-    def deletion(self, board: Instrument, held: Held, message: int, note: dict[str, str]) -> Order:
+    def deletion(self, board: Instrument, order: int, message: int, note: dict[str, str]) -> Order:
         """The deletion of an order, as one more part of a message, or of none (0)."""
         part = self._parts[message] = self._parts[message] + 1
         key = self.number(message, part).key
-        return Order(-key, board.terms.name, f"delete,{held.order}", note)
+        return Order(-key, board.terms.name, f"delete,{order}", note)
 
     async def _withdraw(self) -> None:
-        """Deletes the open orders that it has entered, in any phase: its connection was lost."""
+        """Deletes the open orders that it has entered, in any phase: its connection was lost. What
+        isn't answered yet is deleted once it is, as a board that has halted may be long in that.
+        """
         for board in self.boards():
-            for held in await self.open_orders(board):
+            await self.desk.stream(board).until_now()
+            for held in self.open_orders(board):
                 if held.client:
-                    with contextlib.suppress(MessageError):
-                        order = self.deletion(board, held, 0, {})
-                        self.desk.venue.withdraw(self.member, board, order)
+                    self._delete(board, held.order)
+            for answer in self.unanswered(board):
+                if not answer.done():
+                    answer.add_done_callback(functools.partial(self._withdraw_late, board))
+
+    def _withdraw_late(self, board: Instrument, answer: "asyncio.Future[Entry]") -> None:
+        """Deletes the order of an answer that has come once the connection was lost."""
+        entry = None if answer.cancelled() or answer.exception() else answer.result()
+        if entry is not None and entry.order is not None:
+            self._delete(board, entry.order)
+
+    def _delete(self, board: Instrument, order: int) -> None:
+        """Sends the deletion of an order, where that can be."""
+        with contextlib.suppress(MessageError):
+            deletion = self.deletion(board, order, 0, {SAID: GONE})
+            self.desk.venue.withdraw(self.member, board, deletion)
 
     # ---- messages
 
-    async def _enter(self, pairs: Pairs, given: Given, number: int) -> None:
+    async def _enter(self, rows: Pairs, given: Given, number: int) -> None:
         """NewOrderSingle. Raises MessageError."""
-        if await self._is_known(given, number):
-            return
+        if not await self._is_known(given, number):
+            self._enter_new(given, number)
+
+    def _enter_new(self, given: Given, number: int) -> None:
+        """Sends an order whose ClOrdID is new. Raises MessageError."""
+        check_client(given)
         time = given.get(Tag.TIME_IN_FORCE, DAY)
         if time not in ONLY:
             raise SeatError(UNSUPPORTED, "TimeInForce is 0, 1, 2 or 7")
-        asked: dict[str, Any] = {"type": "enter", "side": side_of(given), "only": ONLY[time]}
-        asked |= {"quantity": shares_of(given, Tag.ORDER_QTY), "price": price_of(given)}
+        asked: dict[str, Any] = {
+            "side": side_of(given),
+            "only": ONLY[time],
+            "quantity": shares_of(given, Tag.ORDER_QTY),
+            "price": price_of(given),
+        }
         if peak := peak_of(given):
             asked["peak"] = int(peak)
-        self._submit(given, number, asked, time)
+        board = self.board(given)
+        self._submit(given, number, board, messages.entered(board.terms, asked), time)
 
-    async def _edit(self, pairs: Pairs, given: Given, number: int) -> None:
+    async def _edit(self, rows: Pairs, given: Given, number: int) -> None:
         """OrderCancelRequest and OrderCancelReplaceRequest. Raises MessageError."""
         if await self._is_known(given, number):
             return
@@ -380,26 +581,44 @@ class Seat:
             raise SeatError(UNKNOWN, "there is no order of this OrigClOrdID")
         if given[Tag.SIDE] != CODES[held.side]:
             raise SeatError(UNSUPPORTED, "Side can't be changed")
-        asked: dict[str, Any] = {"type": "delete", "order": held.order}
+        if not held.open:
+            is_over = self.board(given).state.phase is Phase.OVER
+            raise SeatError(ENDED, ended_text(held, is_over))
+        asked: dict[str, Any] = {"type": "delete", "order": held.order, "number": number}
         if given[Tag.MSG_TYPE] == Type.REPLACE:
             check_kept(given, held)
             left = left_of(shares_of(given, Tag.ORDER_QTY), held)
             asked |= {"type": "change", "price": price_of(given), "quantity": left}
-        self._submit(given, number, asked, "")
+        board = self.open_board(given)
+        self._submit(given, number, board, messages.order_of(board.terms, asked).record, "")
 
-    async def _show(self, pairs: Pairs, given: Given, number: int) -> None:
+    async def _show(self, rows: Pairs, given: Given, number: int) -> None:
         """OrderStatusRequest. Raises MessageError."""
         held = await self._settled(given, given[Tag.CL_ORD_ID])
         if held is None:
             raise SeatError(UNKNOWN, "there is no order of this ClOrdID")
-        orders = self.desk.stream(self.board(given)).orders
-        self.desk.tell(orders.report(held, self.refusal_of(number), Exec.STATUS))
+        orders, asked = self.desk.stream(self.board(given)).orders, Tag.ORD_STATUS_REQ_ID
+        more: Pairs = [(asked, given[asked])] if asked in given else []
+        self.desk.tell(orders.report(held, self.refusal_of(number), Exec.STATUS, more))
 
 
 Act = Callable[[Any, Pairs, Given, int], Awaitable[None]]
-"""What takes the messages of a type: of a seat, by their fields in their order and by their tags,
-and their number. Raises MessageError.
+"""What takes the messages of a type: of a seat, by the fields of their groups in their order, all
+fields by their tags, and their number. Raises MessageError.
 """
+
+
+def is_sent_again(given: Given) -> bool:
+    """Whether a message may be one that came before, under another number: as PossResend, or as
+    PossDup from a store that a reset of the session didn't empty.
+    """
+    return "Y" in (given.get(Tag.POSS_RESEND), given.get(Tag.POSS_DUP))
+
+
+def check_client(given: Given) -> None:
+    """Raises SeatError where an id is too long."""
+    if len(given[Tag.CL_ORD_ID]) > MOST_LETTERS:
+        raise SeatError(UNSUPPORTED, f"ClOrdID has at most {MOST_LETTERS} letters")
 
 
 def side_of(given: Given) -> str:
@@ -414,25 +633,34 @@ def price_of(given: Given) -> str:
     kind, price = given[Tag.ORD_TYPE], given.get(Tag.PRICE, AT_MARKET)
     if kind not in (MARKET, LIMIT) or (kind == LIMIT) != (Tag.PRICE in given):
         raise SeatError(UNSUPPORTED, "OrdType is 1, or 2 with a Price")
-    if kind == LIMIT and not messages.PRICE.fullmatch(price):
+    if kind == MARKET:
+        return price
+    if not (found := FLOAT.fullmatch(price)):
         raise SeatError(OTHER, f"Price {price} is none such as 20.05")
-    return price
+    whole, part = found.groups()
+    return f"{whole or '0'}.{part}" if part else whole
 
 
 def shares_of(given: Given, tag: Tag) -> int:
-    """A quantity of whole shares. Raises SeatError."""
-    if not (found := SHARES.fullmatch(given[tag])):
-        raise SeatError(UNSUPPORTED, "quantities are whole shares, of at most 10 digits")
-    return int(found[1])
+    """A quantity of whole shares, of an order or its peak; one above all limits is the greatest.
+    Raises SeatError.
+    """
+    if found := SHARES.fullmatch(given[tag]):
+        return min(int(found[1][:MOST_DIGITS]), MOST_NUMBER)
+    if tag == Tag.ORDER_QTY:
+        raise SeatError(QUANTITY, f"{SENTENCES[Refusal.BAD_QUANTITY]} whole shares")
+    raise SeatError(OTHER, SENTENCES[Refusal.BAD_PEAK])
 
 
 def peak_of(given: Given) -> str:
     """The peak that a message asks for, empty for none. Raises SeatError."""
+    if Tag.MAX_FLOOR not in given and Tag.DISPLAY_QTY not in given:
+        return ""
     tags = [tag for tag in (Tag.MAX_FLOOR, Tag.DISPLAY_QTY) if tag in given]
     found = {str(shares_of(given, tag)) for tag in tags}
     if len(found) > 1:
         raise SeatError(UNSUPPORTED, "MaxFloor and DisplayQty are two peaks")
-    return next(iter(found), "")
+    return found.pop()
 
 
 def left_of(total: int, held: Held) -> int:

@@ -1,56 +1,108 @@
 """What the sessions were sent, in one file of the venue's folder for all of them, so that one sync
-is enough for what they are sent at a time. It is on the disk before a byte is sent; what QuickFIX
-has in memory begins with it.
+is enough for what they are sent at a time. What QuickFIX has in memory begins with it.
+
+It is on the disk before a byte is sent, but for what follows from the venue's log and the journals:
+the report of an entry that was sent under the number that the log says. Those aren't written: a
+start makes them again.
 """
 import collections
+import json
 import pathlib
-from collections.abc import Callable
+from collections.abc import Callable, Iterable
 
 from callauction.fix._quickfix import Engine
-from callauction.fix.tags import Tag, pairs_of
+from callauction.fix.tags import number_of
 from callauction.venue.copies import SENT
 from callauction.venue.log import Log, taking, text_of
 
 
 class Sent:
-    """The messages that sessions were sent, and how often each was reset. `on_fault` of the log is
-    called where it can't be written. Raises LogError, LogInUse, OwnerError and OSError.
+    """The messages that sessions were sent, and how often each was reset; `former` has those from
+    before. `on_fault` of the log is called where it can't be written. Raises LogError, LogInUse,
+    OwnerError and OSError.
     """
 
     def __init__(self, folder: pathlib.Path, is_synced: bool) -> None:
         self.log = Log(folder / SENT, is_synced)
         self.resets: collections.Counter[str] = collections.Counter()
+        self.former: dict[str, list[bytes]] = {}
         self._texts: dict[str, list[bytes]] = {}
-        self._last: collections.Counter[str] = collections.Counter()
+        self._new: dict[str, list[tuple[int, bytes]]] = {}
+        self._safe: collections.Counter[str] = collections.Counter()
+        self._following: dict[str, set[int]] = {}
         for line in self.log.lines():
             with taking(line):
                 session = line["session"]
                 if line["kind"] == "reset":
                     self.resets[session] += 1
-                    self._texts[session] = []
+                    self.former.setdefault(session, []).extend(self._texts.pop(session, []))
                 else:
                     self._texts.setdefault(session, []).append(line["text"].encode("latin-1"))
 
-    def restore(self, engine: Engine, session: str) -> list[bytes]:
-        """Gives QuickFIX what a session was sent in earlier runs: that."""
-        texts = self._texts.pop(session, [])
-        for text in texts:
-            self._last[session] = int(dict(pairs_of(text))[Tag.MSG_SEQ_NUM])
-            engine.restore(session, self._last[session], text)
-        return texts
+    def earlier(self, session: str) -> dict[int, bytes]:
+        """What was written that a session was sent in earlier runs, by its numbers."""
+        return {number_of(text): text for text in self._texts.pop(session, [])}
 
-    def lines_of(self, engine: Engine, session: str) -> list[str]:
-        """The lines of what a session was sent since the last time."""
-        texts = engine.sent(session, self._last[session])
-        self._last[session] += len(texts)
-        texts_ = (it.decode("latin-1") for it in texts)
-        return [text_of({"kind": "out", "session": session, "text": it}) for it in texts_]
+    # ---- what may be sent
 
-    async def begin_anew(self, session: str, then: Callable[[], None]) -> None:
+    def is_safe(self, session: str, number: int) -> bool:
+        """Whether a crash can't take what a session was sent up to this number."""
+        return number <= self._safe[session]
+
+    def reach(self, session: str, number: int) -> None:
+        """What a session was sent up to this number is safe, and so what follows it."""
+        number = max(number, self._safe[session])
+        if following := self._following.get(session):
+            while number + 1 in following:
+                number += 1
+            self._following[session] = {it for it in following if it > number}
+        self._safe[session] = number
+
+    def follows(self, session: str, number: int) -> None:
+        """What a session was sent under this number follows from the log and the journals."""
+        if number == self._safe[session] + 1:
+            self.reach(session, number)
+        else:
+            self._following.setdefault(session, set()).add(number)
+
+    # ---- what is written
+
+    def waits(self, engine: Engine) -> bool:
+        """Whether something was stored that isn't written yet."""
+        self._take(engine)
+        return any(self._new.values())
+
+    def _take(self, engine: Engine) -> None:
+        """Takes what was stored since the last time, to be written."""
+        for session, number, text in engine.stored():
+            self._new.setdefault(session, []).append((number, text))
+
+    def write(self, engine: Engine, sessions: Iterable[str], then: Callable[[], None]) -> None:
+        """Writes what sessions were sent so far, in the order of its numbers: it is safe then."""
+        self._take(engine)
+        last = {it: engine.next(it) - 1 for it in sessions}
+        lines = []
+        for session in last:
+            if texts := self._new.pop(session, []):
+                head = text_of({"kind": "out", "session": session})[:-1]
+                for _, text in sorted(texts):
+                    lines.append(f'{head},"text":{json.dumps(text.decode("latin-1"))}}}')
+
+        def written() -> None:
+            for session, number in last.items():
+                self.reach(session, number)
+            then()
+
+        self.log.append("\n".join(lines), written)
+
+    async def begin_anew(self, engine: Engine, session: str, then: Callable[[], None]) -> None:
         """Writes that a session begins anew, which it then does."""
 
         def begun() -> None:
-            self._last[session] = 0
+            self._take(engine)
+            self._new.pop(session, None)
+            self._following.pop(session, None)
+            self._safe[session] = 0
             then()
 
         self.log.note(begun, kind="reset", session=session)

@@ -12,55 +12,183 @@
 #include <quickfix/Parser.h>
 #include <quickfix/Responder.h>
 #include <quickfix/Session.h>
+#include <algorithm>
+#include <cstdlib>
 #include <map>
 #include <memory>
 #include <set>
 #include <sstream>
+#include <unordered_map>
 
 namespace py = pybind11;
-using Pairs = std::vector<std::pair<int, std::string>>;
-using Group = std::tuple<int, int, std::vector<Pairs>>;         // the counting tag, the first tag, the rows
+using Group = std::tuple<int, int, std::vector<py::list>>;      // the counting tag, the first tag, the rows
 using Event = std::tuple<std::string, std::string, py::bytes>;  // what, the session, the text
+using Said = std::tuple<std::string, py::dict, py::list>;       // the session, fields by their tags, those of groups
+using Stored = std::tuple<std::string, int, py::bytes>;         // the session, the number, the text
+using Outgoing = std::tuple<int, py::bytes, int, bool>;         // the connection, bytes, last number, whether it ends
 using Accepts = std::function<bool(const std::string&, const py::bytes&)>;
 struct Kept { std::string what, session, text; };
+struct Fresh { std::string session; int number; std::string text; };
 
 namespace {
 
 const size_t most_unread = 16384;  // bytes of a message that hasn't ended
 const size_t most_unsent = 65536;  // bytes to send with which a connection is read no further
 const char* const unsupported = "3";
+const int last_tag = 1617;  // of the standard
+const size_t most_digits = 9, most_letters = 18;  // of a MsgSeqNum and a HeartBtInt, without zeros before and with them
+const size_t to_second = 17;  // letters of a time, without what is less than a second
+const size_t most_shown = 24;  // letters of what a refused Logon says of itself
+const int most_waits = 3;  // seconds in which a Logout is to be answered
+const char* const no_reset =
+    "numbers are kept for the day: log on without ResetSeqNumFlag (ResetOnLogon=N); where yours are lost, the venue's "
+    "operator resets the session, and you begin at 1 with an empty store";
+const char* const seconds = " from 0 (no heartbeats) to 999999999 seconds";
+const char* const wrong_ids = "SenderCompID (49) or TargetCompID (56) isn't this session's";
+const char* const wrong_time = "SendingTime (52) isn't the time, or is before OrigSendingTime (122)";
+const char* const logged_on = "this connection is logged on: a Logon (35=A) is its first message alone; connect again";
 const std::set<std::string> taken_types = {"D", "F", "G", "H", "V", "g", "q", "x", "AF"};  // what members may say
 const std::set<std::string> passing_types = {"W", "X", "h"};  // what isn't sent again
+const char* const reject = "3";
+const char* const reject_again = "U3";  // it is sent again, which QuickFIX does with no message of the session
 const int cancels_on_disconnect = 8013;  // Y in a Logon: CancelOrdersOnDisconnect
 
+// The value of the first field with this tag, empty where there is none.
+std::string value_of(const std::string& text, const char* tag) {
+  const std::string begin = std::string("\001") + tag + "=";
+  const size_t at = text.find(begin), value = at + begin.size();
+  return at == std::string::npos ? "" : text.substr(value, text.find('\001', value) - value);
+}
+std::string type_of(const std::string& text) { return value_of(text, "35"); }
+
+// Whether a text is a number from 0 with which QuickFIX counts rightly.
+bool is_count(const std::string& text) {
+  if (text.empty() || text.size() > most_letters) return false;
+  if (text.find_first_not_of("0123456789") != std::string::npos) return false;
+  return text.size() - std::min(text.find_first_not_of('0'), text.size()) <= most_digits;
+}
+
+// A tag of a message at which something is wrong, and the SessionRejectReason for that; 0 where nothing is.
+struct Slip { int tag = 0, reason = 0; };
+
+// What is wrong in the head of a message that QuickFIX would take, or end its session for without a word. By the
+// standard a message that is sent again says when it was first, in an earlier second or the same one.
+Slip slip_of(const FIX::Header& head, bool is_expected) {
+  for (const int tag : {FIX::FIELD::SenderCompID, FIX::FIELD::TargetCompID, FIX::FIELD::SendingTime})
+    if (!head.isSetField(tag)) return {tag, FIX::SessionRejectReason_REQUIRED_TAG_MISSING};
+  const bool is_again = head.isSetField(FIX::FIELD::PossDupFlag) && head.getField(FIX::FIELD::PossDupFlag) == "Y";
+  if (!is_expected || !is_again || head.getField(FIX::FIELD::MsgType) == "4") return {};
+  const int first = FIX::FIELD::OrigSendingTime;
+  if (!head.isSetField(first)) return {first, FIX::SessionRejectReason_REQUIRED_TAG_MISSING};
+  const std::string before = head.getField(first), now = head.getField(FIX::FIELD::SendingTime);
+  try {
+    FIX::UtcTimeStampConvertor::convert(before);
+    FIX::UtcTimeStampConvertor::convert(now);
+  } catch (FIX::FieldConvertError&) {
+    return {};  // which the dictionary finds too
+  }
+  if (before.compare(0, to_second, now, 0, to_second) <= 0) return {};
+  return {first, FIX::SessionRejectReason_SENDINGTIME_ACCURACY_PROBLEM};
+}
+
+// A message under another type.
+std::string retyped(const std::string& text, const char* type) {
+  FIX::Message message;
+  message.setString(text, false);
+  message.getHeader().setField(FIX::MsgType(type));
+  return message.toString();
+}
+
+// A message with all that QuickFIX adds in a session, as text.
+std::string addressed(FIX::Message& message, const FIX::SessionID& id, int number) {
+  FIX::Header& header = message.getHeader();
+  header.setField(FIX::BeginString(id.getBeginString()));
+  header.setField(FIX::MsgSeqNum(number));
+  header.setField(FIX::SenderCompID(id.getSenderCompID()));
+  header.setField(FIX::TargetCompID(id.getTargetCompID()));
+  return message.toString();
+}
+
 // A store in memory that nothing but the operator's wish begins anew: QuickFIX would at the end of a session's day, and
-// for a Logon with ResetSeqNumFlag. Whoever has the engine keeps what was sent, and restores it.
+// for a Logon with ResetSeqNumFlag. Whoever has the engine keeps what is `fresh`, and restores it; the next message is
+// none where it has the number `known`.
 class KeptStore : public FIX::MemoryStore {
  public:
+  KeptStore(const FIX::SessionID& id, std::vector<Fresh>& fresh) : id_(id), session_(id.toString()), fresh_(fresh) {}
+  bool set(int number, const std::string& text) throw(FIX::IOException) {
+    if (number != known) fresh_.push_back({session_, number, text});
+    known = 0;
+    return keep(number, text);
+  }
+  // What has numbers from `begin` to `end`. A Heartbeat is in the place of the last one where nothing has that number:
+  // QuickFIX sends a gap in place of all that the numbers before it haven't, and of it.
+  void get(int begin, int end, std::vector<std::string>& messages) const throw(FIX::IOException) {
+    messages.clear();
+    const auto first = numbers_.lower_bound(begin);
+    if (first != numbers_.end() && *first <= end) FIX::MemoryStore::get(*first, end, messages);
+    for (auto& text : messages) if (type_of(text) == reject) text = retyped(text, reject_again);
+    if (begin > end || numbers_.count(end)) return;
+    FIX::Message nothing;
+    nothing.getHeader().setField(FIX::MsgType("0"));
+    nothing.getHeader().setField(FIX::SendingTime(FIX::UtcTimeStamp(), 3));
+    messages.push_back(addressed(nothing, id_, end));
+  }
+  void restore(int number, const std::string& text) {
+    keep(number, text);
+    setNextSenderMsgSeqNum(std::max(number + 1, getNextSenderMsgSeqNum()));
+  }
   FIX::UtcTimeStamp getCreationTime() const throw(FIX::IOException) { return FIX::UtcTimeStamp(); }
   void reset() throw(FIX::IOException) {
     if (!may_begin_anew) throw FIX::IOException("sequence numbers are kept for the day");
     FIX::MemoryStore::reset();
+    numbers_.clear();
   }
   bool may_begin_anew = false;
+  int known = 0;
+
+ private:
+  bool keep(int number, const std::string& text) {
+    numbers_.insert(number);
+    return FIX::MemoryStore::set(number, text);
+  }
+  FIX::SessionID id_;
+  std::string session_;
+  std::set<int> numbers_;  // those under which something is
+  std::vector<Fresh>& fresh_;
 };
 
 class KeptStores : public FIX::MessageStoreFactory {
  public:
-  FIX::MessageStore* create(const FIX::SessionID& id) override { return stores[id] = new KeptStore(); }
+  FIX::MessageStore* create(const FIX::SessionID& id) override {
+    return stores[id] = new KeptStore(id, fresh);
+  }
   void destroy(FIX::MessageStore* store) override { delete store; }
   std::map<FIX::SessionID, KeptStore*> stores;
+  std::vector<Fresh> fresh;
 };
+
+// How many messages came and were sent on all connections, and of these how many refused one, and were sent again.
+struct Counts { long received = 0, sent = 0, rejects = 0, resends = 0; };
 
 // A connection: what is to be sent on it, and whether it is to be closed then.
 struct Wire : FIX::Responder {
-  bool send(const std::string& text) override { out += text; return true; }
+  explicit Wire(Counts& counts) : counts(counts) {}
+  bool send(const std::string& text) override {
+    out += text;
+    ++counts.sent;
+    const std::string type = type_of(text);
+    if (value_of(text, "43") == "Y") ++counts.resends;
+    else if (type == reject || type == "j") ++counts.rejects;
+    return true;
+  }
   void disconnect() override { is_closed = true; }
+  Counts& counts;
   FIX::Parser parser;
   FIX::Session* session = nullptr;
   size_t unread = 0;
   std::string out;
   bool is_closed = false;
+  int waits = 0;  // seconds since its session was sent a Logout
 };
 
 // The sessions of QuickFIX's acceptor, and of its initiator, without their sockets.
@@ -93,7 +221,7 @@ class Engine : public FIX::Application, FIX::LogFactory {
 
   // A connection, of an acceptor: who it is follows from its Logon.
   int connect() {
-    wires_[++last_].reset(new Wire);
+    wires_[++last_].reset(new Wire(counts_));
     return last_;
   }
 
@@ -116,13 +244,15 @@ class Engine : public FIX::Application, FIX::LogFactory {
     return !wire.is_closed;
   }
 
-  // What is to be sent on each connection, and whether to close it then.
-  std::vector<std::tuple<int, py::bytes, bool>> outgoing() {
-    std::vector<std::tuple<int, py::bytes, bool>> found;
+  // What is to be sent on each connection, up to which number of its session, and whether to close it then.
+  std::vector<Outgoing> outgoing() {
+    std::vector<Outgoing> found;
     for (auto& each : wires_) {
-      if (each.second->out.empty() && !each.second->is_closed) continue;
-      found.emplace_back(each.first, py::bytes(each.second->out), each.second->is_closed);
-      each.second->out.clear();
+      Wire& wire = *each.second;
+      if (wire.out.empty() && !wire.is_closed) continue;
+      const int last = wire.session ? wire.session->getExpectedSenderNum() - 1 : 0;
+      found.emplace_back(each.first, py::bytes(wire.out), last, wire.is_closed);
+      wire.out.clear();
     }
     return found;
   }
@@ -144,8 +274,15 @@ class Engine : public FIX::Application, FIX::LogFactory {
     return found ? found->getSessionID().toString() : "";
   }
 
-  // Heartbeats, and what else time brings.
-  void tick() { for (auto& each : wires_) if (each.second->session) each.second->session->next(); }
+  // Heartbeats, and what else a second brings. Without heartbeats QuickFIX would wait for each Logout's answer.
+  void tick() {
+    for (auto& each : wires_) {
+      Wire& wire = *each.second;
+      if (!wire.session) continue;
+      wire.session->next();
+      if (acceptor_ && wire.session->sentLogout() && ++wire.waits > most_waits) wire.is_closed = true;
+    }
+  }
 
   // Ends the session on a connection with a Logout, which is answered by another one.
   void log_out(int number, const std::string& why) {
@@ -157,8 +294,14 @@ class Engine : public FIX::Application, FIX::LogFactory {
 
   // ---- sessions
 
-  // All events that came since the last time.
-  std::vector<Event> drain() {
+  // What came and was sent so far, of all sessions.
+  std::map<std::string, long> counts() {
+    const Counts& all = counts_;
+    return {{"received", all.received}, {"sent", all.sent}, {"rejects", all.rejects}, {"resends", all.resends}};
+  }
+
+  // All that happened to sessions since the last time, but for what they said.
+  std::vector<Event> events() {
     std::vector<Kept> taken;
     taken.swap(events_);
     std::vector<Event> found;
@@ -166,30 +309,57 @@ class Engine : public FIX::Application, FIX::LogFactory {
     return found;
   }
 
-  // Stores a message under the next number and sends it, or leaves it to a later resend. Raises where it couldn't be
-  // stored.
-  void send(const std::string& session, const std::string& type, const Pairs& pairs, const std::vector<Group>& groups) {
-    FIX::Message message;
-    message.getHeader().setField(FIX::FIELD::MsgType, type);
-    for (auto& pair : pairs) {
-      if (pair.first == FIX::FIELD::PossResend) message.getHeader().setField(pair.first, pair.second);
-      else message.setField(pair.first, pair.second);
-    }
-    for (auto& group : groups) {
-      for (auto& row : std::get<2>(group)) {
-        FIX::Group entry(std::get<0>(group), std::get<1>(group));
-        for (auto& pair : row) entry.setField(pair.first, pair.second);
-        message.addGroup(entry);
-      }
-    }
-    if (!FIX::Session::sendToTarget(message, ids_.at(session))) throw std::runtime_error("not stored: " + session);
+  // All messages that sessions sent since the last time, in their order.
+  std::vector<Said> said() {
+    std::vector<Said> found;
+    found.swap(said_);
+    return found;
   }
 
+  // All messages that were stored since the last time, in their order.
+  std::vector<Stored> stored() {
+    std::vector<Stored> found;
+    for (auto& each : stores_.fresh) found.emplace_back(each.session, each.number, py::bytes(each.text));
+    stores_.fresh.clear();
+    return found;
+  }
+
+  // Stores a message under the next number and sends it, or leaves it to a later resend: the number. Where that is
+  // `known`, it isn't among those that were `stored`, and says that it was sent at this time. Raises where it couldn't
+  // be stored.
+  int send(
+      const std::string& session, const std::string& type, const py::list& pairs, const std::vector<Group>& groups,
+      int known, const std::string& time) {
+    FIX::Session& to = of(session);
+    const int number = to.getExpectedSenderNum();
+    FIX::Message message;
+    fill(message, type, pairs, groups);
+    const auto kept = stores_.stores.find(to.getSessionID());
+    if (kept != stores_.stores.end()) kept->second->known = known;
+    time_ = number == known ? time : "";
+    if (!to.send(message)) throw std::runtime_error("not stored: " + session);
+    return number;
+  }
+
+  // Stores a message of a session that is on no connection under this number, by which it may have been sent in an
+  // earlier run, at this time; the next number is none below.
+  void store(
+      const std::string& session, int number, const std::string& type, const py::list& pairs, const std::string& time) {
+    if (taken_.count(&of(session))) throw std::runtime_error("on a connection: " + session);
+    FIX::Message message;
+    fill(message, type, pairs, {});
+    message.getHeader().setField(FIX::FIELD::SendingTime, time);
+    restore(session, number, addressed(message, ids_.at(session), number));
+  }
+
+  int next(const std::string& session) { return of(session).getExpectedSenderNum(); }
+  void set_next(const std::string& session, int number) { of(session).setNextSenderMsgSeqNum(number); }
   int expected(const std::string& session) { return of(session).getExpectedTargetNum(); }
   void set_expected(const std::string& session, int number) { of(session).setNextTargetMsgSeqNum(number); }
   bool is_logged_on(const std::string& session) { return of(session).isLoggedOn(); }
 
-  // Both numbers are 1 again, and the store is empty. Raises where a session is on a connection.
+  // Both numbers are 1 again, and the store is empty: nothing of it is `stored`, nor the Logout by which QuickFIX ends
+  // what was. Raises where a session is on a connection.
   void begin_anew(const std::string& session) {
     if (taken_.count(&of(session))) throw std::runtime_error("on a connection: " + session);
     KeptStore& store = *stores_.stores.at(ids_.at(session));
@@ -201,6 +371,9 @@ class Engine : public FIX::Application, FIX::LogFactory {
       throw;
     }
     store.may_begin_anew = false;
+    auto& fresh = stores_.fresh;
+    const auto is_of_it = [&](const Fresh& each) { return each.session == session; };
+    fresh.erase(std::remove_if(fresh.begin(), fresh.end(), is_of_it), fresh.end());
   }
 
   // All messages of the store after this number, in their order.
@@ -212,9 +385,7 @@ class Engine : public FIX::Application, FIX::LogFactory {
 
   // Puts a message that was sent in an earlier run back into the store.
   void restore(const std::string& session, int number, const std::string& text) {
-    KeptStore& store = *stores_.stores.at(ids_.at(session));
-    store.set(number, text);
-    store.setNextSenderMsgSeqNum(number + 1);
+    stores_.stores.at(ids_.at(session))->restore(number, text);
   }
 
   // ---- what QuickFIX calls
@@ -223,14 +394,20 @@ class Engine : public FIX::Application, FIX::LogFactory {
   void onLogon(const FIX::SessionID& id) override { put("logon", id.toString(), ""); }
   void onLogout(const FIX::SessionID& id) override { put("logout", id.toString(), ""); }
 
-  // A type of messages that isn't spoken here is no fault of the session: BusinessMessageReject says so.
+  // A type of messages that isn't spoken here is no fault of the session: BusinessMessageReject says so. A tag of the
+  // standard that isn't is none of the message.
   void toAdmin(FIX::Message& message, const FIX::SessionID& id) override {
     const std::string type = message.getHeader().getField(FIX::FIELD::MsgType);
     if (initiator_ && type == "A") message.setField(FIX::FIELD::Password, password_);
     if (acceptor_ && type == "A" && cancelling_.count(id)) message.setField(cancels_on_disconnect, "Y");
-    const std::string unknown = std::to_string(FIX::SessionRejectReason_INVALID_MSGTYPE);
-    if (type != "3" || !message.isSetField(FIX::FIELD::SessionRejectReason)) return;
-    if (message.getField(FIX::FIELD::SessionRejectReason) != unknown) return;
+    if (type == "5" && !ends_.empty() && !message.isSetField(FIX::FIELD::Text)) message.setField(FIX::Text(ends_));
+    ends_.clear();
+    if (type != reject || !message.isSetField(FIX::FIELD::SessionRejectReason)) return;
+    const int reason = std::stoi(message.getField(FIX::FIELD::SessionRejectReason));
+    if (reason == FIX::SessionRejectReason_COMPID_PROBLEM) ends_ = wrong_ids;
+    if (reason == FIX::SessionRejectReason_SENDINGTIME_ACCURACY_PROBLEM) ends_ = wrong_time;
+    if (reason == FIX::SessionRejectReason_INVALID_TAG_NUMBER) tell_other_tag(message);
+    if (reason != FIX::SessionRejectReason_INVALID_MSGTYPE) return;
     message.getHeader().setField(FIX::FIELD::MsgType, "j");
     message.removeField(FIX::FIELD::SessionRejectReason);
     message.setField(FIX::FIELD::BusinessRejectReason, unsupported);
@@ -238,21 +415,31 @@ class Engine : public FIX::Application, FIX::LogFactory {
 
   // What a market was long ago isn't sent again.
   void toApp(FIX::Message& message, const FIX::SessionID&) throw(FIX::DoNotSend) override {
-    const std::string type = message.getHeader().getField(FIX::FIELD::MsgType);
-    if (message.getHeader().isSetField(FIX::FIELD::PossDupFlag) && passing_types.count(type)) throw FIX::DoNotSend();
+    FIX::Header& header = message.getHeader();
+    const std::string type = header.getField(FIX::FIELD::MsgType);
+    if (header.isSetField(FIX::FIELD::PossDupFlag) && passing_types.count(type)) throw FIX::DoNotSend();
+    if (type == reject_again) header.setField(FIX::MsgType(reject));
+    if (!time_.empty()) header.setField(FIX::FIELD::SendingTime, time_);
+    time_.clear();
   }
   // A gap in place of messages says that they won't come again.
   void fromAdmin(const FIX::Message& message, const FIX::SessionID& id)
       throw(FIX::FieldNotFound, FIX::IncorrectDataFormat, FIX::IncorrectTagValue, FIX::RejectLogon) override {
-    if (acceptor_ && message.getHeader().getField(FIX::FIELD::MsgType) == "4")
-      put("message", id.toString(), message.toString());
+    if (!acceptor_) return;
+    const std::string type = message.getHeader().getField(FIX::FIELD::MsgType);
+    if (type == "4") {
+      check_gap(message, of(id.toString()));
+      say(message, id);
+    }
+    if (type == "2") check_range(message, of(id.toString()));
   }
   void fromApp(const FIX::Message& message, const FIX::SessionID& id) throw(
       FIX::FieldNotFound, FIX::IncorrectDataFormat, FIX::IncorrectTagValue, FIX::UnsupportedMessageType) override {
     const std::string type = message.getHeader().getField(FIX::FIELD::MsgType);
     if (acceptor_ && type == "j") return;  // to a refusal nothing is said
     if (acceptor_ && !taken_types.count(type)) throw FIX::UnsupportedMessageType();
-    put("message", id.toString(), message.toString());
+    if (acceptor_) check_groups(message);
+    say(message, id);
   }
 
  private:
@@ -279,10 +466,10 @@ class Engine : public FIX::Application, FIX::LogFactory {
         return false;
       }
       wire.unread = 0;
-      const bool is_first = !wire.session;
-      if (is_first && !begins(wire, text)) wire.is_closed = true;
-      else wire.session->next(text, FIX::UtcTimeStamp());
-      if (is_first && !wire.is_closed && wire.out.empty()) say_why(wire, text);
+      ++counts_.received;
+      if (!wire.session) wire.is_closed = !begins(wire, text) || !takes_logon(wire, text);
+      else if (acceptor_ && type_of(text) == "A") wire.is_closed = !say_why(wire, logged_on);
+      else if (!acceptor_ || has_head(text) || is_passed(wire, text)) wire.session->next(text, FIX::UtcTimeStamp());
     } catch (FIX::InvalidMessage&) {
       wire.is_closed = !wire.session || !wire.session->isLoggedOn();
     } catch (FIX::Exception&) {
@@ -291,18 +478,108 @@ class Engine : public FIX::Application, FIX::LogFactory {
     return true;
   }
 
-  // Ends a connection whose Logon has the right password and is none that can be taken, with a Logout that says why:
-  // QuickFIX would say nothing.
-  void say_why(Wire& wire, const std::string& text) {
-    FIX::Message message;
-    message.getHeader().setField(FIX::FIELD::MsgType, "5");
-    message.setField(FIX::FIELD::Text, fault_of(*wire.session, text));
-    FIX::Session::sendToTarget(message, wire.session->getSessionID());
-    wire.is_closed = true;
+  // Whether a message has in its head what each must have, as far as a look says, and isn't sent again.
+  static bool has_head(const std::string& text) {
+    for (const char* tag : {"\00149=", "\00152=", "\00156="}) if (text.find(tag) == std::string::npos) return false;
+    return is_count(value_of(text, "34")) && value_of(text, "43") != "Y";
   }
 
-  // What is wrong with a message of the session, by its dictionary.
-  static std::string fault_of(const FIX::Session& session, const std::string& text) {
+  // Whether QuickFIX is to have a message: not one that has no number, which ends the session, nor one whose head has
+  // another fault, which is refused. Raises InvalidMessage where its length or its sum is wrong.
+  bool is_passed(Wire& wire, const std::string& text) {
+    FIX::Message message;
+    message.setString(text, true);
+    FIX::Header& head = message.getHeader();
+    const int tag = FIX::FIELD::MsgSeqNum;
+    const std::string number = head.isSetField(tag) ? head.getField(tag) : "";
+    if (!is_count(number)) {
+      const std::string why = number.empty() ? "MsgSeqNum (34) is missing" : "MsgSeqNum (34) can't be " + number;
+      put("event", wire.session->getSessionID().toString(), why);
+      wire.is_closed = !say_why(wire, why);
+      return false;
+    }
+    const bool is_expected = FIX::IntConvertor::convert(number) == wire.session->getExpectedTargetNum();
+    const Slip slip = slip_of(head, is_expected);
+    if (slip.tag) refuse(*wire.session, head, slip, is_expected);
+    return !slip.tag;
+  }
+
+  // Refuses a message by a Reject, after which the next one is expected.
+  void refuse(FIX::Session& session, const FIX::Header& head, const Slip& slip, bool is_expected) {
+    const std::string number = head.getField(FIX::FIELD::MsgSeqNum), type = head.getField(FIX::FIELD::MsgType);
+    const char* const text = slip.reason == FIX::SessionRejectReason_REQUIRED_TAG_MISSING
+        ? FIX::SessionRejectReason_REQUIRED_TAG_MISSING_TEXT
+        : FIX::SessionRejectReason_SENDINGTIME_ACCURACY_PROBLEM_TEXT;
+    put("event", session.getSessionID().toString(), "Message " + number + " Rejected: " + text);
+    FIX::Message message;
+    message.getHeader().setField(FIX::MsgType(reject));
+    message.setField(FIX::FIELD::RefSeqNum, number);
+    message.setField(FIX::FIELD::RefMsgType, type);
+    message.setField(FIX::RefTagID(slip.tag));
+    message.setField(FIX::SessionRejectReason(slip.reason));
+    message.setField(FIX::Text(text));
+    if (is_expected && type != "4") session.setNextTargetMsgSeqNum(FIX::IntConvertor::convert(number) + 1);
+    session.send(message);
+    ends_.clear();
+  }
+
+  // Takes a Logon that has the right password: whether the connection goes on. Where QuickFIX would end it without a
+  // word, a Logout says why, but to a Logon whose length or sum is wrong.
+  bool takes_logon(Wire& wire, const std::string& text) {
+    const std::string slip = slip_of_logon(text);
+    if (!slip.empty()) {
+      put("event", wire.session->getSessionID().toString(), slip);
+      return say_why(wire, slip);
+    }
+    try {
+      wire.session->next(text, FIX::UtcTimeStamp());
+    } catch (FIX::Exception&) {
+    }
+    if (!wire.out.empty()) return !wire.is_closed;
+    const std::string why = fault_of(*wire.session, text);
+    return !why.empty() && say_why(wire, why);
+  }
+
+  // What is wrong with a Logon that QuickFIX would take, or would say nothing of; empty for nothing, and where its
+  // length or its sum is wrong.
+  static std::string slip_of_logon(const std::string& text) {
+    FIX::Message message;
+    try {
+      message.setString(text, true);
+    } catch (FIX::InvalidMessage&) {
+      return "";
+    }
+    const FIX::Header& head = message.getHeader();
+    for (const int tag : {FIX::FIELD::MsgSeqNum, FIX::FIELD::SendingTime})
+      if (!head.isSetField(tag)) return named(FIX::RequiredTagMissing(tag), tag);
+    const int number = FIX::FIELD::MsgSeqNum, beats = FIX::FIELD::HeartBtInt;
+    const std::string first = head.getField(number), often = message.isSetField(beats) ? message.getField(beats) : "";
+    if (!first.empty() && !is_count(first)) return named(FIX::IncorrectDataFormat(number, first), number);
+    const bool is_whole = !often.empty() && often.find_first_not_of("-0123456789") == std::string::npos;
+    return is_whole && !is_count(often) ? "HeartBtInt (108) is " + often + ", and may be" + seconds : "";
+  }
+
+  // Sends a Logout that says why the connection ends: false.
+  static bool say_why(Wire& wire, const std::string& why) {
+    FIX::Message message;
+    message.getHeader().setField(FIX::FIELD::MsgType, "5");
+    message.setField(FIX::FIELD::Text, why);
+    wire.session->setResponder(&wire);
+    FIX::Session::sendToTarget(message, wire.session->getSessionID());
+    return false;
+  }
+
+  // Why QuickFIX takes no message of a session: its time, or what its dictionary finds.
+  static std::string fault_of(FIX::Session& session, const std::string& text) {
+    FIX::Message header;
+    header.setString(text, false);
+    try {
+      FIX::SendingTime time;
+      header.getHeader().getField(time);
+      const FIX::UtcTimeStamp now;
+      if (std::labs(now - time) > session.getMaxLatency()) return off_time(now, session.getMaxLatency());
+    } catch (FIX::Exception&) {  // which the dictionary finds too
+    }
     const FIX::BeginString begin(session.getSessionID().getBeginString());
     const FIX::DataDictionary& known = session.getDataDictionaryProvider().getSessionDataDictionary(begin);
     try {
@@ -314,9 +591,14 @@ class Engine : public FIX::Application, FIX::LogFactory {
     } catch (FIX::IncorrectDataFormat& it) { return named(it, it.field);
     } catch (FIX::TagOutOfOrder& it) { return named(it, it.field);
     } catch (FIX::RepeatedTag& it) { return named(it, it.field);
+    } catch (FIX::InvalidMessage&) { return "";
     } catch (FIX::Exception& it) { return it.what();
     }
     return "this Logon can't be taken";
+  }
+  static std::string off_time(const FIX::UtcTimeStamp& now, int seconds) {
+    return "SendingTime (52) is more than " + std::to_string(seconds) + " s from the venue's, which is " +
+        FIX::UtcTimeStampConvertor::convert(now, 0) + " UTC: set the clock";
   }
   static std::string named(const FIX::Exception& fault, int field) {
     return fault.what() + std::string(": ") + std::to_string(field);
@@ -328,14 +610,17 @@ class Engine : public FIX::Application, FIX::LogFactory {
     FIX::Message message;
     message.setString(text, false);
     FIX::Session* found = FIX::Session::lookupSession(text, true);
-    if (!found) return refused("an unknown CompID");
+    if (!found) return refused("no session is " + sides_of(text));
     const std::string name = found->getSessionID().toString();
     const std::string type = message.getHeader().getField(FIX::FIELD::MsgType);
-    if (type != "A" || !message.isSetField(FIX::FIELD::Password)) return refused("no Logon with a Password: " + name);
-    if (!accepts_(name, py::bytes(message.getField(FIX::FIELD::Password)))) return refused("a wrong Password: " + name);
-    if (taken_.count(found)) return refused("the session is on another connection: " + name);
-    if (is_set(message, FIX::FIELD::ResetSeqNumFlag))
-      return refused("ResetSeqNumFlag, and sequence numbers are kept for the day: " + name);
+    if (type != "A" || !message.isSetField(FIX::FIELD::Password)) return refused("no Logon with a Password", name);
+    const py::bytes password(message.getField(FIX::FIELD::Password));
+    if (!accepts_(name, password)) return refused("a wrong Password, or it can't be taken yet", name);
+    if (taken_.count(found)) return refused("the session is on another connection", name);
+    if (is_set(message, FIX::FIELD::ResetSeqNumFlag)) {
+      wire.out = reset_refusal(found->getSessionID());
+      return refused("ResetSeqNumFlag, and sequence numbers are kept for the day", name);
+    }
     const bool cancels = is_set(message, cancels_on_disconnect);
     cancelling_.erase(found->getSessionID());
     if (cancels) cancelling_.insert(found->getSessionID());
@@ -345,19 +630,141 @@ class Engine : public FIX::Application, FIX::LogFactory {
     if (wire.session) taken_.insert(wire.session);
     return wire.session;
   }
+  // The Logout for a Logon that would reset the numbers. Whoever sends that has reset its own and expects 1; nothing of
+  // it is kept, so the session goes on as it was.
+  static std::string reset_refusal(const FIX::SessionID& id) {
+    FIX::Message message;
+    message.getHeader().setField(FIX::MsgType("5"));
+    message.getHeader().setField(FIX::SendingTime(FIX::UtcTimeStamp(), 3));
+    message.setField(FIX::Text(no_reset));
+    return addressed(message, id, 1);
+  }
+
   static bool is_set(const FIX::Message& message, int tag) {
     return message.isSetField(tag) && message.getField(tag) == "Y";
   }
-  bool refused(const std::string& why) {
-    put("event", "", "a Logon is refused: " + why);
+  // Between whom a first message is, and in which version, without what isn't plain.
+  static std::string sides_of(const std::string& text) {
+    const std::string begin = text.substr(2, text.find('\001') - 2);
+    const std::string sender = value_of(text, "49"), target = value_of(text, "56"), from = " from ", to = " to ";
+    std::string found;
+    for (const std::string& part : {begin, from, sender, to, target})
+      for (const char letter : part.substr(0, most_shown)) found += letter < ' ' || letter > '~' ? '?' : letter;
+    return found;
+  }
+  bool refused(const std::string& why, const std::string& session = "") {
+    put("event", session, "a Logon is refused: " + why);
     return false;
+  }
+
+  // Says of a Reject for a tag of the standard that it isn't defined for that message.
+  static void tell_other_tag(FIX::Message& message) {
+    const int tag = message.isSetField(FIX::FIELD::RefTagID) ? std::stoi(message.getField(FIX::FIELD::RefTagID)) : 0;
+    if (tag < 1 || tag > last_tag) return;
+    message.setField(FIX::SessionRejectReason(FIX::SessionRejectReason_TAG_NOT_DEFINED_FOR_THIS_MESSAGE_TYPE));
+    message.setField(FIX::Text(FIX::SessionRejectReason_TAG_NOT_DEFINED_FOR_THIS_MESSAGE_TYPE_TEXT));
+  }
+
+  // Raises where a ResendRequest asks for numbers under which nothing was sent, or for none.
+  static void check_range(const FIX::Message& message, FIX::Session& session) {
+    const int begin = FIX::IntConvertor::convert(message.getField(FIX::FIELD::BeginSeqNo));
+    const int end = FIX::IntConvertor::convert(message.getField(FIX::FIELD::EndSeqNo));
+    if (begin < 1 || begin >= session.getExpectedSenderNum()) throw FIX::IncorrectTagValue(FIX::FIELD::BeginSeqNo);
+    if (end != 0 && end < begin) throw FIX::IncorrectTagValue(FIX::FIELD::EndSeqNo);
+  }
+
+  // Raises where a SequenceReset would lower the number that is expected, or a gap has no length.
+  static void check_gap(const FIX::Message& message, FIX::Session& session) {
+    const std::string end = message.getField(FIX::FIELD::NewSeqNo);
+    const int expected = session.getExpectedTargetNum();
+    const int least = expected + is_set(message, FIX::FIELD::GapFillFlag);
+    if (!is_count(end) || FIX::IntConvertor::convert(end) < least) throw FIX::IncorrectTagValue(FIX::FIELD::NewSeqNo);
+  }
+
+  // Raises where a group has no row: by the standard a count is positive.
+  static void check_groups(const FIX::Message& message) {
+    for (const int tag : {FIX::FIELD::NoMDEntryTypes, FIX::FIELD::NoRelatedSym})
+      if (message.isSetField(tag) && FIX::IntConvertor::convert(message.getField(tag)) < 1)
+        throw FIX::IncorrectTagValue(tag);
+  }
+
+  // A session says this: its fields by their tags, the last one of each, and those of groups in their order.
+  void say(const FIX::Message& message, const FIX::SessionID& id) {
+    py::dict fields;
+    py::list rows;
+    for (auto& field : message.getHeader()) fields[py::int_(field.getTag())] = text_of(field);
+    for (auto& field : message) fields[py::int_(field.getTag())] = text_of(field);
+    add_rows(message, fields, rows);
+    said_.emplace_back(id.toString(), std::move(fields), std::move(rows));
+  }
+  static void add_rows(const FIX::FieldMap& of, py::dict& fields, py::list& rows) {
+    for (auto group = of.g_begin(); group != of.g_end(); ++group) {
+      for (auto* row : group->second) {
+        for (auto& field : *row) {
+          fields[py::int_(field.getTag())] = text_of(field);
+          rows.append(py::make_tuple(field.getTag(), text_of(field)));
+        }
+        add_rows(*row, fields, rows);
+      }
+    }
+  }
+  static py::object text_of(const FIX::FieldBase& field) {
+    const std::string& text = field.getString();
+    return py::reinterpret_steal<py::object>(PyUnicode_DecodeLatin1(text.data(), text.size(), nullptr));
+  }
+  // Sets the type of a message, its fields and its groups.
+  static void fill(
+      FIX::Message& message, const std::string& type, const py::list& pairs, const std::vector<Group>& groups) {
+    message.getHeader().setField(FIX::FIELD::MsgType, type);
+    set_fields(message, pairs);
+    if (message.isSetField(FIX::FIELD::PossResend)) {
+      message.getHeader().setField(message.getFieldRef(FIX::FIELD::PossResend));
+      message.removeField(FIX::FIELD::PossResend);
+    }
+    for (auto& group : groups) {
+      for (auto& row : std::get<2>(group)) {
+        FIX::Group entry(std::get<0>(group), std::get<1>(group), order_of(row).data());
+        set_fields(entry, row);
+        message.addGroup(entry);
+      }
+    }
+  }
+  // The tags of a row of a group in their order, in which they are sent, as QuickFIX takes it: 0 ends it.
+  static std::vector<int> order_of(const py::list& row) {
+    std::vector<int> order;
+    for (const py::handle each : row) order.push_back(py::reinterpret_borrow<py::tuple>(each)[0].cast<int>());
+    order.push_back(0);
+    return order;
+  }
+  // Sets fields to texts of Python, those of small tags first: QuickFIX keeps them so, and would move all others.
+  static void set_fields(FIX::FieldMap& fields, const py::list& pairs) {
+    std::vector<std::pair<int, py::handle>> sorted;
+    sorted.reserve(pairs.size());
+    for (const py::handle each : pairs) {
+      const auto pair = py::reinterpret_borrow<py::tuple>(each);
+      sorted.emplace_back(pair[0].cast<int>(), pair[1]);
+    }
+    const auto is_before = [](auto& one, auto& other) { return one.first < other.first; };
+    std::stable_sort(sorted.begin(), sorted.end(), is_before);
+    for (auto& each : sorted) fields.setField(each.first, latin(each.second));
+  }
+  // The bytes in Latin-1 of a text of Python.
+  static std::string latin(py::handle text) {
+    if (PyUnicode_Check(text.ptr()) && PyUnicode_IS_COMPACT_ASCII(text.ptr())) {
+      const auto* begin = reinterpret_cast<const char*>(PyUnicode_1BYTE_DATA(text.ptr()));
+      return std::string(begin, PyUnicode_GET_LENGTH(text.ptr()));
+    }
+    PyObject* bytes = PyUnicode_AsEncodedString(text.ptr(), "latin-1", "replace");
+    if (!bytes) throw py::error_already_set();
+    return py::reinterpret_steal<py::bytes>(bytes);
   }
 
   void put(const char* what, const std::string& session, const std::string& text) {
     events_.push_back({what, session, text});
   }
   FIX::Session& of(const std::string& session) {
-    FIX::Session* found = FIX::Session::lookupSession(ids_.at(session));  // one of its name in a process
+    FIX::Session*& found = sessions_[session];
+    if (!found) found = FIX::Session::lookupSession(ids_.at(session));  // one of its name in a process
     if (!found) throw std::runtime_error("no session: " + session);
     return *found;
   }
@@ -367,11 +774,15 @@ class Engine : public FIX::Application, FIX::LogFactory {
   KeptStores stores_;
   FIX::FileStoreFactory files_;  // an initiator's
   Accepts accepts_;
-  std::string password_;
+  std::string password_, time_;  // of a Logon, and of what is sent now
+  std::string ends_;  // what a Logout says that follows a Reject
   std::vector<Kept> events_;
+  std::vector<Said> said_;
   std::map<std::string, FIX::SessionID> ids_;
+  std::unordered_map<std::string, FIX::Session*> sessions_;
   std::set<FIX::Session*> taken_;  // those that are on a connection
   std::set<FIX::SessionID> cancelling_;  // those whose orders end with their connection
+  Counts counts_;
   int last_ = 0;
   std::map<int, std::unique_ptr<Wire>> wires_;
   std::unique_ptr<Accepting> acceptor_;
@@ -391,9 +802,15 @@ PYBIND11_MODULE(_quickfix, module) {
       .def("session_on", &Engine::session_on)
       .def("tick", &Engine::tick)
       .def("log_out", &Engine::log_out)
-      .def("drain", &Engine::drain)
+      .def("counts", &Engine::counts)
+      .def("events", &Engine::events)
+      .def("said", &Engine::said)
+      .def("stored", &Engine::stored)
       .def("send", &Engine::send, py::arg("session"), py::arg("type"), py::arg("pairs"),
-           py::arg("groups") = std::vector<Group>())
+           py::arg("groups") = std::vector<Group>(), py::arg("known") = 0, py::arg("time") = "")
+      .def("store", &Engine::store)
+      .def("next", &Engine::next)
+      .def("set_next", &Engine::set_next)
       .def("expected", &Engine::expected)
       .def("set_expected", &Engine::set_expected)
       .def("is_logged_on", &Engine::is_logged_on)

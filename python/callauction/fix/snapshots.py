@@ -4,6 +4,7 @@ from collections.abc import Sequence
 from callauction.fix.tags import Pairs, Tag
 from callauction.venue import views
 from callauction.venue.instrument import Instrument
+from callauction.venue.phases import Phase
 
 TYPES = PRICE, VOLUME, IMBALANCE, BID, ASK = "Q", "B", "A", "0", "1"
 """MDEntryType of what is indicated; Q is of FIX 5.0."""
@@ -15,8 +16,10 @@ Rows = dict[str, Pairs]
 
 def rows_of(board: Instrument, levels: Sequence[views.Level]) -> Rows:
     """All that a board indicates: price, volume and surplus, or the best limits without a price,
-    with their shares where the levels of its book are given.
+    with their shares where the levels of its book are given; nothing on a day that is over.
     """
+    if board.state.phase is Phase.OVER:
+        return {}
     price, it = board.terms.price, board.indication
     rows: list[Pairs] = []
     if it.price is not None:

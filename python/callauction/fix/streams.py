@@ -24,14 +24,21 @@ class Stream:
         self._entries: asyncio.Queue[tuple[Message, Entry]] = asyncio.Queue()
         self._place = self._trades = 0
         self._waiting: list[tuple[int, asyncio.Future[None]]] = []
+        self._is_free = False
 
     def put(self, message: Message, entry: Entry) -> None:
-        """The board has one entry more."""
-        self._entries.put_nowait((message, entry))
+        """The board has one entry more: what a member's came to is sent at once where nothing is
+        before it.
+        """
+        if self._is_free and message.member != OPERATOR:
+            self._entered(message, entry)
+        else:
+            self._is_free = False
+            self._entries.put_nowait((message, entry))
 
     async def until_now(self) -> None:
         """Waits until all entries so far were sent."""
-        if self._place < self.board.engine.count:
+        while self._place < self.board.engine.count:
             reached: asyncio.Future[None] = asyncio.get_running_loop().create_future()
             self._waiting.append((self.board.engine.count, reached))
             await reached
@@ -45,12 +52,19 @@ class Stream:
     async def run(self) -> None:
         """Sends what entries came to; what comes after an uncross waits for what that did."""
         while True:
+            self._is_free = self._entries.empty()
             message, entry = await self._entries.get()
             if message.member != OPERATOR:
-                self._tell(self.orders.take(message, entry))
-            elif UNCROSSED.match(entry.reply):
+                self._entered(message, entry)
+                continue
+            if UNCROSSED.match(entry.reply):
                 await self._uncrossed(entry.place)
             self._reach(entry.place)
+
+    def _entered(self, message: Message, entry: Entry) -> None:
+        """Sends what the entry of a member came to."""
+        self._tell(self.orders.take(message, entry))
+        self._reach(entry.place)
 
     async def _uncrossed(self, place: int) -> None:
         """Sends what an uncross did."""
@@ -68,6 +82,8 @@ class Stream:
     def _reach(self, place: int) -> None:
         """All up to this entry were sent."""
         self._place = place
+        if not self._waiting:
+            return
         for number, reached in [*self._waiting]:
             if number <= place and not reached.done():
                 reached.set_result(None)

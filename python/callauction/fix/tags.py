@@ -1,7 +1,7 @@
 """Messages by FIX as pairs of tags and values, and the values that the venue uses."""
 import enum
+import functools
 import time
-from collections.abc import Iterable
 
 
 class Tag(enum.IntEnum):
@@ -23,6 +23,7 @@ class Tag(enum.IntEnum):
     ORD_STATUS = 39
     ORD_TYPE = 40
     ORIG_CL_ORD_ID = 41
+    POSS_DUP = 43
     PRICE = 44
     REF_SEQ_NUM = 45
     SIDE = 54
@@ -41,6 +42,7 @@ class Tag(enum.IntEnum):
     LEAVES_QTY = 151
     MD_REQ_ID = 262
     SUBSCRIPTION_REQUEST_TYPE = 263
+    MARKET_DEPTH = 264
     MD_UPDATE_TYPE = 265
     NO_MD_ENTRIES = 268
     MD_ENTRY_TYPE = 269
@@ -73,6 +75,7 @@ class Tag(enum.IntEnum):
     MASS_STATUS_REQ_ID = 584
     MASS_STATUS_REQ_TYPE = 585
     TRADING_SESSION_SUB_ID = 625
+    ORD_STATUS_REQ_ID = 790
     TRD_MATCH_ID = 880
     TOT_NUM_REPORTS = 911
     LAST_RPT_REQUESTED = 912
@@ -118,10 +121,12 @@ class Status(enum.StrEnum):
     NEW = "0"
     PARTLY = "1"
     FILLED = "2"
-    DONE = "3"
     CANCELED = "4"
+    PENDING_CANCEL = "6"
     REJECTED = "8"
+    PENDING_NEW = "A"
     EXPIRED = "C"
+    PENDING_REPLACE = "E"
 
 
 class Exec(enum.StrEnum):
@@ -136,7 +141,9 @@ FIX44, FIXT = "FIX.4.4", "FIXT.1.1"
 """How a message begins: of FIX 4.4, and of FIX 5.0SP2 over its own transport."""
 Pairs = list[tuple[int, str]]
 Groups = list[tuple[int, int, list[Pairs]]]
-"""Groups of a message: the tag that counts its rows, the first tag of each, the rows."""
+"""Groups of a message: the tag that counts its rows, the first tag of each, the rows, whose tags
+are in the dictionary's order.
+"""
 Given = dict[int, str]
 """A message by its tags, the last one of each."""
 SIDES = {"1": "bid", "2": "ask"}
@@ -161,6 +168,11 @@ REJECTS = ("3", "j")
 """Messages by which a session, or QuickFIX for it, refuses another one."""
 
 
+def number_of(text: bytes) -> int:
+    """The MsgSeqNum of a message."""
+    return int(text.partition(b"\x0134=")[2].partition(b"\x01")[0])
+
+
 def pairs_of(text: bytes) -> Pairs:
     """The tags and values of a message, in their order."""
     parts = (it.partition("=") for it in text.decode("latin-1").split(SOH))
@@ -176,7 +188,11 @@ def refusal_of(comp_id: str, number: object, epoch: int) -> str:
 
 def event_of(text: bytes, comp_id: str, epoch: int) -> str:
     """The id of what a message to a session says, empty where it has none."""
-    given: Given = dict(pairs_of(text))
+    return event_in(dict(pairs_of(text)), comp_id, epoch)
+
+
+def event_in(given: Given, comp_id: str, epoch: int) -> str:
+    """The id of what a message to a session says, by its fields; empty where it has none."""
     kind = given.get(Tag.MSG_TYPE, "")
     if kind in REJECTS:
         return refusal_of(comp_id, given.get(Tag.REF_SEQ_NUM, 0), epoch)
@@ -199,11 +215,13 @@ def body_of(pairs: Pairs) -> tuple[Pairs, Groups]:
     return body[:place] + body[end:], [(int(Tag.NO_SIDES), int(Tag.SIDE), rows)]
 
 
-def packed(pairs: Iterable[tuple[int, str]]) -> list[tuple[int, bytes]]:
-    """Pairs as they are sent."""
-    return [(int(tag), value.encode("latin-1", "replace")) for tag, value in pairs]
+def now(ago: int = 0) -> str:
+    """The time so many seconds ago as FIX has it, to a millisecond."""
+    second, part = divmod(int(time.time() * 1000), 1000)
+    return f"{time_of(second - ago)}.{part:03}"
 
 
-def now() -> str:
-    """The time as FIX has it, in seconds."""
-    return time.strftime("%Y%m%d-%H:%M:%S", time.gmtime())
+@functools.lru_cache(2)
+def time_of(second: int) -> str:
+    """A second of the epoch as FIX has it."""
+    return time.strftime("%Y%m%d-%H:%M:%S", time.gmtime(second))

@@ -15,7 +15,7 @@ RESERVE = ("--reserve", "0")
 """Each command of the journal was taken, those that were kept for the operator too."""
 MOST_SECONDS = 60.0
 """How long the program may take."""
-Open = dict[int, views.OpenOrder]
+Open = dict[int, views.MemberOrder]
 
 
 @dataclasses.dataclass(frozen=True)

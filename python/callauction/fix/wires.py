@@ -2,6 +2,7 @@
 and it takes no more than a share of the time.
 """
 import asyncio
+import time
 from typing import Protocol
 
 from callauction.fix._quickfix import Engine
@@ -9,7 +10,6 @@ from callauction.fix.seats import Seat
 from callauction.venue import shown
 from callauction.venue.gates import Gate, Gates
 from callauction.venue.members import Member
-from callauction.venue.messages import ERRORS
 
 MOST_UNSENT = 1 << 24
 """Bytes that a connection may leave unread; then it ends, and the store has the rest."""
@@ -34,8 +34,11 @@ class Host(Protocol):
     def connected(self, wire: "Wire") -> int:
         """A connection has come: its number."""
 
-    def heard(self, number: int) -> Seat | None:
-        """Something was said on a connection: whose it is."""
+    def heard(self, wire: "Wire") -> Seat | None:
+        """Something was said on a connection, which is to be taken: whose it is."""
+
+    def take(self) -> None:
+        """Takes what sessions have said."""
 
     def begun(self, wire: "Wire") -> None:
         """A connection is somebody's now."""
@@ -45,6 +48,9 @@ class Host(Protocol):
 
     def has_news(self) -> None:
         """Something has changed that a session asked for."""
+
+    def leave(self, wire: "Wire", code: str) -> None:
+        """Ends the session of a connection, for one of the ERRORS of messages."""
 
 
 class Wire(asyncio.Protocol):
@@ -72,21 +78,27 @@ class Wire(asyncio.Protocol):
 
     def data_received(self, data: bytes) -> None:
         """It says this."""
-        loop = asyncio.get_running_loop()
         self._is_asked = False
         self._gate.is_held = True
-        begin = loop.time()
+        begin = time.thread_time()  # others may have the processor meanwhile
         self._is_left = self._is_full = self._host.engine.feed(self.number, data)
-        took = loop.time() - begin
+        took = time.thread_time() - begin
         if took > MOST_TOOK:
+            loop = asyncio.get_running_loop()
             self._rests_until = loop.time() + BUSY_SHARE * took
             loop.call_later(BUSY_SHARE * took, self.go_on)
-        seat = self._host.heard(self.number)
+        seat = self._host.heard(self)
         if seat is not None and self.seat is None:
             self._begun(seat)
         if seat is not None and seat.is_busy:
             self._gate.untaken = 0
+        self._host.take()
         self.go_on()
+
+    @property
+    def address(self) -> str:
+        """From where it came."""
+        return self._gate.address
 
     def _begun(self, seat: Seat) -> None:
         """It is somebody's now."""
@@ -103,14 +115,19 @@ class Wire(asyncio.Protocol):
 
     def go_on(self) -> None:
         """Reads on, where it may."""
-        is_resting = asyncio.get_running_loop().time() < self._rests_until
         is_busy = self.seat is not None and self.seat.is_busy
-        if self.is_slow or is_resting or is_busy or self._transport.is_closing():
+        if self.is_slow or is_busy or self._is_resting() or self._transport.is_closing():
             return
         if self._is_left:
             self.data_received(b"")
         else:
             self._gate.is_held = False
+
+    def _is_resting(self) -> bool:
+        """Whether others have their turn first."""
+        if self._rests_until and asyncio.get_running_loop().time() >= self._rests_until:
+            self._rests_until = 0.0
+        return self._rests_until > 0.0
 
     def send(self, data: bytes, is_last: bool) -> None:
         """Sends bytes; nothing more is said after the last ones."""
@@ -134,8 +151,7 @@ class Wire(asyncio.Protocol):
     def leave(self, code: str) -> None:
         """Ends its session, for one of the ERRORS of messages."""
         self.is_leaving = True
-        self._host.engine.log_out(self.number, ERRORS[code])
-        self._host.heard(self.number)
+        self._host.leave(self, code)
 
     def is_to_answer(self) -> bool:
         """Whether it is to be asked if somebody is there; it ends where nothing is said in time."""
