@@ -1,37 +1,32 @@
 """The command line of a venue: `python3 -m callauction.venue`; --help has the rest."""
 import argparse
 import asyncio
+import logging
 import os
 import pathlib
 import sys
 
 from callauction import finder
 from callauction.fix.build import MISSING
-from callauction.statuses import BAD_DAY, BAD_FILE, DONE, FAILED, UNLAWFUL
-from callauction.venue import notices, owned
-from callauction.venue.begun import OtherDayError
+from callauction.statuses import DONE
+from callauction.venue import notices, owned, remedies
 from callauction.venue.checking import checked
-from callauction.venue.config import Day
-from callauction.venue.fields import ConfigError
-from callauction.venue.log import LogError, LogInUse
-from callauction.venue.owned import OwnerError
-from callauction.venue.process import ProcessError
-from callauction.venue.recovery import RecoveryError
+from callauction.venue.config import DayTerms
 from callauction.venue.serving import Address, AddressError, Front, serve
-from callauction.venue.tokens import TokenError
 from callauction.venue.venue import Venue
 
+NOTICES = logging.getLogger("callauction.venue")
 FOLDER = "class.venue"
 EPILOG = """statuses: 0 ended by SIGINT or SIGTERM; 1 a bad day file, or a log, a token or a journal
 with a fault; 2 wrong words, an address that can't be listened on, a folder or journal in use, of
-another day, or one that other users own or may write; 3 no program, a read or a write failed, or
-something didn't end in time; 4 a journal with an unlawful reply"""
+another day, or a file of the venue that other users own or may write; 3 no program, a read or a
+write failed, or something didn't end in time; 4 a journal with an unlawful reply"""
 
 
 def arguments() -> argparse.ArgumentParser:
     """What reads the words of the command line."""
     parser = argparse.ArgumentParser(
-        prog="python3 -m callauction.venue",
+        prog="python3 -P -m callauction.venue",
         description="Lets members trade over the network, on the program callboard.",
         epilog=EPILOG,
     )
@@ -42,23 +37,11 @@ def arguments() -> argparse.ArgumentParser:
         metavar="FOLDER",
         help=f"where its journals are, with which it goes on (DAY.venue, or {FOLDER})",
     )
-    parser.add_argument("--listen", default="127.0.0.1", metavar="HOST", help="(127.0.0.1)")
-    parser.add_argument("--port", type=port, default=8080, metavar="N", help="(8080; 0: any)")
-    parser.add_argument(
-        "--name", action="append", default=[], metavar="HOST", help="what members call this machine"
-    )
-    parser.add_argument("--tls-cert", metavar="FILE", help="the certificate, PEM")
-    parser.add_argument("--tls-key", metavar="FILE", help="its key, PEM")
+    add_address(parser)
     parser.add_argument(
         "--check",
         action="store_true",
         help="say what is wrong with the day, the folder and the certificate, and start nothing",
-    )
-    parser.add_argument(
-        "--metrics",
-        type=place,
-        metavar="HOST:PORT",
-        help="serve /healthz and /metrics there, to everybody who reaches it",
     )
     parser.add_argument(
         "--hide-tokens", action="store_true", help="don't print them: files of the folder have them"
@@ -69,13 +52,30 @@ def arguments() -> argparse.ArgumentParser:
         default="text",
         help="what is said on standard error: of faults alone, or of all, as JSON (text)",
     )
+    return parser
+
+
+def add_address(parser: argparse.ArgumentParser) -> None:
+    """Adds the words that say where to listen."""
+    parser.add_argument("--listen", default="127.0.0.1", metavar="HOST", help="(127.0.0.1)")
+    parser.add_argument("--port", type=port, default=8080, metavar="N", help="(8080; 0: any)")
+    parser.add_argument(
+        "--name", action="append", default=[], metavar="HOST", help="what members call this machine"
+    )
+    parser.add_argument("--tls-cert", metavar="FILE", help="the certificate, PEM")
+    parser.add_argument("--tls-key", metavar="FILE", help="its key, PEM")
     parser.add_argument(
         "--insecure",
         action="store_true",
         help="listen beyond this machine without TLS: whoever is on the network can read tokens, "
         "and speak for others",
     )
-    return parser
+    parser.add_argument(
+        "--metrics",
+        type=place,
+        metavar="HOST:PORT",
+        help="serve /healthz and /metrics there, to everybody who reaches it",
+    )
 
 
 def port(text: str) -> int:
@@ -94,18 +94,25 @@ def place(text: str) -> tuple[str, int]:
 
 
 def folder_of(asked: argparse.Namespace) -> pathlib.Path:
-    """The folder of the venue."""
+    """The folder of the venue. Raises AddressError where its name isn't UTF-8, which the program
+    reads alone.
+    """
     default = asked.day.with_suffix(".venue") if asked.day else pathlib.Path(FOLDER)
     found: pathlib.Path = asked.folder or default
+    try:
+        str(found).encode("utf-8")
+    except UnicodeEncodeError:
+        text = f"the name of the folder {str(found)!r} isn't UTF-8: --folder takes another"
+        raise AddressError(text) from None
     return found
 
 
 def run(asked: argparse.Namespace, address: Address, program: str) -> None:
     """Opens the venue and serves it, or checks it. Raises what Venue and serve raise."""
-    day = Day.read(asked.day) if asked.day else Day()
+    day = DayTerms.read(asked.day) if asked.day else DayTerms()
     folder = folder_of(asked)
     if day.fix is not None:
-        address.check_front(day.fix.host)
+        address.check_front(day.fix.host, day.fix.port)
         check_fix()
     if asked.check:
         print("\n".join(checked(day, folder, address, program)))
@@ -157,18 +164,12 @@ def main() -> int:
         program = finder.program()
         run(asked, address, program)
         return DONE
-    except (AddressError, LogInUse, OtherDayError, OwnerError) as fault:
-        text, status = str(fault), BAD_DAY
-    except (ConfigError, LogError, RecoveryError, TokenError) as fault:
-        text, status = str(fault), BAD_FILE
-    except ProcessError as fault:
-        text = fault.text or f"the program ended with status {fault.status}"
-        status = fault.status if BAD_FILE <= fault.status <= UNLAWFUL else FAILED
-    except OSError as fault:
-        named = f"{fault.filename}: {fault.strerror}" if fault.filename else fault.strerror
-        text, status = named or str(fault), FAILED
-    print(f"venue: {text}", file=sys.stderr)
-    return status
+    except remedies.FAULTS as fault:
+        text, status = remedies.said(fault)
+        NOTICES.error("%s", text)
+        return status
+    finally:
+        notices.write_left_out()
 
 
 if __name__ == "__main__":

@@ -33,6 +33,13 @@ def is_same(host: str, other: str) -> bool:
     return False
 
 
+def is_named(host: str, name: str) -> bool:
+    """Whether a certificate that is for this name, or for all of a domain, is for a host."""
+    host, name = host.lower(), name.lower()
+    is_wild = name.startswith("*.") and host.partition(".")[2] == name[2:]
+    return host == name or is_same(host, name) or is_wild
+
+
 def own_addresses(host: str = "::") -> list[str]:
     """The addresses of this machine that others reach when it listens on this host, the best one
     first: that of the default route, then the others, at the end those of virtual interfaces.

@@ -1,10 +1,10 @@
 """How much of an instrument's day one member may have, so that none ends it for the others: open
 orders, their shares and their value, and commands.
 """
-from collections.abc import Iterable
+from collections.abc import Iterable, Mapping
 
 from callauction.venue.bounds import Bound
-from callauction.venue.holdings import Own, changed, entered
+from callauction.venue.holdings import Own, Step, Ways, asked
 from callauction.venue.messages import MessageError
 
 
@@ -15,54 +15,39 @@ def check(
     records that aren't answered, and its commands so far. What takes out or lessens may always be,
     while an order is open.
     """
-    own, waiting = asked(open_, records, high)
-    word, *fields = record.split(",")
-    before = own.get(int(fields[0])) if word in ("change", "delete") else None
-    if calls >= bound.calls and not (word == "delete" and before):
+    if calls >= bound.calls and not takes_out(record, open_, records):
         raise above(f"{bound.calls} commands a day")
-    if word == "enter":
-        check_open(bound, entered(fields), None, [*own.values(), *waiting], high)
-    elif word == "change" and before:
-        others = [it for number, it in own.items() if number != int(fields[0])]
-        check_open(bound, changed(before, fields), before, [*others, *waiting], high)
-
-
-def asked(
-    open_: dict[int, Own], records: list[str], high: int
-) -> tuple[dict[int, Own], list[Own]]:
-    """The open orders, each as large and as dear as records that aren't answered may make it, and
-    the new ones of these records.
-    """
-    own, new = dict(open_), []
-    for record in records:
-        word, *fields = record.split(",")
-        if word == "enter":
-            new.append(entered(fields))
-        elif word == "change" and (before := own.get(int(fields[0]))):
-            own[int(fields[0])] = larger(before, changed(before, fields), high)
-    return own, new
-
-
-def larger(first: Own, second: Own, high: int) -> Own:
-    """An order with the shares and the limit of the one of two that has more of each."""
-    dear = max(first, second, key=lambda it: high if it.limit is None else it.limit)
-    return Own(first.side, max(first.quantity, second.quantity), dear.limit)
-
-
-def check_open(
-    bound: Bound, order: Own, before: Own | None, others: list[Own], high: int
-) -> None:
-    """Raises MessageError where an order can't be open beside others."""
-    if before is None and len(others) >= bound.orders:
+    count = len(open_) + sum(it.startswith("enter") for it in records)
+    if record.startswith("enter") and count >= bound.orders:
         raise above(f"{bound.orders} open orders")
     if bound.quantity is None and bound.value is None:
         return
-    shares, value = sizes([order, *others], high)
-    least_shares, least_value = sizes([before, *others] if before else [], high)
-    if bound.quantity is not None and shares > max(bound.quantity, least_shares):
+    step = Step.of(record, *asked(open_, records))
+    for order in step.after:
+        check_open(bound, order, step, high)
+
+
+def check_last(calls: int, most: int) -> None:
+    """Raises MessageError where a member with these commands may have no more of the last ones."""
+    if calls >= most:
+        raise above(f"{most} commands, while a quarter of the day's is left,")
+
+
+def takes_out(record: str, open_: Mapping[int, Own], records: Iterable[str]) -> bool:
+    """Whether a record deletes an open order, and none that isn't answered does."""
+    word, _, number = record.partition(",")
+    return word == "delete" and int(number) in open_ and record not in records
+
+
+def check_open(bound: Bound, order: Own, step: Step, high: int) -> None:
+    """Raises MessageError where an order can't be open beside others; what lessens it may be."""
+    shares, value = sizes(step.others, high)
+    least_shares = min((it.quantity for it in step.before), default=-1)
+    least_value = min((it.value(high) for it in step.before), default=-1)
+    if bound.quantity is not None and order.quantity > max(bound.quantity - shares, least_shares):
         raise above(f"{bound.quantity} shares in open orders")
-    if bound.value is not None and value > max(bound.value, least_value):
-        raise above("this value of open orders")
+    if bound.value is not None and order.value(high) > max(bound.value - value, least_value):
+        raise above(f"a value of {bound.worth:f} in orders")
 
 
 def above(what: str) -> MessageError:
@@ -70,11 +55,12 @@ def above(what: str) -> MessageError:
     return MessageError("above_limit", f"a member has at most {what} of an instrument")
 
 
-def sizes(orders: Iterable[Own], high: int) -> tuple[int, int]:
-    """The shares of orders, and their value in ticks times shares; at market at the highest tick.
+def sizes(orders: Iterable[Ways], high: int) -> tuple[int, int]:
+    """The most shares of orders, and their greatest value in ticks times shares; at market at the
+    highest tick.
     """
     shares = value = 0
-    for it in orders:
-        shares += it.quantity
-        value += it.quantity * (high if it.limit is None else it.limit)
+    for ways in orders:
+        shares += max(it.quantity for it in ways)
+        value += max(it.value(high) for it in ways)
     return shares, value

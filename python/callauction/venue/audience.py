@@ -38,7 +38,7 @@ class Watcher(Protocol):
 class Audience:
     """The watchers of a venue, whose days, rounds and members they see."""
 
-    day: config.Day
+    day: config.DayTerms
     members: Members
     rounds: list[Round]
     halted: str | None

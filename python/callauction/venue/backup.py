@@ -3,15 +3,14 @@ import argparse
 import pathlib
 import sys
 
-from callauction.statuses import BAD_FILE, DONE, FAILED
+from callauction.statuses import DONE
 from callauction.venue import copies
-from callauction.venue.log import LogError
 
 
 def main() -> int:
     """Copies a day; answers the status."""
     parser = argparse.ArgumentParser(
-        prog="python3 -m callauction.venue.backup",
+        prog="python3 -P -m callauction.venue.backup",
         description="Copies the folder of a venue, which may run meanwhile, as it was at a moment.",
         epilog="statuses: 0 copied; 1 a journal and the log don't fit; 3 a read or a write failed",
     )
@@ -21,13 +20,8 @@ def main() -> int:
     try:
         print(copies.summary(copies.backup(asked.folder, asked.copy)))
         return DONE
-    except (copies.CopyError, LogError) as fault:
-        text, status = str(fault), BAD_FILE
-    except OSError as fault:
-        named = f"{fault.filename}: {fault.strerror}" if fault.filename else fault.strerror
-        text, status = named or str(fault), FAILED
-    print(f"backup: {text}", file=sys.stderr)
-    return status
+    except copies.FAULTS as fault:
+        return copies.said("backup", fault)
 
 
 if __name__ == "__main__":

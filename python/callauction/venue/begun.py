@@ -21,7 +21,7 @@ class OtherDayError(ValueError):
     """A folder was begun with another instrument; the text says what is another."""
 
 
-def kept(day: config.Day) -> Line:
+def kept(day: config.DayTerms) -> Line:
     """What is written down of a day: the terms of its instruments, and a sum of each part."""
     parts = {
         PARTS.get(field.name, field.name): sum_of(getattr(day, field.name))
@@ -35,7 +35,7 @@ def sum_of(part: object) -> str:
     return hashlib.sha256(repr(part).encode("utf-8")).hexdigest()
 
 
-def terms_of(instrument: config.Instrument) -> dict[str, str]:
+def terms_of(instrument: config.InstrumentTerms) -> dict[str, str]:
     """The terms of an instrument by their keys, as texts; prices as the file of a day has them."""
     found = {"tick_size": format(instrument.grid.tick_size.normalize(), "f")}
     for name in TERMS:
@@ -45,7 +45,7 @@ def terms_of(instrument: config.Instrument) -> dict[str, str]:
     return found
 
 
-def changes(day: config.Day, lines: Iterable[Line], folder: pathlib.Path) -> list[str] | None:
+def changes(day: config.DayTerms, lines: Iterable[Line], folder: pathlib.Path) -> list[str] | None:
     """The keys of a day's file that are others than when its folder was last opened; None where the
     log doesn't know a day yet. Raises OtherDayError, and LogError.
     """

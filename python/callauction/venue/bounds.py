@@ -2,7 +2,7 @@
 import dataclasses
 from decimal import Decimal
 
-from callauction.limits import MOST_CALLS, MOST_OPEN
+from callauction.limits import MOST_CALLS, MOST_MEMBERS, MOST_OPEN
 from callauction.venue.fields import Fields
 
 SHARE, LEAST = 8, 64
@@ -13,13 +13,17 @@ MOST_SHARES = 1_000_000_000_000
 @dataclasses.dataclass(frozen=True)
 class Bound:
     """The most that a member may have of one instrument: open orders; their shares, and their value
-    in ticks times shares, None for no bound; commands of the day.
+    in ticks times shares, None for no bound; commands of the day, and of these, None for no bound,
+    while the last quarter is used: as many as each would have if an instrument's members were as
+    many as it takes, at least LEAST, and what shares.py says. `worth` is that value as money.
     """
 
     orders: int
     calls: int
     quantity: int | None = None
     value: int | None = None
+    worth: Decimal = Decimal(0)
+    last_calls: int | None = None
 
 
 @dataclasses.dataclass(frozen=True)
@@ -38,6 +42,8 @@ class Bounds:
             self.calls or max(LEAST, most_calls // SHARE),
             self.quantity or None,
             int(self.value / tick_size) if self.value else None,
+            self.value,
+            None if self.calls else max(LEAST, most_calls // (MOST_MEMBERS - 1)),
         )
 
 

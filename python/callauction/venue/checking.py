@@ -1,24 +1,50 @@
-"""What `--check` says of a day before it begins, or goes on: nothing is started or changed."""
+"""What `--check` says of a day before it begins, or goes on: nothing of it is begun or changed."""
+import asyncio
+import errno
 import fcntl
 import os
 import pathlib
 import subprocess
+import tempfile
 import time
-from collections.abc import Iterator
+from collections.abc import Collection, Iterator, Sequence
 
-from callauction.venue import begun, config, copies, owned, tokens
+from callauction.statuses import FAILED
+from callauction.venue import begun, config, copies, gates, owned, tokens
 from callauction.venue.fields import ConfigError
 from callauction.venue.log import Line, read_lines
-from callauction.venue.recovery import RecoveryError, entries_in, entries_of, settled
+from callauction.venue.process import START_SECONDS, ProcessError
+from callauction.venue.recovery import (
+    RecoveryError,
+    RolledBackError,
+    entries_in,
+    entries_of,
+    settled,
+)
 from callauction.venue.serving import Address, ends_of
-from callauction.venue.venue import LOG, mark_of, runs_of
+from callauction.venue.venue import (
+    BEHIND,
+    LEAST_BEHIND,
+    LOG,
+    PUT_BACK,
+    Venue,
+    behind_of,
+    check_version,
+    mark_of,
+    runs_of,
+    starting,
+)
 
 DAY = 86_400.0
 ROLES = ("operator", "beamer")
+MOST_OF_LINE = 4096
+"""The bytes that the first line of a journal may have."""
+ROOM = 1 << 16
+"""The bytes that a start may take at least of the disk, for each instrument and for the log."""
 
 
 def checked(
-    day: config.Day, folder: pathlib.Path, address: Address, program: str
+    day: config.DayTerms, folder: pathlib.Path, address: Address, program: str
 ) -> Iterator[str]:
     """What is found of a day, a line each. Raises what opening a venue raises for each fault."""
     for words in dict.fromkeys(tuple(it.words()) for it in day.instruments):
@@ -28,27 +54,66 @@ def checked(
         size = it.grid.tick_size
         yield f"{it.name}: {low} to {high} {it.currency} by {size}, {it.calls} commands"
     if day.fix is not None:
-        yield f"fix: {day.fix.host}:{day.fix.port}, {len(day.fix.sessions)} sessions"
+        sessions = len(day.fix.sessions) + bool(day.fix.copy)
+        yield f"fix: {day.fix.host}:{day.fix.port}, {sessions} sessions"
     yield from checked_address(address)
     yield f"program: {version_of(program)}"
-    if not folder.exists():
+    is_there = folder.exists()
+    if is_there:
+        owned.make_folder(folder)
+    check_room(folder if is_there else folder.parent, ROOM * (len(day.instruments) + 1))
+    if not is_there:
+        yield from checked_ports(day, address, False)
         yield f"{folder}: not there yet"
         return
-    owned.make_folder(folder)
-    for role in ROLES:
-        if (folder / f"{role}.token").exists():
-            tokens.secret_of(folder, role)
-    if (folder / LOG).exists():
-        yield from checked_log(day, folder)
+    for name in (*ROLES, *(f"fix.{it}" for it in (day.fix.sessions if day.fix else ()))):
+        if owned.check_file(folder / f"{name}.token"):
+            tokens.secret_of(folder, name)
+    for name in (LOG, copies.SENT):
+        if owned.check_file(folder / name):
+            os.close(owned.opened(folder / name, os.O_RDONLY))
+    is_begun = (folder / LOG).exists()
+    yield from checked_ports(day, address, is_begun and is_in_use(folder / LOG))
+    if is_begun:
+        yield from checked_log(day, folder, program)
+
+
+def check_room(folder: pathlib.Path, room: int) -> None:
+    """Raises OSError where a folder can't have as many bytes more: its disk is full, or is there to
+    be read. What is tried leaves no name.
+    """
+    try:
+        with tempfile.TemporaryFile(dir=folder) as tried:
+            os.posix_fallocate(tried.fileno(), 0, room)
+    except OSError as fault:
+        raise OSError(fault.errno, fault.strerror, str(folder)) from None
+
+
+def ran(program: str, *words: str) -> "subprocess.CompletedProcess[str]":
+    """A run of the program without an input. Raises ProcessError where it doesn't end by itself,
+    and OSError.
+    """
+    pipe, nothing = subprocess.PIPE, subprocess.DEVNULL
+    command = [program, *words]
+    try:
+        found = subprocess.run(
+            command, stdin=nothing, stdout=pipe, stderr=pipe, text=True, timeout=START_SECONDS
+        )
+    except subprocess.TimeoutExpired:
+        text = f"the program hasn't ended for {START_SECONDS:g} s"
+        raise ProcessError(text, FAILED) from None
+    if found.returncode < 0:
+        text = f"the program was ended by signal {-found.returncode}"
+        raise ProcessError(text, found.returncode)
+    return found
 
 
 def check_words(program: str, words: tuple[str, ...]) -> None:
-    """Raises ConfigError where the program can't open a day of these words, and OSError."""
-    ran = subprocess.run(
-        [program, *words], stdin=subprocess.DEVNULL, capture_output=True, text=True
-    )
-    if ran.returncode != 0:
-        text = ran.stderr.strip().partition("\n")[0]
+    """Raises ConfigError where the program can't open a day of these words, and what `ran` raises.
+    """
+    found = ran(program, *words)
+    if found.returncode != 0:
+        text = found.stderr.strip().partition("\n")[0]
         raise ConfigError(f"the program says of {' '.join(words)}: {text}")
 
 
@@ -60,31 +125,114 @@ def checked_address(address: Address) -> Iterator[str]:
         return
     left = (ends_of(address.cert or "") - time.time()) / DAY
     yield f"address: {address.host}, by a certificate that ends in {left:.0f} days"
+    yield from (f"warning: {text}" for text in address.warnings())
+
+
+def checked_ports(day: config.DayTerms, address: Address, runs: bool) -> Iterator[str]:
+    """A warning for each place where nothing can listen now; of a day that runs, what others have
+    may be its own.
+    """
+    places = [(address.host, address.port)]
+    places += [address.metrics] if address.metrics else []
+    places += [(day.fix.host, day.fix.port)] if day.fix else []
+    for host, port in places:
+        try:
+            for each in gates.listening(host, port):
+                each.close()
+        except OSError as fault:
+            if not (runs and fault.errno == errno.EADDRINUSE):
+                yield f"warning: {gates.why_not(host, port, fault)}"
 
 
 def version_of(program: str) -> str:
-    """What the program says of itself. Raises OSError."""
-    ran = subprocess.run([program, "--version"], capture_output=True, text=True)
-    return ran.stdout.strip() or program
+    """What the program says of itself. Raises what `ran` raises."""
+    return ran(program, "--version").stdout.strip() or program
 
 
-def checked_log(day: config.Day, folder: pathlib.Path) -> Iterator[str]:
+def checked_log(day: config.DayTerms, folder: pathlib.Path, program: str) -> Iterator[str]:
     """What is found of a day that has begun. Raises LogError, OtherDayError, OwnerError,
-    RecoveryError, OSError.
+    RecoveryError, ProcessError, OSError.
     """
     path = folder / LOG
-    owned.check_file(path)
     if is_in_use(path):
-        yield from checked_running(folder)
+        yield from checked_running(day, folder)
         return
     text = path.read_bytes()
     lines = read_lines(text[: text.rfind(b"\n") + 1], str(path))
+    yield from checked_day(day, folder, lines)
+    yield from checked_journals(day, folder, lines, program)
+
+
+def checked_day(day: config.DayTerms, folder: pathlib.Path, lines: list[Line]) -> Iterator[str]:
+    """What is found of a day beside the lines of its log. Raises LogError, OtherDayError, OSError.
+    """
+    check_version(lines, folder / LOG)
     if changed := begun.changes(day, lines, folder):
         yield f"changed since it was last opened: {', '.join(changed)}"
+    if behind := behind_of(lines):
+        yield f"warning: {BEHIND % behind}"
+        return
+    for path in sorted(folder.glob(f"*{copies.JOURNAL}")):
+        behind = round(os.lstat(path).st_mtime - time.time(), 3)
+        if behind >= LEAST_BEHIND:
+            yield f"warning: the clock is {behind} s behind the last change of {path.name}"
+
+
+def checked_journals(
+    day: config.DayTerms, folder: pathlib.Path, lines: list[Line], program: str
+) -> Iterator[str]:
+    """What is found of the journals beside the lines of the log. Raises LogError, OwnerError,
+    RecoveryError, ProcessError, OSError.
+    """
+    found: list[str] = []
     boards = [*(it.name for it in day.instruments), *(line.get("instrument") for line in lines)]
     for key in dict.fromkeys(filter(None, boards)):
         own = [line for line in lines if line.get("instrument") == key]
-        yield f"{key}: {entries_known(folder / f'{key}.journal.csv', key, own)} entries"
+        try:
+            count = entries_known(folder / f"{key}{copies.JOURNAL}", key, own)
+            found.append(key)
+            yield f"{key}: {count} entries"
+        except RolledBackError as fault:  # it halts, and the others are served
+            yield f"warning: {fault}: {PUT_BACK}"
+    asyncio.run(rehearse(day, folder, lines, found, program))
+
+
+async def rehearse(
+    day: config.DayTerms,
+    folder: pathlib.Path,
+    lines: list[Line],
+    found: Collection[str],
+    program: str,
+) -> None:
+    """Takes the lines of a log as a start does, but for those messages that are `found` in the
+    journals, in a folder without a name. Raises LogError, and ProcessError where the program takes
+    a journal for another day's.
+    """
+    known = [line for line in lines if line["kind"] != "sent"]
+    with tempfile.TemporaryDirectory() as place:
+        venue = Venue(day, pathlib.Path(place), program)
+        boards = venue.rehearse(known)
+        for key in [it for it in found if it in boards]:
+            with starting(key):
+                journal, words = boards[key].engine.journal, boards[key].engine.words
+                check_first(words, folder / journal.name, journal)
+        venue.log.close()
+
+
+def check_first(words: Sequence[str], journal: pathlib.Path, copy: pathlib.Path) -> None:
+    """Has the program read the first line of a journal, from a copy that its words name. Raises
+    ProcessError where it refuses that, and OSError.
+    """
+    if not owned.check_file(journal):
+        return
+    with journal.open("rb") as file:
+        first = file.readline(MOST_OF_LINE)
+    if first.endswith(b"\n"):
+        owned.write(copy, first)
+        said = ran(*words)
+        if said.returncode != 0:
+            text = said.stderr.strip().partition("\n")[0]
+            raise ProcessError(text, said.returncode)
 
 
 def is_in_use(log: pathlib.Path) -> bool:
@@ -99,14 +247,15 @@ def is_in_use(log: pathlib.Path) -> bool:
     return False
 
 
-def checked_running(folder: pathlib.Path) -> Iterator[str]:
-    """What is found of a day that runs, as it is at one moment. Raises LogError, OwnerError,
-    RecoveryError, OSError.
+def checked_running(day: config.DayTerms, folder: pathlib.Path) -> Iterator[str]:
+    """What is found of a day that runs, as it is at one moment. Raises LogError, OtherDayError,
+    OwnerError, RecoveryError, OSError.
     """
     try:
         files = copies.consistent(*copies.read_day(folder))
     except copies.CopyError as fault:
         raise RecoveryError(str(fault)) from None
+    yield from checked_day(day, folder, read_lines(files[LOG], str(folder / LOG)))
     for name, file in copies.journals_of(files).items():
         owned.check_file(folder / file)
         count = len(entries_in(files[file].decode("latin-1")))
@@ -121,5 +270,5 @@ def entries_known(journal: pathlib.Path, name: str, lines: list[Line]) -> int:
         mark_of(lines).check(entries)
         settled(runs_of(lines).get(name, []), entries)
     except RecoveryError as fault:
-        raise RecoveryError(f"{name}: {fault}") from None
+        raise type(fault)(f"{name}: {fault}") from None
     return len(entries)

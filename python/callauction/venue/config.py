@@ -9,8 +9,8 @@ import tomllib
 from decimal import Decimal
 from typing import Any, Self
 
-from callauction.limits import MOST_MEMBERS
-from callauction.prices import BadCellError, Grid, decimal_of, tick_size_of
+from callauction.limits import MOST_CALLS, MOST_MEMBERS, MOST_OPEN, MOST_TICK, MOST_TICKS
+from callauction.prices import BadCellError, Grid, decimal_of
 from callauction.venue import owned
 from callauction.venue.bounds import Bounds, bounds_of
 from callauction.venue.fields import TITLE, ConfigError, Fields
@@ -18,6 +18,7 @@ from callauction.venue.fix_terms import Terms, terms_of
 from callauction.venue.gains import Uncovered
 from callauction.venue.handing import HandError
 from callauction.venue.names import folded, is_role, is_seen
+from callauction.venue.tokens import LEAST_CODE
 from callauction.venue.treatments import MOST_SECONDS, Limits, Read, Treatment, treatment_of
 
 MOST_QUANTITY = 1_000_000_000
@@ -27,10 +28,11 @@ INSTRUMENT_NAME = re.compile(r"[A-Za-z0-9][A-Za-z0-9_-]{0,23}")
 LANGUAGES = ("en", "de")
 MOST_BYTES = 1 << 20
 """The bytes that the file of a day, or one that it names, may have."""
+MOST_RATE = 100_000
 
 
 @dataclasses.dataclass(frozen=True)
-class Instrument:
+class InstrumentTerms:
     """An instrument and what its day is opened with, in ticks and shares."""
 
     name: str = "XYZ"
@@ -67,10 +69,11 @@ class Instrument:
             raise HandError(f"the price {price} {fault}") from None
         if not self.uncovered.covers(found):
             least, most = self.uncovered.bought, self.uncovered.sold
-            raise HandError(f"a value is from {self.price(least)} to {self.price(most)}")
+            lowest, highest = self.price(least), self.price(most)
+            raise HandError(f"the value {price} isn't from {lowest} to {highest}")
         return found
 
-    def in_round(self, treatment: Treatment) -> "Instrument":
+    def in_round(self, treatment: Treatment) -> "InstrumentTerms":
         """This instrument in a round, which may have another first reference price. Raises
         HandError where that can't be.
         """
@@ -82,7 +85,7 @@ class Instrument:
             raise HandError(f"the reference {treatment.reference} {fault}") from None
         if not self.low <= tick <= self.high:
             least, most = self.price(self.low), self.price(self.high)
-            raise HandError(f"a reference is from {least} to {most}")
+            raise HandError(f"the reference {treatment.reference} isn't from {least} to {most}")
         return dataclasses.replace(self, reference=tick)
 
     def limits(self, treatment: Treatment) -> Limits:
@@ -122,10 +125,10 @@ class Plan:
 
 
 @dataclasses.dataclass(frozen=True)
-class Members:
+class MemberTerms:
     """Who may be a member: by the code of the day where `is_open`, and these names by a code of
     their own; how many at most, and how fast they may speak: messages a second, and at once. Where
-    there are more than `group`, they are in groups with boards of their own; see Day.group.
+    there are more than `group`, they are in groups with boards of their own; see DayTerms.group.
     """
 
     is_open: bool = True
@@ -138,7 +141,7 @@ class Members:
 
 
 @dataclasses.dataclass(frozen=True)
-class Payoff:
+class PayoffTerms:
     """What members are paid: `base`, and `rate` for each unit of what they gained, at least
     nothing; in this currency, empty for the instruments' own.
     """
@@ -149,7 +152,7 @@ class Payoff:
 
 
 @dataclasses.dataclass(frozen=True)
-class Day:
+class DayTerms:
     """All that a venue is opened with. Where `is_synced` nothing is answered before it is on the
     disk; `reserve` is how many commands of each instrument are kept for the operator. Where there
     are more rounds than `rounds`, the last of them comes again.
@@ -160,9 +163,9 @@ class Day:
     is_synced: bool = True
     reserve: int = 16
     plan: Plan = Plan()
-    members: Members = Members()
-    instruments: tuple[Instrument, ...] = (Instrument(),)
-    payoff: Payoff = Payoff()
+    members: MemberTerms = MemberTerms()
+    instruments: tuple[InstrumentTerms, ...] = (InstrumentTerms(),)
+    payoff: PayoffTerms = PayoffTerms()
     rounds: tuple[Treatment, ...] = (Treatment(),)
     bounds: Bounds = Bounds()
     fix: Terms | None = None
@@ -181,6 +184,11 @@ class Day:
         """The currency in which members are paid."""
         return self.payoff.currency or self.instruments[0].currency
 
+    @property
+    def own_codes(self) -> tuple[str, ...]:
+        """The names that have a code, or a CompID, of their own."""
+        return *self.members.names, *(self.fix.sessions.values() if self.fix else ())
+
     def treatment(self, number: int) -> Treatment:
         """The round of this number, from 1."""
         return self.rounds[min(number, len(self.rounds)) - 1]
@@ -192,9 +200,11 @@ class Day:
 
     @classmethod
     def read(cls, path: pathlib.Path) -> Self:
-        """The day of a file. Raises ConfigError, and OSError where it can't be read."""
+        """The day of a file. Raises ConfigError, OwnerError where others own or may write it or a
+        file that it names, and OSError where it can't be read.
+        """
         try:
-            found = tomllib.loads(owned.whole(path, MOST_BYTES).decode("utf-8-sig"))
+            found = tomllib.loads(owned.trusted(path, MOST_BYTES).decode("utf-8-sig"))
         except UnicodeDecodeError:
             raise ConfigError(f"{path}: isn't UTF-8") from None
         except ValueError as fault:  # of TOML, or of a number that is too long
@@ -233,9 +243,12 @@ class Day:
                 found.check(treatment)
             except HandError as fault:
                 raise ConfigError(f"round {number}: {fault}") from None
-        names = [it.name for it in found.instruments]
-        if len(set(names)) < len(names):
-            raise ConfigError("two instruments have the same name")
+        fields.left = {"instrument": [it.name for it in found.instruments]}
+        fields.names("instrument")  # each once
+        for it in found.instruments:
+            if it.calls <= found.reserve:
+                why = f"{it.calls} is no more than reserve {found.reserve}: members have none"
+                raise Fields(f"instrument {it.name}", {}).fault("calls", why)
         return found
 
 
@@ -244,7 +257,7 @@ def fix_of(fields: Fields) -> Terms | None:
     return terms_of(fields.table("fix")) if "fix" in fields.left else None
 
 
-def check_members(day: Day) -> None:
+def check_members(day: DayTerms) -> None:
     """Raises ConfigError where nobody can be a member of a day, or not all members by FIX."""
     if not day.members.is_open and not day.members.names and day.fix is None:
         raise Fields("members", {}).fault("open", "is false, and there are no names")
@@ -252,7 +265,8 @@ def check_members(day: Day) -> None:
     names = {*day.members.names, *(day.fix.sessions.values() if day.fix else ())}
     check_names(sessions, tuple(names))
     if len(names) > day.members.most:
-        raise sessions.fault("sessions", f"has more members than {day.members.most}")
+        why = f"and members have {len(names)} names, more than {day.members.most}"
+        raise sessions.fault("sessions", why)
 
 
 def plan_of(fields: Fields) -> Plan:
@@ -268,49 +282,57 @@ def plan_of(fields: Fields) -> Plan:
     return found
 
 
-def members_of(fields: Fields) -> Members:
+def members_of(fields: Fields) -> MemberTerms:
     """Who may be a member. Raises ConfigError."""
-    default = Members()
-    rate = fields.decimal("rate")
-    found = Members(
+    default = MemberTerms()
+    found = MemberTerms(
         is_open=fields.flag("open", default.is_open),
-        code=fields.text("code", default.code).strip().upper(),
+        code=code_of(fields, default.code),
         names=fields.names("names"),
         most=fields.whole("most", default.most, 1, 10_000),
-        rate=default.rate if rate is None else float(rate),
+        rate=fields.number("rate", default.rate, MOST_RATE),
         burst=fields.whole("burst", default.burst, 1, 100_000),
         group=fields.whole_or_none("group", 2, MOST_TRADERS),
     )
     fields.ended()
-    if found.rate <= 0:
-        raise fields.fault("rate", "isn't above 0")
     check_names(fields, found.names)
     if len(found.names) > found.most:
-        raise fields.fault("names", f"has more than {found.most} names")
+        raise fields.fault("names", f"has {len(found.names)} names, more than {found.most}")
+    return found
+
+
+def code_of(fields: Fields, default: str) -> str:
+    """The code of the day, empty for one that is made. Raises ConfigError where it is so short that
+    it could be guessed.
+    """
+    found = fields.text("code", default).strip().upper()
+    if found and len(found) < LEAST_CODE:
+        why = f"{found!r} has fewer than {LEAST_CODE} letters and could be guessed: \"\" makes one"
+        raise fields.fault("code", why)
     return found
 
 
 def check_names(fields: Fields, names: tuple[str, ...]) -> None:
     """Raises ConfigError where a name can't be read, or is taken for another one or for a role."""
+    seen: dict[str, str] = {}
     for name in names:
         if not is_seen(name) or is_role(name):
             raise fields.fault("names", f"{name!r} can't be read, or is a role's name")
-    if len({folded(name) for name in names}) < len(names):
-        raise fields.fault("names", "has two that look alike")
+        if (other := seen.setdefault(folded(name), name)) != name:
+            raise fields.fault("names", f"has two that look alike: {other!r}, {name!r}")
 
 
-def instrument_of(table: dict[str, Any]) -> Instrument:
+def instrument_of(table: dict[str, Any]) -> InstrumentTerms:
     """An instrument. Raises ConfigError."""
     fields = Fields("instrument", table)
-    default = Instrument()
+    default = InstrumentTerms()
     name = fields.text("name", default.name, INSTRUMENT_NAME)
     fields.where = f"instrument {name}: "
     size = fields.decimal("tick_size")
-    try:
-        grid = default.grid if size is None else Grid(tick_size_of(size))
-    except ValueError as fault:
-        raise fields.fault("tick_size", str(fault)) from None
-    found = Instrument(
+    if size is not None and size <= 0:
+        raise fields.fault("tick_size", f"{size} isn't above 0")
+    grid = default.grid if size is None else Grid(size)
+    found = InstrumentTerms(
         name=name,
         title=fields.text("title", default.title, TITLE),
         grid=grid,
@@ -319,8 +341,8 @@ def instrument_of(table: dict[str, Any]) -> Instrument:
         high=tick_of(fields, grid, "high", default.high),
         reference=tick_of(fields, grid, "reference", default.reference),
         range=tick_of(fields, grid, "range", -1),
-        open=fields.whole("open", default.open, 1, 65_536),
-        calls=fields.whole("calls", default.calls, 1, 1_048_576),
+        open=fields.whole("open", default.open, 1, MOST_OPEN),
+        calls=fields.whole("calls", default.calls, 1, MOST_CALLS),
         most_quantity=fields.whole("most_quantity", MOST_QUANTITY, 1, MOST_QUANTITY),
         uncovered_bought=tick_of(fields, grid, "uncovered_bought", 0),
         uncovered_sold=tick_of(fields, grid, "uncovered_sold", -1),
@@ -328,11 +350,25 @@ def instrument_of(table: dict[str, Any]) -> Instrument:
     fields.ended()
     if found.uncovered_sold == -1:
         found = dataclasses.replace(found, uncovered_sold=None)
-    if found.uncovered.bought > found.uncovered.sold:
-        raise fields.fault("uncovered_sold", "is below uncovered_bought")
-    if not 1 <= found.low <= found.reference <= found.high:
-        raise fields.fault("low, reference, high", "have to rise from the tick size on")
+    check_prices(fields, found)
     return found if found.range != -1 else dataclasses.replace(found, range=None)
+
+
+def check_prices(fields: Fields, found: InstrumentTerms) -> None:
+    """Raises ConfigError where the prices of an instrument don't go together."""
+    price, (bought, sold) = found.price, (found.uncovered.bought, found.uncovered.sold)
+    if bought > sold:
+        why = f"{price(sold)} is below uncovered_bought {price(bought)}"
+        raise fields.fault("uncovered_sold", why)
+    if found.low < 1:
+        raise fields.fault("low", f"{price(found.low)} is below the tick size")
+    for name, most in (("low", found.reference), ("reference", found.high)):
+        if (tick := getattr(found, name)) > most:
+            above = "reference" if name == "low" else "high"
+            raise fields.fault(name, f"{price(tick)} is above {above} {price(most)}")
+    if (count := found.high - found.low + 1) > MOST_TICKS:
+        why = f"{price(found.high)} is {count} ticks from low {price(found.low)} on, and a day has"
+        raise fields.fault("high", f"{why} at most {MOST_TICKS}: a greater tick_size has fewer")
 
 
 def tick_of(fields: Fields, grid: Grid, name: str, default: int) -> int:
@@ -343,23 +379,28 @@ def tick_of(fields: Fields, grid: Grid, name: str, default: int) -> int:
     if found < 0:
         raise fields.fault(name, f"{found} is below 0")
     try:
-        return grid.tick(found)
+        tick = grid.tick(found)
     except BadCellError as fault:
         raise fields.fault(name, f"{found} {fault}") from None
+    if tick > MOST_TICK:
+        why = f"{found} is tick {tick}, and the greatest is {MOST_TICK}: take a greater tick_size"
+        raise fields.fault(name, why)
+    return tick
 
 
-def payoff_of(fields: Fields) -> Payoff:
+def payoff_of(fields: Fields) -> PayoffTerms:
     """What members are paid. Raises ConfigError."""
-    default = Payoff()
+    default = PayoffTerms()
     base, rate = fields.decimal("base"), fields.decimal("rate")
-    found = Payoff(
+    found = PayoffTerms(
         base=default.base if base is None else base,
         rate=default.rate if rate is None else rate,
         currency=fields.text("currency", default.currency),
     )
     fields.ended()
-    if found.base < 0 or found.rate < 0:
-        raise fields.fault("base, rate", "aren't below 0")
+    for name in ("base", "rate"):
+        if (number := getattr(found, name)) < 0:
+            raise fields.fault(name, f"{number} is below 0")
     return found
 
 
@@ -376,7 +417,7 @@ def reader(folder: pathlib.Path) -> Read:
 
     def read(name: str) -> str:
         try:
-            return owned.whole(folder / name, MOST_BYTES).decode("utf-8")
+            return owned.trusted(folder / name, MOST_BYTES).decode("utf-8")
         except OSError as fault:
             raise ConfigError(f"{name}: {fault.strerror}") from None
         except UnicodeDecodeError:

@@ -5,11 +5,13 @@ import asyncio
 import collections
 import contextlib
 import json
+from collections.abc import Coroutine
 from typing import Any
 
 from aiohttp import WSCloseCode, WSMessage, WSMsgType, web
 
 from callauction.venue import messages, shown
+from callauction.venue.frames import Socket
 from callauction.venue.gates import Gate, Gates
 from callauction.venue.members import Member
 from callauction.venue.messages import MessageError
@@ -62,6 +64,12 @@ def answer_of(number: int, entry: Entry, is_again: bool) -> shown.Json:
     }
 
 
+async def while_it_is_there(work: Coroutine[Any, Any, None]) -> None:
+    """Does some work with somebody who is connected, until nobody is there any more."""
+    with contextlib.suppress(ConnectionError):
+        await work
+
+
 class Connection:
     """A connection, from its hello on: `role`, `member` and `topics` are what Venue asks for."""
 
@@ -103,7 +111,7 @@ class Connection:
         return self._code is not None
 
     async def _write(self) -> None:
-        """Sends the waiting messages, as fast as they are taken."""
+        """Sends the waiting messages, as fast as they are taken. Raises ConnectionError."""
         while self._code is None:
             self._wakes.clear()
             while self._answers:
@@ -124,24 +132,30 @@ class Connection:
             return
         self._gate.known()
         self._venue.enter(self)
-        both = {asyncio.create_task(self._write()), asyncio.create_task(self._read())}
+        both = [asyncio.create_task(while_it_is_there(it)) for it in (self._write(), self._read())]
         try:
             self._venue.greet(self)
             await asyncio.wait(both, return_when=asyncio.FIRST_COMPLETED)
         finally:
             self._venue.watchers.pop(self, None)
             self._venue.show_members()
+            await self._end(both)
+
+    async def _end(self, both: list[asyncio.Task[None]]) -> None:
+        """Ends what writes and what reads, once it was sent why. Raises what one of them raised."""
+        try:
             if self._code is not None:
                 await asyncio.wait(both, timeout=LEAVE_SECONDS)
+        finally:
             for task in both:
                 task.cancel()
             ended = await asyncio.gather(*both, return_exceptions=True)
         for fault in ended:
-            if isinstance(fault, Exception) and not isinstance(fault, ConnectionError):
+            if isinstance(fault, Exception):
                 raise fault
 
     async def _read(self) -> None:
-        """Takes its messages, until it ends or is to end."""
+        """Takes its messages, until it ends or is to end. Raises ConnectionError."""
         async for message in self._socket:
             with self._gate.taking():
                 if self._code is not None or not await self._heard(message):
@@ -229,7 +243,7 @@ class Connection:
 
 async def connect(request: web.Request, venue: Venue, gates: Gates) -> web.WebSocketResponse:
     """A connection, from its begin to its end."""
-    socket = web.WebSocketResponse(
+    socket = Socket(
         heartbeat=HEARTBEAT, max_msg_size=messages.MOST_BYTES, compress=False, autoping=False
     )
     with contextlib.suppress(ConnectionError):

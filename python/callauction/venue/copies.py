@@ -10,9 +10,13 @@ import pathlib
 import re
 import shutil
 import subprocess
+import sys
 
+from callauction.statuses import BAD_DAY, BAD_FILE, FAILED
 from callauction.venue import owned, tokens
+from callauction.venue.downloads import NAMES_FILE, RESULTS_FILE
 from callauction.venue.log import Line, LogError, read_lines
+from callauction.venue.owned import OwnerError
 from callauction.venue.recovery import (
     Entry,
     RecoveryError,
@@ -25,7 +29,10 @@ from callauction.venue.venue import LOG, mark_of, runs_of
 JOURNAL = ".journal.csv"
 TOKEN = ".token"
 SUMS = "SHA256SUMS"
-LEFT_OUT = re.compile(r".*\.new|.*\.cut-\d+|" + SUMS)
+LEFT_OUT = re.compile(rf".*\.new|.*\.cut-\d+|lost\+found|{SUMS}|.*{NAMES_FILE}|{RESULTS_FILE}")
+"""What no copy has: what was begun, or put aside; what a disk has of its own; sums of a copy; what
+the end of a day leaves, which may be of an earlier moment, and is made anew by the next one.
+"""
 SENT = "fix.sent"
 """What sessions by FIX were sent, which is read first: the journals have all of it."""
 NAME = re.compile(r"[^\x00-\x1f\x7f]{1,255}")
@@ -36,6 +43,20 @@ Files = dict[str, bytes]
 
 class CopyError(Exception):
     """A copy that can't be made or isn't whole; the text says why."""
+
+
+FAULTS = (CopyError, LogError, OwnerError, OSError)
+"""Why a copy can't be made or put back."""
+
+
+def said(command: str, fault: Exception) -> int:
+    """Says on standard error by which of the FAULTS a command has failed: its status."""
+    text, status = str(fault), BAD_DAY if isinstance(fault, OwnerError) else BAD_FILE
+    if isinstance(fault, OSError):
+        named = f"{fault.filename}: {fault.strerror}" if fault.filename else fault.strerror
+        text, status = named or text, FAILED
+    print(f"{command}: {text}", file=sys.stderr)
+    return status
 
 
 def journals_of(files: Files) -> dict[str, str]:
@@ -136,7 +157,7 @@ def write_day(files: Files, folder: pathlib.Path) -> None:
     """Writes a day to a new folder, whole and on the disk, or nothing. Raises OSError, CopyError.
     """
     if os.path.lexists(folder):
-        raise CopyError(f"{folder} is there already")
+        raise CopyError(f"{folder} is there already: move it away, or name another")
     begun = folder.with_name(f"{folder.name}.new")
     begun.mkdir(mode=owned.FOLDER_MODE)
     try:

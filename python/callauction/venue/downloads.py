@@ -20,7 +20,7 @@ from callauction.venue.instrument import Instrument
 from callauction.venue.members import Members
 from callauction.venue.names import plain
 from callauction.venue.rounds import Round
-from callauction.venue.sheets import PLAIN, Row, table
+from callauction.venue.sheets import PLAIN, SheetRow, table
 
 KINDS = {
     "journal": ("csv", "text/csv"),
@@ -36,6 +36,7 @@ MOST_LETTERS = 40
 """The letters of a lesson's title in the name of a file."""
 OF_BOARD = ("journal", "members")
 """The downloads that are of one board, and not of all rounds."""
+OF_ALL = ("results", "trades", "report")
 RESULTS = (
     *("round", "title", "practice", "instrument", "name", "robot", "side", "value", "quantity"),
     *("bought", "paid", "sold", "received", "gain", "possible", "efficiency", "payoff"),
@@ -46,6 +47,10 @@ for each member, whose round is `all`. Money and prices are decimal numbers of t
 TRADES = (
     *("round", "instrument", "auction", "trade", "buyer", "seller", "quantity", "price", "amount"),
 )
+NAMES_FILE, RESULTS_FILE = ".members.csv", "results.csv"
+"""What a day leaves at its end: for each board, behind its key, its members' names; its results."""
+SAFELY = ("-P",) if sys.flags.safe_path else ()
+"""As this process, one that it starts takes no modules from the folder in which it was begun."""
 Titles = Callable[[str], str]
 """What gives the name that others read of a member by its name in the log."""
 
@@ -60,7 +65,7 @@ class Lesson:
     in seconds of the epoch.
     """
 
-    day: config.Day
+    day: config.DayTerms
     rounds: Sequence[Round]
     members: Members
     program: str
@@ -81,16 +86,26 @@ async def made(kind: str, lesson: Lesson, board: Instrument, language: str = PLA
         return journal_of(board)
     if kind == "results":
         return results_table(lesson, language)
-    with tempfile.TemporaryDirectory() as folder:
-        paths = {}
-        for _, each in lesson.boards():
-            paths[each.board.key] = path = pathlib.Path(folder, f"{each.board.key}.csv")
-            path.write_bytes(journal_of(each))
-        if kind == "trades":
-            return table(TRADES, await trades_of(lesson, paths), language)
-        asked = json.dumps(await asked_of(lesson, paths, language)).encode("utf-8")
-        words = [sys.executable, "-m", "callauction.venue.report"]
-        return await output(words, asked)
+    try:
+        with tempfile.TemporaryDirectory() as folder:
+            return await made_in(folder, kind, lesson, language)
+    except OSError as fault:
+        raise DownloadError(f"it can't be made: {fault.strerror}") from None
+
+
+async def made_in(folder: str, kind: str, lesson: Lesson, language: str) -> bytes:
+    """The trades or the report, by journals that are copied to this folder. Raises DownloadError,
+    and OSError.
+    """
+    paths = {}
+    for _, each in lesson.boards():
+        paths[each.board.key] = path = pathlib.Path(folder, f"{each.board.key}.csv")
+        path.write_bytes(journal_of(each))
+    if kind == "trades":
+        return table(TRADES, await trades_of(lesson, paths), language)
+    asked = json.dumps(await asked_of(lesson, paths, language)).encode("utf-8")
+    words = [sys.executable, *SAFELY, "-m", "callauction.venue.report"]
+    return await output(words, asked)
 
 
 def file_of(kind: str, lesson: Lesson, board: Instrument, language: str = PLAIN) -> str:
@@ -134,7 +149,7 @@ async def output(words: list[str], given: bytes) -> bytes:
 def members_of(instrument: Instrument, title_of: Titles, language: str = PLAIN) -> bytes:
     """The names of the members by their numbers in the journal."""
     numbers = instrument.numbers.items()
-    rows: list[Row] = [{"number": it, "name": plain(title_of(name))} for name, it in numbers]
+    rows: list[SheetRow] = [{"number": it, "name": plain(title_of(name))} for name, it in numbers]
     return table(("number", "name"), rows, language)
 
 
@@ -143,7 +158,7 @@ def results_table(lesson: Lesson, language: str = PLAIN) -> bytes:
     return table(RESULTS, results_of(lesson), language)
 
 
-def results_of(lesson: Lesson) -> Iterator[Row]:
+def results_of(lesson: Lesson) -> Iterator[SheetRow]:
     """The results of all members, round by round, and then what they are paid."""
     for round_, board in lesson.boards():
         for member in lesson.members.everybody:
@@ -152,14 +167,15 @@ def results_of(lesson: Lesson) -> Iterator[Row]:
                 head = {"name": plain(member.title), "robot": member.robot}
                 yield head | result_of(lesson.day, round_, board, member.name)
     for it in results.payoffs(lesson.day, lesson.rounds, lesson.members):
-        row: Row = {"round": "all", "name": plain(it.title), "gain": it.gain, "payoff": it.paid}
+        name = plain(it.title)
+        row: SheetRow = {"round": "all", "name": name, "gain": it.gain, "payoff": it.paid}
         yield row
 
 
-def result_of(day: config.Day, round_: Round, board: Instrument, member: str) -> Row:
+def result_of(day: config.DayTerms, round_: Round, board: Instrument, member: str) -> SheetRow:
     """What a member came to on a board."""
     fills = board.fills_of(member)
-    found: Row = {
+    found: SheetRow = {
         "round": round_.number,
         "title": plain(round_.treatment.title),
         "practice": "yes" if round_.treatment.is_practice else "no",
@@ -177,11 +193,11 @@ def result_of(day: config.Day, round_: Round, board: Instrument, member: str) ->
     return found
 
 
-def gains_of(day: config.Day, round_: Round, board: Instrument, member: str) -> Row:
+def gains_of(day: config.DayTerms, round_: Round, board: Instrument, member: str) -> SheetRow:
     """What a member gained on a board, what all could, and the share of it that they did."""
     gain = results.money_of(board, board.gain_of(member))
     most = board.most
-    found: Row = {"gain": gain, "possible": results.money_of(board, most)}
+    found: SheetRow = {"gain": gain, "possible": results.money_of(board, most)}
     if most:
         found["efficiency"] = f"{board.gain / most:.4f}"
     if not round_.treatment.is_practice:
@@ -189,9 +205,9 @@ def gains_of(day: config.Day, round_: Round, board: Instrument, member: str) -> 
     return found
 
 
-async def trades_of(lesson: Lesson, paths: dict[str, pathlib.Path]) -> list[Row]:
+async def trades_of(lesson: Lesson, paths: dict[str, pathlib.Path]) -> list[SheetRow]:
     """The trades of all rounds, with the names of both members, in money. Raises DownloadError."""
-    found: list[Row] = []
+    found: list[SheetRow] = []
     for round_, board in lesson.boards():
         given = paths[board.board.key].read_bytes()
         printed = await output([lesson.program, "--print", "trades"], given)

@@ -8,13 +8,18 @@ another one, halts it, and so does a program that doesn't answer.
 import asyncio
 import contextvars
 import dataclasses
+import errno
+import logging
+import operator
+import os
 import pathlib
 import re
 from collections.abc import Callable, Sequence
+from typing import ParamSpec, TypeVar
 
 from callauction.venue import owned
 from callauction.venue.latency import Times
-from callauction.venue.log import Log, text_of
+from callauction.venue.log import Line, Log, text_of
 from callauction.venue.messages import MessageError
 from callauction.venue.owned import OwnerError
 from callauction.venue.process import IN_USE, Process, ProcessError
@@ -26,13 +31,15 @@ from callauction.venue.recovery import (
     RolledBackError,
     Run,
     Sum,
-    entries_of,
+    known_entries,
     matched,
     settled,
+    sums_of,
 )
 
 ENTERED = re.compile(r"(\d+): (.*)")
 NO_CALLS = ("calls are reserved for the operator", "too many commands")
+NOTICES = logging.getLogger("callauction.venue")
 MOST_ENDS = 8
 """How often the program may end without an answer in between before the engine halts."""
 PAUSE = 0.05
@@ -41,6 +48,8 @@ MARK_SECONDS = 0.05
 IN_USE_SECONDS = 15.0
 """How long another run of the program is waited for, such as one whose venue was killed."""
 
+P = ParamSpec("P")
+T = TypeVar("T")
 Settled = list[tuple[Message, Entry | None]]
 
 
@@ -72,6 +81,9 @@ class Engine:
         self._views: set[asyncio.Future[None]] = set()
         self._sum, self.times = Sum(), Times()
         self._ends = self._turn = self._batch_turn = 0
+        self.restarts = 0
+        self._looked: object = None
+        self._first = ""
         self._is_marked = True
         self._is_closed = False
         self._restart: asyncio.Task[None] | None = None
@@ -106,7 +118,8 @@ class Engine:
         try:
             entries = (await self._known_entries(mark))[:count]
             both = min(len(before), count)  # an earlier run of the program may have gone on
-            if entries[:both] != before[:both] or len(entries) < count:
+            is_same = await self._in_thread(operator.eq, entries[:both], before[:both])
+            if not is_same or len(entries) < count:
                 raise RolledBackError("the journal was changed while its program began")
         except (RecoveryError, OwnerError, OSError):
             await process.stop()
@@ -118,13 +131,20 @@ class Engine:
         where they don't, OwnerError where it is another user's, OSError.
         """
         if owned.check_file(self.journal):
-            entries = await asyncio.to_thread(entries_of, self.journal)
-            mark.check(entries)
-            return entries
+            return await self._in_thread(known_entries, self.journal, mark)
         if mark.entries:
             text = f"the journal is missing, and the log knows of {mark.entries} entries"
             raise RolledBackError(text)
         return []
+
+    async def _in_thread(self, work: Callable[P, T], *args: P.args, **kw: P.kwargs) -> T:
+        """What some work comes to that takes long where there are many entries: others' orders are
+        served meanwhile. Raises what it raises, and OSError where there is no thread.
+        """
+        try:
+            return await asyncio.to_thread(work, *args, **kw)
+        except RuntimeError as fault:
+            raise OSError(errno.EAGAIN, str(fault), str(self.journal)) from None
 
     async def close(self) -> None:
         """Ends the program, which answers before what it has read, as long as it does so soon."""
@@ -231,10 +251,11 @@ class Engine:
 
     def _line(self, message: Message) -> str:
         """The log's line of a message."""
-        fields = {"member": message.member, "number": message.number, "record": message.record}
-        more = {"from": message.source, "note": dict(message.note)}
-        kept = {name: value for name, value in more.items() if value}
-        return text_of({"kind": "sent", "instrument": self.name} | fields | kept)
+        line: Line = {"kind": "sent", "instrument": self.name, "member": message.member}
+        line |= {"number": message.number, "record": message.record}
+        line |= {"from": message.source} if message.source else {}
+        line |= {"note": dict(message.note)} if message.note else {}
+        return text_of(line)
 
     def _mark_line(self, kind: str) -> str:
         """The log's line of the entries so far."""
@@ -284,9 +305,42 @@ class Engine:
         if not sent.answer.done():
             sent.answer.set_exception(MessageError(code))
 
+    async def look(self) -> None:
+        """Halts where the journal isn't as the program has written it, as far as it was answered:
+        each entry after it would be lost. It is read where something has changed since the last
+        look.
+        """
+        if self._process is None or self.halted is not None:
+            return
+        turn, mark, size = self._turn, self._sum.mark, self._sum.size
+        try:
+            state = state_of(self.journal), mark
+            if state == self._looked:
+                return
+            if not owned.check_file(self.journal):
+                await self._known_entries(mark)  # which says that it is missing
+                raise RolledBackError("the journal is missing")
+            first, rest = await self._in_thread(sums_of, self.journal, size)
+            self._first = self._first or first
+            if (first, rest) != (self._first, mark.sha256):
+                await self._known_entries(mark)
+                raise RolledBackError("the journal is another one: its first line isn't the day's")
+            self._looked = state
+        except (RolledBackError, OwnerError) as fault:
+            self._give_up(turn, str(fault))
+        except OSError as fault:  # no file, or no thread, for now
+            NOTICES.warning("%s: its journal can't be looked at: %s", self.name, fault)
+
     def _distrust(self, entry: Entry) -> None:
         """Answers nothing more of a program that has lost an entry, or made one up."""
-        self.halt(f"the program answers entry {entry.place} after entry {self._sum.count}")
+        text = f"the program answers entry {entry.place} after entry {self._sum.count}"
+        self._give_up(self._turn, text)
+
+    def _give_up(self, turn: int, text: str) -> None:
+        """Ends the program of this turn, and halts."""
+        if turn != self._turn or self.halted is not None:
+            return
+        self.halt(text)
         self._turn += 1
         if self._process is not None:
             self._process.kill()
@@ -334,6 +388,9 @@ class Engine:
             await process.stop()
         else:
             self._begin(process)
+            if fault.text:
+                self.restarts += 1
+                NOTICES.warning("%s: %s, and is started again", self.name, fault.text)
 
     def _catch_up(self, entries: list[Entry]) -> None:
         """Answers what the last run had executed and not answered. Raises RecoveryError."""
@@ -355,3 +412,26 @@ class Engine:
         again = self._start_again(ProcessError("", -1))
         nobody = contextvars.Context()  # what follows isn't asked for by who resumes
         self._restart = asyncio.get_running_loop().create_task(again, context=nobody)
+
+    async def resumed(self) -> None:
+        """Waits for what comes of a try: the program answers again, after all that waited, or has
+        halted again. Raises OSError where the log can't be written.
+        """
+        while self.halted is None and not self._is_closed:
+            await self.log.check_written()  # the program runs from then on
+            try:
+                await self.show(["show"])
+                return
+            except ProcessError:
+                await asyncio.sleep(PAUSE)
+
+
+def state_of(path: pathlib.Path) -> tuple[int, ...]:
+    """What tells that a file was changed, or another one put into its place; empty where there is
+    none. Raises OSError.
+    """
+    try:
+        found = os.lstat(path)
+    except FileNotFoundError:
+        return ()
+    return found.st_ino, found.st_size, found.st_mtime_ns, found.st_ctime_ns

@@ -8,10 +8,27 @@ from callauction.prices import BadCellError, decimal_of
 MEMBER_NAME = re.compile(r"[^\x00-\x1f\x7f<>]{1,40}")
 TITLE = re.compile(r"[^\x00-\x1f\x7f<>]{0,60}")
 SENTENCE = re.compile(r"[^\x00-\x1f\x7f<>]{0,240}")
-LENGTHS = {MEMBER_NAME: 40, TITLE: 60, SENTENCE: 240}
-"""How many letters a text of a pattern has at most."""
 TABLE = re.compile(r"[^\x00]{0,65536}")
+LENGTHS = {MEMBER_NAME: 40, TITLE: 60, SENTENCE: 240, TABLE: 65_536}
+"""How many letters a text of a pattern has at most."""
 PRICE = re.compile(r"([0-9]{1,30}(\.[0-9]{1,30})?)?")
+MOST_SHOWN = 60
+"""How many letters a fault has of a bad value."""
+
+
+def shown(value: object) -> str:
+    """A value as a fault says it, or its begin."""
+    text = repr(value)
+    return text if len(text) <= MOST_SHOWN else f"{text[:MOST_SHOWN]}.."
+
+
+def flaw_of(text: object, pattern: re.Pattern[str]) -> str:
+    """What is wrong with what is no text of a pattern."""
+    if not isinstance(text, str) or pattern not in LENGTHS:
+        return "isn't a text that may be here"
+    if len(text) > LENGTHS[pattern]:
+        return f"has more than {LENGTHS[pattern]} letters"
+    return "has <, > or a control character" if text else "is empty"
 
 
 class ConfigError(ValueError):
@@ -33,10 +50,7 @@ class Fields:
         """A text of one line. Raises ConfigError."""
         found = self.left.pop(name, default)
         if not isinstance(found, str) or (found != default and not pattern.fullmatch(found)):
-            why = f"{found!r} isn't a text that may be here"
-            if pattern in LENGTHS:
-                why = f"has more than {LENGTHS[pattern]} letters, or < or >"
-            raise self.fault(name, why)
+            raise self.fault(name, f"{shown(found)} {flaw_of(found, pattern)}")
         return found
 
     def sentence(self, name: str) -> str:
@@ -47,17 +61,17 @@ class Fields:
         """A price as a decimal text, empty where it isn't there. Raises ConfigError."""
         found = self.left.pop(name, "")
         if not isinstance(found, str) or not PRICE.fullmatch(found):
-            raise self.fault(name, f"{found!r} is no price such as \"20.05\"")
+            raise self.fault(name, f"{shown(found)} is no price such as \"20.05\"")
         return found
 
     def prices(self, name: str) -> tuple[str, ...]:
         """Prices as decimal texts. Raises ConfigError."""
         found = self.left.pop(name, [])
         if not isinstance(found, list):
-            raise self.fault(name, "is no list")
+            raise self.fault(name, f"{shown(found)} is no list")
         for each in found:
             if not isinstance(each, str) or not each or not PRICE.fullmatch(each):
-                raise self.fault(name, f"{each!r} is no price such as \"20.05\"")
+                raise self.fault(name, f"{shown(each)} is no price such as \"20.05\"")
         return tuple(found)
 
     def whole_or_none(self, name: str, least: int, most: int) -> int | None:
@@ -68,21 +82,22 @@ class Fields:
         """One of some words. Raises ConfigError."""
         found = self.left.pop(name, default)
         if found not in choices:
-            raise self.fault(name, f"{found!r} is none of {', '.join(choices)}")
+            raise self.fault(name, f"{shown(found)} is none of {', '.join(choices)}")
         return str(found)
 
     def flag(self, name: str, default: bool) -> bool:
         """true or false. Raises ConfigError."""
         found = self.left.pop(name, default)
         if not isinstance(found, bool):
-            raise self.fault(name, f"{found!r} is neither true nor false")
+            raise self.fault(name, f"{shown(found)} is neither true nor false")
         return found
 
     def whole(self, name: str, default: int, least: int, most: int) -> int:
         """A whole number. Raises ConfigError."""
         found = self.left.pop(name, default)
         if isinstance(found, bool) or not isinstance(found, int) or not least <= found <= most:
-            raise self.fault(name, f"{found!r} is no whole number from {least} to {most}")
+            why = f"{shown(found)} is no whole number from {least} to {most}"
+            raise self.fault(name, why)
         return found
 
     def decimal(self, name: str) -> Decimal | None:
@@ -93,30 +108,41 @@ class Fields:
         try:
             return decimal_of(found)
         except BadCellError as fault:
-            raise self.fault(name, f"{found!r} {fault}") from None
+            raise self.fault(name, f"{shown(found)} {fault}") from None
+
+    def number(self, name: str, default: float, most: int) -> float:
+        """A number above 0, which is no text. Raises ConfigError."""
+        found = self.left.pop(name, default)
+        if isinstance(found, bool) or not isinstance(found, int | float) or not 0 < found <= most:
+            raise self.fault(name, f"{shown(found)} is no number above 0, at most {most}")
+        return float(found)
 
     def names(self, name: str) -> tuple[str, ...]:
         """Names of members, each once. Raises ConfigError."""
         found = self.left.pop(name, [])
-        if not isinstance(found, list) or len(set(map(str, found))) < len(found):
-            raise self.fault(name, "isn't a list in which each name is once")
+        if not isinstance(found, list):
+            raise self.fault(name, f"{shown(found)} is no list")
+        seen: dict[str, None] = {}
         for each in found:
             if not isinstance(each, str) or not MEMBER_NAME.fullmatch(each):
-                raise self.fault(name, f"{each!r} is no name of 1 to 40 characters")
-        return tuple(found)
+                raise self.fault(name, f"{shown(each)} {flaw_of(each, MEMBER_NAME)}")
+            if each in seen:
+                raise self.fault(name, f"{shown(each)} is there twice")
+            seen[each] = None
+        return tuple(seen)
 
     def table(self, name: str) -> dict[str, Any]:
         """A table, empty where it isn't there. Raises ConfigError."""
         found = self.left.pop(name, {})
         if not isinstance(found, dict):
-            raise self.fault(name, f"is no table: [{name}]")
+            raise self.fault(name, f"{shown(found)} is no table: [{name}]")
         return found
 
     def tables(self, name: str) -> list[dict[str, Any]]:
         """Tables of one name. Raises ConfigError."""
         found = self.left.pop(name, [])
         if not isinstance(found, list) or not all(isinstance(each, dict) for each in found):
-            raise self.fault(name, f"is no list of tables: [[{name}]]")
+            raise self.fault(name, f"{shown(found)} is no list of tables: [[{name}]]")
         return found
 
     def ended(self) -> None:

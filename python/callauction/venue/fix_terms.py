@@ -4,7 +4,7 @@ import re
 from collections.abc import Mapping
 from typing import Any
 
-from callauction.venue.fields import ConfigError, Fields
+from callauction.venue.fields import Fields
 
 VENUE = "VENUE"
 """The CompID of the venue."""
@@ -44,9 +44,10 @@ def terms_of(table: dict[str, Any]) -> Terms:
 
 def address_of(fields: Fields) -> tuple[str, int]:
     """The host and the port of `address`. Raises ConfigError."""
-    found = ADDRESS.fullmatch(fields.text("address", f"{HOST}:{PORT}", ADDRESS))
+    text = fields.text("address", f"{HOST}:{PORT}", ADDRESS)
+    found = ADDRESS.fullmatch(text)
     if found is None or int(found["port"]) >= 1 << 16:
-        raise fields.fault("address", "is none such as \"127.0.0.1:9878\"")
+        raise fields.fault("address", f"{text!r} is none such as \"127.0.0.1:9878\"")
     return found["host"].strip("[]"), int(found["port"])
 
 
@@ -54,11 +55,15 @@ def sessions_of(fields: Fields, table: dict[str, Any]) -> dict[str, str]:
     """The member of each CompID. Raises ConfigError."""
     if not table:
         raise fields.fault("sessions", "has no CompID")
-    for comp_id in table:
-        if not COMP_ID.fullmatch(comp_id) or comp_id == VENUE:
+    first: dict[str, str] = {}
+    for comp_id, name in table.items():
+        if comp_id == VENUE:
+            raise fields.fault(f"sessions: {comp_id!r}", "is the venue's own CompID")
+        if not COMP_ID.fullmatch(comp_id):
             why = "is no CompID of 1 to 24 letters, digits, points or underscores"
             raise fields.fault(f"sessions: {comp_id!r}", why)
+        if (other := first.setdefault(str(name), comp_id)) != comp_id:
+            why = f"has the member {name!r}, as {other!r} has: each member has one CompID"
+            raise fields.fault(f"sessions: {comp_id!r}", why)
     names = Fields("fix: sessions", {"names": [*table.values()]}).names("names")
-    if len(names) < len(table):
-        raise ConfigError("fix: sessions: a member has one CompID")
     return dict(zip(table, names))

@@ -3,20 +3,25 @@
 A connection waits until a whole request has come, or until it has said who it is. Where there are
 too many, one that waits gives way to the new one: the oldest of the same address, or of the address
 that has most of them. So half requests shut out nobody, however many there are. And a connection is
-read no faster than what it has said is taken, a little of each in turn.
+read no faster than what it has said is taken: those that are somebody's at once, of the others one
+request in each round of the loop, so that whole requests hold up nobody either.
 """
 import asyncio
 import contextlib
 import dataclasses
 import enum
+import errno
 import functools
 import logging
+import re
 import resource
 import socket
 import ssl
+from asyncio import sslproto
 from collections.abc import Callable, Collection, Iterable, Iterator
 
 from callauction.venue.rates import network_of
+from callauction.venue.turns import Turns
 
 NOTICES = logging.getLogger("callauction.venue")
 MOST_CONNECTIONS = 4096
@@ -37,12 +42,19 @@ SLICE, HEAD_SLICE = 8192, 1024
 """Bytes of a connection that are looked at before it is the turn of the others: of one that is
 known, each two of whose slices have a whole message, and of another.
 """
+END_OF_HEAD = re.compile(rb"\n\r?\n")
 MOST_UNTAKEN = 98_304
 """Bytes that are looked at of one request of who isn't known: its head and its body."""
-MOST_REQUESTS = 4
-"""Requests that a connection sent at once, from which on no more of it is looked at."""
-BUSY_SECONDS, IN_VAIN_SECONDS = 0.005, 0.5
-"""How long until it is tried again to look at more; how long after as much had no message."""
+MOST_READ = 32_768
+"""What is read of a connection at once, or kept by TLS to read into. Of the 262,144 bytes that
+asyncio reads thousands that wait would fill a gigabyte.
+"""
+MOST_DECIPHERED = 4096
+"""What is deciphered at once of who isn't known: as many as 180 of the smallest records."""
+BUSY_SECONDS, ASKED_SECONDS, IN_VAIN_SECONDS = 0.005, 0.05, 0.5
+"""How long until it is tried again to look at more of who is known; of who has a request that isn't
+begun; how long after as much had no message.
+"""
 
 
 class Stage(enum.Enum):
@@ -56,13 +68,14 @@ class Stage(enum.Enum):
 @dataclasses.dataclass(eq=False)
 class Gate:
     """A connection from an address, or a network that one has of IPv6; `ends` is when it has waited
-    too long.
+    too long. `speaker` is whose token its last request had, empty where that was nobody's.
     """
 
     address: str
     socket: socket.socket
     ends: float
     stage: Stage = Stage.WAITING
+    speaker: str = ""
     transport: asyncio.Transport | None = None
     task: "asyncio.Task[None] | None" = None
     unsent: int = 0
@@ -149,6 +162,7 @@ class Gates:
         self._all: dict[Gate, None] = {}
         self._unknown = Crowd()
         self._by_transport: dict[asyncio.BaseTransport, Gate] = {}
+        self._speakers, self._strangers = Turns(), Turns()
 
     def __len__(self) -> int:
         return len(self._all)
@@ -170,8 +184,13 @@ class Gates:
         return True
 
     def _gives_way(self, those: Iterable[Gate]) -> bool:
-        """Whether one of these ended, the first that waits."""
-        gate = next((it for it in those if it.stage is Stage.WAITING), None)
+        """Whether one of these ended: the first that waits, rather one that is no speaker's."""
+        gate: Gate | None = None
+        for it in those:
+            if it.stage is Stage.WAITING and (gate is None or not it.speaker):
+                gate = it
+                if not it.speaker:
+                    break
         if gate is None:
             return False
         NOTICES.warning("too many connections: one of %s gives way", gate.address)
@@ -206,6 +225,15 @@ class Gates:
         finally:
             gate.stage, gate.untaken = Stage.WAITING, 0
             gate.ends = asyncio.get_running_loop().time() + IDLE_SECONDS
+
+    def wait(self, gate: Gate, take: Callable[[], bool]) -> None:
+        """Calls this at the connection's turn: among those of speakers, of which each comes as
+        often as each other, or among those of addresses.
+        """
+        if gate.speaker:
+            self._speakers.wait(gate.speaker, take)
+        else:
+            self._strangers.wait(gate.address, take)
 
     def of(self, transport: asyncio.Transport) -> Gate:
         """The connection of a transport, also of one that came past the gates."""
@@ -248,12 +276,16 @@ class Passed(asyncio.Protocol):
         self._gates, self._gate, self._inner = gates, gate, inner
         self._transport: asyncio.Transport | None = None
         self._rest = bytearray()
-        self._turn: asyncio.Handle | None = None
+        self._is_waiting = False
 
     def connection_made(self, transport: asyncio.BaseTransport) -> None:
         """It may speak."""
         assert isinstance(transport, asyncio.Transport)
         self._transport = transport
+        if hasattr(transport, "max_size"):
+            transport.max_size = MOST_READ
+        if hasattr(transport, "set_read_buffer_limits"):
+            transport.set_read_buffer_limits(MOST_DECIPHERED)
         self._gates.begun(self._gate, transport)
         self._inner.connection_made(transport)
 
@@ -266,24 +298,48 @@ class Passed(asyncio.Protocol):
     def data_received(self, data: bytes) -> None:
         """It says this."""
         self._rest += data
-        if self._turn is None:
-            self._pass_on()
+        if self._is_waiting:
+            self._read_on(False)
+        elif self._gate.stage is Stage.KNOWN:
+            self._look()
         else:
             self._read_on(False)
+            self._look_later(0.0)
+
+    def _look_later(self, seconds: float) -> None:
+        """Looks at more of it: after these seconds, and where nobody is known at its turn."""
+        self._is_waiting = True
+        loop = asyncio.get_running_loop()
+        if seconds:
+            loop.call_later(seconds, self._look_later, 0.0)
+        elif self._gate.stage is Stage.KNOWN:
+            loop.call_soon(self._look)
+        else:
+            self._gates.wait(self._gate, self._look)
+
+    def _look(self) -> bool:
+        """Passes on a slice, if it may, and says when the next one is looked at: whether it did."""
+        self._is_waiting = False
+        seconds = self._seconds()
+        is_passed = bool(self._rest) and not seconds and self._is_open()
+        if is_passed:
+            self._pass_on()
+        if self._rest and self._is_open():
+            self._look_later(seconds)
+        self._read_on(not self._rest)
+        return is_passed
 
     def _pass_on(self) -> None:
-        """Passes on a slice, if it may, and says when the next one is looked at."""
-        self._turn = None
-        gate, seconds = self._gate, self._seconds()
-        if not seconds and self._rest:
-            size = SLICE if gate.stage is Stage.KNOWN else HEAD_SLICE
-            taken = bytes(self._rest[:size])
-            del self._rest[:size]
-            gate.untaken += len(taken)
+        """Passes on a slice; what can't be passed on ends the connection."""
+        size = SLICE if self._gate.stage is Stage.KNOWN else size_of_slice(self._rest)
+        taken = bytes(self._rest[:size])
+        del self._rest[:size]
+        self._gate.untaken += len(taken)
+        try:
             self._inner.data_received(taken)
-        if self._rest:
-            self._turn = asyncio.get_running_loop().call_later(seconds, self._pass_on)
-        self._read_on(not self._rest)
+        except Exception:
+            self._gate.close()
+            raise
 
     def _seconds(self) -> float:
         """How long it has to wait until it may say more."""
@@ -291,8 +347,7 @@ class Passed(asyncio.Protocol):
         if gate.stage is not Stage.KNOWN:
             if gate.untaken >= MOST_UNTAKEN:
                 return IN_VAIN_SECONDS
-            waiting = len(getattr(self._inner, "_messages", ()))
-            return BUSY_SECONDS if waiting >= MOST_REQUESTS else 0.0
+            return ASKED_SECONDS if getattr(self._inner, "_messages", ()) else 0.0
         if gate.is_held:
             return BUSY_SECONDS
         if gate.untaken >= SLICE:
@@ -300,15 +355,20 @@ class Passed(asyncio.Protocol):
             return IN_VAIN_SECONDS
         return 0.0
 
+    def _is_open(self) -> bool:
+        """Whether it has begun, and isn't about to end."""
+        return self._transport is not None and not self._transport.is_closing()
+
     def _read_on(self, is_wanted: bool) -> None:
-        """Reads more of it, or nothing for now."""
-        transport = self._transport
-        if transport is None or transport.is_closing():
+        """Reads more of it, or nothing for now; of one that ends TLS takes what is left of it."""
+        if not self._is_open():
             self._rest.clear()
-        elif is_wanted:
-            transport.resume_reading()
+        if self._transport is None or is_left(self._transport):
+            return
+        if is_wanted or not self._rest:
+            self._transport.resume_reading()
         else:
-            transport.pause_reading()
+            self._transport.pause_reading()
 
     def eof_received(self) -> bool | None:
         """It says nothing more."""
@@ -323,6 +383,65 @@ class Passed(asyncio.Protocol):
         self._inner.resume_writing()
 
 
+def is_left(transport: asyncio.Transport) -> bool:
+    """Whether this is a transport of TLS that was closed twice: asyncio's takes no calls then."""
+    return getattr(transport, "_ssl_protocol", transport) is None
+
+
+def size_of_slice(rest: bytearray) -> int:
+    """How many bytes are looked at next of who isn't known: no more than one head."""
+    found = END_OF_HEAD.search(rest, 0, HEAD_SLICE)
+    return found.end() if found else HEAD_SLICE
+
+
+class Secured(sslproto.SSLProtocol):
+    """TLS of a connection, which goes on at its turns until somebody is known: a step of the
+    handshake, or a block of the smallest records, may cost as much as some requests. `done` ends
+    with the handshake.
+    """
+
+    def __init__(
+        self,
+        gates: Gates,
+        gate: Gate,
+        inner: asyncio.Protocol,
+        context: ssl.SSLContext,
+        done: "asyncio.Future[None]",
+    ) -> None:
+        super().__init__(
+            asyncio.get_running_loop(),
+            inner,
+            context,
+            done,
+            server_side=True,
+            ssl_handshake_timeout=HEAD_SECONDS,  # type: ignore[arg-type]
+        )
+        self._gates, self._gate = gates, gate
+
+    def get_buffer(self, n: int) -> memoryview:
+        """Where what it says next is put."""
+        found: memoryview = super().get_buffer(n)
+        return found if self._gate.stage is Stage.KNOWN else found[:MOST_DECIPHERED]
+
+    def buffer_updated(self, nbytes: int) -> None:
+        """It says this."""
+        if self._gate.stage is Stage.KNOWN:
+            super().buffer_updated(nbytes)
+        elif isinstance(self._transport, asyncio.Transport):
+            self._transport.pause_reading()
+            self._gates.wait(self._gate, functools.partial(self._go_on, nbytes))
+
+    def _go_on(self, nbytes: int) -> bool:
+        """Goes on with what it said, and reads on unless it has much to take: whether it did."""
+        transport = self._transport
+        if not isinstance(transport, asyncio.Transport) or transport.is_closing():
+            return False
+        super().buffer_updated(nbytes)
+        if not transport.is_closing() and not getattr(self, "_ssl_reading_paused", False):
+            transport.resume_reading()
+        return True
+
+
 class Listener:
     """Takes connections at sockets that listen, and serves them by protocols."""
 
@@ -334,13 +453,16 @@ class Listener:
         tls: ssl.SSLContext | None,
     ) -> None:
         self._gates, self._sockets, self._protocol, self._tls = gates, sockets, protocol, tls
+        sslproto.SSLProtocol.max_size = MOST_READ
         self._serving: set[asyncio.Task[None]] = set()
         loop = asyncio.get_running_loop()
         self._tasks = [loop.create_task(self._accept(it)) for it in sockets]
         self._tasks.append(loop.create_task(self._sweep()))
 
     def close(self) -> None:
-        """Takes nothing more."""
+        """Takes nothing more, also of those who come at this moment."""
+        for each in self._sockets:
+            asyncio.get_running_loop().remove_reader(each)
         for task in [*self._tasks, *self._serving]:
             task.cancel()
         for each in self._sockets:
@@ -360,7 +482,7 @@ class Listener:
             try:
                 accepted, peer = await loop.sock_accept(listening)
             except OSError as fault:
-                NOTICES.error("a connection can't be taken: %s", fault.strerror)
+                NOTICES.warning("a connection can't be taken: %s", fault.strerror)
                 await asyncio.sleep(ACCEPT_PAUSE)
                 continue
             ends = loop.time() + HEAD_SECONDS
@@ -375,18 +497,30 @@ class Listener:
 
     async def _serve(self, gate: Gate) -> None:
         """Begins to serve a connection; what is wrong with its TLS is nobody else's matter."""
-        loop = asyncio.get_running_loop()
-        seconds = HEAD_SECONDS if self._tls else None
+        inner = Passed(self._gates, gate, self._protocol())
         try:
-            await loop.connect_accepted_socket(
-                lambda: Passed(self._gates, gate, self._protocol()),
-                gate.socket,
-                ssl=self._tls,
-                ssl_handshake_timeout=seconds,
-            )
+            await self._begin(gate, inner)
         except (OSError, asyncio.CancelledError):
+            pass
+        if gate.transport is None:
             self._gates.leave(gate)
             gate.socket.close()
+
+    async def _begin(self, gate: Gate, inner: Passed) -> None:
+        """Connects who serves a connection, after the handshake where there is TLS. Raises OSError.
+        """
+        loop = asyncio.get_running_loop()
+        if self._tls is None:
+            await loop.connect_accepted_socket(lambda: inner, gate.socket)
+            return
+        done: asyncio.Future[None] = loop.create_future()
+        secured = Secured(self._gates, gate, inner, self._tls, done)
+        transport, _ = await loop.connect_accepted_socket(lambda: secured, gate.socket)
+        try:
+            await done
+        except BaseException:
+            transport.close()
+            raise
 
 
 def most_connections(kept: int = 0) -> int:
@@ -400,6 +534,12 @@ def most_connections(kept: int = 0) -> int:
     with contextlib.suppress(ValueError, OSError):
         resource.setrlimit(resource.RLIMIT_NOFILE, (soft, hard))
     return max(soft // 2, soft - FILES_KEPT - kept)
+
+
+def why_not(host: str, port: int, fault: OSError, other: str = "another") -> str:
+    """Why nothing can listen there, and what to do."""
+    do = "end who does, or take" if fault.errno == errno.EADDRINUSE else "take"
+    return f"can't listen on {host}, port {port}: {fault.strerror}: {do} {other}"
 
 
 def listening(host: str, port: int) -> list[socket.socket]:

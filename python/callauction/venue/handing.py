@@ -32,7 +32,7 @@ class Prices(Protocol):
 
 
 @dataclasses.dataclass(frozen=True)
-class Row:
+class ListedValue:
     """A value of a list: its round, None for each; whose it is; its price as a decimal text."""
 
     round: int | None
@@ -55,14 +55,14 @@ class Rule:
     quantity: int = 100
     demand: tuple[str, ...] = ()
     supply: tuple[str, ...] = ()
-    rows: tuple[Row, ...] = ()
+    rows: tuple[ListedValue, ...] = ()
 
     def check(self, tick_of: Prices) -> None:
         """Raises HandError where it can't be followed with these prices."""
         if self.how == "chance" and not (self.low and self.high):
             raise HandError("values by chance have a low and a high price")
         if self.how == "chance" and tick_of(self.low) > tick_of(self.high):
-            raise HandError("low is above high")
+            raise HandError(f"low {self.low} is above high {self.high}")
         if self.how == "schedule" and not (self.demand and self.supply):
             raise HandError("a schedule has prices of demand and of supply")
         if self.how == "list" and not self.rows:
@@ -121,7 +121,7 @@ def in_turn(demand: Sequence[int], supply: Sequence[int]) -> list[tuple[str, int
 
 
 def values_of(
-    rows: Iterable[Row], names: Iterable[str], tick_of: Prices, number: int
+    rows: Iterable[ListedValue], names: Iterable[str], tick_of: Prices, number: int
 ) -> dict[str, Value]:
     """What the rows of a round say of these members."""
     there = {folded(name): name for name in names}
@@ -133,8 +133,8 @@ def values_of(
 
 
 def named(
-    rows: Iterable[Row], titles: Mapping[str, str]
-) -> tuple[tuple[Row, ...], tuple[Row, ...]]:
+    rows: Iterable[ListedValue], titles: Mapping[str, str]
+) -> tuple[tuple[ListedValue, ...], tuple[ListedValue, ...]]:
     """The rows of members, with their names, and those of nobody yet; `titles` are keys of names.
     """
     names = {folded(title): name for title, name in titles.items()}
@@ -147,7 +147,7 @@ def named(
     return tuple(found), tuple(absent)
 
 
-def rows_of(text: str) -> tuple[Row, ...]:
+def rows_of(text: str) -> tuple[ListedValue, ...]:
     """The rows of a CSV file with the columns name, side, price, quantity, and perhaps round, or
     their German words. Where its first line has semicolons between, its prices may have decimal
     commas. Raises HandError, which names the line.
@@ -169,7 +169,7 @@ def rows_of(text: str) -> tuple[Row, ...]:
     return tuple(found)
 
 
-def row_of(row: Mapping[str, str | None], line: int, has_comma: bool = False) -> Row:
+def row_of(row: Mapping[str, str | None], line: int, has_comma: bool = False) -> ListedValue:
     """A row of a file, whose price may have a decimal comma. Raises HandError."""
     cells = {key: " ".join((value or "").split()) for key, value in row.items() if key}
     cells["side"] = GERMAN.get(cells["side"].casefold(), cells["side"])
@@ -180,7 +180,7 @@ def row_of(row: Mapping[str, str | None], line: int, has_comma: bool = False) ->
     number = cells.get("round", "")
     if number and not (number.isdecimal() and 1 <= int(number[:6]) <= 10_000):
         raise HandError(f"line {line}: round {number!r} is no number of a round")
-    return Row(
+    return ListedValue(
         int(number) if number else None,
         cells["name"],
         cells["side"],

@@ -1,6 +1,7 @@
 """What the head of each answer has, also where a request is none and aiohttp answers by itself."""
 import asyncio
 import logging
+from typing import Any
 
 from aiohttp import web
 
@@ -14,6 +15,7 @@ HEADERS = {
     "Referrer-Policy": "no-referrer",
     "X-Content-Type-Options": "nosniff",
     "Cache-Control": "no-store",
+    "Server": "callboard",  # and not what serves it, in which version
 }
 TLS_HEADERS = {"Strict-Transport-Security": "max-age=31536000"}
 """Where it is reached by TLS: browsers take nothing else of this name for a year."""
@@ -57,6 +59,17 @@ class Handler(web.RequestHandler):
                 self.transport.write("".join(f"{line}\r\n" for line in [*lines, ""]).encode())
             self.force_close()
 
+    async def start(self) -> None:
+        """Answers requests, unless the connection was lost before it began."""
+        if self._task_handler is not None:
+            await super().start()
+
+    def log_exception(self, *args: Any, **kw: Any) -> None:
+        """Says what failed, unless the connection was lost meanwhile: aiohttp stumbles over that.
+        """
+        if self.transport is not None:
+            super().log_exception(*args, **kw)
+
     def handle_error(
         self,
         request: web.BaseRequest,
@@ -67,7 +80,7 @@ class Handler(web.RequestHandler):
         """What answers a request that is none, which is no fault of the venue, or one that failed.
         """
         if status < 500 and request.writer.output_size == 0:
-            NOTICES.info("a request is none, from %s", request.remote)
+            NOTICES.info("what came is no request of HTTP, from %s", request.remote)
             answer: web.StreamResponse = web.Response(status=status, text=message)
             answer.force_close()
         else:

@@ -2,16 +2,17 @@
 shares or the money that it has, or nothing that could trade with an order of its own.
 
 All open orders count as if they were executed, market bids at the highest price, and so do those
-that aren't answered yet.
+that aren't answered yet; an order whose change isn't answered counts as it is and as it may become.
 """
 import dataclasses
-from collections.abc import Iterable
+from collections.abc import Iterable, Mapping
+from typing import Self
 
 from callauction.venue.accounts import Fill
 from callauction.venue.gains import Value
 from callauction.venue.messages import MessageError
 from callauction.venue.treatments import Limits
-from callauction.venue.views import OpenOrder
+from callauction.venue.views import MemberOrder
 from callauction.words import MARKET
 
 
@@ -30,18 +31,30 @@ class Own:
         bid, ask = (self, other) if self.side == "bid" else (other, self)
         return bid.limit is None or ask.limit is None or bid.limit >= ask.limit
 
+    def value(self, high: int) -> int:
+        """Its value in ticks times shares; at market at this highest tick."""
+        return self.quantity * (high if self.limit is None else self.limit)
+
+
+Ways = list[Own]
+"""What an order may be: as it is, and as each record that isn't answered may make it."""
+
 
 class Book:
-    """The open orders of all members by their numbers, as far as they follow from the replies."""
+    """The open orders of all members by their numbers, as far as they follow from the replies, and
+    how many these are.
+    """
 
     def __init__(self) -> None:
         self._by_member: dict[int, dict[int, Own]] = {}
+        self.count = 0
 
-    def seen(self, orders: Iterable[OpenOrder]) -> None:
+    def seen(self, orders: Iterable[MemberOrder]) -> None:
         """All open orders, as the program shows them."""
         self._by_member = {}
         for it in orders:
             self.of_member(it.member)[it.order] = Own(it.side, it.open, it.limit)
+        self.count = sum(map(len, self._by_member.values()))
 
     def take(self, record: str, reply: str) -> None:
         """Takes a command and its reply."""
@@ -49,12 +62,14 @@ class Book:
         if word not in ("enter", "change", "delete"):
             return
         orders, done = self.of_member(int(member)), reply.partition(" ")
+        before = len(orders)
         if done[0] == "entered":
             orders[int(done[2])] = entered(fields)
         elif done[0] == "changed" and (found := orders.get(int(fields[0]))):
             orders[int(fields[0])] = changed(found, fields)
         elif done[0] == "deleted":
             orders.pop(int(fields[0]), None)
+        self.count += len(orders) - before
 
     def of_member(self, member: int) -> dict[int, Own]:
         """A member's open orders."""
@@ -73,57 +88,104 @@ def changed(before: Own, fields: list[str]) -> Own:
     return Own(before.side, int(quantity), None if limit == MARKET else int(limit))
 
 
+def changed_new(new: Iterable[Ways], fields: list[str]) -> Ways:
+    """What one of new orders may be after a change, by its record after `change`."""
+    sides = sorted({it.side for ways in new for it in ways})
+    return [changed(Own(side, 0, None), fields) for side in sides]
+
+
+def asked(open_: Mapping[int, Own], records: Iterable[str]) -> tuple[dict[int, Ways], list[Ways]]:
+    """What each open order of a member may be, and the new ones that records ask for which aren't
+    answered. What a change makes of an order that isn't known, which may be a new one, is one more.
+    """
+    own = {number: [it] for number, it in open_.items()}
+    new: list[Ways] = []
+    for record in records:
+        word, *fields = record.split(",")
+        if word == "enter":
+            new.append([entered(fields)])
+        elif word == "change" and (ways := own.get(int(fields[0]))):
+            ways.append(changed(ways[0], fields))
+        elif word == "change" and new:
+            new.append(changed_new(new, fields))
+    return own, new
+
+
+@dataclasses.dataclass(frozen=True)
+class Step:
+    """What a record makes: what its order may be after it, nothing where it makes none larger;
+    what it may be before, nothing where it is new; all other orders.
+    """
+
+    after: Ways
+    before: Ways
+    others: list[Ways]
+
+    @classmethod
+    def of(cls, record: str, own: Mapping[int, Ways], new: list[Ways]) -> Self:
+        """What a record makes beside what `asked` has found."""
+        word, *fields = record.split(",")
+        if word == "enter":
+            return cls([entered(fields)], [], [*own.values(), *new])
+        number = int(fields[0])
+        before = own.get(number, [])
+        others = [*(ways for order, ways in own.items() if order != number), *new]
+        if word != "change":
+            return cls([], before, others)
+        if before:
+            return cls([changed(before[0], fields)], before, others)
+        return cls(changed_new(new, fields), [], others)
+
+
 @dataclasses.dataclass(frozen=True)
 class Holding:
     """What a member has: its value; its fills, and those since its value was handed out; its open
-    orders and those that aren't answered. `high` is the highest tick.
+    orders, and its records that aren't answered. `high` is the highest tick.
     """
 
     value: Value | None
     fills: list[Fill]
     since: list[Fill]
     orders: dict[int, Own]
-    waiting: list[Own]
+    waiting: list[str]
     high: int
 
     def check(self, limits: Limits, record: str) -> None:
         """Raises MessageError where the limits refuse the record of a message."""
-        word, *fields = record.split(",")
-        if word == "enter":
-            self._check(limits, entered(fields), [*self.orders.values(), *self.waiting])
-        elif word == "change" and (before := self.orders.get(int(fields[0]))):
-            others = [own for order, own in self.orders.items() if order != int(fields[0])]
-            after = changed(before, fields)
-            self._check(limits, after, [*others, *self.waiting], before)
+        step = Step.of(record, *asked(self.orders, self.waiting))
+        for order in step.after:
+            self._check(limits, order, step)
 
-    def _check(
-        self, limits: Limits, order: Own, others: list[Own], before: Own | None = None
-    ) -> None:
-        """Raises MessageError where an order can't be beside these; what lessens it may be."""
-        if not limits.has_own_trades and any(order.meets(it) for it in others):
+    def _check(self, limits: Limits, order: Own, step: Step) -> None:
+        """Raises MessageError where an order can't be beside others; what lessens it may be."""
+        others = step.others
+        if not limits.has_own_trades and any(order.meets(it) for ways in others for it in ways):
             raise MessageError("own_trade")
-        is_more = before is None or order.quantity > before.quantity
+        is_more = order.quantity > min((it.quantity for it in step.before), default=-1)
         if limits.is_covered and is_more:
             self._check_covered(order, others)
         if limits.shares is not None and order.side == "ask" and is_more:
             left = limits.shares + position(self.fills) - shares_of(others, "ask")
             check_room("no_shares", order.quantity, left)
         if limits.money is not None and order.side == "bid":
-            cost, left = self._cost([order]), limits.money - spent(self.fills) - self._cost(others)
-            if cost > left and (before is None or cost > self._cost([before])):
+            cost = order.value(self.high)
+            least = min((it.value(self.high) for it in step.before), default=-1)
+            if cost > max(least, limits.money - spent(self.fills) - self._cost(others)):
                 raise MessageError("no_money")
 
-    def _check_covered(self, order: Own, others: list[Own]) -> None:
+    def _check_covered(self, order: Own, others: list[Ways]) -> None:
         """Raises MessageError where the value doesn't cover an order beside these."""
         is_bid = order.side == "bid"
         own = self.value.quantity if self.value and self.value.side == order.side else 0
         held = position(self.since) if is_bid else -position(self.since)
         check_room("not_covered", order.quantity, own - held - shares_of(others, order.side))
 
-    def _cost(self, orders: Iterable[Own]) -> int:
+    def _cost(self, orders: Iterable[Ways]) -> int:
         """What the bids among these cost at most, in ticks times shares."""
-        bids = (it for it in orders if it.side == "bid")
-        return sum(it.quantity * (self.high if it.limit is None else it.limit) for it in bids)
+        return sum(
+            max((it.value(self.high) for it in ways if it.side == "bid"), default=0)
+            for ways in orders
+        )
 
 
 def check_room(code: str, quantity: int, left: int) -> None:
@@ -132,9 +194,9 @@ def check_room(code: str, quantity: int, left: int) -> None:
         raise MessageError(code, f"at most {max(0, left)} shares more can be entered on this side")
 
 
-def shares_of(orders: Iterable[Own], side: str) -> int:
-    """The shares of the orders of a side."""
-    return sum(it.quantity for it in orders if it.side == side)
+def shares_of(orders: Iterable[Ways], side: str) -> int:
+    """The most shares that the orders of a side may have."""
+    return sum(max((it.quantity for it in ways if it.side == side), default=0) for ways in orders)
 
 
 def position(fills: Iterable[Fill]) -> int:

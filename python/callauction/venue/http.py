@@ -13,7 +13,8 @@ from urllib.parse import urlsplit
 from aiohttp import ClientPayloadError, hdrs, web
 from aiohttp.http_exceptions import HttpProcessingError
 
-from callauction.venue import addresses, downloads, heads, messages, replay, sheets, shown, teaching
+from callauction.venue import addresses, downloads, fields, heads, messages, replay, sheets, shown
+from callauction.venue import teaching
 from callauction.venue.connection import connect, packed
 from callauction.venue.gates import BODY_SECONDS, Gates
 from callauction.venue.instrument import Instrument
@@ -23,6 +24,7 @@ from callauction.venue.messages import MessageError
 from callauction.venue.phases import PhaseError
 from callauction.venue.rates import Guesses
 from callauction.venue.venue import Venue
+from callauction.venue.wrong_codes import WrongCodes
 
 Handler = Callable[[web.Request], Awaitable[web.StreamResponse]]
 NOTICES = logging.getLogger("callauction.venue")
@@ -50,6 +52,10 @@ STATUSES = {
 }
 SOCKET = "/api/socket"
 MOST_NAME = 40
+GUESSED = (
+    "codes are guessed, lastly from %s: each waits for its turn, also a right one; "
+    "Close joining on the teacher's page once all have joined"
+)
 """How much is written down of a name that came with a wrong code."""
 
 
@@ -100,12 +106,13 @@ class Site:
         self._venue, self._program, self._doors = venue, program, Doors(hosts)
         self._files = {path.name: path for path in (HERE / "pages").iterdir()}
         self._gates = Gates() if gates is None else gates
-        self._guesses = Guesses()
+        self._guesses, self._wrong_codes = Guesses(), WrongCodes(venue.log)
 
     def application(self) -> web.Application:
         """What aiohttp serves."""
         found = web.Application(middlewares=[self._guarded], client_max_size=MOST_BODY)
         found.on_response_prepare.append(heads.mark)
+        found.on_shutdown.append(self._wrong_codes.end)
         for path, name in PAGES.items():
             found.router.add_get(path, self._page(name))
         found.router.add_get("/pages/{name}", self._file)
@@ -141,21 +148,34 @@ class Site:
         HTTPException.
         """
         self._doors.check(request)
+        if request.transport is None:
+            raise ConnectionResetError
+        gate = self._gates.of(request.transport)
+        gate.speaker = self._speaker_of(request)
         if request.path == SOCKET:
             return await handler(request)
         if hdrs.TRANSFER_ENCODING in request.headers:
-            if request.transport is not None:
-                self._gates.of(request.transport).end_request()
+            gate.end_request()
             raise web.HTTPLengthRequired(text="a body has its length in the head")
         try:
             async with asyncio.timeout(BODY_SECONDS):
                 await request.read()
         except TimeoutError:
             raise web.HTTPRequestTimeout(text="the request takes too long") from None
+        except web.HTTPRequestEntityTooLarge:
+            text = f"a body has at most {MOST_BODY} bytes"
+            raise web.HTTPRequestEntityTooLarge(MOST_BODY, MOST_BODY, text=text) from None
         except (ClientPayloadError, HttpProcessingError):
             raise MessageError("bad_message", "the body isn't what its head says") from None
         with self._gates.served(request.transport):
             return await handler(request)
+
+    def _speaker_of(self, request: web.Request) -> str:
+        """Whose token a request has: a role, and a member's name; empty where it is nobody's."""
+        with contextlib.suppress(MessageError):
+            role, member = self._venue.role_of(token_of(request))
+            return role if member is None else f"{role} {member.name}"
+        return ""
 
     # ---- pages
 
@@ -199,6 +219,8 @@ class Site:
     async def _join(self, request: web.Request) -> web.Response:
         """Makes a member."""
         body = await body_of(request)
+        for other in body.keys() - {"code", "name"}:
+            raise MessageError("bad_message", f"there is no {fields.shown(other)} in a join")
         code, name = messages.text_of(body, "code"), messages.text_of(body, "name", "")
         who = request.remote or "", connection_of(request)
         if not await self._guesses.turn(*who):
@@ -207,10 +229,11 @@ class Site:
             member, token = await self._venue.join(code, name)
         except MessageError as fault:
             if fault.code == "bad_code":
-                self._venue.log.note(kind="wrong_code", name=name[:MOST_NAME])
-                NOTICES.info("a wrong code, from %s", request.remote)
-                if self._guesses.wrong(*who):
-                    NOTICES.warning("codes are guessed, lastly from %s", request.remote)
+                are_many = self._guesses.wrong(*who)
+                self._wrong_codes.note(name[:MOST_NAME], are_many)
+                NOTICES.info("a wrong code, from %s", request.remote, extra={"of": "codes"})
+                if are_many:
+                    NOTICES.warning(GUESSED, request.remote, extra={"of": "guesses"})
             raise
         NOTICES.info("a member joined, from %s", request.remote, extra={"member": member.name})
         again = member.devices > 1
@@ -260,9 +283,15 @@ class Site:
 
     def _check_operator(self, request: web.Request) -> None:
         """Raises MessageError where somebody else asks."""
-        role, _ = self._venue.role_of(token_of(request))
-        if role != "operator":
-            raise MessageError("not_allowed")
+        try:
+            role, _ = self._venue.role_of(token_of(request))
+            if role != "operator":
+                raise MessageError("not_allowed")
+        except MessageError:
+            source = {"of": request.remote or ""}
+            text = "a token that isn't the operator's, from %s"
+            NOTICES.warning(text, request.remote, extra=source)
+            raise
 
     async def _operator(self, request: web.Request) -> web.Response:
         """Does what the operator asks for."""
@@ -307,6 +336,8 @@ class Site:
         if kind not in downloads.KINDS:
             raise web.HTTPNotFound
         board = self._board_of(request)
+        if kind in downloads.OF_ALL and not self._venue.is_known:
+            raise MessageError("halted", "a journal of a round is missing, or another one")
         language = request.query.get("language", sheets.PLAIN)
         if language not in sheets.LANGUAGES:
             raise MessageError("bad_message", "language is none of en, de")
@@ -349,9 +380,10 @@ async def body_of(request: web.Request) -> dict[str, Any]:
     if request.content_type != "application/json":
         raise MessageError("bad_message", "this isn't application/json")
     try:
-        found = messages.value_of((await request.read()).decode("utf-8"))
-    except (ValueError, RecursionError):
+        text = (await request.read()).decode("utf-8")
+    except ValueError:
         raise MessageError("bad_message", "this is no JSON") from None
+    found = messages.value_of(text)
     if not isinstance(found, dict):
         raise MessageError("bad_message", "this is no object")
     return found

@@ -6,18 +6,20 @@ import collections
 import contextlib
 import contextvars
 import dataclasses
+import functools
+import logging
 import pathlib
 import random
 import time
-from collections.abc import Callable, Iterable, Mapping
+from collections.abc import Callable, Collection, Iterable, Mapping
 from typing import Any, Self
 
 from callauction.limits import MOST_MEMBERS
-from callauction.venue import allowance, clock, config, views
+from callauction.venue import allowance, clock, config, shares, views
 from callauction.venue.accounts import Accounts, Fill
 from callauction.venue.bounds import Bounds
 from callauction.venue.gains import Predicted, Value
-from callauction.venue.holdings import Book, Holding, entered
+from callauction.venue.holdings import Book, Holding
 from callauction.venue.log import SOURCE, Line, Log
 from callauction.venue.messages import MessageError, Order
 from callauction.venue.phases import Phase, PhaseError, State
@@ -37,6 +39,12 @@ TICK = 0.1
 """Seconds between two looks at the clock."""
 BUSY_SHARE = 4
 """How often the time that a look took passes before the next one."""
+CODES_SECONDS = 1.0
+"""How long the codes of a board are taken as they were: thousands of members may have some."""
+FULL_SHARE = 0.9
+"""The part of the open orders, and of the commands, of a day from which on it is nearly full."""
+FULL = "%s: %s of at most %s %s, then members' are refused: `%s` of the next day may be greater"
+NOTICES = logging.getLogger("callauction.venue")
 
 
 @dataclasses.dataclass(frozen=True, slots=True)
@@ -67,12 +75,12 @@ class Board:
     group: int = 1
     round: int = 1
 
-    @property
+    @functools.cached_property
     def name(self) -> str:
         """Its name among the boards of a round."""
         return self.market if self.group == 1 else f"{self.market}.{self.group}"
 
-    @property
+    @functools.cached_property
     def key(self) -> str:
         """Its name among all boards of the venue, by which its journal and the log's lines go."""
         return self.name if self.round == 1 else f"{self.name}.round{self.round}"
@@ -86,7 +94,7 @@ class Instrument:
     def __init__(
         self,
         board: Board,
-        terms: config.Instrument,
+        terms: config.InstrumentTerms,
         plan: config.Plan,
         limits: Limits,
         engine: Engine,
@@ -107,13 +115,19 @@ class Instrument:
         self.fills: dict[int, list[Fill]] = {}
         self.course: list[Point] = []
         self.began: float | None = None
-        self.orders: dict[str, list[views.OpenOrder]] = {}
+        self.orders: dict[str, list[views.MemberOrder]] = {}
         self._book = Book()
         self.bound = Bounds().of(terms.open, terms.calls, terms.grid.tick_size)
+        self.reserve = 0
+        self.codes: Callable[[], Collection[str]] = lambda: (shares.CLASS,)
+        self._codes: Collection[str] = ()
+        self._codes_end = 0.0
         self._calls: collections.Counter[int] = collections.Counter()
         self._is_book_known = False
+        self._full: set[str] = set()
         self._entries = 0
         self._waiting: dict[str, dict[Message, str]] = {}
+        self._entering = 0
         self._gone: set[str] = set()
         self._tasks: list[asyncio.Task[None]] = []
         self.wanted: Callable[[], Iterable[str]] = lambda: ()
@@ -201,6 +215,8 @@ class Instrument:
             raise MessageError("halted")
         if self.state.frozen is not None:
             raise MessageError("frozen")
+        if self.state.phase is Phase.OVER:
+            raise MessageError("not_now", "the day is over")
         if not self.state.takes_orders():
             raise MessageError("not_now")
 
@@ -213,11 +229,45 @@ class Instrument:
         return self._send(member, order)
 
     def _check_bound(self, member: str, order: Order) -> None:
-        """Raises MessageError where a member would have more of the day than it may."""
-        number = self.numbers.get(member, -1)
-        records = [*self._waiting.get(member, {}).values()]
-        own, calls = self._book.of_member(number), self._calls[number] + len(records)
+        """Raises MessageError where a member would have more of the day than it may, or than there
+        is.
+        """
+        own = self._book.of_member(self.numbers.get(member, -1))
+        records, calls = [*self._waiting.get(member, {}).values()], self._used(member)
         allowance.check(self.bound, order.record, own, records, calls, self.terms.high)
+        if not allowance.takes_out(order.record, own, records):
+            self._check_left(member, order.record)
+
+    def _check_left(self, member: str, record: str) -> None:
+        """Raises MessageError where no commands are left for a record but those that are kept: for
+        the operator, and for each open order one that deletes it, also where its member is removed;
+        and those that are for other codes, or for members who have fewer.
+        """
+        left = self.terms.calls - self.engine.count - self.engine.waiting
+        left -= self.reserve + self._book.count + self._entering
+        is_entered = record.startswith("enter")
+        if left < 1 + is_entered:
+            raise MessageError("no_calls")
+        last, bound = self.terms.calls // shares.LAST, self.bound
+        if bound.last_calls is None or bound.calls >= self.terms.calls or left > last:
+            return
+        left, used = left - is_entered, self._used_by_code()
+        most = shares.most(member, used, left, last, bound.last_calls)
+        allowance.check_last(self._used(member), most)
+
+    def _used(self, member: str) -> int:
+        """How many commands a member has used, those that aren't answered yet too."""
+        return self._calls[self.numbers.get(member, -1)] + len(self._waiting.get(member, {}))
+
+    def _used_by_code(self) -> dict[str, int]:
+        """How many commands were used under each code by which members may be on the board."""
+        if (now := time.monotonic()) >= self._codes_end:
+            self._codes, self._codes_end = self.codes(), now + CODES_SECONDS
+        found = {code: self._used(code) for code in self._codes}
+        if shares.CLASS in found:
+            rest = (it for it in self.numbers if it not in found)
+            found[shares.CLASS] = sum(map(self._used, rest))
+        return found
 
     def withdraw(self, member: str, order: Order) -> "asyncio.Future[Entry]":
         """Sends the deletion of an order of a member who is gone, in any phase."""
@@ -229,25 +279,35 @@ class Instrument:
         message = Message(member, order.number, record, SOURCE.get(), order.note)
         answer = self.engine.submit(message)
         self._waiting.setdefault(member, {})[message] = order.record
-        answer.add_done_callback(lambda _: self._waiting[member].pop(message, None))
+        self._entering += order.record.startswith("enter")
+        answer.add_done_callback(lambda _: self._waits_no_more(message))
         return answer
+
+    def _waits_no_more(self, message: Message) -> None:
+        """A member's message was answered, perhaps by a fault."""
+        record = self._waiting.get(message.member, {}).pop(message, "")
+        self._entering -= record.startswith("enter")
+
+    def awaits(self, member: str) -> bool:
+        """Whether a message of a member isn't answered yet."""
+        return bool(self._waiting.get(member))
 
     def holding_of(self, member: str) -> Holding:
         """What a member has, and what it asks for."""
         fills, since = self.fills_of(member), self.accounts.since
-        waiting = [
-            entered(record.split(",")[1:])
-            for record in self._waiting.get(member, {}).values()
-            if record.startswith("enter")
-        ]
         return Holding(
             self.accounts.values.get(member),
             fills,
             [it for it in fills if it.trade > since],
             self._book.of_member(self.numbers.get(member, -1)),
-            waiting,
+            [*self._waiting.get(member, {}).values()],
             self.terms.high,
         )
+
+    @property
+    def open_count(self) -> int:
+        """How many orders are open in the book."""
+        return self._book.count
 
     def open_orders(self, member: str) -> list[int]:
         """The open orders of a member, by the replies so far."""
@@ -255,7 +315,7 @@ class Instrument:
 
     def _entered(self, message: Message, entry: Entry) -> None:
         """A message has its entry."""
-        self._waiting.get(message.member, {}).pop(message, None)
+        self._waits_no_more(message)
         if message.member == OPERATOR:
             self._uncrossed(entry)
             self.keep_time(clock.now())
@@ -263,7 +323,18 @@ class Instrument:
         else:
             self.learn(entry)
             self.touch([message.member])
+        kept = self.reserve + self.open_count
+        self._say_full("open", "orders are open", self.open_count, self.terms.open)
+        self._say_full(
+            "calls", "commands are used or kept", self.engine.count + kept, self.terms.calls
+        )
         self.on_entry(message, entry)
+
+    def _say_full(self, key: str, what: str, count: int, most: int) -> None:
+        """Says once that there is nearly as much as the day's file allows by this key."""
+        if count >= FULL_SHARE * most and key not in self._full:
+            self._full.add(key)
+            NOTICES.warning(FULL, self.board.key, count, most, what, key)
 
     def learn(self, entry: Entry) -> None:
         """Whose an order is."""
@@ -286,6 +357,12 @@ class Instrument:
         if self.state.phase is Phase.WAITING and state.phase is Phase.CALL:
             self.course, self.has_begun = [], True
         self.state = state
+
+    def set_back(self, seconds: float) -> None:
+        """The clock was set back before an earlier run, or this one: a call goes on as it was."""
+        self.state = self.state.set_back(seconds)
+        self.began = None if self.began is None else self.began - seconds
+        self.course = [dataclasses.replace(it, time=it.time - seconds) for it in self.course]
 
     def replay_point(self, point: Point) -> None:
         """A point of the course of an earlier run."""
@@ -546,9 +623,9 @@ def plan_of(plan: config.Plan, treatment: Treatment) -> config.Plan:
 
 def opened(
     board: Board,
-    terms: config.Instrument,
+    terms: config.InstrumentTerms,
     treatment: Treatment,
-    day: config.Day,
+    day: config.DayTerms,
     folder: pathlib.Path,
     program: str,
     log: Log,
@@ -564,4 +641,5 @@ def opened(
     engine = Engine(board.key, [*words, *terms.words()], journal, log)
     found = Instrument(board, terms, plan, terms.limits(treatment), engine, log)
     found.bound = day.bounds.of(terms.open, terms.calls, terms.grid.tick_size)
+    found.reserve = day.reserve
     return found

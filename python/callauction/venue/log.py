@@ -7,15 +7,15 @@ import asyncio
 import concurrent.futures
 import contextlib
 import contextvars
+import errno
 import fcntl
 import json
 import os
 import pathlib
-import time
 from collections.abc import Callable, Iterator
 from typing import Any
 
-from callauction.venue import owned
+from callauction.venue import clock, owned
 
 Line = dict[str, Any]
 Then = Callable[[], None]
@@ -34,9 +34,11 @@ FIELDS: dict[str, dict[str, type]] = {
     "day": {"instruments": dict, "parts": dict},
     "round": {"round": int, "groups": int, "treatment": dict},
     "group": {"round": int, "group": int},
+    "clock": {"instrument": str, "behind": float},
 }
 """What lines of some kinds have at least."""
 MOST_SHOWN = 80
+ENCODER = json.JSONEncoder(separators=(",", ":"), allow_nan=False)
 WRITE_SECONDS = 10.0
 """How long a write of the log may take before the venue says that it waits for it."""
 
@@ -49,10 +51,13 @@ class LogInUse(LogError):
     """Another venue has the log."""
 
 
+class OtherVersion(LogError):
+    """The log is of another version."""
+
+
 def text_of(line: Line) -> str:
     """A line of the log as it is written, with the time in seconds of the epoch."""
-    timed = {"time": round(time.time(), 3)} | line
-    return json.dumps(timed, separators=(",", ":"), allow_nan=False)
+    return ENCODER.encode({"time": round(clock.now(), 3)} | line)
 
 
 def read_lines(text: bytes, name: str) -> list[Line]:
@@ -92,9 +97,17 @@ class SlowWrite(OSError):
         super().__init__(0, f"it waits for the disk for more than {WRITE_SECONDS:g} s")
 
 
+class ChangedByOthers(OSError):
+    """The log isn't as it was left: it was moved, cut, or written to by somebody else."""
+
+    def __init__(self) -> None:
+        super().__init__(errno.ESTALE, "it was changed by others")
+
+
 class Log:
     """The log of a folder, which nobody else has meanwhile. `on_fault` is called where it can't be
-    written, and `on_written` where a write ends that was said to be slow.
+    written, and `on_written` where a write ends that was said to be slow. Nothing is written while
+    it isn't as it was left: what follows from it would be lost.
 
     Raises LogInUse where another has it, OwnerError where others may read or write it, and OSError.
     """
@@ -114,7 +127,10 @@ class Log:
         self._wakes = asyncio.Event()
         self._retries = asyncio.Event()
         self._thread = concurrent.futures.ThreadPoolExecutor(1, "log")
-        self._is_closed = False
+        self._thread.submit(int).result()  # it runs from now on, or there is no venue
+        self._is_closed = self._is_slow = False
+        self._fault: OSError | None = None
+        self._tries: set[asyncio.Future[OSError | None]] = set()
         self.on_fault: Callable[[OSError], None] = lambda fault: None
         self.on_written: Callable[[], None] = lambda: None
 
@@ -153,8 +169,25 @@ class Log:
         self.append("", done.set)
         await done.wait()
 
+    async def check_written(self) -> None:
+        """Waits until all lines so far are on the disk. Raises OSError where they can't be written
+        now.
+        """
+        fault = self._fault
+        if fault is None:
+            tried: asyncio.Future[OSError | None] = asyncio.get_running_loop().create_future()
+            self._tries.add(tried)
+            self.append("", lambda: None if tried.done() else tried.set_result(None))
+            try:
+                fault = await tried
+            finally:
+                self._tries.discard(tried)
+        if fault is not None:
+            raise OSError(fault.errno, fault.strerror, str(self.path))
+
     def retry(self) -> None:
         """Tries again to write what couldn't be written."""
+        self._fault = None
         self._retries.set()
 
     async def run(self) -> None:
@@ -178,21 +211,34 @@ class Log:
         """
         loop = asyncio.get_running_loop()
         while True:
-            written = loop.run_in_executor(self._thread, self._write, data)
+            self._is_slow = False
+            slow = loop.call_later(WRITE_SECONDS, self._slow)
             try:
-                done, _ = await asyncio.wait({written}, timeout=WRITE_SECONDS)
-                if not done:
-                    self.on_fault(SlowWrite())
-                await written
-                if not done:
+                await loop.run_in_executor(self._thread, self._write, data)
+                if self._is_slow:
                     self.on_written()
                 return True
             except OSError as fault:
                 if self._is_closed:
                     return False
-                self._retries.clear()
-                self.on_fault(fault)
-                await self._retries.wait()
+                self._failed(fault)
+            finally:
+                slow.cancel()
+            await self._retries.wait()
+
+    def _failed(self, fault: OSError) -> None:
+        """A write has failed: nothing is written until it is tried again."""
+        self._fault = fault
+        self._retries.clear()
+        self.on_fault(fault)
+        for tried in self._tries:
+            if not tried.done():
+                tried.set_result(fault)
+
+    def _slow(self) -> None:
+        """A write takes long."""
+        self._is_slow = True
+        self.on_fault(SlowWrite())
 
     def close(self) -> None:
         """Lets `run` end once all is written."""
@@ -200,8 +246,19 @@ class Log:
         self._wakes.set()
         self._retries.set()
 
+    def _check(self) -> None:
+        """Raises ChangedByOthers where others have changed it."""
+        own = os.fstat(self._file)
+        try:
+            found = os.lstat(self.path)
+        except FileNotFoundError:
+            raise ChangedByOthers from None
+        if not os.path.samestat(own, found) or own.st_size != self._length:
+            raise ChangedByOthers
+
     def _write(self, data: bytes) -> None:
         """Writes bytes at the end, or nothing. Raises OSError."""
+        self._check()
         try:
             view, place = memoryview(data), self._length
             while view:

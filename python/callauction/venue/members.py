@@ -18,6 +18,9 @@ HELLO_RATE, HELLO_BURST = 2.0, 20
 """How often a member may say who it is, or come again by its code, a second and at once."""
 
 
+UNSEEN = "a name has a letter or a digit, few marks on one letter, and nothing that isn't drawn"
+
+
 class NameTakenError(MessageError):
     """Somebody has this name."""
 
@@ -64,7 +67,7 @@ class Member:
 class Members:
     """The members of a venue, as the log has them."""
 
-    def __init__(self, terms: config.Members, log: Log) -> None:
+    def __init__(self, terms: config.MemberTerms, log: Log) -> None:
         self._terms, self._log = terms, log
         self._by_name: dict[str, Member] = {}
         self._by_token: dict[str, Member] = {}
@@ -162,8 +165,10 @@ class Members:
     def _new_title(self, name: str) -> str:
         """A name as others read it. Raises MessageError where it can't be one, or is taken."""
         wanted = unicodedata.normalize("NFC", " ".join(name.split()))
-        if not fields.MEMBER_NAME.fullmatch(wanted) or not is_seen(wanted):
+        if not fields.MEMBER_NAME.fullmatch(wanted):
             raise MessageError("bad_name")
+        if not is_seen(wanted):
+            raise MessageError("bad_name", UNSEEN)
         if is_role(wanted):
             raise MessageError("bad_name", "this name is a role's here")
         titles = {it.title for it in self.everybody}

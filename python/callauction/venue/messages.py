@@ -10,7 +10,8 @@ from typing import Any
 
 from callauction.limits import MOST_NUMBER
 from callauction.prices import BadCellError, decimal_of
-from callauction.venue.config import Instrument
+from callauction.venue.config import InstrumentTerms
+from callauction.venue.fields import shown
 from callauction.words import MARKET
 
 MOST_BYTES = 4096
@@ -76,12 +77,29 @@ class Order:
 
 
 def value_of(text: str) -> Any:
-    """What a text of JSON says. Raises ValueError, and RecursionError, where it is none, or a text
-    in it is none that can be written, as half a pair of UTF-16.
+    """What a text of JSON says. Raises MessageError where it is none, where a text in it is none
+    that can be written, as half a pair of UTF-16, and where a key is there twice.
     """
-    found = json.loads(text)
-    if "\\u" in text:
-        json.dumps(found, ensure_ascii=False).encode("utf-8")
+    try:
+        found = json.loads(text, object_pairs_hook=object_of)
+        if "\\u" in text:
+            json.dumps(found, ensure_ascii=False).encode("utf-8")
+    except MessageError:
+        raise
+    except (ValueError, RecursionError):
+        raise MessageError("bad_message", "this is no JSON") from None
+    return found
+
+
+def object_of(pairs: list[tuple[str, Any]]) -> dict[str, Any]:
+    """An object of these keys. Raises MessageError where one is there twice: each reader would take
+    another of the two.
+    """
+    found: dict[str, Any] = {}
+    for name, value in pairs:
+        if name in found:
+            raise MessageError("bad_message", f"{shown(name)} is there twice")
+        found[name] = value
     return found
 
 
@@ -89,10 +107,7 @@ def read(text: str) -> dict[str, Any]:
     """An object of JSON with a type. Raises MessageError."""
     if len(text) > MOST_BYTES:
         raise MessageError("bad_message", "the message is too long")
-    try:
-        found = value_of(text)
-    except (ValueError, RecursionError):
-        raise MessageError("bad_message", "the message is no JSON") from None
+    found = value_of(text)
     if not isinstance(found, dict) or not isinstance(found.get("type"), str):
         raise MessageError("bad_message", "the message has no type")
     return found
@@ -124,7 +139,7 @@ def number_of(message: dict[str, Any], name: str, least: int, most: int) -> int:
     return found
 
 
-def tick_of(instrument: Instrument, price: object) -> str:
+def tick_of(instrument: InstrumentTerms, price: object) -> str:
     """The limit of a record: a tick, or `market`. Raises MessageError."""
     if price == MARKET:
         return MARKET
@@ -135,11 +150,12 @@ def tick_of(instrument: Instrument, price: object) -> str:
     except BadCellError as fault:
         raise MessageError("bad_price", f"the price {price} {fault}") from None
     if tick > MOST_NUMBER:
-        raise MessageError("bad_price", f"the price {price} is out of all bounds")
+        least, most = instrument.price(instrument.low), instrument.price(instrument.high)
+        raise MessageError("bad_price", f"the price {price} is not from {least} to {most}")
     return str(tick)
 
 
-def quantity_of(instrument: Instrument, message: dict[str, Any]) -> int:
+def quantity_of(instrument: InstrumentTerms, message: dict[str, Any]) -> int:
     """The shares of an order. Raises MessageError."""
     found = number_of(message, "quantity", 0, MOST_NUMBER)
     if found > instrument.most_quantity:
@@ -147,7 +163,7 @@ def quantity_of(instrument: Instrument, message: dict[str, Any]) -> int:
     return found
 
 
-def order_of(instrument: Instrument, message: dict[str, Any]) -> Order:
+def order_of(instrument: InstrumentTerms, message: dict[str, Any]) -> Order:
     """The command that a message asks for. Raises MessageError."""
     kind = message["type"]
     for name in message.keys() - ORDER_FIELDS[kind] - {"type", "number", "instrument"}:
@@ -163,7 +179,7 @@ def order_of(instrument: Instrument, message: dict[str, Any]) -> Order:
     return Order(number, instrument.name, rest)
 
 
-def entered(instrument: Instrument, message: dict[str, Any]) -> str:
+def entered(instrument: InstrumentTerms, message: dict[str, Any]) -> str:
     """The record of a new order after its member, in its shortest form. Raises MessageError."""
     side, only = text_of(message, "side"), text_of(message, "only", "")
     if side not in SIDES:

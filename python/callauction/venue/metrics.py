@@ -2,7 +2,8 @@
 text form of Prometheus.
 """
 import os
-from collections.abc import Iterator
+import time
+from collections.abc import Callable, Iterator, Mapping, Sequence
 
 from aiohttp import web
 from prometheus_client import CONTENT_TYPE_LATEST, CollectorRegistry, generate_latest
@@ -17,17 +18,24 @@ from callauction.venue.venue import Venue
 
 PREFIX = "callboard"
 OF_INSTRUMENTS = ("instrument",)
+KEPT_SECONDS = 1.0
+"""How long the text of /metrics is given again, however many ask for it: with many instruments it
+takes as long as some orders.
+"""
+Others = Sequence[Callable[[], Mapping[str, tuple[str, float]]]]
+"""What gives the measures of the venue's other fronts."""
 
 
 class Measures:
-    """What is measured of a venue, each time that it is asked for."""
+    """What is measured of a venue and its other fronts, each time that it is asked for."""
 
-    def __init__(self, venue: Venue, gates: Gates) -> None:
-        self._venue, self._gates = venue, gates
+    def __init__(self, venue: Venue, gates: Gates, others: Others = ()) -> None:
+        self._venue, self._gates, self._others = venue, gates, others
 
     def collect(self) -> Iterator[Metric]:
         """All measures."""
         yield from self._of_venue()
+        yield from self._of_others()
         yield from self._of_instruments()
         yield self._phases()
         yield self._answers()
@@ -37,7 +45,7 @@ class Measures:
         venue = self._venue
         there = [it for it in venue.watchers if it.role == "member"]
         disk = os.statvfs(venue.folder)
-        values = {
+        values: dict[str, tuple[str, float]] = {
             "up": ("1 while the venue runs", 1),
             "venue_halted": ("1 while the whole venue has halted", int(bool(venue.halted))),
             "members": ("members who have joined", len(venue.members.all)),
@@ -46,24 +54,39 @@ class Measures:
             "log_waiting_lines": ("lines that wait for the disk", venue.log.waiting),
             "disk_free_bytes": ("room on the disk of the day", disk.f_bavail * disk.f_frsize),
         }
+        if (ends := venue.certificate_ends) is not None:
+            values["certificate_end_seconds"] = ("the certificate's end, in Unix time", ends)
         for name, (what, value) in values.items():
             yield GaugeMetricFamily(f"{PREFIX}_{name}", what, value)
+
+    def _of_others(self) -> Iterator[Metric]:
+        """Those of the venue's other fronts."""
+        for measures in self._others:
+            for name, (what, value) in measures().items():
+                kind = CounterMetricFamily if name.endswith("_total") else GaugeMetricFamily
+                yield kind(f"{PREFIX}_{name}", what, value)
 
     def _of_instruments(self) -> Iterator[Metric]:
         """Those of each instrument."""
         gauges = {
-            "halted": "1 while the instrument has halted",
+            "halted": "1 while the instrument, or the whole venue, has halted",
             "waiting": "messages that wait for their answer",
             "calls_left": "commands that the day has left",
+            "orders_open": "orders that are open in the book",
+            "orders_left": "orders that the book has room for",
         }
         counters = {
             "orders": "commands that were answered, entries of the journal",
             "trades": "trades of the day",
+            "restarts": "ends of the program after which it was started again",
         }
         for name, what in gauges.items():
             gauge = GaugeMetricFamily(f"{PREFIX}_{name}", what, labels=OF_INSTRUMENTS)
             for of, instrument in self._venue.instruments.items():
-                gauge.add_metric([of], value_of(instrument, name))
+                is_halted = name == "halted" and self._venue.halted is not None
+                gauge.add_metric([of], max(is_halted, value_of(instrument, name)))
+            for of in early_halts(self._venue) if name == "halted" else ():
+                gauge.add_metric([of], 1)
             yield gauge
         for name, what in counters.items():
             counter = CounterMetricFamily(f"{PREFIX}_{name}", what, labels=OF_INSTRUMENTS)
@@ -91,6 +114,21 @@ class Measures:
         return found
 
 
+class Text:
+    """The text of measures, which is made once in a while."""
+
+    def __init__(self, measures: Measures, clock: Callable[[], float] = time.monotonic) -> None:
+        self._registry = CollectorRegistry(auto_describe=False)
+        self._registry.register(measures)  # type: ignore[arg-type]
+        self._clock, self._text, self._ends = clock, b"", clock()
+
+    def of_now(self) -> bytes:
+        """The text, not older than KEPT_SECONDS."""
+        if (now := self._clock()) >= self._ends:
+            self._text, self._ends = generate_latest(self._registry), now + KEPT_SECONDS
+        return self._text
+
+
 def value_of(instrument: Instrument, name: str) -> float:
     """A measure of an instrument."""
     engine = instrument.engine
@@ -98,16 +136,18 @@ def value_of(instrument: Instrument, name: str) -> float:
         "halted": int(engine.halted is not None),
         "waiting": engine.waiting,
         "calls_left": instrument.day.left,
+        "orders_open": instrument.open_count,
+        "orders_left": instrument.terms.open - instrument.open_count,
         "orders": engine.count,
         "trades": len(instrument.trades),
+        "restarts": engine.restarts,
     }
     return values[name]
 
 
-def application(venue: Venue, gates: Gates) -> web.Application:
+def application(venue: Venue, gates: Gates, others: Others = ()) -> web.Application:
     """What serves the two pages."""
-    registry = CollectorRegistry(auto_describe=False)
-    registry.register(Measures(venue, gates))  # type: ignore[arg-type]
+    text = Text(Measures(venue, gates, others))
 
     async def healthz(request: web.Request) -> web.Response:
         halted = halts_of(venue)
@@ -115,9 +155,7 @@ def application(venue: Venue, gates: Gates) -> web.Application:
         return web.json_response(found, status=503 if halted else 200)
 
     async def metrics(request: web.Request) -> web.Response:
-        return web.Response(
-            body=generate_latest(registry), headers={"Content-Type": CONTENT_TYPE_LATEST}
-        )
+        return web.Response(body=text.of_now(), headers={"Content-Type": CONTENT_TYPE_LATEST})
 
     found = web.Application()
     found.on_response_prepare.append(heads.mark)
@@ -130,4 +168,16 @@ def halts_of(venue: Venue) -> dict[str, str]:
     """Why the venue, and each of its instruments, has halted, where it has."""
     halted = {name: it.engine.halted for name, it in venue.instruments.items()}
     found = {name: why for name, why in halted.items() if why is not None}
-    return found | ({"venue": venue.halted} if venue.halted else {})
+    return found | early_halts(venue) | ({"venue": venue.halted} if venue.halted else {})
+
+
+def early_halts(venue: Venue) -> dict[str, str]:
+    """Why instruments of earlier rounds have halted of which it isn't known what their journals
+    have.
+    """
+    return {
+        f"{it.board.name} of round {round_.number}": it.engine.halted
+        for round_ in venue.rounds[:-1]
+        for it in round_.boards.values()
+        if it.engine.halted is not None and not it.engine.is_open
+    }

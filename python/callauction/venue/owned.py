@@ -6,6 +6,7 @@ import errno
 import os
 import pathlib
 import stat
+from collections.abc import Callable
 
 FOLDER_MODE, FILE_MODE = 0o700, 0o600
 """The modes of all that a venue makes."""
@@ -24,7 +25,7 @@ def make_folder(path: pathlib.Path) -> None:
     with contextlib.suppress(FileExistsError):
         path.mkdir(mode=FOLDER_MODE)
     if path.is_symlink() and os.lstat(path).st_uid not in (0, os.geteuid()):
-        raise OwnerError(f"{path} is a link of another user")
+        raise OwnerError(f"{path} is a link of another user: find out who, then chown -h")
     check(path, os.stat(path), WRITES_OF_OTHERS, is_folder=True)
 
 
@@ -32,11 +33,13 @@ def check(
     path: pathlib.Path, found: os.stat_result, refused: int, is_folder: bool = False
 ) -> None:
     """Raises OwnerError where a file isn't this user's, or gives others one of these rights."""
+    if stat.S_ISLNK(found.st_mode):
+        raise OwnerError(f"{path} is a link: put the file itself there")
     kind = stat.S_ISDIR if is_folder else stat.S_ISREG
     if not kind(found.st_mode):
-        raise OwnerError(f"{path} is no {'folder' if is_folder else 'regular file'}")
+        raise OwnerError(f"{path} is no {'folder' if is_folder else 'regular file'}: move it away")
     if found.st_uid != os.geteuid():
-        raise OwnerError(f"{path} belongs to another user")
+        raise OwnerError(f"{path} belongs to another user: find out who, then chown")
     if found.st_mode & refused & WRITES_OF_OTHERS:
         raise OwnerError(f"{path} may be written by other users: chmod go-w")
     if found.st_mode & refused:
@@ -59,9 +62,13 @@ def check_copy(path: pathlib.Path, is_folder: bool = False) -> None:
     """Raises OwnerError where anybody but this user and root may have written what is copied from
     here, and OSError. A link is judged by what reads it.
     """
-    found = os.stat(path) if is_folder else os.lstat(path)
+    check_writers(path, os.stat(path) if is_folder else os.lstat(path))
+
+
+def check_writers(path: pathlib.Path, found: os.stat_result) -> None:
+    """Raises OwnerError where anybody but this user and root owns a file, or may write to it."""
     if found.st_uid not in (0, os.geteuid()):
-        raise OwnerError(f"{path} belongs to another user")
+        raise OwnerError(f"{path} belongs to another user: find out who, then chown")
     if found.st_mode & WRITES_OF_OTHERS and not stat.S_ISLNK(found.st_mode):
         raise OwnerError(f"{path} may be written by other users: chmod go-w")
 
@@ -70,6 +77,7 @@ def opened(path: pathlib.Path, flags: int) -> int:
     """An open file that is this user's and that nobody else may read or write. Raises OwnerError,
     and OSError.
     """
+    check_file(path)
     flags |= os.O_CLOEXEC | os.O_NOFOLLOW | os.O_NONBLOCK
     file = os.open(path, flags, FILE_MODE)
     try:
@@ -89,9 +97,32 @@ def read(path: pathlib.Path, most: int) -> bytes:
         os.close(file)
 
 
-def whole(path: pathlib.Path, most: int, flags: int = 0) -> bytes:
-    """The bytes of a file, whoever's it is. Raises OSError, also where it is no regular file, which
-    might never end, or has more bytes than `most`.
+def trusted(path: pathlib.Path, most: int) -> bytes:
+    """The bytes of a file that this user and root alone may write. Raises what `whole` raises, and
+    OwnerError where others own it, or a link in its place, or may write to it.
+    """
+    if stat.S_ISLNK((about := os.lstat(path)).st_mode):
+        check_writers(path, about)
+    return whole(path, most, judge=check_writers)
+
+
+def check_key(path: pathlib.Path, found: os.stat_result) -> None:
+    """Raises OwnerError where anybody but this user, root and a group that it has may read a key,
+    or anybody but this user and root write to it.
+    """
+    check_writers(path, found)
+    if found.st_mode & stat.S_IROTH:
+        raise OwnerError(f"{path} may be read by all users: chmod o-rwx")
+
+
+def whole(
+    path: pathlib.Path,
+    most: int,
+    flags: int = 0,
+    judge: Callable[[pathlib.Path, os.stat_result], None] = lambda path, found: None,
+) -> bytes:
+    """The bytes of a file, whoever's it is, unless `judge` raises. Raises OSError, also where it is
+    no regular file, which might never end, or has more bytes than `most`.
     """
     if flags & os.O_NOFOLLOW and path.is_symlink():
         raise OSError(errno.ELOOP, "is a link", str(path))
@@ -100,6 +131,7 @@ def whole(path: pathlib.Path, most: int, flags: int = 0) -> bytes:
         about = os.fstat(file)
         if not stat.S_ISREG(about.st_mode):
             raise OSError(errno.EINVAL, "is no regular file", str(path))
+        judge(path, about)
         found = b""
         if about.st_size <= most:
             with open(file, "rb", closefd=False) as opened:

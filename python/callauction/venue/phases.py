@@ -71,11 +71,7 @@ class State:
             return self._with_end(Phase.EXTENDED, now, seconds, 0, 0.0)
         if self.phase not in (Phase.CALL, Phase.EXTENDED):
             raise PhaseError(f"no call can be extended in the phase {self.phase}")
-        if self.ends is None or self.latest is None or self.real is None:
-            return self
-        return dataclasses.replace(
-            self, ends=self.ends + seconds, latest=self.latest + seconds, real=self.real + seconds
-        )
+        return self._later(seconds)
 
     def held(self, now: float) -> Self:
         """A call in which no order is taken for a while. Raises PhaseError."""
@@ -88,11 +84,19 @@ class State:
         if self.frozen is None:
             raise PhaseError("nothing is frozen")
         later = max(0.0, now - self.frozen)
-        found = dataclasses.replace(self, frozen=None)
+        return dataclasses.replace(self, frozen=None)._later(later)
+
+    def set_back(self, seconds: float) -> Self:
+        """The same by a clock that was set back by as much."""
+        frozen = None if self.frozen is None else self.frozen - seconds
+        return dataclasses.replace(self, frozen=frozen)._later(-seconds)
+
+    def _later(self, seconds: float) -> Self:
+        """The same with its end, where it has one, as much later."""
         if self.ends is None or self.latest is None or self.real is None:
-            return found
+            return self
         return dataclasses.replace(
-            found, ends=self.ends + later, latest=self.latest + later, real=self.real + later
+            self, ends=self.ends + seconds, latest=self.latest + seconds, real=self.real + seconds
         )
 
     def may_uncross(self) -> bool:

@@ -146,9 +146,10 @@ class Process:
                 start_new_session=True,
                 restore_signals=False,  # a file that is too long is a failed write, and no signal
             )
-        except OSError as fault:
+        except (OSError, RuntimeError) as fault:  # or no thread that waits for its end
             self._pipe.close()
-            raise ProcessError(f"the program can't be run: {fault.strerror}", 3) from None
+            why = fault.strerror if isinstance(fault, OSError) else fault
+            raise ProcessError(f"the program can't be run: {why}", FAILED) from None
         finally:
             os.close(theirs)
         _running.add(self._child.pid)

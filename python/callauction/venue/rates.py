@@ -32,6 +32,10 @@ class Bucket:
         self._left -= found
         return found
 
+    def charge(self, count: int) -> None:
+        """Counts this many more, for which later ones wait where there isn't room."""
+        self._left -= count
+
 
 WRONG_RATE, WRONG_BURST = 1.0, 60
 """Wrong codes of all together, a second and at once, before each code waits for its turn."""

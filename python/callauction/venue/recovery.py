@@ -15,6 +15,9 @@ import pathlib
 from collections.abc import Iterable, Mapping, Sequence
 
 
+BLOCK = 1 << 18
+
+
 class RecoveryError(Exception):
     """The journal has an entry that no message asked for."""
 
@@ -79,17 +82,19 @@ class Mark:
 
 
 class Sum:
-    """A running SHA-256 of the entries of a journal."""
+    """A running SHA-256 of the entries of a journal, which have `size` bytes."""
 
     def __init__(self, entries: Iterable[Entry] = ()) -> None:
-        self.count, self._sum = 0, hashlib.sha256()
+        self.count, self.size, self._sum = 0, 0, hashlib.sha256()
         for entry in entries:
             self.add(entry)
 
     def add(self, entry: Entry) -> None:
         """One entry more."""
         self.count += 1
-        self._sum.update(f"{entry.record},{entry.reply}\n".encode("latin-1"))
+        line = f"{entry.record},{entry.reply}\n".encode("latin-1")
+        self.size += len(line)
+        self._sum.update(line)
 
     @property
     def mark(self) -> Mark:
@@ -97,9 +102,28 @@ class Sum:
         return Mark(self.count, self._sum.hexdigest())
 
 
+def sums_of(path: pathlib.Path, size: int) -> tuple[str, str]:
+    """The SHA-256 of a journal's first line, and of as many bytes behind it. Raises OSError."""
+    with open(path, "rb") as file:
+        first, rest = hashlib.sha256(file.readline(BLOCK)), hashlib.sha256()
+        while block := file.read(min(size, BLOCK)):
+            rest.update(block)
+            size -= len(block)
+    return first.hexdigest(), rest.hexdigest()
+
+
 def entries_of(path: pathlib.Path) -> list[Entry]:
     """The entries of a journal, as far as their lines are whole. Raises OSError."""
     return entries_in(path.read_text(encoding="latin-1"))
+
+
+def known_entries(path: pathlib.Path, mark: Mark) -> list[Entry]:
+    """The entries of a journal, which begin with those of a mark. Raises RolledBackError where they
+    don't, and OSError.
+    """
+    found = entries_of(path)
+    mark.check(found)
+    return found
 
 
 def entries_in(text: str) -> list[Entry]:

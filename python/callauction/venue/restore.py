@@ -6,16 +6,14 @@ import pathlib
 import sys
 
 from callauction import finder
-from callauction.statuses import BAD_DAY, BAD_FILE, DONE, FAILED
+from callauction.statuses import DONE
 from callauction.venue import copies
-from callauction.venue.log import LogError
-from callauction.venue.owned import OwnerError
 
 
 def main() -> int:
     """Restores a day; answers the status."""
     parser = argparse.ArgumentParser(
-        prog="python3 -m callauction.venue.restore",
+        prog="python3 -P -m callauction.venue.restore",
         description="Puts a copy of a venue's folder to a new folder, once all of it is checked.",
         epilog="statuses: 0 restored; 1 the copy isn't whole, or has an unlawful reply; 2 others "
         "own it or may write to it; 3 no program, or a read or a write failed",
@@ -26,15 +24,8 @@ def main() -> int:
     try:
         print(copies.summary(copies.restore(asked.copy, asked.folder, finder.program())))
         return DONE
-    except OwnerError as fault:
-        text, status = str(fault), BAD_DAY
-    except (copies.CopyError, LogError) as fault:
-        text, status = str(fault), BAD_FILE
-    except OSError as fault:
-        named = f"{fault.filename}: {fault.strerror}" if fault.filename else fault.strerror
-        text, status = named or str(fault), FAILED
-    print(f"restore: {text}", file=sys.stderr)
-    return status
+    except copies.FAULTS as fault:
+        return copies.said("restore", fault)
 
 
 if __name__ == "__main__":

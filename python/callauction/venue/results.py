@@ -49,7 +49,7 @@ def gain_in(round_: Round, member: str) -> Decimal | None:
     return sum((money_of(it, it.gain_of(member)) for it in boards), Decimal(0))
 
 
-def payoff_of(day: config.Day, rounds: Iterable[Round], member: Member) -> Payoff:
+def payoff_of(day: config.DayTerms, rounds: Iterable[Round], member: Member) -> Payoff:
     """What a member is paid; its rank isn't known yet."""
     gains = tuple(
         Gain(it.number, it.treatment.title, it.treatment.is_practice, gain_in(it, member.name))
@@ -63,7 +63,7 @@ def payoff_of(day: config.Day, rounds: Iterable[Round], member: Member) -> Payof
     return Payoff(member.name, member.title, gains, total, paid, day.paid_in)
 
 
-def payoffs(day: config.Day, rounds: Sequence[Round], members: Members) -> list[Payoff]:
+def payoffs(day: config.DayTerms, rounds: Sequence[Round], members: Members) -> list[Payoff]:
     """What the members are paid, who has most first, robots and who was removed aside."""
     paid = [payoff_of(day, rounds, it) for it in members.all if not it.robot]
     paid.sort(key=lambda it: -it.gain)

@@ -5,7 +5,7 @@ import dataclasses
 from collections.abc import Iterable, Mapping, Sequence
 
 from callauction.venue.gains import Value
-from callauction.venue.handing import Row
+from callauction.venue.handing import ListedValue
 from callauction.venue.instrument import Instrument
 from callauction.venue.phases import Phase
 from callauction.venue.treatments import Treatment
@@ -22,7 +22,7 @@ class Round:
     boards: dict[str, Instrument]
     message: str = ""
     has_dealt: bool = False
-    listed: dict[str, tuple[Row, ...]] = dataclasses.field(default_factory=dict)
+    listed: dict[str, tuple[ListedValue, ...]] = dataclasses.field(default_factory=dict)
 
     @property
     def groups(self) -> int:

@@ -12,13 +12,13 @@ import ssl
 import sys
 import threading
 import time
-from collections.abc import AsyncIterator, Sequence
-from typing import Protocol
+from collections.abc import AsyncIterator, Callable, Iterator, Mapping, Sequence
+from typing import Any, Protocol
 
 from aiohttp import web
 
 from callauction.statuses import FAILED
-from callauction.venue import addresses, gates, owned, supervising
+from callauction.venue import addresses, gates, notices, owned, supervising
 from callauction.venue.heads import GRACE, Handler
 from callauction.venue.http import Site
 from callauction.venue.process import kill_all
@@ -30,8 +30,12 @@ from members.
 """
 MOST_PEM = 1 << 20
 """The bytes that a file of a certificate or of a key may have."""
+HOSTS = ("DNS", "IP Address")
+"""The kinds of names in a certificate by which it is for a host."""
 END_SECONDS = 4.5
 """How long after a signal the venue ends, whatever hangs."""
+ENDING = (signal.SIGHUP, signal.SIGINT, signal.SIGTERM)
+"""The signals that may come once more while it ends."""
 
 
 NOTICES = logging.getLogger("callauction.venue")
@@ -58,11 +62,13 @@ class Address:
     hides_tokens: bool = False
 
     def check(self) -> None:
-        """Raises AddressError where others could read along."""
+        """Raises AddressError where others could read along, or the two ports are one."""
+        if self.metrics is not None and is_one((self.host, self.port), self.metrics):
+            raise AddressError(f"--metrics: port {self.port} is the members': take another")
         if bool(self.cert) != bool(self.key):
             raise AddressError("--tls-cert and --tls-key go together")
         if self.cert and self.is_insecure:
-            raise AddressError("--insecure is for no TLS at all")
+            raise AddressError("--insecure is for no TLS at all: leave it out")
         if not addresses.is_loopback(self.host) and not self.cert and not self.is_insecure:
             raise AddressError(
                 f"{self.host} is reached from other machines: --tls-cert and --tls-key, or "
@@ -70,8 +76,15 @@ class Address:
                 "others"
             )
 
-    def check_front(self, host: str) -> None:
-        """Raises AddressError where others could read along on this host of another front."""
+    def check_front(self, host: str, port: int) -> None:
+        """Raises AddressError where others could read along on this host of another front, or its
+        port is one of the venue's own.
+        """
+        own = {"members' (--port)": (self.host, self.port)}
+        own |= {"operator's (--metrics)": self.metrics} if self.metrics else {}
+        for whose, place in own.items():
+            if is_one(place, (host, port)):
+                raise AddressError(f"fix: address: port {port} is the {whose}: take another")
         if not addresses.is_loopback(host) and not self.cert:
             text = f"fix: {host} is reached from other machines: --tls-cert and --tls-key"
             raise AddressError(text)
@@ -90,14 +103,40 @@ class Address:
         """
         tried = ssl.create_default_context(ssl.Purpose.CLIENT_AUTH)
         try:
-            for path in (self.cert, self.key):
-                owned.whole(pathlib.Path(path or ""), MOST_PEM)
+            cert = owned.whole(pathlib.Path(self.cert or ""), MOST_PEM)
+            key = owned.whole(pathlib.Path(self.key or ""), MOST_PEM, judge=owned.check_key)
             tried.load_cert_chain(self.cert or "", self.key, refuse_to_ask)
-            if ends_of(self.cert or "") <= time.time():
-                raise AddressError(f"the certificate {self.cert} has ended")
+            check_time(self.cert or "")
             context.load_cert_chain(self.cert or "", self.key, refuse_to_ask)
-        except (OSError, ssl.SSLError) as fault:
-            raise AddressError(f"the certificate or its key can't be read: {fault}") from None
+        except owned.OwnerError as fault:
+            raise AddressError(str(fault)) from None
+        except ssl.SSLError as fault:
+            why = f"{self._unusable(cert, key)}: {fault}"
+            raise AddressError(f"{why}: put a PEM file of each there") from None
+        except OSError as fault:
+            named = fault.filename or f"{self.cert} or its key {self.key}"
+            why = f"{named} can't be read: {fault.strerror}"
+            raise AddressError(f"{why}: put a PEM file there that its user may read") from None
+
+    def _unusable(self, cert: bytes, key: bytes) -> str:
+        """Which of these contents of the certificate and its key is none, or that they can't be
+        used together.
+        """
+        if b"BEGIN CERTIFICATE" not in cert:
+            return f"{self.cert} has no certificate"
+        if b"PRIVATE KEY" not in key:
+            return f"{self.key} has no private key"
+        return f"{self.cert} and its key {self.key} can't be used"
+
+    def warnings(self) -> Iterator[str]:
+        """What is no fault, as members may reach it by another name: for whom the certificate isn't
+        by which they are told to come.
+        """
+        names = names_of(self.cert) if self.cert else []
+        for host in self.names or self.reached()[:1]:
+            if self.cert and not any(addresses.is_named(host, name) for name in names):
+                named = ", ".join(names) or "no host"
+                yield f"browsers refuse {self.cert} for {host}: it is for {named} (see --name)"
 
     def hosts(self) -> frozenset[str]:
         """The names by which the venue goes, beside the addresses of this machine."""
@@ -120,6 +159,13 @@ class Address:
         return [f"{kind}://{host}:{port}/" for host in shown]
 
 
+def is_one(place: tuple[str, int], other: tuple[str, int]) -> bool:
+    """Whether who listens at one host and port takes the other, too."""
+    hosts = [it[0].replace("localhost", "127.0.0.1") for it in (place, other)]
+    is_host = addresses.is_same(*hosts) or hosts[0] == hosts[1] or {*hosts} & {"0.0.0.0", "::"}
+    return 0 != place[1] == other[1] and bool(is_host)
+
+
 def refuse_to_ask() -> str:
     """Where a key needs a passphrase: a venue that asks for it at a terminal stands still. Raises
     AddressError.
@@ -127,10 +173,30 @@ def refuse_to_ask() -> str:
     raise AddressError("the key has a passphrase: openssl pkey -in KEY -out PLAIN takes it away")
 
 
+def check_time(cert: str) -> None:
+    """Raises AddressError where a certificate isn't valid now."""
+    begin = str(decoded(cert)["notBefore"])
+    if ends_of(cert) <= time.time():
+        raise AddressError(f"the certificate {cert} has ended: put a new one there")
+    if ssl.cert_time_to_seconds(begin) > time.time():
+        text = f"the certificate {cert} isn't valid before {' '.join(begin.split())}"
+        raise AddressError(f"{text}: put one there that is, or set the clock")
+
+
 def ends_of(cert: str) -> float:
     """When a certificate ends, in seconds of the epoch."""
-    found = ssl._ssl._test_decode_cert(cert)  # type: ignore[attr-defined]
-    return ssl.cert_time_to_seconds(str(found["notAfter"]))
+    return ssl.cert_time_to_seconds(str(decoded(cert)["notAfter"]))
+
+
+def names_of(cert: str) -> list[str]:
+    """The hosts for which a certificate is: names and addresses."""
+    return [value for kind, value in decoded(cert).get("subjectAltName", ()) if kind in HOSTS]
+
+
+def decoded(cert: str) -> dict[str, Any]:
+    """What a certificate says."""
+    found: dict[str, Any] = ssl._ssl._test_decode_cert(cert)  # type: ignore[attr-defined]
+    return found
 
 
 class Front(Protocol):
@@ -143,12 +209,14 @@ class Front(Protocol):
     ) -> contextlib.AbstractAsyncContextManager[str]:
         """Listens, with this TLS: the line that says where. Raises AddressError."""
 
+    def measures(self) -> Mapping[str, tuple[str, float]]:
+        """What operations see of it, by names of which those of what only grows end with `_total`:
+        what it is, and how much.
+        """
 
-def lines_of_address(
-    venue: Venue, address: Address, entries: int, fronts: Sequence[str] = ()
-) -> list[str]:
-    """The lines that say where the venue is, with those of its other fronts."""
-    url, *others = venue.urls()
+
+def lines_of_begin(venue: Venue, entries: int) -> list[str]:
+    """The lines that say with what an opened venue begins, before a front admits members."""
     lines = [f"{venue.day.title}: {venue.folder}, {entries} entries so far"]
     if count := len(venue.members.all):
         begun = time.strftime("%Y-%m-%d", time.localtime(venue.began))
@@ -156,7 +224,13 @@ def lines_of_address(
         lines.append(f"{goes_on}, members: {count}; --folder NEW begins anew")
     if venue.changes:
         lines.append(f"the day has changed since it was last opened: {', '.join(venue.changes)}")
-    lines.append(f"members  {url}")
+    return lines
+
+
+def lines_of_address(venue: Venue, address: Address, fronts: Sequence[str]) -> list[str]:
+    """The lines that say where the venue is, with those of its other fronts."""
+    url, *others = venue.urls()
+    lines = [f"members  {url}"]
     lines += [f"or       {other}" for other in others]
     lines += fronts
     if code := venue.members.codes.get("", ""):
@@ -178,7 +252,10 @@ def end_in_time() -> None:
 
     def end() -> None:
         kill_all()
-        print(f"venue: something didn't end within {END_SECONDS:g} s", file=sys.stderr, flush=True)
+        notices.write_left_out()
+        text = f"venue: something didn't end within {END_SECONDS:g} s"
+        if notices.has_room(sys.stderr):
+            print(text, file=sys.stderr, flush=True)
         os._exit(FAILED)
 
     timer = threading.Timer(END_SECONDS, end)
@@ -216,7 +293,7 @@ async def served(
         try:
             sockets = gates.listening(host, port)
         except OSError as fault:
-            raise AddressError(f"can't listen on {host}: {fault.strerror}") from None
+            raise AddressError(gates.why_not(host, port, fault)) from None
         assert runner.server is not None
         handler = functools.partial(Handler, runner.server)
         listener = gates.Listener(found, sockets, handler, context)
@@ -242,17 +319,18 @@ async def listen(
     """Serves an opened venue until it is stopped. Raises AddressError."""
     kept = sum(it.files for it in fronts) + MOST_OF_METRICS * (address.metrics is not None)
     own = gates.Gates(gates.most_connections(kept))
+    begin = lines_of_begin(venue, entries)
     site = Site(venue, program, address.hosts(), own)
     async with contextlib.AsyncExitStack() as stack:
         if address.metrics is not None:
-            pages = measures(venue, own)
+            pages = measures(venue, own, fronts)
             few = gates.Gates(MOST_OF_METRICS, MOST_OF_METRICS)
             await stack.enter_async_context(served(pages, few, *address.metrics))
         where = address.host, address.port, context
         port = await stack.enter_async_context(served(site.application(), own, *where))
         venue.urls = functools.partial(address.urls, port)
         others = [await stack.enter_async_context(it.served(context)) for it in fronts]
-        print("\n".join(lines_of_address(venue, address, entries, others)), flush=True)
+        print("\n".join([*begin, *lines_of_address(venue, address, others)]), flush=True)
         NOTICES.info("serving at port %s, %s entries so far", port, entries)
         supervising.notify("READY=1")
         if seconds := supervising.watchdog_seconds():
@@ -264,53 +342,76 @@ async def listen(
         venue.dismiss()
 
 
-def measures(venue: Venue, found: gates.Gates) -> web.Application:
+def measures(venue: Venue, found: gates.Gates, fronts: Sequence[Front]) -> web.Application:
     """The pages for operations. Raises AddressError."""
     try:
         from callauction.venue import metrics
     except ImportError:
         text = "--metrics needs prometheus_client: Debian has it in python3-prometheus-client"
         raise AddressError(text) from None
-    return metrics.application(venue, found)
+    return metrics.application(venue, found, [it.measures for it in fronts])
 
 
-def reload(address: Address, context: ssl.SSLContext | None) -> None:
+def take(venue: Venue, address: Address) -> None:
+    """Keeps when the certificate that is served ends, and says for whom it isn't."""
+    if address.cert:
+        venue.certificate_ends = ends_of(address.cert)
+    for text in address.warnings():
+        NOTICES.warning(text)
+
+
+def reload(venue: Venue, address: Address, context: ssl.SSLContext | None) -> None:
     """Takes the certificate anew, for connections from now on."""
     if context is None:
         NOTICES.warning("there is no certificate that could be taken anew")
         return
     try:
         address.load(context)
-        NOTICES.warning("the certificate was taken anew")
+        take(venue, address)
+        ends = time.strftime("%Y-%m-%d", time.gmtime(venue.certificate_ends))
+        NOTICES.warning("the certificate was taken anew: it ends on %s", ends)
     except AddressError as fault:
         NOTICES.error("the certificate stays as it was: %s", fault)
+
+
+def on_signal(number: signal.Signals, act: Callable[[], None]) -> None:
+    """Has this done in the running loop when a signal comes. A handler of the loop's own would be
+    taken away with it, and one more signal would end this process before it has ended itself.
+    """
+    loop = asyncio.get_running_loop()
+    signal.signal(number, lambda *_: loop.call_soon_threadsafe(act))
 
 
 async def serve(
     venue: Venue, program: str, address: Address, fronts: Sequence[Front] = ()
 ) -> None:
     """Listens until SIGINT or SIGTERM; SIGHUP takes the certificate anew, or where there is none
-    and a terminal has ended, ends too. Raises AddressError, and what Venue.open raises.
+    and a terminal has ended, ends too. Raises AddressError, and what Venue.open and close raise.
     """
     context = address.context()
+    take(venue, address)
     stopped = asyncio.Event()
-    loop = asyncio.get_running_loop()
 
     def stop() -> None:
         if not stopped.is_set():
             stopped.set()
             end_in_time()
 
-    for number in (signal.SIGINT, signal.SIGTERM):
-        loop.add_signal_handler(number, stop)
-    if context is None and sys.stdin is not None and sys.stdin.isatty():
-        loop.add_signal_handler(signal.SIGHUP, stop)
-    else:
-        loop.add_signal_handler(signal.SIGHUP, reload, address, context)
+    acts = dict.fromkeys(ENDING, stop)
+    if context is not None or sys.stdin is None or not sys.stdin.isatty():
+        acts[signal.SIGHUP] = functools.partial(reload, venue, address, context)
+    for number, act in acts.items():
+        on_signal(number, act)
+    counting = asyncio.create_task(notices.write_counts())
     try:
         entries = await opened(venue, stopped)
         if entries is None:
             return
         await listen(venue, program, address, entries, context, stopped, fronts)
     finally:
-        await venue.close()
+        try:
+            await venue.close()
+        finally:
+            counting.cancel()
+            for number in ENDING:  # nothing is left for one more to end
+                signal.signal(number, signal.SIG_IGN)

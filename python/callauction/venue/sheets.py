@@ -31,10 +31,10 @@ CELLS = {
     "auction": {"opening": "Eröffnung", "intraday": "untertägig", "closing": "Schluss"},
 }
 """What cells of a column are in German, where they are words of the venue."""
-Row = dict[str, object]
+SheetRow = dict[str, object]
 
 
-def table(columns: Sequence[str], rows: Iterable[Row], language: str = PLAIN) -> bytes:
+def table(columns: Sequence[str], rows: Iterable[SheetRow], language: str = PLAIN) -> bytes:
     """A CSV file; for a spreadsheet in a language of LANGUAGES it is marked as UTF-8, and in German
     it has semicolons between, decimal commas and German words.
     """

@@ -13,17 +13,20 @@
 - code (member, or none for the day's), door (open), remove (member or members), readmit (member),
   rename (member, name).
 - robots (count, kind: zero, truthful or shading): that many more; all are removed where count is 0.
-- resume: tries again what had halted. reset (session): a session by FIX begins anew.
+- resume: tries again what had halted; an error says what halts again. reset (session): a session
+  by FIX begins anew.
 """
 import dataclasses
+import logging
 from collections.abc import Awaitable, Callable, Container
 from typing import Any
 
 from callauction.venue import shown, views
 from callauction.venue.config import MOST_QUANTITY
-from callauction.venue.fields import SENTENCE, ConfigError, Fields
-from callauction.venue.handing import HOWS, SIDES, HandError, Row, Rule, named, rows_of
+from callauction.venue.fields import SENTENCE, ConfigError, Fields, flaw_of
+from callauction.venue.handing import HOWS, SIDES, HandError, ListedValue, Rule, named, rows_of
 from callauction.venue.instrument import Instrument
+from callauction.venue.log import SOURCE
 from callauction.venue.members import Member
 from callauction.venue.messages import MessageError, number_of, text_of
 from callauction.venue.phases import PhaseError
@@ -33,6 +36,7 @@ from callauction.venue.tokens import new_code
 from callauction.venue.treatments import MOST_SECONDS, Treatment, treatment_of
 from callauction.venue.venue import Venue
 
+NOTICES = logging.getLogger("callauction.venue")
 MOST_ROUNDS = 10_000
 STEPS = {
     "start": Instrument.start_call,
@@ -40,7 +44,6 @@ STEPS = {
     "freeze": Instrument.freeze,
     "thaw": Instrument.thaw,
 }
-MOST_TEXT = 240
 Words = dict[str, Callable[[Venue, dict[str, Any]], Awaitable[shown.Json]]]
 
 
@@ -52,6 +55,9 @@ async def done(venue: Venue, message: dict[str, Any]) -> shown.Json:
     else:
         found = await step(venue, word, message)
     await venue.log.written()
+    whose = f" of {message['instrument']}" if "instrument" in message else ""
+    asked = f"the operator: {word}{whose}, from {SOURCE.get()}"
+    NOTICES.info("%s", asked, extra={"of": asked})
     return {"done": word} | found
 
 
@@ -148,7 +154,7 @@ async def announce(venue: Venue, message: dict[str, Any]) -> shown.Json:
     """Says something to all. Raises MessageError."""
     text = text_of(message, "text")
     if not SENTENCE.fullmatch(text):
-        raise MessageError("bad_message", f"text has more than {MOST_TEXT} letters, or < or >")
+        raise MessageError("bad_message", f"text {flaw_of(text, SENTENCE)}")
     venue.announce(text)
     return {}
 
@@ -169,8 +175,8 @@ async def show_payoffs(venue: Venue, message: dict[str, Any]) -> shown.Json:
 
 
 async def resume(venue: Venue, message: dict[str, Any]) -> shown.Json:
-    """Tries again what had halted."""
-    venue.resume()
+    """Tries again what had halted. Raises MessageError where it halts again."""
+    await venue.resume()
     return {}
 
 
@@ -312,7 +318,7 @@ def texts_of(message: dict[str, Any], name: str) -> tuple[str, ...]:
     return tuple(found)
 
 
-def rows_of_message(message: dict[str, Any]) -> tuple[Row, ...]:
+def rows_of_message(message: dict[str, Any]) -> tuple[ListedValue, ...]:
     """The rows of a message's file, or of its list of values. Raises MessageError."""
     if "file" in message:
         try:
@@ -328,7 +334,7 @@ def rows_of_message(message: dict[str, Any]) -> tuple[Row, ...]:
         if side not in SIDES:
             raise MessageError("bad_message", "a value has a member, and a side of bid or ask")
         quantity = number_of(it, "quantity", 1, MOST_QUANTITY)
-        found.append(Row(None, text_of(it, "member"), side, text_of(it, "price"), quantity))
+        found.append(ListedValue(None, text_of(it, "member"), side, text_of(it, "price"), quantity))
     return tuple(found)
 
 

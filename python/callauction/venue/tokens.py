@@ -9,7 +9,7 @@ from callauction.venue import owned
 
 LETTERS = "ABCDEFGHJKLMNPQRSTUVWXYZ23456789"
 """Without those that look alike."""
-CODE_LENGTH = 6
+CODE_LENGTH, LEAST_CODE = 6, 4
 TOKEN_BYTES = 24
 TOKEN = re.compile(r"[A-Za-z0-9_-]{32}")
 """What `new_token` makes: 24 bytes in base64, 192 bits."""

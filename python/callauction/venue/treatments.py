@@ -2,11 +2,12 @@
 all. A table of a day's file says it, or a message of the operator.
 """
 import dataclasses
+import functools
 from collections.abc import Callable
 from typing import Any, Self
 
 from callauction.venue.fields import SENTENCE, TABLE, Fields
-from callauction.venue.handing import HOWS, HandError, Row, Rule, rows_of
+from callauction.venue.handing import HOWS, HandError, ListedValue, Rule, rows_of
 
 MOST_SHARES = 1_000_000_000
 MOST_SECONDS = 86_400
@@ -27,7 +28,7 @@ class Limits:
     shares: int | None = None
     money: int | None = None
 
-    @property
+    @functools.cached_property
     def are_none(self) -> bool:
         """Whether nothing is refused."""
         return self == Limits()
@@ -60,7 +61,7 @@ class Treatment:
     def of(cls, kept: dict[str, Any]) -> Self:
         """What was written down. Raises KeyError and TypeError for anything else."""
         rule = dict(kept["rule"])
-        rule["rows"] = tuple(Row(**row) for row in rule["rows"])
+        rule["rows"] = tuple(ListedValue(**row) for row in rule["rows"])
         rule |= {name: tuple(rule[name]) for name in ("demand", "supply")}
         fields: dict[str, Any] = kept | {"rule": Rule(**rule)}
         return cls(**fields)

@@ -8,15 +8,16 @@ import functools
 import logging
 import pathlib
 import time
-from collections.abc import Awaitable, Callable, Iterable, Mapping
+from collections.abc import Awaitable, Callable, Coroutine, Iterable, Iterator, Mapping
+from typing import Any
 
-from callauction.venue import audience, begun, config, downloads, owned, tokens
+from callauction.venue import audience, begun, clock, config, downloads, owned, shares, tokens
 from callauction.venue.audience import PAYOFFS, SHOWN, Audience
 from callauction.venue.engine import Settled
 from callauction.venue.gains import Value
-from callauction.venue.handing import Row, Rule, named
+from callauction.venue.handing import ListedValue, Rule, named
 from callauction.venue.instrument import Board, Instrument, Point, opened, plan_of
-from callauction.venue.log import Line, Log, LogError, taking
+from callauction.venue.log import Line, Log, OtherVersion, taking
 from callauction.venue.members import Done, Member, Members, NameTakenError
 from callauction.venue.messages import MessageError, Order
 from callauction.venue.names import folded
@@ -30,6 +31,17 @@ from callauction.venue.treatments import Treatment
 
 VERSION = 2
 NOTICES = logging.getLogger("callauction.venue")
+RESUME_SECONDS = 20.0
+"""How long a program that is tried again is waited for, longer than it may wait for its journal."""
+LEAST_BEHIND = 1.0
+"""From how many seconds on a clock was set back since the log's last line."""
+BEHIND = "the clock is %s s behind the log's last line: calls go on with what was left of them then"
+JOURNAL_FAILED = "journal failed"
+"""What the program says where its journal can't be written."""
+MAKE_ROOM = "make room, or mend the disk, then `resume`"
+PUT_BACK = "put the right file back, then `resume`"
+LOOK_SECONDS = 5.0
+"""How often the venue looks whether others have changed a journal that its program writes."""
 CLOSE_SECONDS = 0.5
 """How long the end of the venue waits for the log's last lines."""
 FAULTS = (ProcessError, RecoveryError, OwnerError, OSError)
@@ -48,7 +60,7 @@ OTHER_DEVICE = "this member goes on at another device"
 class Venue(Audience):
     """A venue in a folder, which has its log, its tokens and its journals."""
 
-    def __init__(self, day: config.Day, folder: pathlib.Path, program: str) -> None:
+    def __init__(self, day: config.DayTerms, folder: pathlib.Path, program: str) -> None:
         super().__init__()
         self.day, self.folder, self._program = day, folder, program
         self.log = Log(folder / LOG, day.is_synced)
@@ -58,6 +70,7 @@ class Venue(Audience):
         self.halted: str | None = None
         self.changes: list[str] = []
         self.began = time.time()
+        self.certificate_ends: float | None = None
         self.on_entry: Heard = lambda board, message, entry: None
         self.reset_session: Reset = no_sessions
         self.secrets = {role: tokens.secret_of(folder, role) for role in ("operator", "beamer")}
@@ -90,9 +103,21 @@ class Venue(Audience):
             instrument.wanted, instrument.wants_ladder = self.wanted, self.has_viewers
             instrument.on_shown = functools.partial(self.show_news, instrument)
             instrument.on_entry = functools.partial(self._heard, instrument)
+            instrument.codes = functools.partial(self._codes_of, instrument)
             round_.boards[board.name] = instrument
             added.append(instrument)
         return added
+
+    def _codes_of(self, board: Instrument) -> list[str]:
+        """The code of the class, where there is one, and the names that have a code of their own
+        and are on a board, or may come to it: as many as it takes.
+        """
+        members = {name: self.members.named(name) for name in self.day.own_codes}
+        there = [it for it in members.values() if it and not it.is_removed]
+        here = [it.name for it in there if it.group == board.board.group]
+        later = [name for name, it in members.items() if it is None]
+        names = [*here, *later][: config.MOST_TRADERS]
+        return [*[shares.CLASS] * self.day.members.is_open, *names]
 
     def _heard(self, board: Instrument, message: Message, entry: Entry | None) -> None:
         """A message of a board has its entry, or never had one."""
@@ -118,25 +143,37 @@ class Venue(Audience):
         self._log_task = asyncio.create_task(self.log.run())
         if not lines:
             self.log.note(kind="venue", version=VERSION)
-        elif lines[0].get("version") != VERSION:
-            raise LogError(f"{self.log.path} is the log of another version")
+        check_version(lines, self.log.path)
         self._learn_day(lines)
         if not any(line["kind"] == "round" for line in lines):
             self._note_round(self.round)
         self._learn_rounds(lines)
+        self._learn_time(lines)
         settled: dict[str, Settled] = {}
         for key, board in self._boards.items():
-            found = await self._opened(board, lines)
+            with starting(key):
+                found = await self._opened(board, lines)
             if found is not None:
                 settled[key] = found
         self._replay(lines, settled)
         self.members.open_codes()
-        await self.log.written()
+        await self.log.check_written()
+        self._remove_tables()
         for key in settled:
-            await self._begin(self._boards[key])
+            with starting(key):
+                await self._begin(self._boards[key])
         self._begin_round()
         self._robots_task = asyncio.create_task(self._robots.run())
+        self._begun(self._look())
         return sum(board.engine.count for board in self._boards.values())
+
+    def rehearse(self, lines: list[Line]) -> dict[str, Instrument]:
+        """Takes what the lines of a log say that are no messages, as `open` does, and begins
+        nothing: the boards of all rounds, by their keys. Raises LogError.
+        """
+        self._learn_rounds(lines)
+        self._replay(lines, {key: [] for key in self._boards})
+        return self._boards
 
     async def _opened(self, board: Instrument, lines: list[Line]) -> Settled | None:
         """What became of a board's messages; None where its journal isn't the one of which the log
@@ -153,6 +190,13 @@ class Venue(Audience):
         self._waiting.pop(key, None)
         return found
 
+    async def _look(self) -> None:
+        """Looks every few seconds whether the journals are as their programs wrote them."""
+        while True:
+            await asyncio.sleep(LOOK_SECONDS)
+            for board in [*self.instruments.values()]:
+                await board.engine.look()
+
     async def _open_again(self, board: Instrument) -> None:
         """Opens a board whose journal was put back, or whose program may begin now, or halts again.
         """
@@ -164,6 +208,7 @@ class Venue(Audience):
                 found = await self._opened(board, lines)
                 if found is not None:
                     self._replay(lines, {key: found})
+                    await self.log.written()  # the program runs from then on
                     await self._begin(board)
                     self._begin_round()
                     self._changed(board)
@@ -189,30 +234,53 @@ class Venue(Audience):
             self._spread()
 
     async def close(self) -> None:
-        """Ends all programs and the log, and leaves tables of names and results."""
+        """Ends all programs and the log, and leaves tables of names and results. Raises OSError
+        where these can't be written.
+        """
         for task in (self._robots_task, *self._tasks):
             if task is not None:
                 task.cancel()
         if self._tasks:
             await asyncio.wait(self._tasks, timeout=STOP_SECONDS / 2)
         await asyncio.gather(*(board.end() for board in self._boards.values()))
-        self._leave_tables()
-        self.log.close()
-        if self._log_task is not None:
-            await asyncio.wait([self._log_task], timeout=CLOSE_SECONDS)
+        try:
+            self._leave_tables()
+        finally:
+            self.log.close()
+            if self._log_task is not None:
+                await asyncio.wait([self._log_task], timeout=CLOSE_SECONDS)
 
-    def _leave_tables(self) -> None:
-        """Writes the names of each board's members beside its journal, and the results of all
-        rounds that were seen.
+    def _tables(self) -> Iterator[tuple[str, bytes]]:
+        """The names of each board's members, and the results of all rounds that were seen, by the
+        names of their files.
         """
         boards = self._boards.items()
-        with contextlib.suppress(OSError):
-            for key, board in boards:
-                if board.engine.is_open:
-                    names = downloads.members_of(board, self.members.title_of)
-                    owned.write(self.folder / f"{key}.members.csv", names)
-            if all(board.engine.is_open for _, board in boards) and self.lesson("").rounds:
-                owned.write(self.folder / "results.csv", downloads.results_table(self.lesson("")))
+        for key, board in boards:
+            if board.engine.is_open:
+                names = downloads.members_of(board, self.members.title_of)
+                yield f"{key}{downloads.NAMES_FILE}", names
+        if all(board.engine.is_open for _, board in boards) and self.lesson("").rounds:
+            yield downloads.RESULTS_FILE, downloads.results_table(self.lesson(""))
+
+    def _leave_tables(self) -> None:
+        """Writes the tables beside the journals. Raises OSError, which names those that can't be.
+        """
+        faults: dict[str, OSError] = {}
+        for name, content in self._tables():
+            try:
+                owned.write(self.folder / name, content)
+            except OSError as fault:
+                faults[str(self.folder / name)] = fault
+        for first in faults.values():
+            raise OSError(first.errno, first.strerror, ", ".join(faults))
+
+    def _remove_tables(self) -> None:
+        """Removes the tables of an earlier end, which aren't those of a day that goes on. Raises
+        OSError.
+        """
+        names = [f"{key}{downloads.NAMES_FILE}" for key in self._boards]
+        for name in (*names, downloads.RESULTS_FILE):
+            (self.folder / name).unlink(missing_ok=True)
 
     def dismiss(self) -> None:
         """Ends all connections."""
@@ -230,6 +298,18 @@ class Venue(Audience):
             self.log.note(kind="day", **begun.kept(self.day))
         self.changes = changes or []
         self.began = next((line["time"] for line in lines if "time" in line), self.began)
+
+    def _learn_time(self, lines: list[Line]) -> None:
+        """Where the clock is behind the log's last line it was set back: each call has left what
+        it had then, which the log says, and `lines` from now on. Raises LogError.
+        """
+        if not (behind := behind_of(lines)):
+            return
+        NOTICES.warning(BEHIND, behind)
+        for key in self._boards:
+            line: Line = {"kind": "clock", "instrument": key, "behind": behind}
+            self.log.note(**line)
+            lines.append(line)
 
     def _note_round(self, round_: Round) -> None:
         """Writes a round to the log."""
@@ -285,7 +365,7 @@ class Venue(Audience):
         elif kind == "dealt":
             self.rounds[line["round"] - 1].has_dealt = True
         elif kind == "listed":
-            rows = tuple(Row(**row) for row in line["rows"])
+            rows = tuple(ListedValue(**row) for row in line["rows"])
             self.rounds[line["round"] - 1].listed[line["market"]] = rows
         elif kind == "deal":
             self._move(self.rounds[line["round"] - 1], line["groups"])
@@ -334,6 +414,9 @@ class Venue(Audience):
         for it in own:
             if member and name == it.board.market:
                 return it
+        if name is None and own:
+            text = f'name one of {len(own)} instruments, as "instrument": "{own[0].board.market}"'
+            raise MessageError("unknown_instrument", text)
         raise MessageError("unknown_instrument")
 
     def market_of(self, name: object) -> list[Instrument]:
@@ -631,7 +714,8 @@ class Venue(Audience):
     def _log_failed(self, fault: OSError) -> None:
         """The log can't be written: nothing is taken until it can."""
         self.halted = f"the venue's log can't be written: {fault.strerror}"
-        self._notice("the venue", self.halted)
+        do = f"{MAKE_ROOM} ({self.log.path})" if fault.errno else ""
+        self._notice("the venue", self.halted, do)
         for instrument in self.instruments.values():
             self._changed(instrument)
 
@@ -642,32 +726,63 @@ class Venue(Audience):
         for instrument in self.instruments.values():
             self._changed(instrument)
 
-    def _notice(self, what: str, halted: str | None) -> None:
-        """Says on standard error what has halted, or goes on again."""
+    def _notice(self, what: str, halted: str | None, do: str = "") -> None:
+        """Says on standard error what has halted and what to do, or that it goes on again."""
         if self._noticed.get(what) != halted:
             self._noticed[what] = halted
             if halted is None:
                 NOTICES.warning("%s goes on", what)
             else:
-                NOTICES.error("%s halted: %s", what, halted)
+                is_file = halted.startswith("the journal ") or halted.endswith(" by others")
+                do = PUT_BACK if is_file else MAKE_ROOM if halted == JOURNAL_FAILED else do
+                NOTICES.error("%s halted: %s%s", what, halted, do and f": {do}")
 
-    def resume(self) -> None:
-        """Tries again what had halted."""
+    async def resume(self) -> None:
+        """Tries again what had halted, and waits for what comes of it. Raises MessageError with
+        the reason of what has halted again.
+        """
         self.halted = None
         self._notice("the venue", None)
         self.log.retry()
+        tried = []
         for key, board in self._boards.items():
             if key in self._waiting:
-                task = asyncio.create_task(self._open_again(board))
-                self._tasks.add(task)
-                task.add_done_callback(self._tasks.discard)
+                tried.append((board, self._begun(self._open_again(board))))
+            elif board in self.instruments.values() and board.engine.halted is not None:
+                board.engine.resume()
+                tried.append((board, self._begun(board.engine.resumed())))
         for board in self.instruments.values():
-            board.engine.resume()
-            self._changed(board)
+            self._show_changed(board)
+        with contextlib.suppress(OSError):  # self.halted says it
+            await self.log.check_written()
+        if tried and self.halted is None:
+            await asyncio.wait({task for _, task in tried}, timeout=RESUME_SECONDS)
+        late = f"the program hasn't answered for {RESUME_SECONDS:g} s"
+        whys = {it.board.key: it.engine.halted or late * (not task.done()) for it, task in tried}
+        texts = "; ".join(f"{key}: {why}" for key, why in whys.items() if why)
+        if text := self.halted or texts:
+            raise MessageError("halted", text)
+
+    def _begun(self, work: Coroutine[Any, Any, None]) -> asyncio.Task[None]:
+        """A task of the venue, which ends with it, or where the log can't be written."""
+
+        async def done() -> None:
+            with contextlib.suppress(OSError):
+                await work
+
+        task = asyncio.create_task(done())
+        self._tasks.add(task)
+        task.add_done_callback(self._tasks.discard)
+        task.add_done_callback(lambda _: work.close())  # which was never begun at an early end
+        return task
 
     def _changed(self, instrument: Instrument) -> None:
         """A program halted or runs again, or the venue."""
         self._notice(instrument.board.key, instrument.engine.halted)
+        self._show_changed(instrument)
+
+    def _show_changed(self, instrument: Instrument) -> None:
+        """Shows whether an instrument of this round goes on."""
         if instrument in self.instruments.values():
             self.show_state(instrument)
             instrument.touch()
@@ -726,12 +841,12 @@ class Venue(Audience):
         names = [it.name for it in members if it.group == board.board.group]
         return rule.dealt(names, before, board.terms.value_tick, self.round.number)
 
-    def check_listed(self, market: str, rows: tuple[Row, ...]) -> None:
+    def check_listed(self, market: str, rows: tuple[ListedValue, ...]) -> None:
         """Raises HandError where the rows of a list can't be given in a market."""
         if rows:
             Rule("list", rows=rows).check(self.round.of_market(market)[0].terms.value_tick)
 
-    def keep_listed(self, market: str, rows: tuple[Row, ...], is_to_all: bool) -> None:
+    def keep_listed(self, market: str, rows: tuple[ListedValue, ...], is_to_all: bool) -> None:
         """Keeps the rows of a list for those who haven't joined yet, in place of all that are kept
         where it is to all, else of those for the same names.
         """
@@ -744,7 +859,7 @@ class Venue(Audience):
         lines = [dataclasses.asdict(it) for it in kept]
         self.log.note(kind="listed", round=self.round.number, market=market, rows=lines)
 
-    def _listed(self, round_: Round, market: str) -> tuple[Row, ...]:
+    def _listed(self, round_: Round, market: str) -> tuple[ListedValue, ...]:
         """The rows that wait in a round: also those of the last one where values are kept, and
         those of the round's own list once it is handed out.
         """
@@ -786,6 +901,32 @@ async def no_sessions(name: str) -> None:
     raise MessageError("bad_message", "this day has no sessions by FIX")
 
 
+@contextlib.contextmanager
+def starting(key: str) -> Iterator[None]:
+    """Notes at a fault which board it is that can't start."""
+    try:
+        yield
+    except (ProcessError, RecoveryError) as fault:
+        fault.add_note(f"{key}: ")
+        raise
+
+
+def check_version(lines: list[Line], path: pathlib.Path) -> None:
+    """Raises OtherVersion where the lines of a log are another version's."""
+    if lines and lines[0].get("version") != VERSION:
+        raise OtherVersion(f"{path} is the log of another version")
+
+
+def behind_of(lines: list[Line]) -> float:
+    """How many seconds the clock is behind the last of a log's lines, 0 where it is behind by no
+    more than clocks are. Raises LogError.
+    """
+    last = next((line for line in reversed(lines) if "time" in line), {"time": 0.0})
+    with taking(last):
+        behind = round(float(last["time"]) - clock.now(), 3)
+    return behind if behind >= LEAST_BEHIND else 0.0
+
+
 def runs_of(lines: Iterable[Line]) -> dict[str, list[Run]]:
     """The runs of each instrument's program, as the log has them."""
     found: dict[str, list[Run]] = {}
@@ -815,6 +956,8 @@ def replay_instrument(instrument: Instrument, line: Line) -> None:
         instrument.give_number(line["member"], line["number"])
     elif line["kind"] == "phase":
         instrument.replay_phase(State.of(line), line.get("began"))
+    elif line["kind"] == "clock":
+        instrument.set_back(line["behind"])
     elif line["kind"] == "point":
         instrument.replay_point(Point.of(line))
     elif line["kind"] == "values":

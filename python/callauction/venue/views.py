@@ -74,7 +74,7 @@ class Trade:
 
 
 @dataclasses.dataclass(frozen=True, slots=True)
-class OpenOrder:
+class MemberOrder:
     """An open order and the number of its member; `filled` shares of it were executed."""
 
     order: int
@@ -103,11 +103,11 @@ def trades_of(lines: Sequence[str]) -> list[Trade]:
     return [Trade(*map(int, line.split(","))) for line in lines[1:]]
 
 
-def orders_of(lines: Sequence[str]) -> list[OpenOrder]:
+def orders_of(lines: Sequence[str]) -> list[MemberOrder]:
     """The rows of `show,orders`. Raises ValueError."""
     found = []
     for line in lines[1:]:
         order, member, side, limit, open_, visible, filled, only = line.split(",")
         counts = int(open_), int(visible), int(filled)
-        found.append(OpenOrder(int(order), int(member), side, limit_of(limit), *counts, only))
+        found.append(MemberOrder(int(order), int(member), side, limit_of(limit), *counts, only))
     return found

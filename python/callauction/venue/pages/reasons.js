@@ -18,7 +18,7 @@ const GERMAN = {
   "the last uncross isn't seen yet": "die letzte Preisermittlung ist noch nicht zu sehen",
   "the program doesn't answer now": "das Programm antwortet gerade nicht",
   "values by chance have a low and a high price": "Werte durch Zufall haben ein Tief und ein Hoch",
-  "low is above high": "Tief liegt über Hoch",
+  "low {} is above high {}": "Tief {} liegt über Hoch {}",
   "a schedule has prices of demand and of supply": "eine Liste hat Preise der Nachfrage und des Angebots",
   "the list of values is empty": "die Liste der Werte ist leer",
   "the first line isn't name,side,price,quantity, perhaps with round":
@@ -27,8 +27,8 @@ const GERMAN = {
   "line {}: quantity {} is no number of shares": "Zeile {}: Menge {} ist keine Zahl von Stücken",
   "line {}: round {} is no number of a round": "Zeile {}: Runde {} ist keine Nummer einer Runde",
   "line {}: {}": "Zeile {}: {}",
-  "a value is from {} to {}": "ein Wert liegt zwischen {} und {}",
-  "a reference is from {} to {}": "eine Referenz liegt zwischen {} und {}",
+  "the value {} isn't from {} to {}": "der Wert {} liegt nicht zwischen {} und {}",
+  "the reference {} isn't from {} to {}": "die Referenz {} liegt nicht zwischen {} und {}",
   "the price {} is no multiple of the tick size {}": "der Preis {} ist kein Vielfaches von {}",
   "the reference {} is no multiple of the tick size {}": "die Referenz {} ist kein Vielfaches von {}",
   "the price {} is no whole number from {} to {}": "der Preis {} ist zu groß",
@@ -40,18 +40,22 @@ const GERMAN = {
   "{} is removed already": "{} ist schon entfernt",
   "{} isn't removed": "{} ist nicht entfernt",
   "this name is a role's here": "dieser Name ist hier der einer Rolle",
-  "text has more than {} letters, or < or >": "mehr als {} Zeichen, oder < oder >",
-  "round: {} has more than {} letters, or < or >": "{}: mehr als {} Zeichen, oder < oder >",
+  "text has more than {} letters": "mehr als {} Zeichen",
+  "text has <, > or a control character": "hier steht <, > oder ein Steuerzeichen",
+  "round: {} {} has more than {} letters": "{}: {} hat mehr als {} Zeichen",
+  "round: {} {} has <, > or a control character": "{}: {} enthält <, > oder ein Steuerzeichen",
   "round: {} {} is no whole number from {} to {}": "{}: {} ist keine ganze Zahl von {} bis {}",
   "{} is no whole number from {} to {}": "{}: eine ganze Zahl von {} bis {}",
   "at most {} shares more can be entered on this side": "auf dieser Seite höchstens noch {} Stück",
   "an order has at most {} shares": "eine Order hat höchstens {} Stück",
   "a member has at most {} commands a day of an instrument": "ein Mitglied hat am Tag höchstens {} Eingaben",
+  "a member has at most {} commands, while a quarter of the day's is left, of an instrument":
+    "ein Mitglied hat höchstens {} Eingaben, solange am Tag nur noch ein Viertel übrig ist",
   "a member has at most {} open orders of an instrument": "ein Mitglied hat höchstens {} offene Orders",
   "a member has at most {} shares in open orders of an instrument":
     "ein Mitglied hat höchstens {} Stück in offenen Orders",
-  "a member has at most this value of open orders of an instrument":
-    "offene Orders eines Mitglieds haben nicht mehr Wert",
+  "a member has at most a value of {} in orders of an instrument":
+    "offene Orders eines Mitglieds haben höchstens den Wert {}",
 };
 const WORDS = {
   waiting: "noch kein Aufruf", call: "Aufrufphase", extended: "verlängerte Aufrufphase", ended: "Aufruf beendet",

@@ -60,6 +60,13 @@ export function phaseText(state) {
   return auction + text(interruptionOf(state) && state.phase === "extended" ? "interrupted" : state.phase);
 }
 
+// What the teacher is to do under a halt: the first that fits why it halted.
+const HALTS = [[/waits for the disk/, "halt_slow"], [/changed by others/, "halt_file"],
+  [/^journal failed|log can't be written|hasn't answered|No space/, "halt_disk"],
+  [/^the program/, "halt_program"], [/./, "halt_file"]];
+
+export const haltText = (why) => text(HALTS.find(([it]) => it.test(why))[1], text("resume"));
+
 // What comes after the auction that is over.
 export function nextText(state) {
   if (state.halted) return text("halted_help");

@@ -12,7 +12,7 @@ import { RoundForm } from "./roundform.js";
 import { roundText } from "./rounds.js";
 import { fill } from "./rows.js";
 import {
-  Clock, indicationFigures, isCall, nextText, phaseText, resultOf, resultText, showInterruption,
+  Clock, haltText, indicationFigures, isCall, nextText, phaseText, resultOf, resultText, showInterruption,
 } from "./states.js";
 import { offerTabs } from "./tabs.js";
 
@@ -62,8 +62,14 @@ function drawSteps(state) {
     start: state.phase === "waiting", end: goes && !state.frozen, freeze: goes && !state.frozen, thaw: state.frozen,
     uncross: (goes || state.phase === "ended") && !state.frozen, resume: Boolean(state.halted),
   };
+  if (state.halted) document.querySelector("[data-do=resume]").closest("details").open = true;
   for (const button of document.querySelectorAll("[data-do]")) disable(button, !may[button.dataset.do]);
   disable(find("extend"), !goes && state.phase !== "ended");
+}
+
+function nextOf(state) {
+  if (state.halted) return haltText(state.halted);
+  return state.phase === "over" ? text("over_next") : nextText(state);
 }
 
 function drawOutcome(state) {
@@ -73,7 +79,7 @@ function drawOutcome(state) {
   if (result) put(find("result"), resultText(result), result.price === null ? "large none" : "large");
   put(find("efficiency"), efficiencyText(found));
   figures(find("figures"), [...indicationFigures(state), [text("left"), shares(state.left)]]);
-  put(find("next"), state.phase === "over" ? text("over_next") : nextText(state));
+  put(find("next"), nextOf(state));
 }
 
 function efficiencyText(found) {

@@ -12,7 +12,13 @@ export const TEXTS = {
     intraday: "Intraday auction", closing: "Closing auction", interrupted: "volatility interruption",
     is_over: "over", next_auction: "Next: {0}", over_help: "All auctions of this day are over.",
     over_next: "All auctions of this day are over. The next round is another day.",
-    halted_help: "Nothing that was entered is lost. Wait: it goes on by itself.",
+    halted_help: "No order is taken now. Wait for the teacher, who sees what to do.",
+    halt_slow: "What was answered is kept. The disk is slow: it goes on by itself once that answers.",
+    halt_disk: "What was answered is kept. Make room on the disk, or mend it; then press “{0}”.",
+    halt_file: "A file isn't as the venue wrote it, and nothing is executed on it. Put the right one back; "
+      + "then press “{0}”.",
+    halt_program: "What was answered is kept. Press “{0}”; where it halts again, memory is short, or the program "
+      + "is damaged.",
     random: "ends at random", price: "Price", volume: "Volume", surplus: "Surplus", surplus_bid: "to buy",
     surplus_ask: "to sell", best_bid: "Best bid", best_ask: "Best ask",
     indication: "Indicative price", reference: "Reference",
@@ -178,7 +184,14 @@ export const TEXTS = {
     interrupted: "Volatilitätsunterbrechung",
     is_over: "beendet", next_auction: "Als Nächstes: {0}", over_help: "Alle Auktionen dieses Tages sind beendet.",
     over_next: "Alle Auktionen dieses Tages sind beendet. Die nächste Runde ist ein neuer Tag.",
-    halted_help: "Nichts, was eingegeben ist, geht verloren. Warten: Es geht von selbst weiter.",
+    halted_help: "Jetzt wird keine Order angenommen. Warten Sie auf die Lehrkraft: Sie sieht, was zu tun ist.",
+    halt_slow: "Was beantwortet wurde, bleibt. Der Datenträger ist langsam: Antwortet er, geht es von selbst weiter.",
+    halt_disk: "Was beantwortet wurde, bleibt. Auf dem Datenträger Platz schaffen oder ihn instand setzen; "
+      + "dann „{0}“ drücken.",
+    halt_file: "Eine Datei ist nicht so, wie der Handelsplatz sie schrieb; mit ihr wird nichts ausgeführt. "
+      + "Die richtige zurücklegen; dann „{0}“ drücken.",
+    halt_program: "Was beantwortet wurde, bleibt. „{0}“ drücken; hält es wieder an, fehlt Speicher, "
+      + "oder das Programm ist beschädigt.",
     random: "endet zufällig", price: "Preis", volume: "Volumen", surplus: "Überhang", surplus_bid: "Kauf",
     surplus_ask: "Verkauf", best_bid: "Bestes Geld", best_ask: "Bester Brief",
     indication: "Indikativer Preis", reference: "Referenz",

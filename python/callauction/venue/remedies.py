@@ -1,0 +1,96 @@
+"""What is said of each fault by which a venue doesn't start: what is wrong, and what to do."""
+import errno
+
+from callauction.statuses import BAD_DAY, BAD_FILE, FAILED, UNLAWFUL
+from callauction.venue.begun import OtherDayError
+from callauction.venue.fields import ConfigError
+from callauction.venue.log import LogError, LogInUse, OtherVersion
+from callauction.venue.owned import OwnerError
+from callauction.venue.process import ProcessError
+from callauction.venue.recovery import RecoveryError
+from callauction.venue.serving import AddressError
+from callauction.venue.tokens import TokenError
+
+NO_THREAD = "can't start new thread"
+"""What Python says where there is no memory for one more."""
+NEW, BACK = "--folder NEW begins anew", "put the right file, or the last copy, back"
+USER, MEMORY = "let the user in who runs the venue", "end others, or give more memory"
+OF_FILES = {
+    errno.EACCES: USER,
+    errno.EAGAIN: MEMORY,
+    errno.EDQUOT: "make room",
+    errno.EEXIST: "move it away",
+    errno.EFBIG: "take a shorter one",
+    errno.EINVAL: "take a file",
+    errno.EIO: "mend the disk",
+    errno.EISDIR: "move it away",
+    errno.ELOOP: "put the file itself there",
+    errno.EMFILE: "`ulimit -n` allows more",
+    errno.ENFILE: "end others",
+    errno.ENOENT: "make it, or name another",
+    errno.ENOSPC: "make room",
+    errno.ENOTDIR: "name another",
+    errno.EPERM: USER,
+    errno.EROFS: "mount its disk to be written",
+}
+"""What to do by the number of a fault of the system."""
+OF_PROGRAM = {
+    "journal in use": f"end the program that has it, or {NEW}",
+    "journal of another day": f"take the day as it was, or {NEW}",
+    "journal open failed": f"put the venue's own file back, or {NEW}",
+    "journal failed": "make room, or mend the disk",
+    "journal ": BACK,
+    "the program can't be run": f"name callboard by CALLBOARD; where it is that, {MEMORY}",
+    "the program answers": "name the callboard of this version by CALLBOARD",
+    "the program hasn't": "look whether the disk hangs",
+    "the program was ended by signal 9": MEMORY,
+    "the program was ended": "install the program anew",
+}
+"""What to do by the begin of what the program says, or what is said of it; the first that fits."""
+FAULTS = (
+    *(AddressError, ConfigError, LogError, MemoryError, OSError, OtherDayError, OwnerError),
+    *(ProcessError, RecoveryError, RuntimeError, TokenError),
+)
+
+
+def said(fault: Exception) -> tuple[str, int]:
+    """What is said of one of the FAULTS, and the status. Raises it where it is none of a start."""
+    match fault:
+        case LogInUse():
+            return f"{fault}: end that one, or {NEW}", BAD_DAY
+        case OtherVersion():
+            return f"{fault}: go on by that, or {NEW}", BAD_FILE
+        case LogError() | RecoveryError():
+            return f"{board_of(fault)}{fault}: {BACK}", BAD_FILE
+        case AddressError() | OtherDayError() | OwnerError():
+            return str(fault), BAD_DAY
+        case ConfigError() | TokenError():
+            return str(fault), BAD_FILE
+        case ProcessError():
+            return said_of_program(fault)
+        case OSError():
+            return said_of_file(fault), FAILED
+        case RuntimeError() if str(fault) != NO_THREAD:
+            raise fault
+    return f"out of memory: {MEMORY}", FAILED
+
+
+def said_of_program(fault: ProcessError) -> tuple[str, int]:
+    """What is said where the program ends as it starts, and the status."""
+    text = fault.text or f"the program ended with status {fault.status}"
+    found = (do for begin, do in OF_PROGRAM.items() if text.startswith(begin))
+    status = fault.status if BAD_FILE <= fault.status <= UNLAWFUL else FAILED
+    return f"{board_of(fault)}{text}: {next(found, 'docs/FORMATS.md has it')}", status
+
+
+def board_of(fault: Exception) -> str:
+    """Which board can't start, where that is known."""
+    return "".join(getattr(fault, "__notes__", ()))
+
+
+def said_of_file(fault: OSError) -> str:
+    """What is said where something can't be read or written."""
+    text = fault.strerror or str(fault)
+    named = f"{fault.filename}: {text}" if fault.filename else text
+    do = OF_FILES.get(fault.errno or 0)
+    return f"{named}: {do}" if do else named
