@@ -10,16 +10,16 @@ of a Dask client.
 The proved program `callboard` decides everything; what it prints is only read here. `python3 -m
 callauction.market` is the command line. docs/MARKET.md has the files, the columns and the faults.
 """
+import importlib
 from typing import TYPE_CHECKING
 
-from callauction.market.files import InUse
-from callauction.market.names import file_of, instrument_of, name_of
-from callauction.market.rows import COLUMNS, Found, Row, frame, read_rows
-from callauction.market.runs import audit, run
-from callauction.market.splitting import TableError, split
-from callauction.market.workers import MarketError
-
 if TYPE_CHECKING:
+    from callauction.market.files import InUse
+    from callauction.market.names import file_of, instrument_of, name_of
+    from callauction.market.rows import COLUMNS, Found, Row, frame, read_rows
+    from callauction.market.runs import audit, run
+    from callauction.market.splitting import TableError, split
+    from callauction.market.workers import MarketError
     from callauction.verdict.instruments import audit_instruments as audit_events
 
 __all__ = [
@@ -40,14 +40,34 @@ __all__ = [
     "split",
 ]
 
+_PLACES = {
+    "market.files": ("InUse",),
+    "market.names": ("file_of", "instrument_of", "name_of"),
+    "market.rows": ("COLUMNS", "Found", "Row", "frame", "read_rows"),
+    "market.runs": ("audit", "run"),
+    "market.splitting": ("TableError", "split"),
+    "market.workers": ("MarketError",),
+}
+
 
 def __getattr__(name: str) -> object:
-    """audit_events, imported when it is first used: it needs pandas, which takes longer to start
-    than the program on many files. Raises AttributeError for another name.
+    """A public name, imported when it is first used, and then kept: a worker needs few, and starts
+    in half the time without the others. Raises AttributeError for another name.
     """
-    if name != "audit_events":
-        raise AttributeError(f"module {__name__!r} has no attribute {name!r}")
-    from callauction.verdict.instruments import audit_instruments
+    found = globals()[name] = _looked_up(name)
+    return found
 
-    globals()[name] = audit_instruments
-    return audit_instruments
+
+def __dir__() -> list[str]:
+    """The public names, those that weren't used yet among them."""
+    return sorted({*globals(), *__all__})
+
+
+def _looked_up(name: str) -> object:
+    """A public name from its module. Raises AttributeError."""
+    if name == "audit_events":
+        return importlib.import_module("callauction.verdict.instruments").audit_instruments
+    for place, names in _PLACES.items():
+        if name in names:
+            return getattr(importlib.import_module(f"callauction.{place}"), name)
+    raise AttributeError(f"module {__name__!r} has no attribute {name!r}")

@@ -14,7 +14,7 @@ from tqdm import tqdm
 from callauction import finder
 from callauction.market.expected import compared_with, read_list
 from callauction.market.files import InUse, locked, with_end
-from callauction.market.log import Log
+from callauction.market.log import RunLog
 from callauction.market.names import SUFFIX, line_of
 from callauction.market.processes import Processes
 from callauction.market.rows import Row, write_rows
@@ -160,7 +160,7 @@ def run_market(asked: argparse.Namespace, files: dict[str, str], rows: list[Row]
         crew = stack.enter_context(workers_of(asked))
         begin = time.perf_counter()
         digest = crew.digest(request.program)
-        log = Log(log_path(asked.output), request, digest) if asked.output else None
+        log = RunLog(log_path(asked.output), request, digest) if asked.output else None
         taken = log.taken(files) if log and asked.resume else []
         summary.take_over(each.row for each in taken)
         if log:

@@ -23,7 +23,7 @@ def check_of(before: str, fields: Iterable[object]) -> str:
     return hashlib.sha256(text.encode()).hexdigest()
 
 
-class Log:
+class RunLog:
     """A CSV file with a record for each row as it came.
 
     Its first line says which task it is of: the version, the program's SHA-256, the forms and the

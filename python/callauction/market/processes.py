@@ -1,7 +1,7 @@
 """The workers of a market on one machine: processes, each of which runs the program on one file
 after another. Nothing listens; what is asked and found goes through pipes.
 """
-import concurrent.futures
+import collections
 import os
 import pickle
 import queue
@@ -19,8 +19,8 @@ from callauction.market.workers import WORKERS_ENDED, MarketError, largest_first
 
 WORKER = "callauction.market.worker"
 """The module that a worker runs."""
-TRIES = 2
-"""How many workers try a file, where one ends before it has found anything."""
+AHEAD = 3
+"""How many files a worker has at once: one that the program runs on, one before, one after."""
 
 
 class Worker:
@@ -50,12 +50,13 @@ class Worker:
         except BrokenPipeError:
             pass
 
-    def examine(self, path: str) -> list[Found]:
-        """What is found of a file. Raises EOFError where the process ends before."""
+    def answer(self) -> tuple[str, Found]:
+        """A path that it was given, and what is found of its file. Raises EOFError where the
+        process ends before.
+        """
         assert self.process.stdout is not None
-        self.send(path)
         try:
-            found: list[Found] = pickle.load(self.process.stdout)
+            found: tuple[str, Found] = pickle.load(self.process.stdout)
         except pickle.UnpicklingError as fault:  # a part of an answer
             raise EOFError(str(fault)) from None
         return found
@@ -69,36 +70,66 @@ class Worker:
 
 
 class Crew:
-    """The workers of one run, of which each examines one file at a time."""
+    """The workers of one run, each of which has some of its files at a time."""
 
-    def __init__(self, request: Request) -> None:
+    def __init__(self, request: Request, files: list[str]) -> None:
         self.request = request
-        self.idle: "queue.SimpleQueue[Worker]" = queue.SimpleQueue()
+        self.left = collections.deque(path for _, path in largest_first(files))
+        self.results: "queue.SimpleQueue[Found | Exception]" = queue.SimpleQueue()
         self.lock = threading.Lock()
         self.all: set[Worker] = set()
         self.is_over = False
 
-    def examine(self, path: str) -> list[Found]:
-        """What is found of a file, by a worker that has nothing to do, or a new one. Raises
-        MarketError where there can't be one.
+    def work(self) -> None:
+        """Has files examined by one worker, or by another one where that ends, until none is left.
+        What is found is among the results, and at last what keeps it from going on.
         """
-        for _ in range(TRIES):
-            worker = self.taken()
-            try:
-                found = worker.examine(path)
-            except EOFError:
-                self.dismiss(worker)
-            else:
-                self.idle.put(worker)
-                return found
-        return [Found(Row(instrument_of(path), fault=WORKERS_ENDED))]
-
-    def taken(self) -> Worker:
-        """A worker with nothing to do. Raises MarketError."""
         try:
-            return self.idle.get_nowait()
-        except queue.Empty:
-            return self.started()
+            while self.left:
+                self.examine_some()
+        except Exception as fault:
+            self.results.put(fault)
+
+    def examine_some(self) -> None:
+        """Has files examined by a new worker until none is left, or it ends. Each file that it had
+        then is examined by a worker of its own, so that none has to answer for another one. Raises
+        MarketError where there can't be a worker.
+        """
+        worker = self.started()
+        asked: list[str] = []
+        try:
+            self.ask(worker, asked, AHEAD)
+            while asked:
+                path, found = worker.answer()
+                asked.remove(path)
+                self.results.put(found)
+                self.ask(worker, asked, 1)
+        except EOFError:
+            self.dismiss(worker)
+            for path in asked:
+                self.results.put(self.examine(path))
+
+    def ask(self, worker: Worker, asked: list[str], count: int) -> None:
+        """Gives a worker this many more files, and a None where there are no more."""
+        for _ in range(count):
+            try:
+                asked.append(self.left.popleft())
+            except IndexError:
+                worker.send(None)
+                return
+            worker.send(asked[-1])
+
+    def examine(self, path: str) -> Found:
+        """What is found of a file by a worker that has no other. Raises MarketError."""
+        worker = self.started()
+        worker.send(path)
+        worker.send(None)
+        try:
+            return worker.answer()[1]
+        except EOFError:
+            return Found(Row(instrument_of(path), fault=WORKERS_ENDED))
+        finally:
+            self.dismiss(worker)
 
     def started(self) -> Worker:
         """A new worker; one that comes after the run's end ends at once. Raises MarketError."""
@@ -121,6 +152,7 @@ class Crew:
 
     def end(self) -> None:
         """Ends all workers, and those that are still to be started."""
+        self.left.clear()
         with self.lock:
             self.is_over = True
             for worker in self.all:
@@ -147,13 +179,18 @@ class Processes:
 
     def results(self, files: list[str], request: Request) -> Iterator[list[Found]]:
         """What was found of the files, one by one as they are done. Raises MarketError."""
-        crew = Crew(request)
-        pool = concurrent.futures.ThreadPoolExecutor(self.count)
+        crew = Crew(request, files)
+        threads = [threading.Thread(target=crew.work) for _ in files[: self.count]]
         try:
-            tasks = [pool.submit(crew.examine, path) for _, path in largest_first(files)]
-            for task in concurrent.futures.as_completed(tasks):
-                yield task.result()
+            for thread in threads:
+                thread.start()
+            for _ in files:
+                found = crew.results.get()
+                if isinstance(found, Exception):
+                    raise found
+                yield [found]
         finally:
             crew.end()
-            pool.shutdown(cancel_futures=True)
+            for thread in filter(threading.Thread.is_alive, threads):
+                thread.join()
             crew.leave()

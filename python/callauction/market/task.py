@@ -1,20 +1,22 @@
-"""What a worker does: it runs the program on some files, one after the other. See examine."""
+"""What a worker does: it runs the program on some files, one after the other. See examine_each."""
+import collections
 import contextlib
 import dataclasses
+import enum
 import os
 import pathlib
 import select
 import signal
 import socket
 import stat
-import subprocess
 import tempfile
 import threading
 import time
-from collections.abc import Iterator
+from collections.abc import Generator, Iterable, Iterator
 from typing import IO
 
 from callauction.finder import program
+from callauction.market.child import Child, StillRuns
 from callauction.market.files import digest_of, whole
 from callauction.market.forms import (
     BLOCK,
@@ -71,47 +73,46 @@ class Request:
         return dataclasses.replace(self, memory=memory, seconds=seconds)
 
 
+class Step(enum.Enum):
+    """What an examination does next."""
+
+    START = enum.auto()
+    """It starts the program."""
+    READ = enum.auto()
+    """It reads what the program prints, until that has ended."""
+    FINISH = enum.auto()
+    """It says what it found, or gets ready to start the program again."""
+
+
 class ProgramFault(Exception):
     """The program refused a file, or couldn't be run to its end: the text of a row's fault."""
 
 
 @contextlib.contextmanager
 def started(
-    words: list[str], file: IO[bytes], errors: IO[bytes]
-) -> Iterator[subprocess.Popen[bytes]]:
-    """The program on an open file. It is killed where the block is left before it ends. Raises
-    ProgramFault where it can't be started.
+    form: Form, request: Request, file: IO[bytes], errors: IO[bytes]
+) -> Iterator[Child]:
+    """The program in this form on an open file, within the request's memory. It is killed where the
+    block is left before it ends. Raises ProgramFault where it can't be started.
     """
     try:
-        child = subprocess.Popen(
-            words, stdin=file, stdout=subprocess.PIPE, stderr=errors, bufsize=0
-        )
+        child = Child([request.program or program(), *form.words], file, errors)
     except OSError as fault:
         raise ProgramFault(f"the program can't be started: {fault.strerror}") from fault
-    with child:
-        try:
-            yield child
-        finally:
-            child.kill()  # says nothing to one that has ended and was waited for
+    with contextlib.closing(child):
+        if request.memory is not None:
+            child.limit(request.memory)
+        yield child
 
 
 class Output:
     """What a run of the program prints, read until some moment."""
 
-    def __init__(self, child: subprocess.Popen[bytes], seconds: int) -> None:
-        assert child.stdout is not None
+    def __init__(self, child: Child, seconds: int) -> None:
         self.child, self.seconds = child, seconds
-        self.file = child.stdout.fileno()
         self.deadline = time.monotonic() + seconds
         self.poll = select.poll()
-        self.poll.register(self.file, select.POLLIN)
-
-    def left(self) -> float:
-        """The seconds that are left. Raises ProgramFault where there are none."""
-        left = self.deadline - time.monotonic()
-        if left <= 0:
-            raise self.fault()
-        return left
+        self.poll.register(child.out, select.POLLIN)
 
     def fault(self) -> ProgramFault:
         """That the time is over."""
@@ -119,15 +120,16 @@ class Output:
 
     def read(self, size: int, /) -> bytes:
         """Some bytes of what is printed, none at its end. Raises ProgramFault."""
-        if not self.poll.poll(1_000 * self.left()):
+        left = self.deadline - time.monotonic()
+        if left <= 0 or not self.poll.poll(1_000 * left):
             raise self.fault()
-        return os.read(self.file, size)
+        return os.read(self.child.out, size)
 
     def wait(self) -> int:
         """The status with which the program ends. Raises ProgramFault."""
         try:
-            return self.child.wait(self.left())
-        except subprocess.TimeoutExpired:
+            return self.child.wait(self.deadline)
+        except StillRuns:
             raise self.fault() from None
 
 
@@ -165,29 +167,28 @@ def written(blocks: Blocks, out: IO[bytes]) -> Blocks:
         yield block
 
 
-def words_of(form: Form, request: Request) -> list[str]:
-    """The command that runs the program in this form within the request's memory."""
-    limits = [] if request.memory is None else ["prlimit", f"--as={request.memory}", "--core=0"]
-    return [*limits, request.program or program(), *form.words]
-
-
 def run_form(
     form: Form, file: IO[bytes], keep: IO[bytes] | None, request: Request
-) -> Columns:
-    """Runs the program on an open file: what its output says. Raises ProgramFault, OutputFault,
-    and OSError where its output can't be kept.
+) -> Generator[Step, None, tuple[Columns, float]]:
+    """Runs the program on an open file, step by step: what its output says, and the seconds that it
+    ran. Raises ProgramFault, OutputFault, and OSError where its output can't be kept.
     """
     file.seek(0)
     with tempfile.TemporaryFile() as errors:
-        with started(words_of(form, request), file, errors) as child:
+        yield Step.START
+        begin = time.perf_counter()
+        with started(form, request, file, errors) as child:
             output = Output(child, request.seconds or LEAST_SECONDS)
+            yield Step.READ
             found, status = read_run(output, form, keep)
+        seconds = time.perf_counter() - begin
+        yield Step.FINISH
         if status not in GOOD:
             errors.seek(0)
             raise ProgramFault(fault_of(status, errors.read(BLOCK), request))
     if isinstance(found, OutputFault):
         raise found
-    return found
+    return found, seconds
 
 
 @contextlib.contextmanager
@@ -222,44 +223,118 @@ def stamp(file: IO[bytes]) -> tuple[int, int, int]:
     return found.st_size, found.st_mtime_ns, found.st_ctime_ns
 
 
-def examine_file(path: str, request: Request, worker: str) -> Found:
+Examination = Generator[Step, None, Found]
+"""The steps of the examination of one file, each of which says what the next one does."""
+
+
+def examine_file(path: str, request: Request, worker: str) -> Examination:
     """What the program says of a file. Raises OSError, OutputFault, ProgramFault."""
     with opened(path) as file:
         before = stamp(file)
         size = before[0]
         digest = digest_of(file) if request.is_logged else ""
         columns: Columns = {}
-        begin = time.perf_counter()
+        seconds = 0.0
         for name in request.forms:
             form = FORMS[name]
             limited = request.for_size(size, form)
             with keeper(path, form, request) as keep:
-                found = run_form(form, file, keep, limited)
+                found, ran = yield from run_form(form, file, keep, limited)
             if any(columns.get(column, value) != value for column, value in found.items()):
                 raise OutputFault("the program's forms don't agree")
             columns |= found
-        seconds = time.perf_counter() - begin
+            seconds += ran
         if stamp(file) != before:
             raise ProgramFault("the file was changed meanwhile")
     return Found(Row(instrument_of(path), seconds=seconds, **columns), worker, size, digest)
 
 
-def examine(paths: list[str], request: Request) -> list[Found]:
-    """What the program says of each of these files, in their order: a bad one gives a row with its
-    fault. Raises FileNotFoundError where this machine has no program.
+def examined(path: str, request: Request, worker: str) -> Examination:
+    """What the program says of a file; of a bad one its fault."""
+    try:
+        return (yield from examine_file(path, request, worker))
+    except (ProgramFault, OutputFault) as fault:
+        text = str(fault)
+    except OSError as fault:
+        text = fault.strerror or line_of(str(fault))
+    return Found(Row(instrument_of(path), fault=text), worker)
+
+
+class Turns:
+    """Examinations of which one at a time runs the program. While it does, the one before is
+    finished and the next is made ready, so that none of these costs the files after it time.
+    """
+
+    def __init__(self, paths: Iterable[str], request: Request) -> None:
+        self.paths = iter(paths)
+        self.request = request
+        self.worker = name_of_worker()
+        self.ready: collections.deque[tuple[str, Examination]] = collections.deque()
+        self.found: list[tuple[str, Found]] = []
+
+    def step(self, path: str, examination: Examination) -> Step | None:
+        """Goes on with an examination: what it does next, or None, as it is over."""
+        try:
+            step = next(examination)
+        except StopIteration as end:
+            self.found.append((path, end.value))
+            return None
+        if step == Step.START:
+            self.ready.append((path, examination))
+        return step
+
+    def prepare(self) -> bool:
+        """Makes one more file ready, or finds why it can't be: whether there was one."""
+        path = next(self.paths, None)
+        if path is not None:
+            self.step(path, examined(path, self.request, self.worker))
+        return path is not None
+
+    def started(self) -> tuple[str, Examination] | None:
+        """Starts the program for the next examination that is ready, if there is one, and if it
+        can be started.
+        """
+        if not self.ready:
+            return None
+        first = self.ready.popleft()
+        return first if self.step(*first) == Step.READ else None
+
+    def all(self) -> Iterator[tuple[str, Found]]:
+        """What was found of each file with its path, as they are done. Of the paths that it has
+        taken two at most aren't answered, so that whoever gives one for each answer, after a few
+        in advance, is never waited for in vain.
+        """
+        ended: tuple[str, Examination] | None = None
+        is_more = True
+        while is_more or self.ready or self.found or ended:
+            runs = self.started()
+            if ended:
+                self.step(*ended)
+            yield from self.taken()
+            if not self.ready:
+                is_more = self.prepare()
+            ended = runs if runs and self.step(*runs) == Step.FINISH else None
+
+    def taken(self) -> list[tuple[str, Found]]:
+        """What was found since this was asked."""
+        found, self.found = self.found, []
+        return found
+
+
+def examine_each(paths: Iterable[str], request: Request) -> Iterator[tuple[str, Found]]:
+    """What the program says of each of these files with its path, as they are done: a bad one gives
+    a row with its fault. Raises FileNotFoundError where this machine has no program.
     """
     request = dataclasses.replace(request, program=request.program or program())
-    worker = name_of_worker()
-    found = []
-    for path in paths:
-        try:
-            found.append(examine_file(path, request, worker))
-        except (ProgramFault, OutputFault) as fault:
-            found.append(Found(Row(instrument_of(path), fault=str(fault)), worker))
-        except OSError as fault:
-            text = fault.strerror or line_of(str(fault))
-            found.append(Found(Row(instrument_of(path), fault=text), worker))
-    return found
+    return Turns(paths, request).all()
+
+
+def examine(paths: list[str], request: Request) -> list[Found]:
+    """What examine_each says of these files, in their order. Raises FileNotFoundError where this
+    machine has no program.
+    """
+    found = dict(examine_each(paths, request))
+    return [found[path] for path in paths]
 
 
 def name_of_worker() -> str:

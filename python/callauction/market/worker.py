@@ -1,14 +1,22 @@
 """A worker of a market on one machine: `python3 -m callauction.market.worker`.
 
-It reads pickles from standard input, a request and then the path of one file after another, and
-writes what was found of each to standard output, until its input ends. Processes starts it, in
-the process that asked for the market, so both trust each other.
+It reads pickles from standard input, a request and then the paths of files until a None, and writes
+each path with what was found of its file to standard output. Processes starts it, in the process
+that asked for the market, so both trust each other.
 """
 import os
 import pickle
 import sys
+from collections.abc import Iterator
+from typing import IO
 
-from callauction.market.task import examine
+from callauction.market.task import examine_each
+
+
+def paths_of(asked: IO[bytes]) -> Iterator[str]:
+    """The paths that are asked for, as they come. Raises EOFError where the input ends before."""
+    while (path := pickle.load(asked)) is not None:
+        yield path
 
 
 def main() -> None:
@@ -16,8 +24,8 @@ def main() -> None:
     asked, out = sys.stdin.buffer, sys.stdout.buffer
     try:
         request = pickle.load(asked)
-        while True:
-            pickle.dump(examine([pickle.load(asked)], request), out)
+        for found in examine_each(paths_of(asked), request):
+            pickle.dump(found, out)
             out.flush()
     except (EOFError, BrokenPipeError):
         os._exit(0)  # without another try to write what is left
