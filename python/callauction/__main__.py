@@ -1,4 +1,4 @@
-"""The command line: `python3 -m callauction report|audit|audit-auction|plot|convert`, each with
+"""The command line: `python3 -P -m callauction report|audit|audit-auction|plot|convert`, each with
 `--help`.
 
 The statuses are the program's: 0; 1 for a bad file; 2 for a bad command line or a day that can't be
@@ -12,10 +12,8 @@ import functools
 import os
 import pathlib
 import sys
-from collections.abc import Iterable
+from collections.abc import Collection, Iterable
 from typing import TYPE_CHECKING, Any, NoReturn
-
-import tqdm
 
 from callauction.cells import FrameError
 from callauction.program import OPTIONS, Day, ProgramError
@@ -32,8 +30,6 @@ if TYPE_CHECKING:
 SECONDS = 2
 """Work that takes longer shows how far it is."""
 CONVERTED = ("reference", "low", "high", "range")
-Watched = functools.partial(tqdm.tqdm, delay=SECONDS, leave=False, file=sys.stderr)
-
 
 _BAD_FILES = (
     FrameError,
@@ -42,6 +38,18 @@ _BAD_FILES = (
     UnicodeDecodeError,
 )
 """What says that a file is a bad one."""
+
+
+def watched(steps: Iterable[Any], **words: Any) -> Any:
+    """The steps, with a bar on standard error that says how far they are, where they take long and
+    that is a terminal.
+    """
+    import tqdm
+
+    is_shown = sys.stderr.isatty()
+    return tqdm.tqdm(
+        steps, delay=SECONDS, leave=False, file=sys.stderr, disable=not is_shown, **words
+    )
 
 
 class Parser(argparse.ArgumentParser):
@@ -57,15 +65,15 @@ def main(words: list[str] | None = None) -> int:
     asked = _parser().parse_args(words)
     asked.words = sys.argv[1:] if words is None else words
     try:
-        status: int = asked.run(asked)
+        asked.status = asked.run(asked)
         sys.stdout.flush()
-        return status
+        return int(asked.status)
+    except BrokenPipeError:  # the rest of a text that nobody reads is given up
+        os.dup2(os.open(os.devnull, os.O_WRONLY), sys.stdout.fileno())
+        return int(vars(asked).get("status", FAILED))
     except ProgramError as fault:
         return _fail("\n".join([fault.text, *getattr(fault, "__notes__", [])]), fault.status)
     except (OSError, MemoryError, ModuleNotFoundError) as fault:
-        # The rest of a text that nobody reads is given up.
-        if isinstance(fault, BrokenPipeError):
-            os.dup2(os.open(os.devnull, os.O_WRONLY), sys.stdout.fileno())
         return _fail(str(fault) or "out of memory", FAILED)
     except _BAD_FILES as fault:
         return _fail(str(fault), BAD_FILE)
@@ -131,10 +139,26 @@ def _parser() -> argparse.ArgumentParser:
 
 def _add_verdicts(parser: argparse.ArgumentParser) -> None:
     """The options of how verdicts are written."""
-    parser.add_argument("-o", "--output", help="write a row for each instrument, as CSV")
-    parser.add_argument("--findings", help="write all findings, as CSV, or as .json")
+    parser.add_argument(
+        "-o", "--output", type=functools.partial(_file, ("csv",)),
+        help="write a row for each instrument, as CSV",
+    )  # fmt: skip
+    parser.add_argument(
+        "--findings", type=functools.partial(_file, ("csv", "json")),
+        help="write all findings, or that there are none, as CSV, or as .json",
+    )  # fmt: skip
     parser.add_argument("--json", action="store_true", help="print a line of JSON each")
     parser.add_argument("--explain", action="store_true", help="explain each finding")
+
+
+def _file(forms: Collection[str], path: str) -> str:
+    """A file that is written in one of these forms, by the ending of its name. Raises
+    ArgumentTypeError for the ending of another form.
+    """
+    ending = pathlib.Path(path).suffix.casefold()
+    if ending not in ("", ".txt", *(f".{form}" for form in forms)):
+        raise argparse.ArgumentTypeError(f"{path}: what is written is {' or '.join(forms)}")
+    return path
 
 
 _AFTER = "docs/FORMATS.md has order files, journals and statuses; docs/AUDIT.md has extracts."
@@ -188,7 +212,7 @@ def _report(asked: argparse.Namespace) -> int:
 
     title = "A day of call auctions" if asked.file == "-" else pathlib.Path(asked.file).name
     content, watch = _content(asked.file), _watch("auctions")
-    if not command.is_recorded(content) and content:
+    if not command.is_recorded(content, asked) and content:
         _report_extract(content, title, asked)
         return DONE
     values, size = _values(asked.worth), asked.tick_size
@@ -224,7 +248,7 @@ def _values(file: str | None) -> dict[int, float] | None:
 
 
 def _watch(unit: str) -> "Watch":
-    bar: Any = functools.partial(Watched, unit=f" {unit}")  # mypy: a partial isn't generic
+    bar: Any = functools.partial(watched, unit=f" {unit}")  # mypy: a partial isn't generic
     found: Watch = bar
     return found
 

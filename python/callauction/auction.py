@@ -60,7 +60,13 @@ class _Signature:
 
 
 def config_struct(
-    low: int, high: int, reference: int, max_open: int, max_calls: int, range: int | None
+    low: int,
+    high: int,
+    reference: int,
+    max_open: int,
+    max_calls: int,
+    range: int | None,
+    reserve: int,
 ) -> Any:
     """These numbers as a struct of the library. Raises TypeError or ValueError with the name of
     one that is no integer or doesn't fit.
@@ -73,6 +79,8 @@ def config_struct(
     config.max_calls = number("max_calls", max_calls, MOST_NUMBER)
     config.has_range = range is not None
     config.range = 0 if range is None else number("range", range, MOST_NUMBER)
+    config.has_reserve = True
+    config.reserve = number("reserve", reserve, MOST_NUMBER)
     return config
 
 
@@ -80,7 +88,7 @@ def config_of(found: Any) -> Config:
     """What a struct of the library says."""
     most = found.range if found.has_range else None
     numbers = found.low, found.high, found.reference, found.max_open, found.max_calls
-    return Config(*numbers, most)
+    return Config(*numbers, most, found.reserve)
 
 
 def copy_over(
@@ -107,7 +115,7 @@ class Auction:
     `low` and `high` are the lowest and the highest tick, `reference` the first reference price,
     `max_open` how many orders may be open at a time, `max_calls` how many commands may be applied.
     With a `range`, an uncross whose price is more than `range` ticks from the reference is
-    interrupted once.
+    interrupted once. The last `reserve` calls are the operator's.
 
     As a context manager it is closed at the end; else when it is dropped. Members are numbered from
     0 to 255; member 0 is the operator, who alone uncrosses.
@@ -117,7 +125,7 @@ class Auction:
     is running. One that raises leaves the auction as it was, but for RefusedError and for
     `apply_many`, which keeps what it had applied.
 
-    A method that applies a command raises FullError where `max_calls` commands were applied, and
+    A method that applies a command raises FullError where no call is left to the member, and
     TypeError or ValueError for an argument that isn't an integer or doesn't fit the library's
     number. A command that the auction refuses, as for a limit that is no tick of it, is answered
     Refused; with `check` RefusedError is raised instead.
@@ -144,8 +152,9 @@ class Auction:
         max_open: int = 4096,
         max_calls: int = 65536,
         range: int | None = None,
+        reserve: int = 0,
     ) -> None:
-        config = config_struct(low, high, reference, max_open, max_calls, range)
+        config = config_struct(low, high, reference, max_open, max_calls, range, reserve)
         self._call(lib.python_open, config)
 
     def __repr__(self) -> str:
@@ -154,6 +163,7 @@ class Auction:
         except AuctionError as error:
             return f"<{type(self).__name__}: {error}>"
         span = "" if config.range is None else f" range {config.range}"
+        span += f" reserve {config.reserve}" if config.reserve else ""
         return (
             f"<{type(self).__name__} low {config.low} high {config.high} reference "
             f"{config.reference}{span}: calls {calls} of {config.max_calls}>"
@@ -308,8 +318,8 @@ class Auction:
         the interpreter is given up meanwhile: no thread may write either array then, or change its
         size.
 
-        Stops at the first struct that is no command (NoCommandError) and where `max_calls`
-        commands were applied (FullError). Their `applied` says how many were applied, and `replies`
+        Stops at the first struct that is no command (NoCommandError) and where no call is left to
+        its member (FullError). Their `applied` says how many were applied, and `replies`
         are the replies to those. Raises TypeError or ValueError for a bad array.
         """
         whole("commands", commands, COMMAND, is_written=False)

@@ -114,8 +114,8 @@ class Member:
     def call(self, command: Command, *, check: bool = False) -> Receipt:
         """Records a command in the board's history: its number there and its reply.
 
-        Raises FullError where the history has `max_calls` entries, TypeError or ValueError for a
-        bad command, and with `check` RefusedError where the auction refuses it.
+        Raises FullError where no call is left to the member, TypeError or ValueError for a bad
+        command, and with `check` RefusedError where the auction refuses it.
         """
         match command:
             case words.Enter(side, quantity, limit, peak, restriction):
@@ -355,10 +355,10 @@ class Member:
 class Board:
     """One auction of one instrument over one day, for 1 to 64 members who call at once.
 
-    `members` says how many; the other numbers are those of Auction. `board[3]` is the member with
-    the number 3, and `board.members` has all: each goes to a thread of its own. Member 0 is the
-    operator. The end of a `with` block closes the board; `day` then has its day. copy.copy gives
-    the board itself.
+    `members` says how many; the other numbers are those of Auction, but that the last 16 calls are
+    the operator's where `reserve` isn't given. `board[3]` is the member with the number 3, and
+    `board.members` has all: each goes to a thread of its own. Member 0 is the operator. The end of
+    a `with` block closes the board; `day` then has its day. copy.copy gives the board itself.
 
     After a fork each process has its own board. One that another thread was calling just then
     raises BusyError for good in the child.
@@ -377,11 +377,12 @@ class Board:
         max_open: int = 4096,
         max_calls: int = 65536,
         range: int | None = None,
+        reserve: int = 16,
     ) -> None:
         count = number("members", members, MOST_NUMBER)
         if not 1 <= count <= MOST_MEMBERS:
             raise ValueError(f"members must be from 1 to {MOST_MEMBERS}, not {count}")
-        config = config_struct(low, high, reference, max_open, max_calls, range)
+        config = config_struct(low, high, reference, max_open, max_calls, range, reserve)
         self._own = ffi.gc(ffi.new("python_board *"), lib.python_board_leave)
         answer = lib.python_board_open(self._own, count, config)
         if answer:

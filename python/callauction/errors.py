@@ -43,7 +43,9 @@ class NotAppliedError(AuctionError):
 
 
 class FullError(NotAppliedError):
-    """As many commands were applied as the auction was opened for (max_calls)."""
+    """No call is left to the member: max_calls were made, or those that are left are the
+    operator's.
+    """
 
 
 class NoCommandError(NotAppliedError, ValueError):

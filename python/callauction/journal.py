@@ -99,7 +99,7 @@ _AT_FAULT = {
 
 
 @dataclasses.dataclass(frozen=True)
-class Row:
+class FrameRow:
     """A row of a frame, by its label."""
 
     label: object
@@ -289,7 +289,7 @@ class _Conversion:
         self.entries: list[tuple[object, Any, str, Any, Any]] = []
         self.trades = 0
 
-    def add(self, row: Row) -> None:
+    def add(self, row: FrameRow) -> None:
         """Adds the entries of a row. Raises FrameError."""
         match row.word("event", EVENTS):
             case "new":
@@ -303,7 +303,7 @@ class _Conversion:
             case "trade":
                 self._trade(row)
 
-    def _new(self, row: Row) -> None:
+    def _new(self, row: FrameRow) -> None:
         order, member = row.name("order"), row.name("member")
         if order in self.orders:
             raise row.fault("order", f"was entered before, in row {self.orders[order][2]}")
@@ -320,7 +320,7 @@ class _Conversion:
         assert isinstance(reply, Entered)
         self.orders[order] = reply.id, member, row.label
 
-    def _cancel(self, row: Row) -> None:
+    def _cancel(self, row: FrameRow) -> None:
         """A cancel of less than what is open is a change, which keeps the place in time."""
         order, id, member = self._known(row, "order")
         part = row.whole("quantity")
@@ -331,7 +331,7 @@ class _Conversion:
         else:
             self._write(row, member, Delete(id), "deleted", order)
 
-    def _replace(self, row: Row) -> None:
+    def _replace(self, row: FrameRow) -> None:
         order, id, member = self._known(row, "order")
         command = Change(id, row.needed_whole("quantity"), row.tick(self.grid))
         kept = row.get("kept")
@@ -343,7 +343,7 @@ class _Conversion:
             # The other system changed it: a text that is no lawful reply makes it a finding.
             self.lines[-1] += "changed"
 
-    def _uncross(self, row: Row) -> None:
+    def _uncross(self, row: FrameRow) -> None:
         """A price that is known with its volume and surplus is the reply to an ask before it, or,
         with the auction and its trades, that to the uncross.
         """
@@ -361,7 +361,7 @@ class _Conversion:
             is_told = is_none and auction not in (None, "interrupted")
             self._write(row, None, Uncross(), f"{auction} no price" if is_told else "")
 
-    def _published(self, row: Row) -> str:
+    def _published(self, row: FrameRow) -> str:
         """The text of a published price, empty where a part of it isn't known."""
         tick, volume, surplus = row.tick(self.grid), row.whole("quantity"), row.whole("surplus")
         if tick is None or volume is None or surplus is None:
@@ -371,7 +371,7 @@ class _Conversion:
             side = SIDES[row.word("side", SIDES)].name.lower()
         return f"price {tick} volume {volume} surplus {surplus} {side}"
 
-    def _trade(self, row: Row) -> None:
+    def _trade(self, row: FrameRow) -> None:
         _, bid, _ = self._known(row, "bid")
         _, ask, _ = self._known(row, "ask")
         tick = row.tick(self.grid)
@@ -381,7 +381,7 @@ class _Conversion:
         text = f"trade {bid} {ask} {row.needed_whole('quantity')} at {tick}"
         self._write(row, None, ReadTrade(self.trades), text)
 
-    def _known(self, row: Row, column: str) -> tuple[Any, int, Any]:
+    def _known(self, row: FrameRow, column: str) -> tuple[Any, int, Any]:
         """The frame's id of an order that was entered, the journal's id, and the member."""
         order = row.name(column)
         if order not in self.orders:
@@ -392,7 +392,7 @@ class _Conversion:
         return order, id, member
 
     def _write(
-        self, row: Row, member: Any, command: Command, recorded: str, order: Any = None
+        self, row: FrameRow, member: Any, command: Command, recorded: str, order: Any = None
     ) -> Reply:
         """Adds an entry, by the operator where there is no member; the library's reply to it."""
         if len(self.lines) == MOST_CALLS:
@@ -447,14 +447,14 @@ def from_frame(
     return Journal(text, grid, _orders(made), _entries(made))
 
 
-def _rows_of(frame: pandas.DataFrame, ignore: Collection[str]) -> list[Row]:
+def _rows_of(frame: pandas.DataFrame, ignore: Collection[str]) -> list[FrameRow]:
     """The rows of a frame with our columns. Raises ValueError, ColumnError, and FrameError where
     times fall.
     """
     if not frame.columns.is_unique:
         raise ValueError("frame has a column twice")
     refuse_unknown(frame.columns, COLUMNS, ignore)
-    rows = [Row(*pair) for pair in zip(frame.index, frame.to_dict("records"))]
+    rows = [FrameRow(*pair) for pair in zip(frame.index, frame.to_dict("records"))]
     _look_at_times(frame)
     return rows
 
@@ -494,7 +494,7 @@ def _ticks(name: str, value: object, grid: Grid) -> int:
 
 
 def _bounds(
-    rows: list[Row], size: Decimal, reference: Decimal, low: object, high: object
+    rows: list[FrameRow], size: Decimal, reference: Decimal, low: object, high: object
 ) -> tuple[Decimal, Decimal]:
     """The lowest and the highest price of the day. Raises FrameError for the first row whose price
     makes these more than 65,536 ticks.

@@ -20,8 +20,10 @@ body { font: 1rem/1.5 system-ui, sans-serif; color: #1a1a1a; background: #fff;
 h1 { font-size: 1.6rem; line-height: 1.2; } h2 { font-size: 1.3rem; margin-top: 2.5rem;
   border-top: 2px solid #1a1a1a; padding-top: .5rem; } h3 { font-size: 1.05rem; }
 nav ul { padding: 0; list-style: none; display: flex; flex-wrap: wrap; gap: .25rem 1rem; }
-a { color: #00548a; } .desk { max-width: 78rem; } .desk p, .desk ol { max-width: 54rem; }
+a { color: #00548a; } .desk { max-width: 78rem; } .market { max-width: 112rem; }
+.desk p, .desk ol { max-width: 54rem; }
 h1, h2, h3 { overflow-wrap: anywhere; } .desk td.text { overflow-wrap: break-word; }
+.desk tbody > tr > * { vertical-align: top; }
 .wide { overflow-x: auto; } .wide:focus-visible { outline: 3px solid #00548a; }
 .hint { display: none; font-weight: 400; }
 table { border-collapse: collapse; font-variant-numeric: tabular-nums; margin: 1rem 0; }
@@ -33,6 +35,7 @@ thead th { border-bottom: 2px solid #1a1a1a; } th { font-weight: 600; }
 figure { margin: 1rem 0; } img { width: 100%; max-width: 36rem; height: auto; }
 .good { border-left: .4rem solid #00735a; padding-left: .6rem; }
 .bad { border-left: .4rem solid #b03a00; padding-left: .6rem; }
+@media screen and (min-width: 80rem) { .market thead th { white-space: nowrap; } }
 @media (max-width: 36rem) { body { padding: .6rem; font-size: .95rem; }
   th, td { padding: .2rem .35rem; font-size: .85rem; } .wide .hint { display: inline; } }
 @page { margin: 1.5cm; }
@@ -166,8 +169,18 @@ def html_image(figure: Figure, text: str, name: str) -> str:
     return f'<figure><img alt="{html.escape(text)}" src="{source}"></figure>'
 
 
-def html_page(title: str, parts: list[tuple[str, str]], look: str = "") -> str:
-    """The page of sections, each with its heading; `look` is the class of the body."""
+def html_page(
+    title: str, parts: list[tuple[str, str]], look: str = "", pages: Mapping[str, str] = {}
+) -> str:
+    """The page of sections, each with its heading; `look` is the classes of the body, `pages` has
+    the links of other pages by their texts.
+    """
+    others = "".join(
+        f'<li><a href="{html.escape(link)}">{html.escape(text)}</a></li>'
+        for text, link in pages.items()
+    )
+    others = f'<nav aria-label="Pages"><ul>{others}</ul></nav>\n' if others else ""
+    kind = f' class="{look}"' if look else ""
     links = "".join(
         f'<li><a href="#part-{place}">{html.escape(head)}</a></li>'
         for place, (head, _) in enumerate(parts, 1)
@@ -181,9 +194,9 @@ def html_page(title: str, parts: list[tuple[str, str]], look: str = "") -> str:
         '<!DOCTYPE html>\n<html lang="en">\n<head>\n<meta charset="utf-8">\n'
         '<meta name="viewport" content="width=device-width, initial-scale=1">\n'
         f"<title>{html.escape(title)}</title>\n<style>{LOOK}</style>\n</head>\n"
-        f"<body{f' class={look}' * bool(look)}>\n"
-        f"<header><h1>{html.escape(title)}</h1>\n<nav aria-label=\"Sections\"><ul>{links}</ul>"
-        f"</nav></header>\n<main>\n{sections}</main>\n</body>\n</html>\n"
+        f"<body{kind}>\n<header>{others}<h1>{html.escape(title)}</h1>\n"
+        f'<nav aria-label="Sections"><ul>{links}</ul></nav></header>\n<main>\n{sections}</main>\n'
+        "</body>\n</html>\n"
     )
 
 

@@ -1,7 +1,6 @@
 """Prices as exact decimals and as ticks."""
 import dataclasses
 import decimal
-import fractions
 import re
 from decimal import Decimal
 
@@ -29,6 +28,14 @@ def decimal_of(value: object) -> Decimal:
     return Decimal(text)
 
 
+def number_of(value: object) -> Decimal | None:
+    """The exact decimal of a value, None where it is none."""
+    try:
+        return decimal_of(value)
+    except BadCellError:
+        return None
+
+
 def whole_of(value: object) -> int:
     """The whole number that an int, a text of digits or a float says. Raises BadCellError where it
     says none from 0 to 4,294,967,295.
@@ -52,15 +59,10 @@ class Grid:
 
     def tick(self, price: Decimal) -> int:
         """The tick of a price. Raises BadCellError where it is no multiple of the tick size."""
-        steps = _steps(_EXACT.subtract(price, self.base), self.tick_size)
-        if steps.denominator != 1:
+        distance = _EXACT.subtract(price, self.base)
+        if _EXACT.remainder(distance, self.tick_size):
             raise BadCellError(f"is no multiple of the tick size {self.tick_size}")
-        return steps.numerator
-
-
-def _steps(distance: Decimal, tick_size: Decimal) -> fractions.Fraction:
-    """How many tick sizes a distance of prices is."""
-    return fractions.Fraction(distance) / fractions.Fraction(tick_size)
+        return int(_EXACT.divide_int(distance, self.tick_size))
 
 
 def grid_of(tick_size: object, low: Decimal, high: Decimal) -> Grid:

@@ -60,7 +60,7 @@ def error_of(answer: int) -> Exception:
     if answer == lib.CALLAUCTION_ERROR_NO_AUCTION:
         return ClosedError("the object holds no auction")
     if answer == lib.CALLAUCTION_ERROR_FULL:
-        return FullError("as many commands were applied as may be")
+        return FullError("no call is left to the member")
     if answer == lib.PYTHON_BUSY:
         return BusyError("another call of this auction is running")
     if answer == lib.CALLAUCTION_ERROR_NO_COMMAND:
@@ -211,7 +211,8 @@ def reply_of(record: numpy.void) -> Reply:
 def state_of(found: Any) -> State:
     """Where the day is, as a struct of the library says."""
     kind = KINDS[found.auction - 1] if found.in_call else None
-    return State(kind, bool(found.extended), found.reference, found.calls, found.calls_left)
+    left = found.calls_left, found.calls_left_to_members
+    return State(kind, bool(found.extended), found.reference, found.calls, *left)
 
 
 # ---- the numbers of a command

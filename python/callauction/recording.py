@@ -46,8 +46,9 @@ class RecordedAuction(DayTables):
         max_open: int = 4096,
         max_calls: int = 65536,
         range: int | None = None,
+        reserve: int = 0,
     ) -> None:
-        self._auction = Auction(low, high, reference, max_open, max_calls, range)
+        self._auction = Auction(low, high, reference, max_open, max_calls, range, reserve)
         self._record: list[tuple[int, Command, Reply]] = []
         self._lock: Any = threading.RLock()
         _auctions.add(self)

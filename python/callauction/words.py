@@ -87,6 +87,7 @@ class Config:
     max_open: int
     max_calls: int
     range: int | None
+    reserve: int = 0
 
 
 # ---- commands
@@ -247,7 +248,7 @@ Reply = (
 class State:
     """Where the day is: the auction whose call phase it is, None after the day; whether an
     interruption extended that call phase; the reference price; how many commands were applied, the
-    refused ones among them, and how many more may be.
+    refused ones among them, and how many more may be, by member 0 and by each other member.
     """
 
     auction: AuctionKind | None
@@ -255,6 +256,7 @@ class State:
     reference: int
     calls: int
     calls_left: int
+    calls_left_to_members: int
 
 
 @dataclasses.dataclass(frozen=True, slots=True)
