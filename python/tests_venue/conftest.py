@@ -29,6 +29,7 @@ def pytest_configure(config: pytest.Config) -> None:
     which may run in any later test.
     """
     config.addinivalue_line("filterwarnings", "ignore:unclosed:ResourceWarning")
+    os.umask(0o022)  # a day's file that its group may write is refused
     slow = [hypothesis.HealthCheck.too_slow]  # as a machine may be that has much else to do
     hypothesis.settings.register_profile("patient", deadline=None, suppress_health_check=slow)
     hypothesis.settings.load_profile("patient")

@@ -8,22 +8,10 @@ import random
 import sys
 
 import fixing
-from callauction.fix import dictionaries
 from callauction.fix._quickfix import Engine
+from callauction.fix.settings import settings_of
+from callauction.fix.tags import FIX44
 
-SETTINGS = """[DEFAULT]
-ConnectionType=acceptor
-SocketAcceptPort=0
-HeartBtInt=30
-StartTime=00:00:00
-EndTime=00:00:00
-FileStorePath={folder}
-DataDictionary={folder}/FIX44.xml
-[SESSION]
-BeginString=FIX.4.4
-SenderCompID=VENUE
-TargetCompID=ALICE
-"""
 SESSION = "FIX.4.4:VENUE->ALICE"
 KINDS = [*"0123456789ADFGHVWXYEjqrghxy", "AF", "AE"]
 TAGS = [*range(1, 160), *range(262, 280), *(336, 530, 552, 554, 8013, 1 << 31, 1 << 63)]
@@ -39,11 +27,24 @@ def message(chance: random.Random, number: int) -> bytes:
     if chance.random() < 0.4:
         order = [(11, "a"), (55, "XYZ"), (54, "1"), (60, fixing.stamp()), (38, "5"), (40, "1")]
         kind, pairs = "D", order + pairs[: chance.choice((0, 0, 1))]
-    text = fixing.written(kind, number, "ALICE", pairs)
+    head = [(43, "Y"), (122, chance.choice(VALUES))][: chance.choice((0, 0, 0, 1, 2))]
+    text = fixing.written(kind, number, "ALICE", pairs, head)
+    if chance.random() < 0.1:
+        return altered(chance, text)
     if chance.random() < 0.3:
         place = chance.randrange(len(text))
         text = text[:place] + bytes([chance.randrange(256)]) + text[place + chance.randint(0, 2) :]
     return text[: chance.randrange(len(text))] if chance.random() < 0.1 else text
+
+
+def altered(chance: random.Random, text: bytes) -> bytes:
+    """A message whose head lacks a tag or has another value; its length and its sum are right."""
+    tag, value = chance.choice((b"34=", b"49=", b"52=", b"56=")), chance.choice(["", *VALUES])
+    other = [tag + value.encode("latin-1")] if value else []
+    parts = [[it] if not it.startswith(tag) else other for it in text.split(fixing.SOH)[2:-2]]
+    body = b"".join(it + fixing.SOH for part in parts for it in part)
+    text = b"8=FIX.4.4" + fixing.SOH + b"9=%d" % len(body) + fixing.SOH + body
+    return text + b"10=%03d" % (sum(text) % 256) + fixing.SOH
 
 
 def logged_on(engine: Engine) -> int:
@@ -73,8 +74,10 @@ def step(engine: Engine, number: int, chance: random.Random) -> tuple[int, int]:
     else:
         expected = engine.expected(SESSION) + chance.choice((0, 0, 0, 1, -1, 7))
         engine.feed(number, message(chance, max(0, expected)))
-    is_over = any(closes for it, _, closes in engine.outgoing() if it == number)
-    taken = sum(it == "message" for it, *_ in engine.drain())
+    is_over = any(closes for it, *_, closes in engine.outgoing() if it == number)
+    engine.events()
+    engine.stored()
+    taken = len(engine.said())
     if is_over:
         engine.lost(number)
         return logged_on(engine), taken
@@ -83,9 +86,9 @@ def step(engine: Engine, number: int, chance: random.Random) -> tuple[int, int]:
 
 def main() -> None:
     folder, seed, count = pathlib.Path(sys.argv[1]), int(sys.argv[2]), int(sys.argv[3])
-    dictionaries.write(folder)
     chance = random.Random(seed)
-    engine = Engine(SETTINGS.format(folder=folder), lambda session, password: password == b"right")
+    settings = settings_of(folder, {"ALICE": FIX44})
+    engine = Engine(settings, lambda session, password: password == b"right")
     number, taken = logged_on(engine), 0
     for _ in range(count):
         number, more = step(engine, number, chance)

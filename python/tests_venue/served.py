@@ -17,7 +17,11 @@ from typing import Any
 HERE = pathlib.Path(__file__).resolve().parent
 PACKAGE = HERE.parent
 STAND_IN = HERE / "stand_in.py"
-NOTICED = re.compile(r"^venue: (.* halted: |.* goes on|codes are guessed|too many connections)")
+NOTICED = re.compile(
+    r"^venue: (.* halted: |.* goes on|.* is started again(?: \(and \d+ times more\))?$"
+    r"|\S+: \d+ of at most |codes are guessed|too many connections"
+    r"|a token that isn't the operator's)"
+)
 """What is said on standard error of what goes on outside."""
 SECONDS = 300.0
 """How long a test waits for what is to come: much longer than a slow machine takes."""

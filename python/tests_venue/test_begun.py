@@ -5,6 +5,7 @@ import pathlib
 import subprocess
 import time
 
+import fixing
 import pytest
 import served
 from callauction.venue import Client
@@ -102,3 +103,10 @@ def test_a_folder_of_which_no_day_is_known(begun: pathlib.Path) -> None:
     log.write_text("".join(line for line in lines if '"kind":"day"' not in line))
     assert SAYS not in printed(begun, DAY.replace("Monday", "Tuesday"))
     assert f"{SAYS}title\n" in printed(begun, DAY)
+
+
+def test_members_by_fix_are_no_beginning(tmp_path: pathlib.Path) -> None:
+    """A new folder isn't one with which a venue goes on; later it is, with them."""
+    day = fixing.day_of(served.free_port(), "ALICE", "BOB")
+    assert "goes on with" not in printed(tmp_path, day)
+    assert "members: 2; --folder NEW begins anew\n" in printed(tmp_path, day)

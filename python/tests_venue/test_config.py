@@ -1,12 +1,15 @@
 """The file of a day, and each fault of it."""
 import os
 import pathlib
+import stat
 from decimal import Decimal
 
 import pytest
 from callauction.prices import Grid
-from callauction.venue.config import Day, Instrument, Members, Plan
+from callauction.venue.config import DayTerms, InstrumentTerms, MemberTerms, Plan
 from callauction.venue.fields import ConfigError
+from callauction.venue.owned import OwnerError
+from test_doors import ended
 
 ALL = """
 title = "Monday"
@@ -41,24 +44,24 @@ name = "DEF"
 """
 
 
-def read(folder: pathlib.Path, text: str) -> Day:
+def read(folder: pathlib.Path, text: str) -> DayTerms:
     path = folder / "day.toml"
     path.write_text(text, encoding="utf-8")
-    return Day.read(path)
+    return DayTerms.read(path)
 
 
 def test_all_that_a_day_may_say(tmp_path: pathlib.Path) -> None:
-    first = Instrument(
+    first = InstrumentTerms(
         "ABC", "Apples", Grid(Decimal("0.05")), "USD", 1, 2000, 400, 10, 100, 1000, 5000
     )
-    assert read(tmp_path, ALL) == Day(
+    assert read(tmp_path, ALL) == DayTerms(
         title="Monday",
         language="de",
         is_synced=False,
         reserve=8,
         plan=Plan(300, 30, 120, True),
-        members=Members(False, "", ("Anna", "Bert"), 30, 5.5, 10),
-        instruments=(first, Instrument("DEF")),
+        members=MemberTerms(False, "", ("Anna", "Bert"), 30, 5.5, 10),
+        instruments=(first, InstrumentTerms("DEF")),
     )
     words = "--low 1 --high 2000 --reference 400 --members 64 --open 100 --calls 1000 --range 10"
     assert first.words() == words.split()
@@ -66,7 +69,7 @@ def test_all_that_a_day_may_say(tmp_path: pathlib.Path) -> None:
 
 
 def test_an_empty_day_has_all_defaults(tmp_path: pathlib.Path) -> None:
-    assert read(tmp_path, "") == Day()
+    assert read(tmp_path, "") == DayTerms()
 
 
 @pytest.mark.parametrize(
@@ -78,26 +81,45 @@ def test_an_empty_day_has_all_defaults(tmp_path: pathlib.Path) -> None:
         ("reserve = 0", "reserve 0 is no whole number from 1 to 1000"),
         ("[phases]\ncall = -1", "phases: call -1 is no whole number from 0 to 86400"),
         ("[phases]\ncall = true", "phases: call True is no whole number from 0 to 86400"),
-        ("phases = 3", "phases is no table: [phases]"),
-        ("[members]\nnames = ['A', 'A']", "members: names isn't a list in which each name is once"),
-        ("[members]\nnames = ['<b>']", "members: names '<b>' is no name of 1 to 40 characters"),
+        ("phases = 3", "phases 3 is no table: [phases]"),
+        ("[members]\nnames = ['A', 'A']", "members: names 'A' is there twice"),
+        ("[members]\nnames = ['<b>']", "members: names '<b>' has <, > or a control"),
+        ("[members]\nnames = ['']", "members: names '' is empty"),
+        ("[members]\nnames = [3]", "members: names 3 isn't a text that may be here"),
+        ('title = "a\\u001b"', r"title 'a\x1b' has <, > or a control character"),
         ("[members]\nopen = false", "members: open is false, and there are no names"),
-        ("[members]\nrate = 0", "members: rate isn't above 0"),
-        ("[members]\nmost = 1\nnames = ['A', 'B']", "members: names has more than 1 names"),
-        ("[instrument]\nname = 'A'", "instrument is no list of tables: [[instrument]]"),
+        ("[members]\nrate = 0", "members: rate 0 is no number above 0, at most 100000"),
+        ("[members]\nrate = '20'", "members: rate '20' is no number above 0, at most 100000"),
+        ("[members]\nrate = inf", "members: rate inf is no number above 0, at most 100000"),
+        ("[members]\ncode = 'a'", "members: code 'A' has fewer than 4 letters and could be guess"),
+        ("[members]\ncode = 'ABC '", "members: code 'ABC' has fewer than 4 letters"),
+        ("[members]\ncode = 123456", "members: code 123456 isn't a text that may be here"),
+        ("[members]\nmost = 1\nnames = ['A', 'B']", "members: names has 2 names, more than 1"),
+        ("[instrument]\nname = 'A'", "instrument {'name': 'A'} is no list of tables"),
         ("[[instrument]]\nname = '../A'", "instrument: name '../A' isn't a text that may be here"),
-        ("[[instrument]]\n[[instrument]]", "two instruments have the same name"),
-        ("[[instrument]]\ntick_size = '0'", "XYZ: tick_size tick_size Decimal('0') isn't above 0"),
+        ("[[instrument]]\n[[instrument]]", "instrument 'XYZ' is there twice"),
+        ("[[instrument]]\ntick_size = '0'", "instrument XYZ: tick_size 0 isn't above 0"),
         ("[[instrument]]\nlow = '0.015'", "XYZ: low 0.015 is no multiple of the tick size 0.01"),
         ("[[instrument]]\nlow = 'x'", "instrument XYZ: low 'x' is no decimal number"),
-        ("[[instrument]]\nlow = '3'", "instrument XYZ: low, reference, high have to rise"),
+        ("[[instrument]]\nlow = '3'", "instrument XYZ: low 3.00 is above reference 2.00"),
+        ("[[instrument]]\nhigh = 1.5", "instrument XYZ: reference 2.00 is above high 1.50"),
+        ("[[instrument]]\nlow = 0", "instrument XYZ: low 0.00 is below the tick size"),
+        ("[[instrument]]\nhigh = '655.37'", "XYZ: high 655.37 is 65537 ticks from low 0.01"),
+        ("[[instrument]]\nhigh = 10000.01", "XYZ: high 10000.01 is tick 1000001, and the greatest"),
+        ("[[instrument]]\nrange = 10000.01", "XYZ: range 10000.01 is tick 1000001, and the greate"),
+        ("[[instrument]]\nopen = 65537", "XYZ: open 65537 is no whole number from 1 to 65536"),
+        ("[[instrument]]\ncalls = 16", "XYZ: calls 16 is no more than reserve 16: members"),
+        ("[[instrument]]\nuncovered_bought = 11", "uncovered_sold 10.00 is below uncovered_bough"),
+        ("title = '" + "x" * 61 + "'", "x.. has more than 60 letters"),
+        ("title = 3", "title 3 isn't a text that may be here"),
+        ("[payoff]\nrate = '-1'", "payoff: rate -1 is below 0"),
         ("[[instrument]]\nrange = '-1'", "instrument XYZ: range -1 is below 0"),
         ("title = ", "Invalid value"),
         ("a = " + "[" * 5000 + "]" * 5000, "has too many lists within lists"),
         ("reserve = " + "9" * 5000, "4300 digits"),
         ("[members]\nnames = [' ']", "members: names ' ' can't be read, or is a role's name"),
         ("[members]\nnames = ['Teacher']", "members: names 'Teacher' can't be read"),
-        ("[members]\nnames = ['Anna', 'ANNA']", "members: names has two that look alike"),
+        ("[members]\nnames = ['Anna', 'ANNA']", "names has two that look alike: 'Anna', 'ANNA'"),
         ("[[round]]\nvalues = 'list'\nfile = '/dev/zero'", "/dev/zero: is no regular file"),
         ("[[round]]\nvalues = 'list'\nfile = 'pipe'", "pipe: is no regular file"),
         ("[[round]]\nvalues = 'list'\nfile = 'long'", "long: has more than 1048576 bytes"),
@@ -119,13 +141,101 @@ def test_a_day_that_windows_wrote(tmp_path: pathlib.Path) -> None:
 
 def test_a_day_that_never_ends() -> None:
     with pytest.raises(OSError, match="is no regular file"):
-        Day.read(pathlib.Path("/dev/zero"))
+        DayTerms.read(pathlib.Path("/dev/zero"))
 
 
 def test_the_letters_of_a_day(tmp_path: pathlib.Path) -> None:
     """They are UTF-8, with or without the mark by which some editors begin."""
-    assert read(tmp_path, "\ufefftitle = 'Börse'") == Day(title="Börse")
+    assert read(tmp_path, "\ufefftitle = 'Börse'") == DayTerms(title="Börse")
     path = tmp_path / "day.toml"
     path.write_bytes("title = 'Börse'".encode("cp1252"))
     with pytest.raises(ConfigError, match="day.toml: isn't UTF-8"):
-        Day.read(path)
+        DayTerms.read(path)
+
+
+OTHER = 65_534
+"""The number of a user who isn't this one."""
+
+
+def listed(folder: pathlib.Path) -> pathlib.Path:
+    """The file of a day, which names a list of values."""
+    (folder / "values.csv").write_text("name,side,price,quantity\nAnna,bid,1.20,4\n")
+    day = folder / "day.toml"
+    day.write_text('[[round]]\nvalues = "list"\nfile = "values.csv"\n')
+    return day
+
+
+def refused(path: pathlib.Path) -> str:
+    """Why the day of a file is refused, empty where it isn't."""
+    try:
+        DayTerms.read(path)
+    except OwnerError as fault:
+        return str(fault)
+    return ""
+
+
+@pytest.mark.parametrize("name", ["day.toml", "values.csv"])
+def test_a_file_that_others_may_write_is_refused(tmp_path: pathlib.Path, name: str) -> None:
+    """Also the list of values that a day names."""
+    day = listed(tmp_path)
+    path = tmp_path / name
+    for mode in (0o644, 0o600, 0o440):
+        path.chmod(mode)
+        assert refused(day) == ""
+    for mode in (0o664, 0o646, 0o620):
+        path.chmod(mode)
+        assert refused(day) == f"{path} may be written by other users: chmod go-w"
+
+
+@pytest.mark.parametrize("name", ["day.toml", "values.csv"])
+def test_a_file_of_another_user_is_refused(
+    tmp_path: pathlib.Path, name: str, monkeypatch: pytest.MonkeyPatch
+) -> None:
+    """Root's are taken: a service reads those that root has put there."""
+    day = listed(tmp_path)
+    found = os.fstat
+    owners = {os.stat(tmp_path / it).st_ino: 0 for it in ("day.toml", "values.csv")}
+
+    def fstat(file: int) -> os.stat_result:
+        """The file as if it were that of one of the owners."""
+        about = found(file)
+        row = [*about]
+        row[stat.ST_UID] = owners[about.st_ino]
+        return os.stat_result(row)
+
+    monkeypatch.setattr("callauction.venue.owned.os.fstat", fstat)
+    monkeypatch.setattr("callauction.venue.owned.os.geteuid", lambda: 1000)
+    assert refused(day) == ""
+    owners[os.stat(tmp_path / name).st_ino] = 1000
+    assert refused(day) == ""
+    owners[os.stat(tmp_path / name).st_ino] = OTHER
+    text = f"{tmp_path / name} belongs to another user: find out who, then chown"
+    assert refused(day) == text
+
+
+@pytest.mark.skipif("os.geteuid() != 0", reason="only root gives links away")
+def test_a_link_of_another_user_to_a_day(tmp_path: pathlib.Path) -> None:
+    (tmp_path / "mine.toml").touch(mode=0o600)
+    path = tmp_path / "day.toml"
+    path.symlink_to(tmp_path / "mine.toml")
+    assert refused(path) == ""
+    os.chown(path, OTHER, OTHER, follow_symlinks=False)
+    assert refused(path) == f"{path} belongs to another user: find out who, then chown"
+
+
+def test_a_venue_of_a_day_that_others_may_write(tmp_path: pathlib.Path) -> None:
+    path = tmp_path / "day.toml"
+    path.touch()
+    path.chmod(0o666)
+    text = f"venue: {path} may be written by other users: chmod go-w\n"
+    for words in ((), ("--check",)):
+        assert ended("--day", path, "--port", 0, *words) == (2, text)
+    assert not (tmp_path / "day.venue").exists()
+
+
+def test_a_folder_whose_name_isnt_utf_8(tmp_path: pathlib.Path) -> None:
+    folder = os.fsdecode(os.fsencode(tmp_path) + b"/\xff")
+    status, error = ended("--folder", folder, "--port", 0)
+    assert status == 2 and error.startswith("venue: the name of the folder '")
+    assert r"\udcff' isn't UTF-8" in error
+    assert [*tmp_path.iterdir()] == []

@@ -157,14 +157,14 @@ def test_values_of_a_late_joiner_and_of_a_schedule(venue: Served) -> None:
 @pytest.mark.parametrize(
     "fields, text",
     [
-        ({"low": "1.00", "high": "10.01", "quantity": 1}, "a value is from 0.00 to 10.00"),
-        ({"low": "2.00", "high": "1.00", "quantity": 1}, "low is above high"),
+        ({"low": "1.00", "high": "10.01", "quantity": 1}, "the value 10.01 isn't from"),
+        ({"low": "2.00", "high": "1.00", "quantity": 1}, "low 2.00 is above high 1.00"),
         ({"how": "schedule", "demand": [], "supply": ["1"], "quantity": 1}, "a schedule has"),
         ({"how": "dance"}, "how is one of"),
         ({"file": "name;side\n"}, "the first line isn't name,side,price,quantity"),
         ({"file": "name,side,price,quantity\nAnna,buy,1,1\n"}, "line 2: side 'buy'"),
         ({"file": "name,side,price,quantity\nAnna,bid,1,0\n"}, "line 2: quantity '0'"),
-        ({"file": "name,side,price,quantity\nEve,bid,11,1\n"}, "a value is from 0.00 to 10.00"),
+        ({"file": "name,side,price,quantity\nEve,bid,11,1\n"}, "the value 11 isn't from"),
     ],
 )
 def test_values_that_cant_be_handed_out(venue: Served, fields: Any, text: str) -> None:

@@ -5,7 +5,7 @@ import subprocess
 import sys
 
 import served
-from callauction.venue.config import Day
+from callauction.venue.config import DayTerms
 from callauction.venue import Client
 from served import Served
 
@@ -21,10 +21,10 @@ def blocks() -> list[str]:
 
 def test_the_day_with_all_keys(tmp_path: pathlib.Path) -> None:
     path = served.PACKAGE / "callauction/venue/day.toml"
-    assert Day.read(path) == Day()
+    assert DayTerms.read(path) == DayTerms()
     text = path.read_text("utf-8").replace('# range = "0.50"', 'range = "0.50" ')
     (tmp_path / "day.toml").write_text(text, encoding="utf-8")
-    assert Day.read(tmp_path / "day.toml").instruments[0].range == 50
+    assert DayTerms.read(tmp_path / "day.toml").instruments[0].range == 50
 
 
 def test_the_robot(venue: Served) -> None:

@@ -128,6 +128,8 @@ def test_joining(venue: Served) -> None:
     ]:
         status, found = venue.call("api/join", {"code": code, "name": name})
         assert (status != 200, found["error"]) == (True, error)
+    status, found = venue.call("api/join", {"code": venue.code, "name": "Bert", "group": 2})
+    assert (status, found["text"]) == (400, "there is no 'group' in a join")
 
 
 def test_a_lost_telephone(venue: Served) -> None:
@@ -244,7 +246,7 @@ def ended(*words: object) -> tuple[int, str]:
         (["--listen", "example.org"], "example.org is reached from other machines"),
         (["--tls-cert", "c.pem"], "--tls-cert and --tls-key go together"),
         (["--tls-cert", "c", "--tls-key", "k", "--insecure"], "--insecure is for no TLS at all"),
-        (["--tls-cert", "c", "--tls-key", "k"], "the certificate or its key can't be read"),
+        (["--tls-cert", "c", "--tls-key", "k"], "c can't be read: No such file"),
         (["--day", "nothing.toml"], "nothing.toml: No such file or directory"),
     ],
 )
@@ -284,7 +286,7 @@ def test_tls(tmp_path: pathlib.Path) -> None:
 
 def test_one_venue_a_folder(venue: Served, tmp_path: pathlib.Path) -> None:
     status, error = ended("--folder", tmp_path / "venue", "--port", 0)
-    assert (status, "is in use by another venue" in error) == (2, True)
+    assert (status, "is in use by another venue: end that one, or --folder" in error) == (2, True)
 
 
 def test_there_is_no_program(tmp_path: pathlib.Path) -> None:

@@ -1,17 +1,23 @@
 """What the operator takes home, round by round, with names and money."""
+import asyncio
 import csv
+import errno
 import io
 import pathlib
 import re
+import subprocess
+import sys
+import tempfile
 import time
 import urllib.parse
 import urllib.request
+from typing import Any
 
 import pandas
 import pytest
 import served
 from callauction.pages import html_table
-from callauction.venue import config, downloads, instrument, log, report
+from callauction.venue import config, copies, downloads, instrument, log, report
 from callauction.venue.members import Members
 from conftest import FAST
 from served import Served
@@ -51,6 +57,38 @@ def lesson(venue: Served) -> None:
     trade(venue, anna, bert, "2.00")
     venue.do("next", round=2)
     trade(venue, anna, bert, "2.50")
+
+
+def test_no_results_of_an_earlier_end_stay(tmp_path: pathlib.Path) -> None:
+    """A day that goes on has none until it ends again; neither has a copy."""
+    folder, copy = tmp_path / "venue", tmp_path / "copy"
+    files = [folder / "results.csv", folder / "XYZ.members.csv"]
+    with served.served(tmp_path, DAY) as venue:
+        anna, bert = venue.join("Anna"), venue.join("Bert")
+        trade(venue, anna, bert, "2.00")
+    before = [it.read_text() for it in files]
+    copies.backup(folder, copy)
+    assert not any((copy / it.name).exists() for it in files)
+    with served.served(tmp_path, DAY) as venue:
+        assert not any(it.exists() for it in files)
+        trade(venue, anna, venue.join("Carl"), "2.50")
+        results = download(venue, "results")
+    after = [it.read_text() for it in files]
+    assert after[0] == results and after[0] != before[0] and after[1] != before[1]
+
+
+def test_results_that_cant_be_written(tmp_path: pathlib.Path) -> None:
+    """The end says which, and isn't one without a fault; the others are there."""
+    folder = tmp_path / "venue"
+    with served.served(tmp_path, DAY) as venue:
+        anna, bert = venue.join("Anna"), venue.join("Bert")
+        trade(venue, anna, bert, "2.00")
+        (folder / "results.csv").mkdir()
+        venue.child.terminate()
+        _, error = venue.child.communicate(timeout=served.SECONDS)
+    why = f"venue: {folder}/results.csv: Is a directory: move it away\n"
+    assert (venue.child.returncode, error) == (3, why)
+    assert (folder / "XYZ.members.csv").read_text() == "number,name\n1,Anna\n2,Bert\n"
 
 
 def test_the_results(tmp_path: pathlib.Path) -> None:
@@ -163,7 +201,7 @@ def test_the_name_of_a_file(
     tmp_path: pathlib.Path, kind: str, language: str, wanted: str
 ) -> None:
     """It has the lesson and its day, and no letter that a file system doesn't take."""
-    day = config.Day(title=' Märkte 1: "Stunde/2" ')
+    day = config.DayTerms(title=' Märkte 1: "Stunde/2" ')
     terms, began = day.instruments[0], 1_764_288_000.0
     kept = log.Log(tmp_path / "venue.log")
     board = instrument.opened(
@@ -215,3 +253,41 @@ def test_the_report_in_german(tmp_path: pathlib.Path) -> None:
     plain = re.sub(r"<style>.*?</style>|base64,[^\"]*", "", text, flags=re.DOTALL)
     assert not re.search(r"\b(the|price|limit|gain|shares|reference|buyer)\b", plain)
     assert not re.search(r"\d\.\d", plain)
+
+
+def test_a_report_runs_nothing_of_the_folder_in_which_the_venue_began(
+    tmp_path: pathlib.Path,
+) -> None:
+    trap = tmp_path / "trap"
+    trap.mkdir()
+    (trap / "pandas.py").write_text("open('sprung', 'w')")
+    words = [sys.executable, "-P", *served.words_of("--folder", tmp_path / "venue")[1:]]
+    words += ["--port", str(served.free_port())]
+    pipe, environment = subprocess.PIPE, served.environment()
+    with subprocess.Popen(
+        words, env=environment, stdout=pipe, stderr=pipe, text=True, cwd=trap
+    ) as child:
+        try:
+            venue = served.begun(child)
+            venue.do("start")
+            venue.do("uncross")
+            assert "<html" in download(venue, "report")
+            assert [*trap.iterdir()] == [trap / "pandas.py"]
+        finally:
+            child.kill()
+
+
+def test_a_download_on_a_full_disk(tmp_path: pathlib.Path, monkeypatch: pytest.MonkeyPatch) -> None:
+    """It says so, and isn't a fault of the venue."""
+    day = config.DayTerms()
+    kept = log.Log(tmp_path / "venue.log", False)
+    lesson = downloads.Lesson(day, [], Members(day.members, kept), served.program())
+
+    def fail(*words: object, **more: object) -> None:
+        raise OSError(errno.ENOSPC, "No space left on device")
+
+    monkeypatch.setattr(tempfile, "TemporaryDirectory", fail)
+    board: Any = None
+    for kind in ("trades", "report"):
+        with pytest.raises(downloads.DownloadError, match="can't be made: No space left on device"):
+            asyncio.run(downloads.made(kind, lesson, board))

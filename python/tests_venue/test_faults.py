@@ -99,8 +99,9 @@ async def is_sent_away(venue: Served, text: str) -> bool:
 def test_too_much_at_once_is_refused(venue: Served) -> None:
     token = venue.join("Anna")
     assert asyncio.run(is_sent_away(venue, '{"type":"hello","token":"' + "x" * 10_000))
-    status, _ = venue.call("api/join", {"code": "x" * 100_000, "name": "x"})
-    assert status in (400, 413)
+    for size in (65_536, 100_000):
+        found = venue.call("api/join", {"code": "x" * size, "name": "x"})
+        assert found == (413, "a body has at most 65536 bytes")
     assert venue.call("api/look/state", token=token)[0] == 200
 
 
@@ -217,8 +218,9 @@ def test_a_program_without_views(tmp_path: pathlib.Path) -> None:
         text=True,
         timeout=served.SECONDS,
     )
-    error = "venue: the program answers 'record 1: bad member' to show\n"
-    assert (ran.returncode, ran.stderr) == (2, error)
+    error = "venue: XYZ: the program answers 'record 1: bad member' to show"
+    do = "name the callboard of this version by CALLBOARD"
+    assert (ran.returncode, ran.stderr) == (2, f"{error}: {do}\n")
 
 
 # ---- clocks
@@ -226,10 +228,10 @@ def test_a_program_without_views(tmp_path: pathlib.Path) -> None:
 
 JUMPING = """
 import pathlib, sys, time
-from callauction.venue.__main__ import main
 
 real, jump = time.time, pathlib.Path({path!r})
 time.time = lambda: real() + (float(jump.read_text()) if jump.exists() else 0)
+from callauction.venue.__main__ import main
 sys.exit(main())
 """
 """A venue on a machine whose clock is set by as many seconds as a file says, once it is there."""
@@ -277,6 +279,32 @@ def test_a_clock_that_is_set(
             assert is_ended or call - 60 < state["ends"] - state["now"] < call
 
 
+@pytest.mark.parametrize("is_before", [False, True])
+def test_a_clock_that_was_set_back_before_a_start(tmp_path: pathlib.Path, is_before: bool) -> None:
+    """A call has left what it had, also at the next start; before the kill, or after it."""
+    day = "sync = false\n[phases]\ncall = 900\n"
+    with on_a_clock(tmp_path, day) as venue:
+        token = venue.join("Anna")
+        venue.do("start")
+        if is_before:
+            (tmp_path / "jump").write_text("-7200")
+        with Client(venue.url, token) as me:
+            me.enter("bid", 1, "2.00")
+        venue.child.kill()
+        venue.child.wait(served.SECONDS)
+    (tmp_path / "jump").write_text("-7200")
+    said = []
+    for _ in range(2):
+        with on_a_clock(tmp_path, day) as venue:
+            state = venue.call("api/look/state", token=token)[1]
+            venue.child.kill()
+            said += venue.child.communicate(timeout=served.SECONDS)[1].splitlines()
+        assert state["phase"] == "call" and 600 < state["ends"] - state["now"] < 900, state
+    assert len(said) == 1 and "the clock is 7" in said[0], said
+    lines = (tmp_path / "venue/venue.log").read_text().splitlines()
+    assert sum('"kind":"clock","instrument":"XYZ","behind":7' in line for line in lines) == 1
+
+
 # ---- full disks
 
 
@@ -322,6 +350,10 @@ async def full_disk(venue: Served, token: str, enlarge: Callable[[], None]) -> t
             await me.enter("bid", 1, "2.00")
         assert found.value.code == "halted"
         assert [it.entry for it in answers] == [*range(1, len(answers) + 1)]
+        asked = "api/operator", {"do": "resume"}, venue.operator
+        status, said = await asyncio.to_thread(venue.call, *asked)
+        assert (status, said["error"]) == (503, "halted")
+        assert said["text"].removeprefix("XYZ: ").startswith((FULL_JOURNAL, FULL_LOG)), said
         enlarge()
         await asyncio.to_thread(venue.do, "resume")
         async with asyncio.timeout(served.SECONDS):
@@ -357,8 +389,39 @@ def test_a_full_disk(
         assert judged.is_lawful(journal)
 
 
+FULL = """
+import errno, sys
+from callauction.venue import log
+from callauction.venue.__main__ import main
+def fails(self, data):
+    raise OSError(errno.ENOSPC, "No space left on device")
+log.Log._write = fails
+sys.argv[0] = "venue"
+sys.exit(main())
+"""
+"""A venue whose log's disk is full from the begin on."""
+
+
+def test_a_venue_that_begins_on_a_full_disk(tmp_path: pathlib.Path) -> None:
+    """It ends, as nobody could have it resume."""
+    words = [sys.executable, "-c", FULL, "--folder", str(tmp_path / "venue"), "--port", "0"]
+    ran = subprocess.run(
+        words,
+        env=served.environment(),
+        capture_output=True,
+        text=True,
+        timeout=served.SECONDS,
+    )
+    assert (ran.returncode, ran.stdout) == (3, ""), ran.stderr
+    text = f"venue: {tmp_path}/venue/venue.log: No space left on device: make room"
+    assert ran.stderr.splitlines()[-1] == text
+
+
 # ---- folders
 
+
+BACK = ": put the right file, or the last copy, back"
+AS_IT_WAS = ": take the day as it was, or --folder NEW begins anew"
 
 def day_before(folder: pathlib.Path, day: str = FAST) -> list[object]:
     """A day with one order, which has ended: the words that go on with it."""
@@ -392,15 +455,20 @@ def test_a_journal_of_another_day(tmp_path: pathlib.Path) -> None:
     log = tmp_path / "venue/venue.log"
     lines = log.read_text().splitlines(keepends=True)
     log.write_text("".join(line for line in lines if '"kind":"day"' not in line))
-    assert ended(*words) == (2, "venue: journal of another day: low\n")
+    assert ended(*words) == (2, f"venue: XYZ: journal of another day: low{AS_IT_WAS}\n")
 
 
 def test_a_journal_with_an_entry_more(tmp_path: pathlib.Path) -> None:
     words = day_before(tmp_path)
     journal = tmp_path / "venue/XYZ.journal.csv"
     journal.write_text(journal.read_text() + "1,enter,bid,1,200,entered 2\n")
-    status, error = ended(*words)
-    assert (status, error) == (1, "venue: entry 2 of the journal is no message of the log\n")
+    text = f"venue: XYZ: entry 2 of the journal is no message of the log{BACK}\n"
+    assert ended(*words) == (1, text)
+    log = tmp_path / "venue/venue.log"
+    lines = log.read_text().splitlines(keepends=True)
+    log.write_text("".join(line for line in lines if '"XYZ"' not in line))
+    text = f"venue: XYZ: the journal has entries, and the log none of its messages{BACK}\n"
+    assert ended(*words) == (1, text)
 
 
 def test_a_log_with_a_fault(tmp_path: pathlib.Path) -> None:
@@ -409,7 +477,7 @@ def test_a_log_with_a_fault(tmp_path: pathlib.Path) -> None:
     lines = log.read_text().splitlines(keepends=True)
     log.write_text("".join([lines[0], "nonsense\n", *lines[1:]]))
     status, error = ended(*words)
-    assert (status, error) == (1, f"venue: {log}: line 2 is no line of a log\n")
+    assert (status, error) == (1, f"venue: {log}: line 2 is no line of a log{BACK}\n")
 
 
 @pytest.mark.parametrize("content", [b"somebody's notes", b"\x7fELF\0\0\0", b"\xff" * 5000])
@@ -420,7 +488,7 @@ def test_another_file_in_the_place_of_the_log(tmp_path: pathlib.Path, content: b
     log.write_bytes(content)
     log.chmod(0o600)
     status, error = ended("--folder", tmp_path / "venue", "--port", 0)
-    assert (status, error) == (1, f"venue: {log}: its end is no line of a log\n")
+    assert (status, error) == (1, f"venue: {log}: its end is no line of a log{BACK}\n")
     assert log.read_bytes() == content
     log.write_bytes(b"\0" * 300)
     status, error = ended("--folder", tmp_path / "venue", "--listen", "127.0.0.1", "--check")

@@ -8,7 +8,7 @@ import pytest
 import served
 from callauction.venue import robots
 from callauction.venue.accounts import Fill
-from callauction.venue.config import Day, Instrument as Terms
+from callauction.venue.config import DayTerms, InstrumentTerms
 from callauction.venue.gains import Value
 from callauction.venue.instrument import Board, opened
 from callauction.venue.log import Log
@@ -105,8 +105,9 @@ def log(tmp_path_factory: pytest.TempPathFactory) -> Log:
        st.integers(0, 10))
 def test_the_order_of_a_robot(log: Log, kind: str, side: str, tick: int, traded: int) -> None:
     """No robot offers more than is left of its value, nor at a loss."""
+    nowhere = pathlib.Path("/nowhere")
     board = opened(
-        Board("XYZ"), Terms(), Treatment(), Day(), pathlib.Path("/nowhere"), "none", log
+        Board("XYZ"), InstrumentTerms(), Treatment(), DayTerms(), nowhere, "none", log
     )
     board.give_number("Robot 1", 1)
     board.accounts.give({"Robot 1": Value(side, tick, 10)}, True, 0)

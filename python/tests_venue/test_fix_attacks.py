@@ -14,8 +14,9 @@ import fixing
 import psutil
 import pytest
 import served
+from callauction.fix.front import REMOVED
 from callauction.fix.wires import ANSWER_SECONDS
-from callauction.venue.gates import STUCK_SECONDS
+from callauction.venue.gates import IN_VAIN_SECONDS, SLICE, STUCK_SECONDS
 from fixing import SOH, Closed, Pairs, Peer
 from served import Served
 from test_operations import certificate
@@ -26,6 +27,8 @@ MOST_WAIT = 1.0
 MOST_MORE = 96 * MEGABYTE
 """How much more memory a venue may have for a member who reads nothing."""
 SMALL = 2048
+ORDER_BYTES = 150
+"""About how many bytes an order has."""
 ORDERS, REQUESTS = 1500, 400
 """Orders of a member, and how often it asks for all reports of them again."""
 
@@ -103,7 +106,6 @@ STRANGERS: dict[str, Callable[[str], bytes]] = {
     "no text": lambda password: logon("ALICE", (554, "\xff\xfe\x80")),
     "password of another": lambda password: logon("BOB", (554, password)),
     "reset, wrong password": lambda password: logon("ALICE", RESET, (554, "guess"), number=1),
-    "reset, right password": lambda password: logon("ALICE", RESET, (554, password), number=1),
     "unknown CompID": lambda password: logon("EVE", (554, password)),
     "no Logon": lambda password: fixing.written("D", 3, "ALICE", [(554, password)]),
     "another version": lambda password: logon("ALICE", (554, password)).replace(b"4.4", b"4.2"),
@@ -145,6 +147,39 @@ def test_a_logon_that_can_not_be_taken_is_told_why(
         peer.take(lambda it: False)
     assert peer.logon(front.password("BOB"))[34] == "2"
     assert waits(peer, 3) < MOST_WAIT
+
+
+NO_RESET = (
+    "numbers are kept for the day: log on without ResetSeqNumFlag (ResetOnLogon=N); where yours "
+    "are lost, the venue's operator resets the session, and you begin at 1 with an empty store"
+)
+"""What the Logout says to a Logon that would reset the numbers."""
+
+
+@pytest.mark.parametrize("number", [1, 3])
+def test_who_would_reset_the_numbers_is_told_what_to_do(front: Fronted, number: int) -> None:
+    """Under 1, which it expects after that; then its session goes on as it was."""
+    before = front.sent()
+    data = logon("ALICE", RESET, (554, front.password("ALICE")), number=number)
+    found = dict(fixing.parsed(front.answered(data)))
+    head = {8: "FIX.4.4", 35: "5", 34: "1", 49: "VENUE", 56: "ALICE"}
+    assert found == head | {9: found[9], 10: found[10], 52: found[52], 58: NO_RESET}
+    assert front.sent() == before
+    again = Peer(front.port, "ALICE")
+    again.number = again.expected = 3
+    assert again.logon(front.password("ALICE"))[34] == "3"
+    assert waits(again, 3) < MOST_WAIT
+
+
+def test_who_says_much_in_time_is_heard_in_time(front: Fronted) -> None:
+    """It isn't held for long as one that says nothing whole is."""
+    peer, late = front.peer("BOB"), 0
+    for number in range(400):
+        begin = time.monotonic()
+        peer.enter(f"b{number}", "2", 1, "3.00")
+        peer.take(lambda it: it.get(11) == f"b{number}")
+        late += time.monotonic() - begin > IN_VAIN_SECONDS
+    assert late < 400 * ORDER_BYTES // SLICE // 2
 
 
 def test_garbage_is_ended_in_time(front: Fronted) -> None:
@@ -282,7 +317,7 @@ def test_a_wrong_sum_is_passed_over_and_asked_for_again(front: Fronted) -> None:
 def test_a_removed_member_is_off(front: Fronted) -> None:
     peer = front.peer("BOB")
     front.venue.do("remove", member="BOB")
-    assert peer.take(lambda it: it[35] == "5")[58] == "this token is nobody's here"
+    assert peer.take(lambda it: it[35] == "5")[58] == REMOVED
     with pytest.raises(Closed):
         peer.take(lambda it: False, 20.0)
     number = peer.number
@@ -370,13 +405,17 @@ def test_the_module_is_missing(tmp_path: pathlib.Path) -> None:
     "old, new, text",
     [
         ("ALICE =", '"A B" =', "fix: sessions: 'A B' is no CompID"),
-        ("ALICE =", "VENUE =", "fix: sessions: 'VENUE' is no CompID"),
-        ('= "ALICE"', '= ""', "fix: sessions: names '' is no name"),
+        ("ALICE =", "VENUE =", "fix: sessions: 'VENUE' is the venue's own CompID"),
+        ('= "ALICE"', '= ""', "fix: sessions: names '' is empty"),
         ('= "ALICE"', '= "Teacher"', "fix: names 'Teacher' can't be read, or is a role's name"),
-        ('= "ALICE"', '= "BOB"', "fix: sessions: names isn't a list in which each name is once"),
+        (
+            '= "ALICE"',
+            '= "BOB"',
+            "fix: sessions: 'BOB' has the member 'BOB', as 'ALICE' has: each member has one CompID",
+        ),
         ('ALICE = "ALICE"\nBOB = "BOB"', "", "fix: sessions has no CompID"),
         ("127.0.0.1:9878", "9878", "fix: address '9878' isn't a text that may be here"),
-        ("127.0.0.1:9878", "127.0.0.1:99999", "fix: address is none such as \"127.0.0.1:9878\""),
+        ("127.0.0.1:9878", "127.0.0.1:99999", "fix: address '127.0.0.1:99999' is none such as "),
     ],
 )
 def test_bad_tables(tmp_path: pathlib.Path, old: str, new: str, text: str) -> None:

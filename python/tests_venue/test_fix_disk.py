@@ -103,6 +103,78 @@ def test_a_power_cut(tmp_path: pathlib.Path) -> None:
         assert len([it for it in told if it.startswith("R.ALICE.")]) == 1
 
 
+def test_reports_that_follow_from_the_log(tmp_path: pathlib.Path) -> None:
+    """The reports of entries aren't written: each has the number that it had after each start, also
+    one that was killed before, between others that are written, and is sent again as it was.
+    """
+    port, folder = served.free_port(), tmp_path / "venue"
+    day = fixing.day_of(port, "ALICE", sync="true") + BOARDS
+    alice = Peer(port, "ALICE")
+    with served.served(tmp_path, day) as venue:
+        venue.do("start", instrument="XYZ")
+        venue.do("start", instrument="ABC")
+        alice.logon(fixing.token_of(folder, "ALICE"))
+        for number, market in enumerate(("XYZ", "ABC", "XYZ", "ABC", "ABC", "ABC")):
+            enter_at(market, alice, f"a{number}")
+            if number < 3:  # the last ones at once
+                alice.take(lambda it: it.get(11) == f"a{number}")
+            if number == 1:
+                alice.say("H", [(11, "a1"), (55, "ABC"), (54, "1")])
+                alice.take(lambda it: it.get(150) == "I")
+        alice.take(lambda it: it.get(11) == "a5")
+        venue.child.kill()
+        venue.child.communicate()
+    told = {int(it[34]): it for it in alice.got}
+    assert [told[it][17] for it in (2, 3, 4, 5)] == ["XYZ.1", "ABC.1", "R.ALICE.4", "XYZ.2"]
+    sent = (folder / "fix.sent").read_text("ascii")
+    assert "17=R.ALICE.4" in sent and "17=XYZ.1" not in sent and "17=ABC.1" not in sent
+    for number in range(6, 9):
+        with served.served(tmp_path, day) as venue:
+            alice.close()
+            alice.logon(fixing.token_of(folder, "ALICE"))
+            assert alice.all() == [] and alice.expected > max(told)
+            check_again(alice, told)
+            enter_at("ABC", alice, f"a{number}")
+            found = alice.take(lambda it: it.get(11) == f"a{number}")
+            assert found[17] == f"ABC.{number - 1}"
+            told[int(found[34])] = found
+            if number == 6:
+                venue.child.kill()
+                venue.child.communicate()
+
+
+def check_again(peer: Peer, told: dict[int, Message]) -> None:
+    """Raises AssertionError where what a member was told isn't sent again as it was."""
+    peer.say("2", [(7, str(min(told))), (16, str(max(told)))])
+    for number in sorted(told):
+        again = dict(fixing.parsed(peer.whole()))
+        while again[35] == "4":  # in place of what isn't sent again
+            again = dict(fixing.parsed(peer.whole()))
+        assert (again[34], again[43]) == (str(number), "Y")
+        assert again[122][:15] >= told[number][60][:15]
+        assert {tag: again.get(tag) for tag in told[number] if tag not in AROUND} == {
+            tag: value for tag, value in told[number].items() if tag not in AROUND
+        }
+
+
+BOARDS = """
+[[instrument]]
+name = "XYZ"
+[[instrument]]
+name = "ABC"
+"""
+
+
+def enter_at(market: str, peer: Peer, client: str) -> None:
+    """Sends an order for an instrument."""
+    pairs = [(11, client), (55, market), (54, "1"), (60, fixing.stamp()), (38, "10"), (40, "1")]
+    peer.say("D", pairs)
+
+
+AROUND = (9, 10, 52)
+"""What another sending of a message has otherwise, beside what is added."""
+
+
 def events(given: list[Message]) -> list[str]:
     """The ids of reports."""
     return [it[17] for it in given if it[35] == "8"]
@@ -131,5 +203,6 @@ def test_the_file_of_another(tmp_path: pathlib.Path) -> None:
     ran = subprocess.run(words, env=served.environment(), capture_output=True, text=True)
     assert (ran.returncode, ran.stderr) == (
         1,
-        f"venue: {folder}/fix.sent: line 1 is no line of a log\n",
+        f"venue: {folder}/fix.sent: line 1 is no line of a log"
+        ": put the right file, or the last copy, back\n",
     )

@@ -24,7 +24,7 @@ MOST_UNANSWERED = 8
 TARGETS = ("venue", "program", "connection")
 AUCTIONS = ("opening", "intraday", "closing")
 MORE: list[Pairs] = [[], [], [(59, "2")], [(59, "7")], [(111, "1")]]
-FINAL = {"2", "3", "4", "8", "C"}
+FINAL = {"2", "4", "8", "C"}
 """OrdStatus of an order of which nothing is open."""
 
 
@@ -72,7 +72,8 @@ class Robot:
 
     def unanswered(self) -> set[str]:
         """The ids of requests that weren't answered."""
-        return {*self.asked} - {it.get(11, "") for it in self.told.values()}
+        told = [*self.told.values()]  # which may grow meanwhile
+        return {*self.asked} - {it.get(11, "") for it in told}
 
     def learn(self, given: Message) -> None:
         """Takes what the venue says. Raises AssertionError where it says an event twice."""
@@ -221,7 +222,7 @@ def is_answer(given: Message) -> bool:
     """Whether a report answers a request: no trade or end does, nor does an order that a cancel of
     all took out.
     """
-    return given.get(150) not in ("F", "C", "3") and not (given.get(150) == "4" and 41 not in given)
+    return given.get(150) not in ("F", "C") and not (given.get(150) == "4" and 41 not in given)
 
 
 def check_shares(robot: Robot) -> None:

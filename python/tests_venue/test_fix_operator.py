@@ -1,11 +1,14 @@
 """What the operator has of the FIX front: a copy of each trade, and sessions that begin anew."""
+import concurrent.futures
 import pathlib
 from collections.abc import Iterator
 
 import fixing
+import psutil
 import pytest
 import served
 from fixing import Closed, Message, Pairs, Peer
+from test_fix_requests import until_logged
 from test_fix_venue import on
 
 
@@ -55,10 +58,10 @@ def test_the_operator_has_a_copy_of_each_trade(tmp_path: pathlib.Path) -> None:
             *("XYZ.4.1", "N", "XYZ", "200", "2.00", "XYZ.1")
         ]
         assert len(first[75]) == 8 and first[60][:8] == first[75]
-        buyer = {54: "1", 37: "1", 11: "a1", 1: "ALICE"}
-        assert sides == [buyer, {54: "2", 37: "2", 11: "b1", 1: "BOB"}]
+        buyer = {54: "1", 37: "XYZ.1", 11: "a1", 1: "ALICE"}
+        assert sides == [buyer, {54: "2", 37: "XYZ.2", 11: "b1", 1: "BOB"}]
         assert [second[it] for it in (571, 32, 880)] == ["XYZ.4.2", "150", "XYZ.2"]
-        assert others == [buyer, {54: "2", 37: "3", 11: "b2", 1: "BOB"}]
+        assert others == [buyer, {54: "2", 37: "XYZ.3", 11: "b2", 1: "BOB"}]
         alice.enter("a9", "1", 9, "2.00")
         order = [(11, "c1"), (55, "XYZ"), (54, "1"), (38, "1"), (40, "1"), (60, fixing.stamp())]
         found = copy.say("D", order)
@@ -141,6 +144,28 @@ def again(peer: Peer) -> list[tuple[str, str, str]]:
     found = peer.all()
     assert {it.get(97) for it in found} == {"Y"}
     return [(it[17], it[11], it[150]) for it in found]
+
+
+def test_a_session_is_reset_once_at_a_time(tmp_path: pathlib.Path) -> None:
+    """Of two resets at once the second would begin while the client is on again."""
+    port = served.free_port()
+    with on(tmp_path, fixing.day_of(port, "ALICE"), port, "ALICE") as (venue, [peer]):
+        venue.do("start")
+        [program] = psutil.Process(venue.child.pid).children()
+        program.suspend()
+        peer.enter("a1", "1", 10, "2.00")
+        until_logged(tmp_path / "venue", '"11":"a1"')
+        with concurrent.futures.ThreadPoolExecutor(1) as pool:
+            first = pool.submit(reset, venue, "ALICE")  # waits until the order is answered
+            with pytest.raises(Closed):
+                peer.all(fixing.SECONDS)
+            answer = {"error": "bad_phase", "text": "ALICE is being reset"}
+            assert reset(venue, "ALICE") == (409, answer)
+            program.resume()
+            assert first.result()[0] == 200
+        second = Peer(port, "ALICE")
+        second.logon(fixing.token_of(tmp_path / "venue", "ALICE"))
+        assert again(second) == [("XYZ.1", "a1", "0")]
 
 
 def test_the_copy_s_session_is_reset(tmp_path: pathlib.Path) -> None:

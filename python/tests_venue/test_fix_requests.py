@@ -11,7 +11,7 @@ import fixing
 import psutil
 import pytest
 import served
-from callauction.fix.seats import NOT_DONE
+from callauction.fix.seats import GONE, NOT_DONE
 from fixing import Message, Pairs, Peer
 from test_fix_venue import on, reports
 
@@ -54,6 +54,37 @@ def test_all_orders_are_cancelled(tmp_path: pathlib.Path) -> None:
         assert (found[531], found[533]) == ("7", "0")
         bob.say("H", [(11, "b1"), (55, "XYZ"), (54, "1")])
         assert bob.take(lambda it: it.get(150) == "I")[39] == "0"
+
+
+def test_an_order_has_an_id_of_its_own(tmp_path: pathlib.Path) -> None:
+    """Among those of all instruments and rounds; a client may give it back."""
+    port = served.free_port()
+    with on(tmp_path, fixing.day_of(port, "ALICE") + TWO, port, "ALICE") as (venue, [peer]):
+
+        def answered(kind: str, client: str, *more: tuple[int, str]) -> str:
+            peer.say(kind, [(11, client), (54, "1"), *more])
+            found = peer.take(lambda it: it.get(11) == client)
+            assert found[150] == {"D": "0", "G": "5", "F": "4", "H": "I"}[kind]
+            return found[37]
+
+        def entered(client: str, market: str) -> str:
+            more = [(60, fixing.stamp()), (38, "10"), (40, "1")]
+            return answered("D", client, (55, market), *more)
+
+        for market in ("XYZ", "ABC"):
+            venue.do("start", instrument=market)
+            assert entered(f"{market}1", market) == f"{market}.1"
+            assert entered(f"{market}2", market) == f"{market}.2"
+        for market in ("XYZ", "ABC"):
+            venue.do("uncross", instrument=market)
+        venue.do("next", round=2)
+        venue.do("start", instrument="ABC")
+        one = entered("ABC3", "ABC")
+        assert one == "ABC.round2.1"
+        order, time = [(55, "ABC"), (37, one)], (60, fixing.stamp())
+        assert answered("H", "ABC3", *order) == one
+        assert answered("G", "ABC4", *order, time, (41, "ABC3"), (38, "9"), (40, "1")) == one
+        assert answered("F", "ABC5", *order, time, (41, "ABC4")) == one
 
 
 @pytest.mark.parametrize(
@@ -254,6 +285,9 @@ def test_an_open_book_has_sizes(tmp_path: pathlib.Path) -> None:
     [
         ([(263, "9"), (264, "1"), (267, "1"), (269, "Q"), (146, "1"), (55, "XYZ")], "4"),
         ([(263, "0"), (264, "1"), (267, "1"), (269, "4"), (146, "1"), (55, "XYZ")], "8"),
+        ([(263, "0"), (264, "5"), (267, "1"), (269, "Q"), (146, "1"), (55, "XYZ")], "5"),
+        ([(263, "1"), (264, "-1"), (267, "1"), (269, "Q"), (146, "1"), (55, "XYZ")], "5"),
+        ([(263, "1"), (264, "9" * 5000), (267, "1"), (269, "Q"), (146, "1"), (55, "XYZ")], "5"),
         ([(263, "0"), (264, "1"), (267, "1"), (269, "Q"), (146, "1"), (55, "NONE")], "0"),
     ],
 )
@@ -331,7 +365,8 @@ def test_orders_end_with_their_connection(tmp_path: pathlib.Path) -> None:
         alice.close()
         alice.logon(fixing.token_of(folder, "ALICE"), (8013, "Y"))
         seen = settled(alice, 3)
-        assert {it[11] for it in seen if it[150] == "4"} == {"a1", "a2", "a3"}
+        cancelled = [it for it in seen if it[150] == "4"]
+        assert {(it[11], it[58]) for it in cancelled} == {(it, GONE) for it in ("a1", "a2", "a3")}
         alice.enter("a4", "1", 40, "2.00")
         alice.take(lambda it: it.get(11) == "a4")
         day.again()
@@ -403,11 +438,11 @@ def test_a_gap_in_place_of_what_was_not_executed(tmp_path: pathlib.Path) -> None
         for client, asked in (("a3", "2"), ("a4", "1")):
             it = found[client]
             assert [it[tag] for tag in (35, 41, 37, 39, 434, 102)] == [
-                *("9", "a1", "1", "0", asked, "99")
+                *("9", "a1", "XYZ.1", "0", asked, "99")
             ]
         assert {found[it][58] for it in ("a2", "a3", "a4")} == {NOT_DONE}
-        peer.enter("a2", "2", 20, "3.00")
-        assert reports(peer)[-1] == ("XYZ.2", "a2", "0", "20")
+        peer.enter("a6", "2", 20, "3.00")
+        assert reports(peer)[-1] == ("XYZ.2", "a6", "0", "20")
 
 
 def until_logged(folder: pathlib.Path, text: str) -> None:
@@ -416,3 +451,19 @@ def until_logged(folder: pathlib.Path, text: str) -> None:
     while text not in (folder / "venue.log").read_text("utf-8"):
         assert time.monotonic() < last
         time.sleep(0.05)
+
+
+def test_ten_reports_of_a_mass_status_count_as_a_message(tmp_path: pathlib.Path) -> None:
+    """As all of them are kept, nobody may have thousands of them in a second."""
+    port, rate = served.free_port(), 20
+    day = fixing.day_of(port, "ALICE").replace("100000", str(rate), 1)
+    with on(tmp_path, day.replace("100000", "40", 1), port, "ALICE") as (venue, [peer]):
+        venue.do("start")
+        for number in range(100):
+            peer.enter(f"a{number}", "1", 1, "2.00")
+        peer.take(lambda it: it.get(11) == "a99")
+        begin, count = time.monotonic(), 12
+        for number in range(count):
+            peer.say("AF", [(584, f"s{number}"), (585, "7")])
+            assert peer.take(lambda it: it.get(912) == "Y")[911] == "100"
+        assert time.monotonic() - begin > (10 * count - 40) / rate

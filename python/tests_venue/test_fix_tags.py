@@ -79,7 +79,11 @@ def test_what_a_message_needs(tmp_path: pathlib.Path) -> None:
                 assert picked(found, 35, 45, 372, 371, 373) == expected, (kind, tag)
             number, tag = str(peer.number), OTHERS[kind]
             found = answer(peer, kind, [*whole(kind), (tag, "1")])
-            assert picked(found, 35, 45, 372, 371) == ("3", number, kind, str(tag))
+            assert picked(found, 35, 45, 372, 371, 373) == ("3", number, kind, str(tag), "2")
+            assert found[58] == "Tag not defined for this message type"
+            number = str(peer.number)
+            found = answer(peer, kind, [*whole(kind), (9999, "1")])
+            assert picked(found, 35, 45, 371, 373) == ("3", number, "9999", "0")
         assert answer(peer, "D", whole("D"))[150] == "0"  # n1 is new: no message was done
         assert answer(peer, "H", whole("H"))[39] == "0"
 
@@ -90,20 +94,21 @@ def test_tags_that_change_nothing(tmp_path: pathlib.Path) -> None:
         venue.do("start")
         limit = [(40, "2"), (44, "2.00")]
         entered = answer(peer, "D", [*order("a1", "1", "10", *limit), *NOTHING], HEAD)
-        assert picked(entered, 150, 37, 38, 40, 44, 59) == ("0", "1", "10", "2", "2.00", "0")
+        assert picked(entered, 150, 37, 38, 40, 44, 59) == ("0", "XYZ.1", "10", "2", "2.00", "0")
         assert not {*entered} & {1, 21, 50, 57, 58, 100, 207, 528, 581}
-        other = [(41, "a1"), *order("a2", "1", "12", *limit), *NOTHING, (37, "9")]
-        assert picked(answer(peer, "G", other, HEAD), 150, 37, 38, 44) == ("5", "1", "12", "2.00")
-        asked = [(11, "a2"), (55, "XYZ"), (54, "1"), *NOTHING, (37, "9"), (790, "s1")]
-        assert picked(answer(peer, "H", asked, HEAD), 150, 37, 39) == ("I", "1", "0")
+        other = [(41, "a1"), *order("a2", "1", "12", *limit), *NOTHING, (37, "XYZ.1")]
+        assert picked(answer(peer, "G", other, HEAD), 150, 37, 38) == ("5", "XYZ.1", "12")
+        asked = [(11, "a2"), (55, "XYZ"), (54, "1"), *NOTHING, (37, "XYZ.1"), (790, "s1")]
+        found = answer(peer, "H", asked, HEAD)
+        assert picked(found, 150, 37, 39, 790) == ("I", "XYZ.1", "0", "s1")
         found = answer(peer, "AF", [(584, "s1"), (585, "7"), (1, "a"), (207, "XETR")])
-        assert picked(found, 150, 37, 912) == ("I", "1", "Y")
-        found = answer(peer, "x", [(320, "l1"), (559, "4"), (207, "XETR"), (263, "0")])
+        assert picked(found, 150, 37, 912) == ("I", "XYZ.1", "Y")
+        found = answer(peer, "x", [(320, "l1"), (559, "4"), (207, "XETR"), (58, "t"), (263, "0")])
         assert picked(found, 35, 560, 393) == ("y", "0", "1")
         found = answer(peer, "V", [*whole("V"), (207, "XETR")])
         assert picked(found, 35, 262, 268) == ("W", "n1", "0")
         gone = [(41, "a2"), *order("a3", "1", "99"), *NOTHING, (37, "9")]
-        assert picked(answer(peer, "F", gone, HEAD), 150, 37, 38) == ("4", "1", "12")
+        assert picked(answer(peer, "F", gone, HEAD), 150, 37, 38) == ("4", "XYZ.1", "12")
         found = answer(peer, "q", [(11, "a4"), (530, "7"), (60, TIME), (58, "text"), (207, "XETR")])
         assert picked(found, 35, 531, 533) == ("r", "7", "0")
 
@@ -118,18 +123,24 @@ BAD_ORDERS: list[tuple[Pairs, str]] = [
     ([(40, "1"), (55, "NONE")], "1"),
     ([(40, "1"), (59, "3")], "11"),
     ([(40, "1"), (59, "6")], "11"),
-    ([(40, "1"), (38, "1.5")], "11"),
-    ([(40, "1"), (38, "-1")], "11"),
+    ([(40, "1"), (38, "1.5")], "13"),
+    ([(40, "1"), (38, "-1")], "13"),
     ([(40, "1"), (38, "0")], "13"),
-    ([(40, "1"), (111, "1.5")], "11"),
+    ([(40, "1"), (38, "100.5")], "13"),
+    ([(40, "1"), (38, "1000000001")], "3"),
+    ([(40, "1"), (38, "5000000000")], "3"),
+    ([(40, "1"), (38, "9" * 9000)], "3"),
+    ([(40, "1"), (111, "1.5")], "99"),
+    ([(40, "2"), (44, "2.00"), (111, "0")], "99"),
+    ([(40, "2"), (44, "2.00"), (1138, "-5")], "99"),
     ([(40, "2"), (44, "2.00"), (111, "11")], "99"),
     ([(40, "2"), (44, "2.00"), (1138, "11")], "99"),
     ([(40, "1"), (111, "5"), (1138, "6")], "11"),
 ]
-"""Orders that aren't entered, and OrdRejReason: 1 an unknown symbol, 11 what isn't supported, 13 a
-quantity, 99 another.
+"""Orders that aren't entered, and OrdRejReason: 1 an unknown symbol, 3 above a limit, 11 what isn't
+supported, 13 a quantity, 99 another.
 """
-NO_VALUES: Pairs = [(38, "x"), (44, "x"), (60, "now"), (111, "x"), (59, "00")]
+NO_VALUES: Pairs = [(38, "x"), (38, ""), (44, "x"), (60, "now"), (111, "x"), (59, "00")]
 """Values that aren't of the type of their tag: a quantity, a price, a time, a letter."""
 
 
@@ -151,8 +162,8 @@ def test_orders_that_are_not_entered(tmp_path: pathlib.Path) -> None:
             assert found[58]
         for tag, value in NO_VALUES:
             found = answer(peer, "D", changed(order("b1", "1", "10", (40, "1")), [(tag, value)]))
-            assert picked(found, 35, 371, 373) == ("3", str(tag), "6"), tag
-        assert answer(peer, "D", order("b1", "1", "10", (40, "1")))[37] == "1"
+            assert picked(found, 35, 371, 373) == ("3", str(tag), "6" if value else "4"), tag
+        assert answer(peer, "D", order("b1", "1", "10", (40, "1")))[37] == "XYZ.1"
 
 
 KEPT: list[tuple[Pairs, str]] = [
@@ -174,7 +185,7 @@ def test_what_a_replace_keeps(tmp_path: pathlib.Path) -> None:
         for number, (other, text) in enumerate(KEPT):
             asked = order(f"b{number}", "1", "20", (40, "2"), (44, "2.10"), (41, "a1"))
             found = answer(peer, "G", changed(asked, other))
-            expected = ("9", "1", f"b{number}", "a1", "0", "2", "99", text)
+            expected = ("9", "XYZ.1", f"b{number}", "a1", "0", "2", "99", text)
             assert picked(found, 35, 37, 11, 41, 39, 434, 102, 58) == expected
         found = answer(peer, "F", [(41, "a1"), (11, "b9"), (55, "XYZ"), (54, "2"), (60, TIME)])
         assert picked(found, 35, 434, 102, 58) == ("9", "1", "99", "Side can't be changed")
@@ -208,9 +219,11 @@ def test_until_when_orders_are_open(tmp_path: pathlib.Path) -> None:
         ("XYZ.6.x4", "a4", "C", "C", "0", "0", "10"),
         ("XYZ.8.x1", "a1", "C", "C", "0", "0", "10"),
         ("XYZ.8.x2", "a2", "C", "C", "0", "0", "10"),
-        ("XYZ.8.x3", "a3", "3", "3", "0", "0", "10"),
+        ("XYZ.8.x3", "a3", "C", "C", "0", "0", "10"),
         ("XYZ.8.x5", "a5", "C", "C", "0", "0", "10"),
     ]
+    text = "no order is kept for another day or round"
+    assert [it.get(58) for it in ended] == [None, None, None, text, None]
 
 
 def test_orders_that_are_asked_for(tmp_path: pathlib.Path) -> None:
@@ -221,15 +234,15 @@ def test_orders_that_are_asked_for(tmp_path: pathlib.Path) -> None:
         market = order("a1", "2", "10", (40, "1"))
         assert answer(peer, "D", market, [(97, "Y")])[17] == "XYZ.1"
         found = answer(peer, "D", market, [(97, "Y")])
-        assert picked(found, 17, 37, 150, 39, 151) == ("R.ALICE.3", "1", "I", "0", "10")
+        assert picked(found, 17, 37, 150, 39, 151) == ("R.ALICE.3", "XYZ.1", "I", "0", "10")
         peer.cancel("a1", "a2", "2")
         assert peer.take(lambda it: it.get(11) == "a2")[150] == "4"
         for client in ("a1", "a2"):
             found = answer(peer, "H", [(11, client), (55, "XYZ"), (54, "2")])
-            assert picked(found, 37, 150, 39, 151) == ("1", "I", "4", "0")
-        found = answer(peer, "H", [(11, "b1"), (55, "XYZ"), (54, "2")])
-        expected = ("b1", "NONE", "I", "8", "5", "there is no order of this ClOrdID")
-        assert picked(found, 11, 37, 150, 39, 103, 58) == expected
+            assert picked(found, 37, 150, 39, 151) == ("XYZ.1", "I", "4", "0")
+        found = answer(peer, "H", [(11, "b1"), (55, "XYZ"), (54, "2"), (790, "s1")])
+        expected = ("b1", "NONE", "I", "8", "5", "there is no order of this ClOrdID", "s1")
+        assert picked(found, 11, 37, 150, 39, 103, 58, 790) == expected
         found = answer(peer, "AF", [(584, "s1"), (585, "3")])
         assert picked(found, 584, 150, 39, 58) == (
             *("s1", "I", "8", "tag 585 is 1 with a Symbol, or 7 without"),
@@ -270,7 +283,7 @@ def test_instruments_and_the_market_by_name(tmp_path: pathlib.Path) -> None:
         ask_data(peer, "d2", "0")
         assert rows(peer, "W") == [{269: "0", 270: "2.01"}]
         found = answer(peer, "V", changed(whole("V"), [(265, "2")]))
-        assert picked(found, 35, 262, 281) == ("Y", "n1", "4") and found[58]
+        assert picked(found, 35, 262, 281) == ("Y", "n1", "6") and found[58]
 
 
 @pytest.mark.parametrize("halted", ["the board", "the venue"])

@@ -13,7 +13,7 @@ import pytest
 import served
 from callauction.fix import dictionaries
 from callauction.fix._quickfix import Engine
-from callauction.fix.tags import FIX44, FIXT, pairs_of
+from callauction.fix.tags import FIX44, FIXT
 from callauction.venue import Client
 from fixing import Message, Peer
 
@@ -39,21 +39,33 @@ class Initiator:
     """A session of QuickFIX's initiator, whose bytes go by a socket of the test."""
 
     def __init__(
-        self, port: int, member: str, password: str, folder: pathlib.Path, begin: str = FIX44
+        self,
+        port: int,
+        member: str,
+        password: str,
+        folder: pathlib.Path,
+        begin: str = FIX44,
+        more: str = "",
     ) -> None:
         folder.mkdir(exist_ok=True)
         dictionaries.write(folder)
         text = SETTINGS.format(store=folder, begin=begin, member=member)
-        text += DICTIONARIES[begin].format(folder=folder)
+        text += DICTIONARIES[begin].format(folder=folder) + more
         self.session = f"{begin}:{member}->VENUE"
         self._engine, self._port, self._password = Engine(text), port, password
         self.got: list[Message] = []
+        self.events: list[str] = []
+        self.heard = b""
         self.socket: socket.socket | None = None
+
+    def begin(self) -> None:
+        """Connects, and sends a Logon."""
+        self.socket = socket.create_connection(("127.0.0.1", self._port))
+        self._number = self._engine.begin(self.session, self._password)
 
     def connect(self) -> None:
         """Connects, and logs on."""
-        self.socket = socket.create_connection(("127.0.0.1", self._port))
-        self._number = self._engine.begin(self.session, self._password)
+        self.begin()
         self.until(lambda: self._engine.is_logged_on(self.session))
 
     def close(self) -> None:
@@ -76,13 +88,14 @@ class Initiator:
     def step(self) -> None:
         """Sends what waits to be sent, and takes what comes."""
         assert self.socket is not None
-        for number, data, _ in self._engine.outgoing():
+        for _, data, *_ in self._engine.outgoing():
             self.socket.sendall(data)
         if select.select([self.socket], [], [], 0.05)[0]:
-            self._engine.feed(self._number, self.socket.recv(1 << 16))
-        for what, _, text in self._engine.drain():
-            if what == "message":
-                self.got.append(dict(pairs_of(text)))
+            data = self.socket.recv(1 << 16)
+            self.heard += data
+            self._engine.feed(self._number, data)
+        self.events += [text.decode() for _, _, text in self._engine.events()]
+        self.got += [given for _, given, _ in self._engine.said()]
 
 
 def order(client: str, side: str, shares: int, price: str) -> fixing.Pairs:
@@ -121,6 +134,31 @@ def test_an_engine_of_quickfix(tmp_path: pathlib.Path) -> None:
     assert sorted(kinds[1:3]) == [("a1", "F", "70", "30"), ("a2", "8", None, "0")]
 
 
+@pytest.mark.parametrize("begin", [FIX44, FIXT])
+def test_an_engine_of_quickfix_that_resets(tmp_path: pathlib.Path, begin: str) -> None:
+    """With ResetOnLogon it takes the Logout; without it, it goes on."""
+    port, folder = served.free_port(), tmp_path / "venue"
+    day = fixing.day_of(port, "ALICE")
+    if begin == FIXT:
+        day = day.replace("[fix.sessions]", 'fix50 = ["ALICE"]\n[fix.sessions]')
+    with served.served(tmp_path, day) as venue:
+        venue.do("start")
+        password = fixing.token_of(folder, "ALICE")
+        more = "ResetOnLogon=Y\n"
+        mine = Initiator(port, "ALICE", password, tmp_path / "first", begin, more)
+        mine.begin()
+        mine.until(lambda: "Received logout request" in mine.events)
+        said = dict(fixing.parsed(mine.heard))
+        assert (said[35], said[34], said[8]) == ("5", "1", begin)
+        assert "without ResetSeqNumFlag (ResetOnLogon=N)" in said[58]
+        assert not any("MsgSeqNum" in it or "Reject" in it for it in mine.events), mine.events
+        del mine  # a process has a session once
+        mine = Initiator(port, "ALICE", password, tmp_path / "second", begin)
+        mine.connect()
+        mine.send("D", order("a1", "1", 100, "2.00"))
+        mine.until(lambda: any(it[11] == "a1" for it in mine.got))
+
+
 @contextlib.contextmanager
 def on(
     folder: pathlib.Path, day: str, port: int, *members: str
@@ -150,8 +188,8 @@ def test_a_member_may_use_the_pages_too(tmp_path: pathlib.Path) -> None:
         assert reports(peer) == [("XYZ.2", "", "0", "7"), ("XYZ.3", "a1", "4", "0")]
         peer.cancel("a1", "a2", "1")
         found = peer.take(lambda it: it[35] == "9")
-        assert [found[it] for it in (37, 39, 102)] == ["1", "4", "0"]
-        assert found[58] == "refused 5 UnknownOrder"
+        assert [found[it] for it in (37, 39, 102)] == ["XYZ.1", "4", "0"]
+        assert found[58] == "the order is cancelled"
 
 
 def test_the_next_round_ends_the_orders_of_the_last(tmp_path: pathlib.Path) -> None:
@@ -167,6 +205,38 @@ def test_the_next_round_ends_the_orders_of_the_last(tmp_path: pathlib.Path) -> N
         venue.do("start")
         peer.enter("a2", "2", 9, "2.10")
         assert reports(peer) == [("XYZ.round2.1", "a2", "0", "9")]
+
+
+SMALL = """
+[[instrument]]
+name = "XYZ"
+tick_size = "0.000001"
+low = "0.000001"
+high = "0.060000"
+reference = "0.012345"
+"""
+
+
+def test_the_average_price_of_two_auctions(tmp_path: pathlib.Path) -> None:
+    """(333,333,333 * 0.012346 + 666,666,667 * 0.012345) / 10^9 is 0.012345333333333."""
+    port = served.free_port()
+    day = fixing.day_of(port, "ALICE", "BOB") + SMALL
+    with on(tmp_path, day, port, "ALICE", "BOB") as (venue, [alice, bob]):
+        venue.do("start")
+        alice.enter("a1", "1", 1_000_000_000, "0.012346")
+        bob.enter("b1", "2", 333_333_333, "0.012346")
+        bob.take(lambda it: it.get(11) == "b1")
+        alice.take(lambda it: it.get(11) == "a1")
+        venue.do("uncross")
+        assert alice.take(lambda it: it.get(150) == "F")[6] == "0.012346"
+        venue.do("start")
+        alice.replace("a1", "a2", "1", 1_000_000_000, "0.012345")
+        alice.take(lambda it: it.get(11) == "a2")
+        bob.enter("b2", "2", 666_666_667, "0.012345")
+        bob.take(lambda it: it.get(11) == "b2")
+        venue.do("uncross")
+        found = alice.take(lambda it: it.get(150) == "F")
+        assert (found[6], found[14], found[151]) == ("0.012345333333333", "1000000000", "0")
 
 
 def test_replaces_of_a_partly_filled_order(tmp_path: pathlib.Path) -> None:

@@ -120,6 +120,30 @@ def test_the_dictionaries_are_parts_of_the_standard(
         assert named <= known, (message.get("name"), named - known)
 
 
+def written(*words: object) -> tuple[int, str, str]:
+    """The status of the command that writes the dictionaries, and what it prints."""
+    command = [sys.executable, "-P", "-m", "callauction.fix.dictionaries", *map(str, words)]
+    ran = subprocess.run(command, env=served.environment(), capture_output=True, text=True)
+    return ran.returncode, ran.stdout, ran.stderr
+
+
+def test_a_folder_for_the_dictionaries(tmp_path: pathlib.Path) -> None:
+    """It is made; what can't be one is said, and a word that is an option makes none."""
+    folder, names = tmp_path / "new" / "one", ["FIX44.xml", "FIX50SP2.xml", "FIXT11.xml"]
+    for _ in range(2):
+        assert written(folder) == (0, "", "")
+        assert sorted(it.name for it in folder.iterdir()) == names
+    head, usage = "callauction.fix.dictionaries: ", "usage: python3 -P -m callauction.fix."
+    for words in ((), ("a", "b"), ("",), ("--no",)):
+        status, out, error = written(*words)
+        assert (status, out) == (2, "")
+        assert error.startswith(f"{head}one folder is needed\n{usage}dictionaries FOLDER\n"), words
+    for word in ("-h", "--help"):
+        status, out, error = written(word)
+        assert (status, error) == (0, "") and "makes it\nwhere it is missing" in out
+    assert written(folder / "FIX44.xml") == (3, "", f"{head}{folder}/FIX44.xml: File exists\n")
+
+
 def test_the_dictionaries_are_what_quickfix_reads(tmp_path: pathlib.Path) -> None:
     dictionaries.write(tmp_path)
     text = f"""[DEFAULT]

@@ -7,15 +7,15 @@ import pathlib
 import signal
 import subprocess
 import sys
+import threading
 import time
 from collections.abc import Iterator
-from typing import Any
 
 import judged
 import psutil
 import pytest
 import served
-from callauction.venue import AsyncClient, Client, process
+from callauction.venue import AsyncClient, Client, process, serving
 from callauction.venue.process import Process
 from conftest import FAST
 from served import Served
@@ -25,6 +25,17 @@ ANSWER_SECONDS, END_SECONDS = 10.0, 5.0
 """What a program may take to answer, and a venue to end."""
 LATE = 3.0
 """How much later it may be seen on a machine that does much else."""
+YARDSTICK = f"""
+import os, signal, threading, time
+end = threading.Timer({serving.END_SECONDS}, os._exit, [0])
+signal.signal(signal.SIGTERM, lambda *_: end.start())
+print("begun", flush=True)
+while True:
+    time.sleep(1)
+"""
+"""A process that ends by its timer as long after a signal as a venue has to, and does no more: on a
+machine that does much else it is as late.
+"""
 MOST_WAIT = 1.0
 """Seconds that an order of another instrument may wait meanwhile, half of the time."""
 HALTED = "the program hasn't answered for 10 s"
@@ -106,12 +117,25 @@ def test_a_machine_that_stands_still(tmp_path: pathlib.Path) -> None:
         assert asyncio.run(ask()) == 2
 
 
-def ends_in_time(child: "subprocess.Popen[str]") -> tuple[float, int, str]:
-    """How long a venue takes to end by a signal, its status, and what it says."""
-    begin = time.monotonic()
-    child.send_signal(signal.SIGTERM)
-    _, error = child.communicate(timeout=served.SECONDS)
-    return time.monotonic() - begin, child.returncode, error
+def ends_in_time(child: "subprocess.Popen[str]") -> tuple[int, str]:
+    """The status of a venue that ends by a signal, and what it says. Raises AssertionError where it
+    takes more than END_SECONDS, and as much as this machine is late.
+    """
+    words = [sys.executable, "-c", YARDSTICK]
+    with subprocess.Popen(words, stdout=subprocess.PIPE) as yardstick:
+        assert yardstick.stdout is not None and yardstick.stdout.readline()
+        ends: list[float] = []
+        waits = threading.Thread(target=lambda: ends.append(yardstick.wait() + time.monotonic()))
+        waits.start()
+        begin = time.monotonic()
+        yardstick.send_signal(signal.SIGTERM)
+        child.send_signal(signal.SIGTERM)
+        _, error = child.communicate(timeout=served.SECONDS)
+        took = time.monotonic() - begin
+        waits.join()
+        late = ends[0] - begin - serving.END_SECONDS
+    assert took < END_SECONDS + late, (took, late, error)
+    return child.returncode, error
 
 
 @pytest.mark.parametrize("is_asked", [False, True], ids=["idle", "with an order"])
@@ -130,8 +154,7 @@ def test_a_venue_ends_while_its_program_hangs(tmp_path: pathlib.Path, is_asked: 
 
         asyncio.run(ask())
         child = program_of(venue, "HUNG")
-        took, status, error = ends_in_time(venue.child)
-        assert (status, error) == (0, "") and took < END_SECONDS, took
+        assert ends_in_time(venue.child) == (0, "")
         assert not child.is_running()
     with served.served(tmp_path, TWO) as venue:
         text = venue.call("api/download/journal/HUNG", token=venue.operator)[1]
@@ -146,20 +169,24 @@ from callauction.venue.__main__ import main
 write = log.Log._write
 def hangs(self, data):
     if b'"record":"1,enter,bid,77,' in data:
-        threading.Event().wait()
+        threading.Event().wait(SECONDS)
     write(self, data)
 log.Log._write = hangs
 log.WRITE_SECONDS = 1.0
 sys.argv[0] = "venue"
 sys.exit(main())
 """
-"""A venue whose log's disk hangs for good at an order of 77 shares."""
+"""A venue whose log's disk hangs at an order of 77 shares, for these SECONDS or for good."""
+SLOW = "the venue's log can't be written: it waits for the disk for more than 1 s"
 
 
-def test_a_venue_ends_while_its_disk_hangs(tmp_path: pathlib.Path) -> None:
-    (tmp_path / "day.toml").write_text(FAST)
-    words = [sys.executable, "-c", HANGING, "--day", str(tmp_path / "day.toml")]
-    words += ["--folder", str(tmp_path / "venue"), "--port", str(served.free_port())]
+@contextlib.contextmanager
+def hanging(folder: pathlib.Path, seconds: float | None) -> Iterator[tuple[Served, str]]:
+    """Such a venue in its call, with an order, and the token of its member."""
+    (folder / "day.toml").write_text(FAST)
+    words = [sys.executable, "-c", f"SECONDS = {seconds}\n{HANGING}"]
+    words += ["--day", str(folder / "day.toml"), "--folder", str(folder / "venue")]
+    words += ["--port", str(served.free_port())]
     pipe = subprocess.PIPE
     with subprocess.Popen(
         words, env=served.environment(), stdout=pipe, stderr=pipe, text=True
@@ -170,27 +197,44 @@ def test_a_venue_ends_while_its_disk_hangs(tmp_path: pathlib.Path) -> None:
             venue.do("start")
             with Client(venue.url, token) as me:
                 assert me.enter("bid", 1, "2.00").entry == 1
-            halted = asyncio.run(until_halted(venue, token))
-            assert halted == (
-                "the venue's log can't be written: it waits for the disk for more than 1 s"
-            )
-            took, status, error = ends_in_time(child)
-            assert took < END_SECONDS, took
-            assert (status, error.splitlines()[-1]) == (
-                3, "venue: something didn't end within 4.5 s"
-            )
+            yield venue, token
         finally:
             child.kill()
 
 
-async def until_halted(venue: Served, token: str) -> Any:
-    """Why the day halts at an order of 77 shares, to those who look."""
+def test_a_venue_ends_while_its_disk_hangs(tmp_path: pathlib.Path) -> None:
+    with hanging(tmp_path, None) as (venue, token):
+        halted, _ = asyncio.run(halts(venue, token))
+        assert halted == SLOW
+        status, error = ends_in_time(venue.child)
+        assert (status, error.splitlines()[-1]) == (3, "venue: something didn't end within 4.5 s")
+
+
+def test_a_venue_goes_on_once_its_disk_does(tmp_path: pathlib.Path) -> None:
+    """By itself: what waited is answered."""
+    with hanging(tmp_path, 5) as (venue, token):
+        halted, entry = asyncio.run(halts(venue, token, is_slow=True))
+        assert (halted, entry) == (SLOW, 2)
+        venue.child.terminate()
+        _, error = venue.child.communicate(timeout=served.SECONDS)
+        told = [f"venue: the venue halted: {SLOW}", "venue: the venue goes on"]
+        assert (venue.child.returncode, error.splitlines()) == (0, told)
+
+
+async def halts(venue: Served, token: str, is_slow: bool = False) -> tuple[str, int]:
+    """Why the day halts at an order of 77 shares, to those who look, and where it is only slow the
+    order's entry.
+    """
     async with AsyncClient(venue.url, token) as me, asyncio.timeout(served.SECONDS):
         task = asyncio.create_task(me.enter("bid", 77, "2.00"))
         while (halted := (await me.look("state"))["halted"]) is None:
             await asyncio.sleep(0.05)
+        if is_slow:
+            entry = (await task).entry
+            assert (await me.look("state"))["halted"] is None
+            return str(halted), entry
         task.cancel()
-        return halted
+        return str(halted), 0
 
 
 NEVER_BEGINS = "#!/bin/sh\nexec sleep 1000\n"
@@ -222,8 +266,7 @@ def test_a_program_that_never_begins(tmp_path: pathlib.Path) -> None:
         while not (programs := psutil.Process(child.pid).children()):
             time.sleep(0.05)
         time.sleep(0.5)
-        took, status, error = ends_in_time(child)
-        assert took < END_SECONDS and (status, error) == (0, ""), (took, status, error)
+        assert ends_in_time(child) == (0, "")
         assert not any(it.is_running() for it in programs)
 
 

@@ -1,6 +1,7 @@
 """Requests that no browser makes: each is answered by a status, with what all answers have in their
 heads, and none leaves a word on standard error.
 """
+import asyncio
 import contextlib
 import pathlib
 import socket
@@ -8,16 +9,20 @@ import ssl
 
 import pytest
 import served
+from aiohttp import web
+from callauction.venue import heads
 from conftest import FAST
 from raw import HANDSHAKE
 from served import Served
 from test_operations import certificate
+from test_turns import Line
 
 HOST = b"Host: 127.0.0.1\r\n"
 JOIN = b"POST /api/join HTTP/1.1\r\n" + HOST + b"Content-Type: application/json\r\n"
 GET = b"GET / HTTP/1.1\r\n" + HOST
 SECONDS = 30.0
 SAFE = {"x-content-type-options": "nosniff", "referrer-policy": "no-referrer"}
+SAFE |= {"server": "callboard"}
 ODD = {
     "a page": (GET + b"\r\n", 200),
     "no page": (b"GET /nothing HTTP/1.1\r\n" + HOST + b"\r\n", 404),
@@ -91,3 +96,22 @@ def test_odd_requests(tmp_path: pathlib.Path, is_secure: bool) -> None:
     trusting = ssl.create_default_context(cafile=words[1]) if words else None
     with served.served(tmp_path, FAST, *words) as venue:
         check_heads(venue, trusting)
+
+
+@pytest.mark.asyncio
+async def test_a_connection_that_is_lost_is_no_fault(caplog: pytest.LogCaptureFixture) -> None:
+    """At whatever moment."""
+
+    async def answer(request: web.BaseRequest) -> web.StreamResponse:
+        return web.Response(text="answered")
+
+    for moment in range(8):
+        one = heads.Handler(web.Server(answer))
+        one.connection_made(Line())
+        one.data_received((GET + b"\r\n") * 2)
+        for _ in range(moment):
+            await asyncio.sleep(0)
+        one.connection_lost(None)
+        for _ in range(8):
+            await asyncio.sleep(0)
+    assert caplog.records == []

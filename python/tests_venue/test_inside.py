@@ -1,6 +1,12 @@
 """A venue in the process of the test, whose clocks and limits the test may set."""
 import asyncio
+import dataclasses
+import errno
+import gc
+import hmac
+import json
 import pathlib
+import socket
 import time
 from collections.abc import AsyncIterator
 from typing import Any
@@ -9,11 +15,13 @@ import aiohttp
 import pytest
 import pytest_asyncio
 import served
-from callauction.venue import connection, gates, rates, serving, views
-from callauction.venue.config import Day, Plan
+from callauction.venue import connection, gates, http, rates, serving, tokens, views
+from callauction.venue.config import DayTerms, Plan
+from callauction.venue.gates import Gates
 from callauction.venue.http import Site
-from callauction.venue.log import Log
+from callauction.venue.log import ChangedByOthers, Log, SlowWrite
 from callauction.venue.messages import MessageError, Order
+from callauction.venue.metrics import Measures
 from callauction.venue.venue import MOST_CONNECTIONS, Venue
 
 pytestmark = pytest.mark.asyncio
@@ -22,7 +30,7 @@ pytestmark = pytest.mark.asyncio
 @pytest_asyncio.fixture
 async def inside(tmp_path: pathlib.Path) -> AsyncIterator[Venue]:
     """A venue that runs in this loop."""
-    day = Day(is_synced=False, plan=Plan(call=0))
+    day = DayTerms(is_synced=False, plan=Plan(call=0))
     venue = Venue(day, tmp_path, served.program())
     await venue.open()
     yield venue
@@ -58,6 +66,33 @@ async def test_who_answers_no_heartbeat_is_sent_away(
     async with asyncio.timeout(served.SECONDS):
         while inside.watchers:
             await asyncio.sleep(0.02)
+
+
+def halted_of(venue: Venue) -> dict[tuple[str, ...], float]:
+    """What is measured of halts: of the venue, and by instrument."""
+    samples = [sample for it in Measures(venue, Gates()).collect() for sample in it.samples]
+    halts = [it for it in samples if it.name in ("callboard_halted", "callboard_venue_halted")]
+    return {tuple(it.labels.values()): it.value for it in halts}
+
+
+async def test_what_to_do_about_a_log_that_others_changed(
+    inside: Venue, caplog: pytest.LogCaptureFixture
+) -> None:
+    """A log that waits for its disk needs no file."""
+    full = OSError(errno.ENOSPC, "No space left on device")
+    for fault in (ChangedByOthers(), SlowWrite(), full):
+        inside._log_failed(fault)
+        assert halted_of(inside) == {(): 1.0, ("XYZ",): 1.0}
+        inside._log_goes_on()
+        assert halted_of(inside) == {(): 0.0, ("XYZ",): 0.0}
+    halts = [it.getMessage() for it in caplog.records if "halted" in it.getMessage()]
+    cant = "the venue halted: the venue's log can't be written: it "
+    assert halts == [
+        f"{cant}was changed by others: put the right file back, then `resume`",
+        f"{cant}waits for the disk for more than 10 s",
+        "the venue halted: the venue's log can't be written: No space left on device: make room, "
+        f"or mend the disk, then `resume` ({inside.folder}/venue.log)",
+    ]
 
 
 async def test_a_member_is_connected_a_few_times_at_once(client: Any, inside: Venue) -> None:
@@ -164,6 +199,51 @@ async def test_looks_at_trades_come_in_pages(client: Any, inside: Venue) -> None
     assert sorted(waits)[len(waits) // 2] < 0.2, sorted(waits)
 
 
+async def test_looks_cost_what_orders_cost(client: Any, inside: Venue) -> None:
+    """They come out of the same bucket."""
+    inside.members._terms = dataclasses.replace(inside.day.members, rate=0.001, burst=5)
+    member, token = await inside.join(inside.members.codes[""], "Anna")
+    headers = {"Authorization": f"Bearer {token}"}
+    found = []
+    for what in ("state", "orders", "fills", "trades", "state", "trades", "orders"):
+        async with client.get(f"/api/look/{what}", headers=headers) as answer:
+            found.append(answer.status)
+    assert found == [200] * 5 + [429] * 2
+    assert not member.bucket.takes()
+
+
+async def test_half_a_body_is_waited_for_as_long_as_a_request_may_take(
+    client: Any, monkeypatch: pytest.MonkeyPatch
+) -> None:
+    monkeypatch.setattr(http, "BODY_SECONDS", 0.2)
+
+    async def half() -> AsyncIterator[bytes]:
+        yield b'{"code":'
+        await asyncio.sleep(served.SECONDS)
+
+    headers = {"Content-Type": "application/json", "Content-Length": "60000"}
+    async with asyncio.timeout(served.SECONDS / 2):
+        async with client.post("/api/join", data=half(), headers=headers) as answer:
+            assert (answer.status, await answer.text()) == (408, "the request takes too long")
+
+
+async def test_secrets_are_compared_in_a_time_that_says_nothing(
+    inside: Venue, monkeypatch: pytest.MonkeyPatch
+) -> None:
+    compare, compared = hmac.compare_digest, set()
+
+    def noted(first: bytes, second: bytes) -> bool:
+        compared.add(second.decode())
+        return compare(first, second)
+
+    monkeypatch.setattr(tokens.hmac, "compare_digest", noted)  # type: ignore[attr-defined]
+    with pytest.raises(MessageError):
+        inside.role_of("guessed")
+    with pytest.raises(MessageError):
+        await inside.join("WRONGS", "Anna")
+    assert compared == {*inside.secrets.values(), inside.members.codes[""]}
+
+
 async def test_who_has_said_who_it_is_may_be_silent(
     inside: Venue, monkeypatch: pytest.MonkeyPatch
 ) -> None:
@@ -186,3 +266,55 @@ async def test_who_has_said_who_it_is_may_be_silent(
                 await known.send_json({"type": "nothing"})
                 assert (await known.receive_json())["error"] == "not_allowed"
                 assert len(own) == 1
+
+
+class GoneSocket:
+    """A connection on which one member said who it is, and then is gone."""
+
+    def __init__(self, token: str) -> None:
+        self._hello = json.dumps({"type": "hello", "token": token})
+        self._says_hello = True
+        self.is_gone = asyncio.Event()
+
+    def __aiter__(self) -> "GoneSocket":
+        return self
+
+    async def __anext__(self) -> aiohttp.WSMessage:
+        await asyncio.Event().wait()
+        raise StopAsyncIteration
+
+    async def receive(self) -> aiohttp.WSMessage:
+        return aiohttp.WSMessage(aiohttp.WSMsgType.TEXT, self._hello, None)
+
+    async def send_str(self, text: str) -> None:
+        if not self._says_hello:
+            await self.is_gone.wait()
+            raise ConnectionResetError("Cannot write to closing transport")
+        self._says_hello = False
+
+    async def close(self, code: int, message: bytes) -> None:
+        raise ConnectionResetError("Cannot write to closing transport")
+
+
+async def test_who_is_gone_as_the_venue_ends_is_no_fault(inside: Venue) -> None:
+    _, token = await inside.join(inside.members.codes[""], "Anna")
+    faults: list[Any] = []
+    asyncio.get_running_loop().set_exception_handler(lambda _, fault: faults.append(fault))
+    listening = socket.socket()
+    gate = gates.Gate("127.0.0.1", listening, 0.0)
+    gone: Any = GoneSocket(token)
+    found = connection.Connection(inside, gone, gate)
+    task = asyncio.create_task(found.serve())
+    await asyncio.sleep(0.05)
+    found.leave("halted")
+    task.cancel()
+    await asyncio.sleep(0)
+    task.cancel()
+    gone.is_gone.set()
+    await asyncio.wait([task], timeout=served.SECONDS)
+    del task, found, gone
+    await asyncio.sleep(0)
+    gc.collect()
+    await asyncio.sleep(0)
+    listening.close()
+    assert faults == []

@@ -6,13 +6,13 @@ import jsonschema
 import pytest
 import served
 from callauction.venue import messages
-from callauction.venue.config import Instrument
+from callauction.venue.config import InstrumentTerms
 from callauction.venue.messages import MessageError
 from hypothesis import given, settings
 from hypothesis import strategies as st
 
 SCHEMA = json.loads((served.PACKAGE / "callauction/venue/schema.json").read_text("utf-8"))
-TERMS = Instrument(most_quantity=1000)
+TERMS = InstrumentTerms(most_quantity=1000)
 ENTER: dict[str, Any] = {
     "type": "enter", "number": 1, "side": "bid", "quantity": 5, "price": "2.00"
 }
@@ -85,6 +85,14 @@ def test_what_is_no_message(text: str) -> None:
         messages.read(text)
 
 
+@pytest.mark.parametrize("key", ["side", "member", "\\ud800"])
+def test_a_key_that_is_there_twice(key: str) -> None:
+    """Each reader would take another of the two."""
+    with pytest.raises(MessageError, match="' is there twice$") as found:
+        messages.read('{"type":"enter","a":[{"%s":"bid","%s":"ask"}]}' % (key, key))
+    found.value.text.encode("utf-8")
+
+
 KINDS: st.SearchStrategy[Any] = st.sampled_from(["enter", "change", "delete"])
 FIELDS: dict[str, st.SearchStrategy[Any]] = {
     "number": st.sampled_from([0, 1, 2**53 - 1, 2**53, "1", None]),
@@ -102,7 +110,7 @@ FIELDS: dict[str, st.SearchStrategy[Any]] = {
 @given(st.fixed_dictionaries({"type": KINDS}, optional=FIELDS))
 def test_the_schema_takes_what_the_venue_takes(message: dict[str, Any]) -> None:
     try:
-        messages.order_of(Instrument(most_quantity=2**32 - 1), message)
+        messages.order_of(InstrumentTerms(most_quantity=2**32 - 1), message)
         is_taken = True
     except MessageError as fault:
         is_taken = fault.code != "bad_message"

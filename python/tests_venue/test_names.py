@@ -5,7 +5,7 @@ import pathlib
 
 import pytest
 import served
-from callauction.venue import names
+from callauction.venue import members, names
 from conftest import FAST
 from served import Served
 
@@ -65,9 +65,13 @@ def test_who_may_join(venue: Served) -> None:
         ("Anna\u3164", "bad_name"),
         ("Аnna", "name_taken"),
         ("Teacher", "bad_name"),
+        ("..", "bad_name"),
     ]:
         status, found = venue.call("api/join", {"code": venue.code, "name": name})
         assert (status != 200, found["error"]) == (True, error), name
+    for name in ("..", "Anna\u200b", "a" + 4 * "\u0316"):
+        status, found = venue.call("api/join", {"code": venue.code, "name": name})
+        assert found["text"] == members.UNSEEN, name
     venue.join("constructor")
 
 

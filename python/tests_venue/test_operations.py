@@ -9,6 +9,7 @@ import os
 import pathlib
 import random
 import re
+import select
 import shutil
 import signal
 import socket
@@ -25,11 +26,16 @@ import judged
 import psutil
 import pytest
 import served
-from callauction.venue import AsyncClient, Client, checking, copies, notices, process, serving
+from callauction.venue import (
+    AsyncClient, Client, addresses, checking, copies, metrics, notices, process, serving,
+)
 from callauction.venue.__main__ import arguments
 from callauction.venue.latency import Times
+from callauction.venue.metrics import Measures
 from callauction.venue.serving import Address, AddressError
 from conftest import FAST
+from prometheus_client.core import GaugeMetricFamily
+from prometheus_client.metrics_core import Metric
 from prometheus_client.parser import text_string_to_metric_families
 from served import Served
 from test_doors import ended
@@ -91,8 +97,13 @@ def test_each_fault_of_a_day(tmp_path: pathlib.Path) -> None:
     journal, token = tmp_path / "venue/XYZ.journal.csv", tmp_path / "venue/beamer.token"
     right = journal.read_text()
     journal.write_text("".join(right.splitlines(keepends=True)[:6]))
+    status, printed, error = checked(*words)
+    assert (status, error) == (0, "")  # the venue's other instruments are to be served
     older = "XYZ: the journal is an older one: it has 5 entries, and the log knows of 10"
-    assert checked(*words) == (1, "", f"venue: {older}\n")
+    assert printed.splitlines()[-1] == f"warning: {older}: put the right file back, then `resume`"
+    journal.write_text(right + "1,delete,7,deleted 7\n")
+    told = "venue: XYZ: entry 11 of the journal is no message of the log: put the right file, or"
+    assert checked(*words)[::2] == (1, f"{told} the last copy, back\n")
     journal.write_text(right)
     token.write_text("")
     assert checked(*words)[::2] == (
@@ -105,9 +116,157 @@ def test_each_fault_of_a_day(tmp_path: pathlib.Path) -> None:
     assert checked(*words)[0] == 1
     (tmp_path / "day.toml").write_text("[[instrument]]\nhigh = 1000.00")
     status, _, error = checked("--day", tmp_path / "day.toml", "--folder", tmp_path / "other")
-    assert status == 1 and "--high 100000 " in error and error.endswith(": bad bounds\n"), error
+    assert status == 1 and "instrument XYZ: high 1000.00 is 100000 ticks" in error, error
     assert checked("--listen", "0.0.0.0")[0] == 2
     assert not token.exists()
+
+
+def test_metrics_on_the_members_port(tmp_path: pathlib.Path) -> None:
+    port = served.free_port()
+    words = ["--folder", tmp_path / "venue", "--port", port, "--metrics", f"127.0.0.1:{port}"]
+    told = f"venue: --metrics: port {port} is the members': take another\n"
+    assert checked(*words)[::2] == ended(*words) == (2, told)
+
+
+@pytest.mark.parametrize("host", ["127.0.0.1", "localhost", "0.0.0.0"])
+@pytest.mark.parametrize("whose", ["members' (--port)", "operator's (--metrics)"])
+def test_fix_on_another_port_of_the_venue(tmp_path: pathlib.Path, whose: str, host: str) -> None:
+    """Neither a check nor a start takes it."""
+    port, other = served.free_port(), served.free_port()
+    file = tmp_path / "day.toml"
+    file.write_text(f'[fix]\naddress = "{host}:{port}"\n[fix.sessions]\nALICE = "Alice"\n')
+    ports = (port, other) if "members" in whose else (other, port)
+    words = ["--day", file, "--folder", tmp_path / "venue", "--port", ports[0]]
+    words += ["--metrics", f"127.0.0.1:{ports[1]}"]
+    told = f"venue: fix: address: port {port} is the {whose}: take another\n"
+    assert checked(*words)[::2] == ended(*words) == (2, told)
+    assert not (tmp_path / "venue").exists()
+
+
+def later(line: str, seconds: float) -> str:
+    """A line of a log with a time that is later."""
+    found = json.loads(line)
+    return json.dumps(found | {"time": found["time"] + seconds})
+
+
+def test_a_clock_that_is_behind(tmp_path: pathlib.Path) -> None:
+    """The log's last line, or the last change of a journal."""
+    words = day_before(tmp_path)
+    log, journal = tmp_path / "venue/venue.log", tmp_path / "venue/XYZ.journal.csv"
+    *lines, last = log.read_text().splitlines()
+    right = log.read_bytes()
+    log.write_text("\n".join([*lines, later(last, 5000.0), ""]))
+    status, printed, error = checked(*words)
+    assert (status, error) == (0, "")
+    [told] = [it for it in printed.splitlines() if it.startswith("warning: ")]
+    found = re.fullmatch(
+        r"warning: the clock is (\S+) s behind the log's last line: calls go on with what was left "
+        "of them then",
+        told,
+    )
+    assert found and 4000 < float(found[1]) <= 5000
+    log.write_bytes(right)
+    assert "warning" not in checked(*words)[1]
+    os.utime(journal, (time.time(), time.time() + 3000))
+    [told] = [it for it in checked(*words)[1].splitlines() if it.startswith("warning: ")]
+    found = re.fullmatch(
+        r"warning: the clock is (\S+) s behind the last change of XYZ\.journal\.csv", told
+    )
+    assert found and 2000 < float(found[1]) <= 3000
+
+
+CANT_GO_ON: dict[str, tuple[str, int, str]] = {
+    "version": ('"version":2', 1, "venue.log is the log of another version: go on by that, or"),
+    "line": ("", 1, 'this line of the log can\'t be: {"time'),
+}
+"""What is wrong with a log whose lines are all lines of a log: what is another in it, the status,
+and what is said.
+"""
+
+
+@pytest.mark.parametrize("what", CANT_GO_ON)
+def test_a_log_that_cant_be_gone_on_with(tmp_path: pathlib.Path, what: str) -> None:
+    """A check says what a start says, and changes nothing."""
+    words = day_before(tmp_path)
+    log = tmp_path / "venue/venue.log"
+    right, status, text = CANT_GO_ON[what]
+    if right:
+        log.write_text(log.read_text().replace(right, '"version":1'))
+    else:
+        with log.open("a") as file:
+            file.write('{"time":1.0,"kind":"rename","name":"nobody","title":"x"}\n')
+    before = contents(tmp_path / "venue")
+    found = checked(*words)
+    assert found[0] == status and text in found[2] and found[2].count("\n") == 1, found
+    assert contents(tmp_path / "venue") == before
+    assert ended(*words, "--port", 0)[0] == status
+
+
+def test_a_journal_of_another_day(tmp_path: pathlib.Path) -> None:
+    """It has no entries, so that the log knows of none, and the program refuses it."""
+    with served.served(tmp_path, FAST):
+        pass
+    words: list[object] = ["--day", tmp_path / "day.toml", "--folder", tmp_path / "venue"]
+    journal = tmp_path / "venue/XYZ.journal.csv"
+    first = journal.read_text()
+    assert first.startswith("day,1,1000,200,")
+    journal.write_text(first.replace("day,1,1000,", "day,1,2000,", 1))
+    told = "venue: XYZ: journal of another day: high"
+    for found in (checked(*words)[::2], ended(*words, "--port", 0)):
+        assert found[0] == 2 and found[1].startswith(told), found
+
+
+def test_a_running_day_that_cant_be_gone_on_with(tmp_path: pathlib.Path) -> None:
+    """Its file was changed since it was begun: what changes at the next start, and what can't."""
+    with served.served(tmp_path, FAST):
+        file = tmp_path / "day.toml"
+        words: list[object] = ["--day", file, "--folder", tmp_path / "venue"]
+        file.write_text(FAST.replace("call = 0", "call = 9"))
+        status, printed, _ = checked(*words)
+        assert status == 0 and "changed since it was last opened: phases" in printed.splitlines()
+        file.write_text(FAST + '[[instrument]]\nhigh = "20.00"\n')
+        told = "was begun with another day: high of XYZ was 10.00, and is 20.00; --folder NEW"
+        status, _, error = checked(*words)
+        assert status == 2 and told in error, error
+
+
+def test_a_folder_in_one_that_isnt_there(tmp_path: pathlib.Path) -> None:
+    told = f"venue: {tmp_path}/none: No such file or directory: make it, or name another\n"
+    assert checked("--folder", tmp_path / "none/venue")[::2] == (3, told)
+
+
+@pytest.mark.parametrize("name", ["venue.log", "fix.sent", "fix.ALICE.token"])
+def test_a_file_of_a_day_that_others_may_read(tmp_path: pathlib.Path, name: str) -> None:
+    words = day_before(tmp_path)
+    with (tmp_path / "day.toml").open("a") as day:
+        day.write('[fix.sessions]\nALICE = "Alice"\n')
+    path = tmp_path / "venue" / name
+    path.touch(mode=0o644)
+    path.chmod(0o644)
+    text = f"venue: {path} may be read by other users: chmod go-rwx\n"
+    assert checked(*words)[::2] == (2, text)
+
+
+ON_A_DISK = """
+mount -t tmpfs -o size=1m,mode=0700 tmpfs "$1" && mkdir -m 0700 "$1/venue" || exit 9
+[ "$2" = ro ] && mount -o remount,ro "$1" || head -c 1m /dev/zero > "$1/all"
+shift 2
+exec "$@"
+"""
+"""Runs a command where the folder has a disk that is full, or there to be read alone."""
+
+
+@pytest.mark.parametrize("name", ["venue", "new"])
+@pytest.mark.parametrize("how, why", [("ro", "Read-only file"), ("full", "No space left")])
+def test_a_disk_that_has_no_room(tmp_path: pathlib.Path, how: str, why: str, name: str) -> None:
+    disk = tmp_path / "disk"
+    disk.mkdir()
+    before = ["unshare", "-rm", "sh", "-c", ON_A_DISK, "sh", str(disk), how]
+    words = served.words_of("--check", "--folder", disk / name)
+    environment = served.environment()
+    ran = subprocess.run([*before, *words], env=environment, capture_output=True, text=True)
+    where = disk / name if name == "venue" else disk
+    assert ran.returncode == 3 and ran.stderr.startswith(f"venue: {where}: {why}"), ran.stderr
 
 
 async def checked_beside(venue: Served, token: str, words: list[object]) -> list[str]:
@@ -168,6 +327,12 @@ def piped(folder: pathlib.Path) -> None:
     os.mkfifo(folder / "key.pem")
 
 
+def opened(folder: pathlib.Path, mode: int) -> None:
+    """A key that others may read or write."""
+    certificate(folder, "fifth")
+    (folder / "key.pem").chmod(mode)
+
+
 def mixed(folder: pathlib.Path) -> None:
     """The key of another certificate."""
     certificate(folder, "third")
@@ -176,12 +341,44 @@ def mixed(folder: pathlib.Path) -> None:
     (folder / "key.pem").write_bytes(key)
 
 
+AUTHORITY = """
+[ca]
+default_ca = own
+[own]
+database = index
+new_certs_dir = .
+rand_serial = yes
+default_md = sha256
+policy = named
+[named]
+commonName = supplied
+"""
+
+
+def early(folder: pathlib.Path) -> list[str]:
+    """A certificate that isn't valid yet, and its key, as words of a venue."""
+    words = certificate(folder, "sixth")
+    (folder / "index").touch()
+    (folder / "authority").write_text(AUTHORITY)
+    lines = [
+        "req -new -key key.pem -subj /CN=sixth -out asked",
+        "ca -batch -selfsign -notext -config authority -keyfile key.pem -in asked -out cert.pem "
+        "-startdate 20980101000000Z -enddate 20990101000000Z",
+    ]
+    for line in lines:
+        subprocess.run(["openssl", *line.split()], cwd=folder, check=True, capture_output=True)
+    return words
+
+
 SPOILED: dict[str, Callable[[pathlib.Path], object]] = {
-    "PEM lib": lambda folder: (folder / "cert.pem").write_text("none"),
-    "key values mismatch": mixed,
+    "cert.pem has no certificate": lambda folder: (folder / "cert.pem").write_text("none"),
+    "can't be used: [X509: KEY_VALUES_MISMATCH] key values mismatch": mixed,
     "has a passphrase": locked,
     "is no regular file": piped,
     "No such file": lambda folder: (folder / "key.pem").unlink(),
+    "cert.pem isn't valid before Jan 1 00:00:00 2098 GMT: put one there": early,
+    "key.pem may be read by all users: chmod o-rwx": lambda folder: opened(folder, 0o644),
+    "key.pem may be written by other users: chmod go-w": lambda folder: opened(folder, 0o660),
 }
 """Bad certificates, by what is said of each."""
 
@@ -191,6 +388,7 @@ def test_a_certificate_is_taken_anew(tmp_path: pathlib.Path) -> None:
     with served.served(tmp_path, FAST, *words, "--log", "json") as venue:
         first = seen(venue)
         certificate(tmp_path, "second")
+        (tmp_path / "key.pem").chmod(0o640)  # as a group may have it that the venue's user is in
         assert seen(venue) == first
         venue.child.send_signal(signal.SIGHUP)
         until(lambda: seen(venue) != first)
@@ -203,7 +401,7 @@ def test_a_certificate_is_taken_anew(tmp_path: pathlib.Path) -> None:
         venue.child.terminate()
         _, error = venue.child.communicate(timeout=served.SECONDS)
         texts = [json.loads(line)["text"] for line in error.splitlines()]
-        assert "the certificate was taken anew" in texts
+        assert any(it.startswith("the certificate was taken anew: it ends on 2") for it in texts)
         kept = "the certificate stays as it was: "
         found = [it.removeprefix(kept) for it in texts if it.startswith(kept)]
         assert len(found) == len(SPOILED), found
@@ -247,6 +445,64 @@ def test_an_ended_certificate(tmp_path: pathlib.Path, monkeypatch: pytest.Monkey
     monkeypatch.setattr("callauction.venue.serving.time.time", lambda: now + 31 * checking.DAY)
     with pytest.raises(AddressError, match="the certificate .*/cert.pem has ended"):
         [*checking.checked_address(Address(cert=words[1], key=words[3]))]
+
+
+def test_a_certificate_of_another_name(tmp_path: pathlib.Path) -> None:
+    words = certificate(tmp_path, "first")
+    kept = ["--folder", tmp_path / "venue", *words]
+    assert "warning" not in checked(*kept)[1] + checked(*kept, "--listen", "127.0.0.1")[1]
+    status, printed, error = checked(*kept, "--name", "venue.example", "--name", "127.0.0.1")
+    assert (status, error) == (0, "")
+    found = [line for line in printed.splitlines() if line.startswith("warning: ")]
+    cert = tmp_path / "cert.pem"
+    text = f"browsers refuse {cert} for venue.example: it is for 127.0.0.1 (see --name)"
+    assert found == [f"warning: {text}"]
+
+
+def test_a_certificate_that_isnt_valid_yet(tmp_path: pathlib.Path) -> None:
+    """Neither a check nor a start takes it."""
+    words: list[object] = ["--folder", tmp_path / "venue", *early(tmp_path)]
+    text = f"venue: the certificate {tmp_path}/cert.pem isn't valid before Jan 1 00:00:00 2098"
+    for more in ("--check", "--hide-tokens"):
+        status, error = ended(*words, "--port", 0, more)
+        assert status == 2 and error.startswith(text), error
+
+
+def test_what_is_said_and_measured_of_a_certificate(tmp_path: pathlib.Path) -> None:
+    """For whom it isn't, and when it ends, also where another one is taken."""
+    words, port = certificate(tmp_path, "first", 3), served.free_port()
+    measures = ["--metrics", f"127.0.0.1:{port}", "--name", "venue.example", "--name", "127.0.0.1"]
+    for_others = f"browsers refuse {tmp_path}/cert.pem for venue.example: it is for 127.0.0.1"
+    with served.served(tmp_path, FAST, *words, *measures) as venue:
+        def days() -> float:
+            ends = measured(f"http://127.0.0.1:{port}")["callboard_certificate_end_seconds"][()]
+            return (ends - time.time()) / checking.DAY
+
+        assert 2.9 < days() < 3.1
+        certificate(tmp_path, "second", 5)
+        venue.child.send_signal(signal.SIGHUP)
+        until(lambda: 4.9 < days() < 5.1)
+        venue.child.terminate()
+        _, error = venue.child.communicate(timeout=served.SECONDS)
+    lines = error.splitlines()
+    ends = time.strftime("%Y-%m-%d", time.gmtime(time.time() + 5 * checking.DAY))
+    assert lines[0].startswith(f"venue: {for_others}"), error
+    assert f"venue: the certificate was taken anew: it ends on {ends}" in lines
+
+
+@pytest.mark.parametrize(
+    "host, name, is_one",
+    [
+        ("Venue.example", "venue.EXAMPLE", True),
+        ("a.class.example", "*.class.example", True),
+        ("class.example", "*.class.example", False),
+        ("b.a.class.example", "*.class.example", False),
+        ("::1", "0:0:0:0:0:0:0:1", True),
+        ("127.0.0.1", "127.0.0.2", False),
+    ],
+)
+def test_whom_a_certificate_names(host: str, name: str, is_one: bool) -> None:
+    assert addresses.is_named(host, name) == is_one
 
 
 # ---- the unit
@@ -376,9 +632,13 @@ def test_health_and_metrics(tmp_path: pathlib.Path) -> None:
             other.enter("ask", 10, "2.00")
             venue.do("uncross")
             until(lambda: measured(url)["callboard_trades_total"][("XYZ",)] == 1)
+            time.sleep(metrics.KEPT_SECONDS)
             found = measured(url)
             assert found["callboard_up"] == {(): 1}
             assert found["callboard_orders_total"] == {("XYZ",): 7}
+            assert found["callboard_orders_open"] == {("XYZ",): 4}
+            assert found["callboard_orders_left"] == {("XYZ",): 4092}
+            assert found["callboard_restarts_total"] == {("XYZ",): 0}
             assert found["callboard_phase"][("XYZ", "waiting")] == 1
             assert sum(found["callboard_phase"].values()) == 1
             assert found["callboard_halted"] == {("XYZ",): 0}
@@ -392,6 +652,10 @@ def test_health_and_metrics(tmp_path: pathlib.Path) -> None:
                 room.f_bavail * room.f_frsize, rel=0.1
             )
         assert venue.call("metrics")[0] == venue.call("healthz")[0] == 404
+        for child in psutil.Process(venue.child.pid).children():
+            child.kill()
+        until(lambda: measured(url)["callboard_restarts_total"] == {("XYZ",): 1})
+        assert looked(f"{url}/healthz")[0] == 200
         journal = tmp_path / "venue/XYZ.journal.csv"
         journal.rename(tmp_path / "away")
         for child in psutil.Process(venue.child.pid).children():
@@ -399,7 +663,62 @@ def test_health_and_metrics(tmp_path: pathlib.Path) -> None:
         until(lambda: looked(f"{url}/healthz")[0] == 503)
         why = {"XYZ": "the journal is missing, and the log knows of 7 entries"}
         assert json.loads(looked(f"{url}/healthz")[1]) == {"status": "halted", "halted": why}
-        assert measured(url)["callboard_halted"] == {("XYZ",): 1}
+        until(lambda: measured(url)["callboard_halted"] == {("XYZ",): 1})
+
+
+class Counted(Measures):
+    """Measures that are none, and how often they were asked for."""
+
+    def __init__(self) -> None:
+        self.count = 0
+
+    def collect(self) -> Iterator[Metric]:
+        self.count += 1
+        yield GaugeMetricFamily("count", "how often", self.count)
+
+
+def test_metrics_are_measured_once_a_second_however_many_ask() -> None:
+    now, measures = [10.0], Counted()
+    text = metrics.Text(measures, lambda: now[0])
+    first = text.of_now()
+    assert b"count 1.0" in first and {text.of_now() for _ in range(100)} == {first}
+    now[0] += metrics.KEPT_SECONDS
+    assert b"count 2.0" in text.of_now() and measures.count == 2
+
+
+def test_what_the_operator_does_is_said(tmp_path: pathlib.Path) -> None:
+    """And who asked for it without the operator's token."""
+    with served.served(tmp_path, FAST, "--log", "json") as venue:
+        token = venue.join("Anna")
+        for word in ("start", "freeze", "thaw"):
+            venue.do(word)
+        venue.do("uncross", instrument="XYZ")
+        for wrong in (token, "guess"):
+            assert venue.call("api/operator", {"do": "start"}, wrong)[0] in (401, 403)
+        assert venue.call("api/download/results/XYZ", token="guess")[0] == 401
+        venue.child.terminate()
+        _, error = venue.child.communicate(timeout=served.SECONDS)
+    told = [json.loads(line)["text"] for line in error.splitlines()]
+    done = [it.removeprefix("the operator: ") for it in told if it.startswith("the operator: ")]
+    words = ["start", "freeze", "thaw", "uncross of XYZ"]
+    assert done == [f"{it}, from 127.0.0.1" for it in words]
+    assert "a token that isn't the operator's, from 127.0.0.1" in told
+
+
+def test_wrong_tokens_of_the_operator_are_said_to_people(tmp_path: pathlib.Path) -> None:
+    """By address, and one line a second of each; a member who asks what it may is none."""
+    with served.served(tmp_path, FAST) as venue:
+        token = venue.join("Anna")
+        assert venue.call("api/look/state", token=token)[0] == 200
+        for wrong in (token, "guess", "another", "more"):
+            assert venue.call("api/operator", {"do": "start"}, wrong)[0] in (401, 403)
+        assert venue.call("api/operator", {"do": "start"})[0] == 401
+        venue.do("start")
+        venue.child.terminate()
+        _, error = venue.child.communicate(timeout=served.SECONDS)
+    said = r"venue: a token that isn't the operator's, from 127.0.0.1(?: \(and (\d+) times more\))?"
+    found = [re.fullmatch(said, it) for it in error.splitlines()]
+    assert all(found) and sum(1 + int(it[1] or 0) for it in found if it) == 5, error
 
 
 def test_times() -> None:
@@ -441,23 +760,168 @@ def test_what_is_said_as_json(tmp_path: pathlib.Path) -> None:
     assert "a wrong code, from 127.0.0.1" in [it["text"] for it in lines]
 
 
-def test_a_fault_that_comes_again_is_one_line_a_second() -> None:
+def test_a_fault_of_a_start_is_said_as_json_too(tmp_path: pathlib.Path) -> None:
+    (tmp_path / "day.toml").write_text("call = 3")
+    for more in ("--hide-tokens", "--check"):
+        status, error = ended(more, "--log", "json", "--day", tmp_path / "day.toml")
+        found = json.loads(error)
+        assert (status, found["level"]) == (1, "error") and "call" in found["text"]
+
+
+def record_of(text: str, *args: object, level: int = logging.WARNING) -> logging.LogRecord:
+    return logging.LogRecord("a", level, "", 1, text, args, None)
+
+
+def test_a_line_that_comes_again_is_one_a_second() -> None:
     now = [10.0]
     sparing = notices.Sparing(lambda: now[0])
     form = notices.Plain()
     written = []
     for second in range(3):
         for number in range(1000):
-            record = logging.LogRecord("a", 40, "", 1, "no %s\nhere", (number,), None)
+            record = record_of("no %s\nhere", second // 2)
             if sparing.filter(record):
                 written.append(form.format(record))
-        other = logging.LogRecord("a", 40, "", 1, "another", (), None)
-        assert sparing.filter(other)
+        assert sparing.filter(record_of("another"))
         now[0] += 1.0
     again = " (and 999 times more)"
-    assert written == ["venue: no 0 here", f"venue: no 0 here{again}", f"venue: no 0 here{again}"]
-    for place in range(notices.MOST_KINDS * 2):
-        assert sparing.filter(logging.LogRecord("a", 40, "", 1, f"kind {place}", (), None))
+    assert written == ["venue: no 0 here", f"venue: no 0 here{again}", "venue: no 1 here"]
+
+
+def test_the_last_count_of_a_flood_is_written() -> None:
+    """Once it is over, and at an end; of lines that gave way to others too."""
+    now = [10.0]
+    sparing, form = notices.Sparing(lambda: now[0]), notices.Plain()
+
+    def told(is_end: bool = False) -> list[str]:
+        return [form.format(it) for it in sparing.left_out(is_end)]
+
+    assert [sparing.filter(record_of("no %s", 1)) for _ in range(10)] == [True] + [False] * 9
+    assert told() == []
+    now[0] += 1.0
+    assert told() == ["venue: no 1 (and 8 times more)"] and told(True) == []
+    assert not sparing.filter(record_of("no %s", 1)) and told() == []
+    assert told(True) == ["venue: no 1"]
+    sparing.filter(record_of("no %s", 1))
+    now[0] += 1.0
+    for each in range(notices.MOST_LINES):
+        sparing.filter(record_of("from %s", each))
+    assert told() == ["venue: no 1"]
+    left = [sparing.filter(record_of("from %s", "more")) for _ in range(3)]
+    assert left == [True, False, False]
+    assert told(True) == ["venue: from more (and 1 like it, of others too)"]
+
+
+@pytest.mark.parametrize("is_killed", [False, True])
+def test_all_of_a_flood_is_counted(tmp_path: pathlib.Path, is_killed: bool) -> None:
+    """Where the venue ends at once, or goes on for some seconds before it is killed."""
+    count = 20
+    with served.served(tmp_path, FAST, "--log", "json") as venue:
+        for _ in range(count):
+            assert venue.call("api/join", {"code": "WRONGS", "name": "Eve"})[0] == 403
+        if is_killed:
+            time.sleep(3 * notices.PAUSE)
+            venue.child.kill()
+        else:
+            venue.child.terminate()
+        _, error = venue.child.communicate(timeout=served.SECONDS)
+    texts = [json.loads(line)["text"] for line in error.splitlines()]
+    wrong = [it for it in texts if it.startswith("a wrong code, from 127.0.0.1")]
+    more = [int(found[1]) for it in wrong if (found := re.search(r"\(and (\d+) times more", it))]
+    assert len(wrong) + sum(more) == count, wrong
+
+
+def test_no_line_is_folded_into_one_of_another() -> None:
+    """Of instruments, of addresses, of members."""
+    sparing = notices.Sparing(lambda: 10.0)
+    for each in ("AAA", "BBB", "CCC", "192.0.2.1"):
+        assert sparing.filter(record_of("%s: it ended", each))
+        assert not sparing.filter(record_of("%s: it ended", each))
+    for name in ("Anna", "Ben"):
+        joined = record_of("a member joined", level=logging.INFO)
+        joined.member = name
+        assert sparing.filter(joined)
+
+
+def test_a_fault_is_said_in_a_flood_of_other_lines_once_a_second() -> None:
+    now = [10.0]
+    sparing = notices.Sparing(lambda: now[0])
+    for each in range(1000):
+        sparing.filter(record_of("from %s", each))
+    for name in ("AAA", "BBB", "CCC"):
+        halted = [record_of("%s halted", name, level=logging.ERROR) for _ in range(3)]
+        assert [sparing.filter(it) for it in halted] == [True, False, False]
+    now[0] += 1.0
+    last = record_of("%s halted", "CCC", level=logging.ERROR)
+    assert sparing.filter(last) and getattr(last, "left_out") == " (and 2 times more)"
+    assert len(sparing._lines) <= notices.MOST_LINES + 2
+
+
+OF_ASYNCIO = """
+import logging
+from callauction.venue import notices
+notices.set_up("json")
+logging.getLogger("asyncio").warning("SSL connection is closed")
+logging.getLogger("asyncio").error("this")
+"""
+
+
+def test_who_is_gone_while_it_is_sent_to_is_no_line() -> None:
+    ran = subprocess.run(
+        [sys.executable, "-c", OF_ASYNCIO],
+        env=served.environment(),
+        capture_output=True,
+        text=True,
+        timeout=served.SECONDS,
+    )
+    assert [json.loads(line)["text"] for line in ran.stderr.splitlines()] == ["this"]
+
+
+def test_lines_of_many_are_bounded() -> None:
+    now = [10.0]
+    sparing = notices.Sparing(lambda: now[0])
+    count = sum(sparing.filter(record_of("from %s", each)) for each in range(100_000))
+    assert notices.MOST_LINES <= count <= notices.MOST_LINES + 1
+    now[0] += 1.0
+    assert sparing.filter(record_of("from %s", "a new one"))
+    assert sparing.filter(record_of("from %s", 0))
+    for each in range(notices.MOST_LINES):
+        sparing.filter(record_of("again from %s", each))
+    late = record_of("again from %s", "another")
+    now[0] += 0.5
+    sparing.filter(late)
+    assert len(sparing._lines) <= notices.MOST_LINES + 2
+
+
+def test_each_program_that_ends_is_named(tmp_path: pathlib.Path) -> None:
+    """Also where several end within a second, and who joins within one."""
+    names = ["AAA", "BBB", "CCC"]
+    day = FAST + "".join(f'[[instrument]]\nname = "{it}"\n' for it in names)
+    with served.served(tmp_path, day, "--log", "json") as venue:
+        members = [f"member {number}" for number in range(10)]
+        token = [venue.join(name) for name in members][0]
+        for name in names:
+            venue.do("start", instrument=name)
+        for child in psutil.Process(venue.child.pid).children():
+            child.kill()
+        with Client(venue.url, token) as me:
+            for name in names:
+                assert me.enter("bid", 1, "2.00", instrument=name).entry == 1
+        venue.child.terminate()
+        _, error = venue.child.communicate(timeout=served.SECONDS)
+    lines = [json.loads(line) for line in error.splitlines()]
+    ended = [it["text"].partition(":")[0] for it in lines if "is started again" in it["text"]]
+    assert sorted(ended) == names
+    assert [it["member"] for it in lines if "member" in it] == members
+
+
+@pytest.mark.parametrize("form", [notices.Plain(), notices.AsJson()])
+def test_a_line_has_room_in_a_pipe_that_has_any(form: logging.Formatter) -> None:
+    for letter in ("a", '"', "\u00e9", "\U0001f600", "\ud800"):
+        record = logging.LogRecord("a", 40, "", 1, letter * 10_000, (), None)
+        record.member = "\U0001f600" * 40
+        size = len(form.format(record).encode("ascii", "backslashreplace"))
+        assert 1000 < size < select.PIPE_BUF, (letter, size)
 
 
 # ---- copies
@@ -496,6 +960,7 @@ def test_copies_of_a_day_that_runs(tmp_path: pathlib.Path) -> None:
     """Each copy has what was answered before it began, is lawful, and is gone on with."""
     known: list[int] = []
     with served.served(tmp_path, FAST) as venue:
+        (tmp_path / "venue/lost+found").mkdir()  # as a disk of its own has
         token = venue.join("Anna")
         venue.do("start")
 
@@ -555,7 +1020,8 @@ def test_a_copy_that_was_changed_is_refused(tmp_path: pathlib.Path) -> None:
     files["XYZ.journal.csv"] = right.encode()
     (copy / copies.SUMS).write_bytes(copies.sums_of(files))
     ran("restore", copy, place)
-    assert "is there already" in ran("restore", copy, place, status=1)
+    text = ran("restore", copy, place, status=1)
+    assert text == f"restore: {place} is there already: move it away, or name another\n"
     (copy / copies.SUMS).unlink()
     assert "isn't the copy" in ran("restore", copy, tmp_path / "other", status=1)
 
@@ -597,7 +1063,7 @@ def test_a_copy_that_others_could_have_made(tmp_path: pathlib.Path, what: str) -
     path = copy / "operator.token" if what == "file written" else copy
     if what == "owned":
         os.chown(path, 65_534, 65_534)
-        text = f"restore: {path} belongs to another user\n"
+        text = f"restore: {path} belongs to another user: find out who, then chown\n"
     else:
         path.chmod(path.stat().st_mode | 0o020)
         text = f"restore: {path} may be written by other users: chmod go-w\n"

@@ -41,6 +41,12 @@ def test_what_may_be_done_in_which_phase() -> None:
         OPENED.thawed(1.0)
 
 
+def test_a_clock_that_is_set_back() -> None:
+    frozen = OPENED.held(1050.0).set_back(1000.0)
+    assert (frozen.frozen, frozen.ends, frozen.latest, frozen.real) == (50, 100, 120, 110)
+    assert State().set_back(1000.0) == State()
+
+
 def test_a_freeze_holds_the_clock() -> None:
     frozen = OPENED.held(1050.0)
     assert not frozen.takes_orders() and not frozen.is_due(2000.0) and not frozen.may_uncross()

@@ -20,7 +20,7 @@ NOT_BY_PAGES = re.compile(
     "|a value has a member|.* is no (list of )?texts?$|shows is one|the (body|message) "
     "|the first message|this (is|isn't|look)|a ping|first is|auction is no"
     "|there is no (\\{\\} in|such round)|side is|only is|topics are|price is no text|a token"
-    "|the book is closed|this day has no sessions by FIX"
+    "|the book is closed|this day has no sessions by FIX|.* is there twice"
 )
 """What only programs can do wrong: no page sends it."""
 READ = """
@@ -67,6 +67,7 @@ FILLED = {
     "a member has at most {} of an instrument":
         "a member has at most 64 open orders of an instrument",
     "line {}: {}": "line 2: unexpected end of data",
+    "text {}": "text has more than 240 letters",
 }
 """Reasons whose gaps have other reasons."""
 
@@ -102,11 +103,16 @@ def test_each_reason_is_said_in_german(page: Page) -> None:
 
 @pytest.mark.parametrize("said, german", [
     ("an order has at most 1000000 shares", "eine Order hat höchstens 1.000.000 Stück"),
-    ("a value is from 0.00 to 10.00", "ein Wert liegt zwischen 0,00 und 10,00"),
+    ("a member has at most 1040 commands, while a quarter of the day's is left, of an instrument",
+     "ein Mitglied hat höchstens 1.040 Eingaben, solange am Tag nur noch ein Viertel übrig ist"),
+    ("the value 11.00 isn't from 0.00 to 10.00",
+     "der Wert 11,00 liegt nicht zwischen 0,00 und 10,00"),
     ("the phase is call and no longer waiting",
      "der Stand ist „Aufrufphase“ und nicht mehr „noch kein Aufruf“"),
-    ("round: title has more than 40 letters, or < or >",
-     "Titel: mehr als 40 Zeichen, oder < oder >"),
+    ("round: title 'a b' has more than 40 letters", "Titel: 'a b' hat mehr als 40 Zeichen"),
+    ("round: title 'a<b' has <, > or a control character",
+     "Titel: 'a<b' enthält <, > oder ein Steuerzeichen"),
+    ("text has <, > or a control character", "hier steht <, > oder ein Steuerzeichen"),
     ("there is no member Ann {} from 1 to 2", "Ann {} from 1 to 2 ist kein Mitglied"),
     ("as nobody ever said", "as nobody ever said"),
 ])

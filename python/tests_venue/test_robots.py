@@ -186,7 +186,7 @@ def test_two_instruments_and_their_members(tmp_path: pathlib.Path) -> None:
 
 def test_commands_are_kept_for_the_operator(tmp_path: pathlib.Path) -> None:
     day = FAST.replace("sync = false", "sync = false\nreserve = 3")
-    with served.served(tmp_path, day + "[[instrument]]\ncalls = 5\n") as venue:
+    with served.served(tmp_path, day + "[[instrument]]\ncalls = 7\n") as venue:
         token = venue.join("Anna")
         venue.do("start")
         with Client(venue.url, token) as me:
@@ -194,6 +194,7 @@ def test_commands_are_kept_for_the_operator(tmp_path: pathlib.Path) -> None:
             with pytest.raises(VenueError) as found:
                 me.enter("bid", 1, "2.00")
             assert found.value.code == "no_calls"
+            assert [me.delete(order).entry for order in (1, 2)] == [3, 4]
         assert venue.do("uncross")["reply"] == "opening no price"
 
 

@@ -1,19 +1,25 @@
 """Journals that were put back, lost or changed: nothing that was answered is executed again."""
 import asyncio
 import json
+import os
 import pathlib
 import re
+import shutil
+import time
+from collections.abc import Callable
 from typing import Any
 
 import judged
 import psutil
 import pytest
 import served
-from callauction.venue import Client
+from callauction.venue import AsyncClient, Client
 from callauction.venue.recovery import Entry, Mark, RolledBackError, Sum
+from callauction.venue.venue import LOOK_SECONDS
 from conftest import FAST
 from served import Served
 from test_doors import hello, said
+from test_operations import looked, measured
 from test_robots import until
 
 TWO = FAST + '[[instrument]]\nname = "OLD"\n[[instrument]]\nname = "SOUND"\n'
@@ -119,13 +125,15 @@ def test_a_journal_that_was_put_back(tmp_path: pathlib.Path, what: str) -> None:
             assert venue.call("api/operator", asked, venue.operator)[0] in (409, 503)
         with Client(venue.url, token) as me:
             assert me.enter("bid", 1, "2.00", instrument="SOUND").entry == ANSWERED + 1
-        venue.do("resume")
+        again_halted = {"error": "halted", "text": f"OLD: {ROLLED_BACK[what]}"}
+        asked = {"do": "resume"}
+        assert venue.call("api/operator", asked, venue.operator) == (503, again_halted)
         assert state_of(venue, token, "OLD")["halted"] == ROLLED_BACK[what]
         assert (journal.read_bytes() if journal.exists() else None) == wrong
         journal.write_text(right)
         journal.chmod(0o600)
         venue.do("resume")
-        until(lambda: state_of(venue, token, "OLD")["halted"] is None)
+        assert state_of(venue, token, "OLD")["halted"] is None
         found = again(venue, token, 10, "OLD")
         assert (found["entry"], found["reply"], found["again"]) == (10, "entered 10", True)
         with Client(venue.url, token) as me:
@@ -157,10 +165,77 @@ def test_a_journal_that_is_put_back_while_its_program_runs(tmp_path: pathlib.Pat
                 child.kill()
             until(lambda: bool(me.look("state")["halted"]))
             assert me.look("state")["halted"] == ROLLED_BACK["older"]
+            asked = {"do": "resume"}
+            again_halted = {"error": "halted", "text": f"XYZ: {ROLLED_BACK['older']}"}
+            assert venue.call("api/operator", asked, venue.operator) == (503, again_halted)
             (tmp_path / "right").rename(journal)
             venue.do("resume")
-            until(lambda: me.look("state")["halted"] is None)
+            assert me.look("state")["halted"] is None
             assert me.enter("bid", 1, "2.00").entry == ANSWERED + 1
+
+
+def changed_byte(journal: pathlib.Path, place: int) -> None:
+    """Another digit in a line of a journal, which is as long as before and as old."""
+    about = journal.stat()
+    lines = journal.read_bytes().split(b"\n")
+    lines[place] = re.sub(rb"\d", lambda it: b"7" if it[0] == b"6" else b"6", lines[place], count=1)
+    with journal.open("r+b") as file:
+        file.write(b"\n".join(lines))
+    os.utime(journal, ns=(about.st_atime_ns, about.st_mtime_ns))
+
+
+CHANGED: dict[str, tuple[Callable[[pathlib.Path], object], str]] = {
+    "an entry": (lambda it: changed_byte(it, 3), ROLLED_BACK["changed"]),
+    "the first line": (
+        lambda it: changed_byte(it, 0),
+        "the journal is another one: its first line isn't the day's",
+    ),
+    "cut": (lambda it: os.truncate(it, 0), ROLLED_BACK["older"].replace("6 entries", "0 entries")),
+    "gone": (lambda it: it.unlink(), ROLLED_BACK["missing"]),
+    "open": (lambda it: it.chmod(0o620), "{} may be written by other users: chmod go-w"),
+}
+"""What others do to a journal whose program runs and is asked nothing."""
+
+
+@pytest.mark.parametrize("what", CHANGED)
+def test_a_journal_that_others_change_while_the_day_runs(tmp_path: pathlib.Path, what: str) -> None:
+    """It is seen although nobody enters an order; nothing is lost where it is put back."""
+    change, why = CHANGED[what]
+    journal = tmp_path / "venue/XYZ.journal.csv"
+    with served.served(tmp_path, FAST) as venue:
+        token = venue.join("Anna")
+        venue.do("start")
+        with Client(venue.url, token) as me:
+            for _ in range(ANSWERED):
+                me.enter("bid", 1, "2.00")
+            if what == "the first line":
+                time.sleep(2 * LOOK_SECONDS)  # it goes on while nothing is changed
+                assert me.look("state")["halted"] is None
+            right = journal.read_bytes()
+            change(journal)
+            until(lambda: bool(me.look("state")["halted"] == why.format(journal)))
+            journal.unlink(missing_ok=True)
+            journal.write_bytes(right)
+            journal.chmod(0o600)
+            venue.do("resume")
+            assert me.enter("bid", 1, "2.00").entry == ANSWERED + 1
+        venue.child.terminate()
+        _, error = venue.child.communicate(timeout=served.SECONDS)
+        said = f"venue: XYZ halted: {why.format(journal)}"
+        told = ": put the right file back, then `resume`" if why.startswith("the journal") else ""
+        assert error.splitlines() == [said + told, "venue: XYZ goes on"]
+
+
+def test_a_journal_without_entries_that_is_gone(tmp_path: pathlib.Path) -> None:
+    """It is begun anew: nothing was in it."""
+    with served.served(tmp_path, FAST) as venue:
+        token = venue.join("Anna")
+        venue.do("start")
+        (tmp_path / "venue/XYZ.journal.csv").unlink()
+        until(lambda: bool(state_of(venue, token, "XYZ")["halted"] == "the journal is missing"))
+        venue.do("resume")
+        with Client(venue.url, token) as me:
+            assert me.enter("bid", 1, "2.00").entry == 1
 
 
 def test_the_log_has_times_and_sources(tmp_path: pathlib.Path) -> None:
@@ -178,3 +253,97 @@ def test_the_log_has_times_and_sources(tmp_path: pathlib.Path) -> None:
     assert {("member", here), ("phase", here), ("sent", here), ("start", None)} <= sources
     last = [line for line in lines if line["kind"] == "mark"][-1]
     assert last["entries"] == 2 and re.fullmatch("[0-9a-f]{64}", last["sha256"])
+
+
+def test_a_journal_of_an_earlier_round(tmp_path: pathlib.Path) -> None:
+    """The round that is played goes on; operations, and who asks for results, are told."""
+    with served.served(tmp_path, FAST) as venue:
+        token = venue.join("Anna")
+        venue.do("start")
+        with Client(venue.url, token) as me:
+            me.enter("bid", 1, "2.00")
+        venue.do("uncross")
+        venue.do("next", round=2)
+    journal = tmp_path / "venue/XYZ.journal.csv"
+    journal.rename(tmp_path / "right")
+    port = served.free_port()
+    url = f"http://127.0.0.1:{port}"
+    with served.served(tmp_path, FAST, "--metrics", f"127.0.0.1:{port}") as venue:
+        why = "the journal is missing, and the log knows of 2 entries"
+        status, text = looked(f"{url}/healthz")
+        assert (status, json.loads(text)["halted"]) == (503, {"XYZ of round 1": why})
+        until(
+            lambda: measured(url)["callboard_halted"] == {("XYZ",): 0, ("XYZ of round 1",): 1}
+        )
+        venue.do("start")
+        with Client(venue.url, token) as me:
+            assert me.enter("bid", 1, "2.00").entry == 1
+        for kind in ("results", "trades", "report"):
+            status, found = venue.call(f"api/download/{kind}/XYZ", token=venue.operator)
+            assert (status, found["error"]) == (503, "halted")
+        (tmp_path / "right").rename(journal)
+        venue.do("resume")
+        until(lambda: looked(f"{url}/healthz")[0] == 200)
+        assert venue.call("api/download/results/XYZ", token=venue.operator)[0] == 200
+        text = venue.call("api/download/journal/XYZ?round=1", token=venue.operator)[1]
+        assert judged.is_lawful(text) and "entered 1" in text
+
+
+AWAY = "venue.log.1"
+CHANGES: dict[str, tuple[Callable[[pathlib.Path], object], Callable[[pathlib.Path], object]]] = {
+    "moved": (
+        lambda log: log.rename(log.with_name(AWAY)),
+        lambda log: log.with_name(AWAY).rename(log),
+    ),
+    "replaced": (
+        lambda log: (log.rename(log.with_name(AWAY)), log.write_text("")),
+        lambda log: log.with_name(AWAY).rename(log),
+    ),
+    "copied and cut": (
+        lambda log: (shutil.copy(log, log.with_name(AWAY)), log.write_bytes(b"")),
+        lambda log: log.write_bytes(log.with_name(AWAY).read_bytes()),
+    ),
+    "lengthened": (
+        lambda log: log.write_bytes(log.read_bytes() + b"x" * 5000),
+        lambda log: log.write_bytes(log.read_bytes()[:-5000]),
+    ),
+    "gone with its folder": (
+        lambda log: log.parent.rename(log.parent.with_name("other")),
+        lambda log: log.parent.with_name("other").rename(log.parent),
+    ),
+}
+"""What others do to the log of a day that runs, as to keep it short, and how it is put back."""
+
+
+@pytest.mark.parametrize("what", CHANGES)
+def test_a_log_that_others_change_while_it_is_written(tmp_path: pathlib.Path, what: str) -> None:
+    """Nothing that would be lost is answered."""
+    change, put_back = CHANGES[what]
+    log = tmp_path / "venue/venue.log"
+    text = "the venue's log can't be written: it was changed by others"
+    with served.served(tmp_path, FAST) as venue:
+        token = venue.join("Anna")
+        venue.do("start")
+
+        def halted() -> bool:
+            return bool(venue.call("api/look/state", token=token)[1]["halted"] == text)
+
+        async def ask() -> None:
+            async with AsyncClient(venue.url, token) as me, asyncio.timeout(served.SECONDS):
+                assert (await me.enter("bid", 1, "2.00")).entry == 1
+                await asyncio.sleep(0.5)  # the log has its mark
+                change(log)
+                late = asyncio.create_task(me.enter("bid", 2, "2.00"))
+                await asyncio.to_thread(until, halted)
+                asked = "api/operator", {"do": "resume"}, venue.operator
+                status, found = await asyncio.to_thread(venue.call, *asked)
+                assert (status, found) == (503, {"error": "halted", "text": text})
+                assert not late.done()
+                put_back(log)
+                await asyncio.to_thread(venue.do, "resume")
+                assert (await late).entry == 2
+
+        asyncio.run(ask())
+    with served.served(tmp_path, FAST) as venue:
+        with Client(venue.url, token) as me:
+            assert me.enter("bid", 3, "2.00").entry == 3

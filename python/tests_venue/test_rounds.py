@@ -167,9 +167,9 @@ def test_a_round_that_the_operator_makes(venue: Served) -> None:
     assert value_of(venue, venue.join("Eve")) == {"side": "bid", "price": "3.00", "quantity": 1}
     for treatment, text in [
         ({"values": "dance"}, "values 'dance' is none of"),
-        ({"reference": "11.00"}, "a reference is from 0.01 to 10.00"),
+        ({"reference": "11.00"}, "the reference 11.00 isn't from 0.01 to 10.00"),
         ({"reference": "2.005"}, "the reference 2.005 is no multiple"),
-        ({"values": "chance", "low": "2.00", "high": "1.00"}, "low is above high"),
+        ({"values": "chance", "low": "2.00", "high": "1.00"}, "low 2.00 is above high 1.00"),
         ({"values": "schedule"}, "a schedule has prices"),
         ({"values": "list"}, "the list of values is empty"),
         ({"practise": True}, "practise is nothing that may be here"),

@@ -176,7 +176,7 @@ def test_what_others_own_or_may_write_is_refused(
     before = {it.name: it.read_bytes() for it in (tmp_path / "venue").iterdir()}
     if what == "owned":
         os.chown(path, OTHER, OTHER)
-        text = f"venue: {path} belongs to another user\n"
+        text = f"venue: {path} belongs to another user: find out who, then chown\n"
     else:
         path.chmod(path.stat().st_mode | 0o020)
         text = f"venue: {path} may be written by other users: chmod go-w\n"
@@ -196,8 +196,23 @@ def test_a_secret_that_others_may_read(tmp_path: pathlib.Path) -> None:
 def test_a_link_in_the_place_of_a_token(tmp_path: pathlib.Path) -> None:
     (tmp_path / "mine").write_text("a" * 32)
     (tmp_path / "operator.token").symlink_to(tmp_path / "mine")
-    with pytest.raises(OSError):
+    with pytest.raises(OwnerError, match="operator.token is a link: put the file itself there"):
         tokens.secret_of(tmp_path, "operator")
+
+
+@pytest.mark.parametrize("name", ["venue.log", "operator.token", "XYZ.journal.csv"])
+@pytest.mark.parametrize("is_there", [False, True])
+def test_a_link_in_the_place_of_a_file(tmp_path: pathlib.Path, name: str, is_there: bool) -> None:
+    """A start and --check say the same, by a status after which systemd doesn't try again."""
+    with served.served(tmp_path, FAST):
+        pass
+    path, folder = tmp_path / "venue" / name, tmp_path / "venue"
+    path.rename(tmp_path / "own")
+    path.symlink_to(tmp_path / ("own" if is_there else "gone"))
+    told = f"venue: {path} is a link: put the file itself there\n"
+    for more in ("--hide-tokens", "--check"):
+        words = [more, "--day", tmp_path / "day.toml", "--folder", folder, "--port", 0]
+        assert ended(*words) == (2, told)
 
 
 @pytest.mark.skipif("owned" not in WHAT, reason="only root gives links away")

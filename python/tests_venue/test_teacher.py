@@ -32,7 +32,7 @@ def lesson(tmp_path_factory: pytest.TempPathFactory) -> Iterator[dict[str, Any]]
     folder = tmp_path_factory.mktemp("lesson")
     with contextlib.ExitStack() as stack:
         venue = stack.enter_context(served.served(folder, DAY))
-        found: dict[str, Any] = {"venue": venue}
+        found: dict[str, Any] = {"venue": venue, "folder": folder}
         for name, path, size in (("anna", "", (390, 844)),
                                  ("teacher", f"teacher#{venue.operator}", SCREEN),
                                  ("beamer", f"beamer#{venue.beamer}", SCREEN)):
@@ -306,3 +306,58 @@ def test_a_file_of_values(lesson: dict[str, Any], tmp_path: pathlib.Path) -> Non
         teacher.find("#file").send_keys(str(path))
         teacher.clicks("#giving button")
         teacher.waits(lambda it, said=said: it.text("give-said").startswith(said))
+
+
+def test_members_with_names_that_javascript_has(lesson: dict[str, Any]) -> None:
+    """None has a code of its own, and none is shown as a function."""
+    venue, teacher = lesson["venue"], lesson["teacher"]
+    names = ["constructor", "__proto__", "toString", "hasOwnProperty"]
+    code = venue.do("code")["code"]
+    for name in names:
+        venue.join(name, code)
+    teacher.clicks("#tab-class")
+    teacher.waits(lambda it: all(row_of(it, name) for name in names))
+    assert [row_of(teacher, name)[5] for name in names] == [""] * len(names)
+    assert not any("function" in cell for row in teacher.rows("members") for cell in row)
+
+
+HALTS = {
+    "the journal is an older one: it has 2 entries, and the log knows of 3": "halt_file",
+    "the journal is missing, and the log knows of 3 entries": "halt_file",
+    "journal changed by others": "halt_file",
+    "entry 3 of the journal is no message of the log": "halt_file",
+    "/venue/XYZ.journal.csv may be written by other users: chmod go-w": "halt_file",
+    "the venue's log can't be written: it was changed by others": "halt_file",
+    "the venue's log can't be written: No space left on device": "halt_disk",
+    "journal failed": "halt_disk",
+    "the program hasn't answered for 10 s": "halt_disk",
+    "the venue's log can't be written: it waits for the disk for more than 1 s": "halt_slow",
+    "the program was ended by signal 9": "halt_program",
+    "the program can't be run: No such file or directory": "halt_program",
+}
+READ = """
+const [whys, settle] = arguments;
+Promise.all([import("/pages/states.js"), import("/pages/common.js")]).then(([states, { text }]) =>
+  settle(whys.map(([why, key]) => [states.haltText(why), text(key, text("resume"))])),
+  (fault) => settle(String(fault)));
+"""
+
+
+def test_what_to_do_by_the_kind_of_a_halt(lesson: dict[str, Any]) -> None:
+    found = lesson["teacher"].driver.execute_async_script(READ, [*HALTS.items()])
+    assert [said for said, _ in found] == [wanted for _, wanted in found] and found
+
+
+def test_a_journal_that_is_put_back(lesson: dict[str, Any]) -> None:
+    """Nobody is told to wait for what doesn't go on by itself."""
+    teacher, anna = lesson["teacher"], lesson["anna"]
+    teacher.clicks("#tab-auction")
+    journal = max(lesson["folder"].glob("venue/XYZ*.journal.csv"))
+    journal.rename(lesson["folder"] / "right")
+    teacher.waits(lambda it: it.text("next").endswith("right one back; then press “Try again”."))
+    anna.waits(lambda it: it.text("next").startswith("No order is taken now. Wait for the teacher"))
+    (lesson["folder"] / "right").rename(journal)
+    teacher.clicks("[data-do=resume]")
+    for page in (teacher, anna):
+        page.waits(lambda it: "Halted" not in it.text("phase"))
+        assert "Try again" not in page.text("next") and "No order" not in page.text("next")

@@ -1,0 +1,162 @@
+"""What a session is sent after the operator has reset it and the venue has begun again; and gaps in
+place of numbers under which nothing was sent.
+"""
+import pathlib
+import signal
+
+import fixing
+import pytest
+import served
+from callauction.fix._quickfix import Engine
+from callauction.fix.settings import settings_of
+from fixing import Message, Pairs, Peer
+from test_fix_operator import reset
+from test_fix_requests import Killable, killable
+
+OLD_ORDERS, NEW_ORDERS = 12, 3
+"""Orders before and after the reset: the old numbers are above the new ones."""
+
+
+def ended(day: Killable, how: signal.Signals) -> None:
+    """Ends the venue by a signal, and begins it again."""
+    day.venue.child.send_signal(how)
+    day.venue.child.communicate(timeout=served.SECONDS)
+    day.venue = served.started(*day.words)
+
+
+def reported(peer: Peer) -> list[str]:
+    """The ids of all reports that a client has had, in their order."""
+    return [it[17] for it in peer.got if it[35] == "8"]
+
+
+@pytest.mark.parametrize("how", [signal.SIGTERM, signal.SIGKILL])
+def test_what_came_while_a_session_was_off_after_a_reset(
+    tmp_path: pathlib.Path, how: signal.Signals
+) -> None:
+    """Each report comes once to a client that asks for what it misses and for nothing else, under
+    the number after the last one.
+    """
+    port, folder = served.free_port(), tmp_path / "venue"
+    with killable(tmp_path, fixing.day_of(port, "ALICE", "BOB")) as day:
+        bob, alice = Peer(port, "BOB"), Peer(port, "ALICE")
+        bob.logon(fixing.token_of(folder, "BOB"))
+        for number in range(OLD_ORDERS):
+            bob.enter(f"b{number}", "2", 10, "2.00")
+            bob.enter(f"c{number}", "1", 10, "1.00")
+            bob.cancel(f"c{number}", f"d{number}", "1")
+        bob.take(lambda it: it.get(11) == f"d{OLD_ORDERS - 1}")
+        for number in range(40):  # refused: not sent again after the reset
+            bob.cancel("none", f"x{number}", "2")
+        bob.take(lambda it: it.get(11) == "x39")
+        assert reset(day.venue, "BOB")[0] == 200
+        bob = Peer(port, "BOB")
+        assert bob.logon(fixing.token_of(folder, "BOB"))[34] == str(3 * OLD_ORDERS + 1)
+        bob.all()
+        for number in range(NEW_ORDERS):
+            bob.enter(f"e{number}", "2", 10, "2.00", (59, "2"))
+        bob.take(lambda it: it.get(11) == f"e{NEW_ORDERS - 1}")
+        last = bob.expected
+        ended(day, how)
+        alice.logon(fixing.token_of(folder, "ALICE"))
+        alice.enter("a1", "1", 10 * OLD_ORDERS - 5, "2.00")
+        alice.take(lambda it: it.get(11) == "a1")
+        day.venue.do("uncross")
+        alice.take(lambda it: it.get(150) == "F" and it[39] == "2")
+        begun = bob.logon(fixing.token_of(folder, "BOB"))
+        seen = reported(bob)
+        bob.all()
+        news = reported(bob)[len(seen) :]
+        assert len(news) == OLD_ORDERS + NEW_ORDERS, news
+        assert int(begun[34]) == last + (how == signal.SIGTERM) + len(news)
+        assert len({*reported(bob)}) == len(reported(bob))
+        assert len(reported(bob)) == 4 * OLD_ORDERS + 2 * NEW_ORDERS
+
+
+def test_a_reset_leaves_nothing_of_the_old_numbers(tmp_path: pathlib.Path) -> None:
+    """The file of what was sent has none of them after it, over each end of the venue."""
+    port, folder = served.free_port(), tmp_path / "venue"
+    with killable(tmp_path, fixing.day_of(port, "BOB")) as day:
+        bob = Peer(port, "BOB")
+        bob.logon(fixing.token_of(folder, "BOB"))
+        for number in range(OLD_ORDERS):
+            bob.cancel("none", f"b{number}", "2")
+        bob.take(lambda it: it.get(11) == f"b{OLD_ORDERS - 1}")
+        for how in (signal.SIGTERM, signal.SIGKILL):
+            assert reset(day.venue, "BOB")[0] == 200
+            bob = Peer(port, "BOB")
+            assert bob.logon(fixing.token_of(folder, "BOB"))[34] == "1"
+            ended(day, how)
+            assert bob.logon(fixing.token_of(folder, "BOB"))[34] in ("2", "3")
+
+
+# ---- numbers under which nothing was sent
+
+
+class Asking:
+    """QuickFIX's acceptor, without a venue: what a client HOLES is sent that has logged on."""
+
+    def __init__(self, folder: pathlib.Path) -> None:
+        text = settings_of(folder, {"HOLES": "FIX.4.4"})
+        self.engine = Engine(text, lambda session, password: True)
+        self.session = "FIX.4.4:VENUE->HOLES"
+
+    def keep(self, *numbers: int) -> None:
+        """The session was sent a report under each of these numbers in an earlier run."""
+        pairs: Pairs = [(37, "1"), (17, "X"), (150, "0"), (39, "0"), (55, "XYZ"), (54, "1")]
+        for number in numbers:
+            self.engine.store(self.session, number, "8", pairs, fixing.stamp())
+
+    def begin(self) -> int:
+        """Logs on: the number of the connection."""
+        self.number = self.engine.connect()
+        self.say("A", [(98, "0"), (108, "30"), (554, "any")], 1)
+        return self.number
+
+    def say(self, kind: str, pairs: Pairs, number: int) -> list[Message]:
+        """What is answered to a message."""
+        self.engine.feed(self.number, fixing.written(kind, number, "HOLES", pairs))
+        found = b"".join(data for _, data, *_ in self.engine.outgoing())
+        texts = [it + b"\x01" for it in found.replace(b"\x018=FIX", b"\x01\n8=FIX").split(b"\n")]
+        return [dict(fixing.parsed(it.removesuffix(b"\x01"))) for it in texts if it != b"\x01"]
+
+
+def told(given: list[Message]) -> list[tuple[str, ...]]:
+    """What was sent again: type, number, up to which number a gap is."""
+    assert all(it[43] == "Y" for it in given)
+    return [tuple(it[tag] for tag in (35, 34, 36) if tag in it) for it in given]
+
+
+def test_gaps_in_place_of_numbers_that_were_never_used(tmp_path: pathlib.Path) -> None:
+    """Each goes up to the next message that there is, and that follows."""
+    asking = Asking(tmp_path)
+    asking.keep(3, 4, 8, 9)
+    asking.engine.set_next(asking.session, 12)
+    asking.begin()  # 12
+    cases: dict[tuple[int, int], list[tuple[str, ...]]] = {
+        (1, 0): [("4", "1", "3"), ("8", "3"), ("8", "4"), ("4", "5", "8"), ("8", "8"), ("8", "9")],
+        (5, 8): [("4", "5", "8"), ("8", "8")],
+        (6, 7): [("4", "6", "8")],
+        (8, 11): [("8", "8"), ("8", "9"), ("4", "10", "12")],
+        (3, 5): [("8", "3"), ("8", "4"), ("4", "5", "6")],
+        (4, 4): [("8", "4")],
+        (11, 12): [("4", "11", "13")],
+    }
+    cases[1, 0].append(("4", "10", "13"))
+    for number, ((first, last), expected) in enumerate(cases.items(), 2):
+        found = asking.say("2", [(7, str(first)), (16, str(last))], number)
+        assert told(found) == expected, (first, last)
+
+
+@pytest.mark.parametrize(
+    "first, last, tag", [(14, 0, "7"), (999, 1000, "7"), (0, 0, "7"), (4, 3, "16"), (5, 1, "16")]
+)
+def test_numbers_that_nobody_can_ask_for(
+    tmp_path: pathlib.Path, first: int, last: int, tag: str
+) -> None:
+    asking = Asking(tmp_path)
+    asking.keep(3, 4, 8, 9)
+    asking.begin()  # 10
+    [found] = asking.say("2", [(7, str(first)), (16, str(last))], 2)
+    assert [found[it] for it in (35, 34, 45, 371, 372, 373)] == ["3", "11", "2", tag, "2", "5"]
+    [found] = asking.say("1", [(112, "here")], 3)
+    assert (found[35], found[112]) == ("0", "here")

@@ -1,0 +1,286 @@
+"""What a client is answered whose messages break the rules of a session: heads that lack a tag,
+numbers that are none, times, ids, gaps and groups that can't be. What is expected is from the
+standard's session protocol and its table of tests.
+"""
+import pathlib
+import time
+
+import fixing
+import pytest
+from callauction.fix._quickfix import Engine
+from callauction.fix.settings import settings_of
+from callauction.fix.tags import FIX44, FIXT
+from fixing import SOH, Message, Pairs
+
+TIME = "20261126-09:00:00"
+ORDER: Pairs = [(11, "a1"), (55, "XYZ"), (54, "1"), (60, TIME), (38, "10"), (40, "1")]
+KINDS: dict[str, Pairs] = {
+    "D": ORDER,
+    "0": [],
+    "1": [(112, "here")],
+    "2": [(7, "1"), (16, "0")],
+    "5": [],
+    "ZZ": [(58, "text")],
+}
+"""Messages of a member and of the session, and one of a type that there isn't."""
+Heads = dict[int, str]
+NONE = "none"
+"""A tag of a head with this value is left out."""
+
+
+class Speaker:
+    """QuickFIX's acceptor, without a venue, and a client's connection to it."""
+
+    def __init__(self, folder: pathlib.Path, begin: str, beats: str = "30") -> None:
+        self.begin, self.session = begin, f"{begin}:VENUE->SLIPS"
+        self.engine = Engine(settings_of(folder, {"SLIPS": begin}), lambda session, password: True)
+        self.is_closed, self.number = False, 1
+        self.begun = self.connect(beats)
+
+    def connect(self, beats: str, heads: Heads = {}) -> list[Message]:
+        """What is answered to a Logon on a new connection."""
+        self.connection, self.is_closed = self.engine.connect(), False
+        logon = [(98, "0"), (108, beats), (554, "any")]
+        logon += [(1137, "9")] if self.begin == FIXT else []
+        return self.say("A", logon, heads)
+
+    def say(self, kind: str, pairs: Pairs, heads: Heads = {}) -> list[Message]:
+        """What is answered to a message with the next number, and with these tags in its head."""
+        self.engine.feed(self.connection, self.written(kind, pairs, heads))
+        self.number += 1
+        return self.heard()
+
+    def written(self, kind: str, pairs: Pairs, heads: Heads = {}) -> bytes:
+        """The bytes of a message."""
+        head = {35: kind, 34: str(self.number), 49: "SLIPS", 52: fixing.stamp(), 56: "VENUE"}
+        fields = [*(head | heads).items(), *pairs]
+        texts = [f"{tag}={value}".encode() + SOH for tag, value in fields if value != NONE]
+        body = b"".join(texts)
+        text = b"8=" + self.begin.encode() + SOH + b"9=%d" % len(body) + SOH + body
+        return text + b"10=%03d" % (sum(text) % 256) + SOH
+
+    def heard(self) -> list[Message]:
+        """All that was sent since."""
+        data = b""
+        for number, block, _, is_last in self.engine.outgoing():
+            assert number == self.connection
+            data, self.is_closed = data + block, self.is_closed or is_last
+        if self.is_closed:
+            self.engine.lost(self.connection)
+        parts = data.replace(SOH + b"8=FIX", SOH + b"\n8=FIX").split(b"\n")
+        return [dict(fixing.parsed(it)) for it in parts if it]
+
+    @property
+    def expected(self) -> int:
+        """The number of the message that is expected next."""
+        return self.engine.expected(self.session)
+
+    def is_heard(self) -> bool:
+        """Whether the next message is answered."""
+        [found] = self.say("1", [(112, "next")])
+        return (found[35], found.get(112)) == ("0", "next")
+
+
+@pytest.fixture(params=[FIX44, FIXT])
+def begin(request: pytest.FixtureRequest) -> str:
+    """How messages begin."""
+    return str(request.param)
+
+
+def refusal(given: list[Message]) -> tuple[str, ...]:
+    """The one Reject that was sent: which message, its type, the tag, the reason."""
+    [found] = given
+    assert found[35] == "3" and found[58]
+    return tuple(found.get(it, "") for it in (45, 372, 371, 373))
+
+
+# ---- Logons
+
+
+@pytest.mark.parametrize("beats", ["-5", "2147483648", "99999999999999999999"])
+def test_heartbeats_that_can_not_be(tmp_path: pathlib.Path, begin: str, beats: str) -> None:
+    """The Logout says what may be; then a right Logon is taken under the same number."""
+    speaker = Speaker(tmp_path, begin, beats)
+    [found] = speaker.begun
+    assert (found[35], found[34], speaker.is_closed) == ("5", "1", True)
+    text = "and may be from 0 (no heartbeats) to 999999999 seconds"
+    assert found[58] == f"HeartBtInt (108) is {beats}, {text}"
+    speaker.number = 1
+    [found] = speaker.connect("30")
+    assert (found[35], found[34], found[108]) == ("A", "2", "30")
+
+
+@pytest.mark.parametrize("beats", ["0", "1", "0030", "86400", "999999999"])
+def test_heartbeats_that_may_be(tmp_path: pathlib.Path, begin: str, beats: str) -> None:
+    speaker = Speaker(tmp_path, begin, beats)
+    [found] = speaker.begun
+    assert (found[35], found[108]) == ("A", beats)
+    speaker.engine.tick()
+    assert [it[35] for it in speaker.heard()] == [] and speaker.is_heard()
+
+
+@pytest.mark.parametrize(
+    "tag, value, text",
+    [
+        (34, NONE, "Required tag missing: 34"),
+        (52, NONE, "Required tag missing: 52"),
+        (34, "4294967297", "Incorrect data format for value: 4294967297: 34"),
+        (34, "-1", "Incorrect data format for value: -1: 34"),
+    ],
+)
+def test_a_logon_s_head(
+    tmp_path: pathlib.Path, begin: str, tag: int, value: str, text: str
+) -> None:
+    speaker = Speaker(tmp_path, begin)
+    speaker.engine.lost(speaker.connection)
+    [found] = speaker.connect("30", {tag: value})
+    assert (found[35], found[58], speaker.is_closed) == ("5", text, True)
+    assert speaker.expected == 2
+
+
+# ---- heads
+
+
+@pytest.mark.parametrize("value", [NONE, "", "x", "-1", "2.0", "4294967298", f"{2:05000}"])
+@pytest.mark.parametrize("kind", KINDS)
+def test_a_message_without_a_number(
+    tmp_path: pathlib.Path, begin: str, kind: str, value: str
+) -> None:
+    """A Logout says so and the connection ends: nothing of it is done or counted."""
+    speaker = Speaker(tmp_path, begin)
+    [found] = speaker.say(kind, KINDS[kind], {34: value})
+    told = "is missing" if value in ("", NONE) else f"can't be {value}"
+    assert (found[35], found[58]) == ("5", f"MsgSeqNum (34) {told}")
+    assert (speaker.is_closed, speaker.expected, speaker.engine.said()) == (True, 2, [])
+
+
+@pytest.mark.parametrize("tag", [49, 52, 56])
+@pytest.mark.parametrize("kind", KINDS)
+def test_a_head_that_lacks_a_tag(
+    tmp_path: pathlib.Path, begin: str, kind: str, tag: int
+) -> None:
+    """A Reject of the session, also for a member's message; the next one is taken."""
+    speaker = Speaker(tmp_path, begin)
+    assert refusal(speaker.say(kind, KINDS[kind], {tag: NONE})) == ("2", kind, str(tag), "1")
+    assert (speaker.engine.said(), speaker.expected) == ([], 3)
+    assert speaker.is_heard()
+
+
+def test_what_is_garbled_is_passed_over(tmp_path: pathlib.Path, begin: str) -> None:
+    """Also where its head lacks a tag."""
+    speaker = Speaker(tmp_path, begin)
+    for heads in ({34: NONE}, {52: NONE}, {43: "Y"}):
+        whole = speaker.written("D", ORDER, heads)
+        for spoiled in (whole[:-4] + b"%03d" % ((int(whole[-4:-1]) + 1) % 256) + SOH,):
+            speaker.engine.feed(speaker.connection, spoiled)
+            assert (speaker.heard(), speaker.is_closed, speaker.expected) == ([], False, 2)
+    assert speaker.is_heard()
+
+
+@pytest.mark.parametrize(
+    "heads, text",
+    [
+        ({49: "EVE"}, "SenderCompID (49) or TargetCompID (56) isn't this session's"),
+        ({56: "EVE"}, "SenderCompID (49) or TargetCompID (56) isn't this session's"),
+        (
+            {52: "20200101-00:00:00"},
+            "SendingTime (52) isn't the time, or is before OrigSendingTime (122)",
+        ),
+    ],
+)
+def test_a_logout_says_why(
+    tmp_path: pathlib.Path, begin: str, heads: Heads, text: str
+) -> None:
+    """After the Reject; who doesn't answer it is ended soon, also without heartbeats."""
+    speaker = Speaker(tmp_path, begin, "0")
+    reject, logout = speaker.say("D", ORDER, heads)
+    assert (reject[35], reject[373]) == ("3", "10" if 52 in heads else "9")
+    assert (logout[35], logout[58]) == ("5", text)
+    for _ in range(4):
+        assert not speaker.is_closed
+        speaker.engine.tick()
+        speaker.heard()
+    assert speaker.is_closed
+
+
+# ---- what is sent again
+
+
+def test_what_is_sent_again_says_when_it_was_first(tmp_path: pathlib.Path, begin: str) -> None:
+    speaker, now = Speaker(tmp_path, begin), time.gmtime()
+    late = f"{time.strftime('%Y%m%d', now)}-23:59:59"
+    cases: list[tuple[Heads, tuple[str, ...] | None]] = [
+        ({43: "Y"}, ("122", "1")),
+        ({43: "Y", 122: "20991231-00:00:00"}, ("122", "10")),
+        ({43: "Y", 122: "x"}, ("122", "6")),
+        ({43: "Y", 122: "20201231-00:00:00.123"}, None),
+        ({43: "N"}, None),
+        ({122: late}, None),
+    ]
+    for heads, expected in cases:
+        number = str(speaker.number)
+        found = speaker.say("D", ORDER, heads)
+        if expected is None:
+            assert found == [] and len(speaker.engine.said()) == 1, heads
+        else:
+            assert refusal(found) == (number, "D", *expected), heads
+            assert speaker.engine.said() == []
+    assert speaker.is_heard()
+
+
+def test_what_is_sent_again_in_the_same_second(tmp_path: pathlib.Path, begin: str) -> None:
+    """The one time is to a millisecond, the other to a second."""
+    speaker, second = Speaker(tmp_path, begin), fixing.stamp()[:17]
+    assert speaker.say("D", ORDER, {43: "Y", 52: second, 122: f"{second}.999"}) == []
+    assert len(speaker.engine.said()) == 1
+
+
+def test_a_gap_needs_no_first_time(tmp_path: pathlib.Path, begin: str) -> None:
+    speaker = Speaker(tmp_path, begin)
+    assert speaker.say("4", [(123, "Y"), (36, "7")], {43: "Y"}) == []
+    assert speaker.expected == 7
+
+
+@pytest.mark.parametrize(
+    "pairs",
+    [
+        [(123, "Y"), (36, "1")],
+        [(123, "Y"), (36, "2")],
+        [(36, "1")],
+        [(123, "Y"), (36, "4294967303")],
+        [(123, "Y"), (36, f"{7:05000}")],
+    ],
+)
+def test_a_gap_that_can_not_be(tmp_path: pathlib.Path, begin: str, pairs: Pairs) -> None:
+    """Back, of no length, or too far to count."""
+    speaker = Speaker(tmp_path, begin)
+    assert refusal(speaker.say("4", pairs)) == ("2", "4", "36", "5")
+    assert (speaker.expected, speaker.engine.said()) == (2, [])
+    speaker.number = 2
+    assert speaker.is_heard()
+
+
+def test_a_reset_to_the_number_that_is_expected(tmp_path: pathlib.Path, begin: str) -> None:
+    speaker = Speaker(tmp_path, begin)
+    assert speaker.say("4", [(36, "2")]) == [] and speaker.expected == 2
+
+
+# ---- groups
+
+
+@pytest.mark.parametrize(
+    "pairs, tag",
+    [
+        ([(267, "0"), (146, "1"), (55, "XYZ")], "267"),
+        ([(267, "1"), (269, "Q"), (146, "0")], "146"),
+        ([(267, "00"), (146, "0")], "267"),
+    ],
+)
+def test_a_group_without_a_row(
+    tmp_path: pathlib.Path, begin: str, pairs: Pairs, tag: str
+) -> None:
+    """By the standard a NumInGroup is positive."""
+    speaker = Speaker(tmp_path, begin)
+    found = speaker.say("V", [(262, "d1"), (263, "1"), (264, "1"), *pairs])
+    assert refusal(found) == ("2", "V", tag, "5")
+    assert speaker.engine.said() == [] and speaker.is_heard()
