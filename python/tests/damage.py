@@ -119,6 +119,33 @@ def missing_uncross(chance: random.Random, rows: Rows) -> int | None:
     return place
 
 
+def missing_rows(chance: random.Random, rows: Rows) -> int | None:
+    """Rows have sequences, and some of one place, or of several, are missing, so that their numbers
+    are.
+    """
+    for place, row in enumerate(rows):
+        row["sequence"] = str(1000 + place)
+    many = min(chance.choice([1, 1, 2, 5]), len(rows) - 3)
+    begin = chance.randint(1, len(rows) - many - 1)
+    those: list[int] = [*range(begin, begin + many)]
+    if chance.random() < 0.5:
+        those = sorted(chance.sample(range(1, len(rows) - 1), many))
+    rows[:] = [row for at, row in enumerate(rows) if at not in those]
+    return those[0]
+
+
+def unread_time(chance: random.Random, rows: Rows) -> int | None:
+    """The time of a row of an order, or of all rows, can't be read."""
+    place = some(chance, places(rows, *ORDERS))
+    if chance.random() < 0.2:
+        for row in rows:
+            row["time"] = f"Nov 25 {row['time']}"
+        return 0
+    if place is not None:
+        rows[place]["time"] = chance.choice(["?", "25:61"])
+    return place
+
+
 # ---- the order of rows
 
 
@@ -206,7 +233,7 @@ def trades_of_both_sides(chance: random.Random, rows: Rows) -> int | None:
     if sum(rows[at]["quantity"].isdigit() for at in those) < 2:
         return None
     made = ("trade", "bust")
-    rows[:] = [row for it in rows for row in [it] * (2 if it["event"] in made else 1)]
+    rows[:] = [row for it in rows for row in ([it, dict(it)] if it["event"] in made else [it])]
     return those[0]
 
 
@@ -220,11 +247,20 @@ def copied_trade(chance: random.Random, rows: Rows) -> int | None:
     return place
 
 
+def copied_at_once(chance: random.Random, rows: Rows) -> int | None:
+    """A trade is once more right below it."""
+    place = some(chance, places(rows, "trade"))
+    if place is not None:
+        rows.insert(place + 1, dict(rows[place]))
+    return place
+
+
 def corrected_result(chance: random.Random, rows: Rows) -> int | None:
     """A result has another price, and the right one is below it, at once or later; its name is that
     of its auction, or no result has one.
     """
     ends = [at for at in places(rows, "uncross") if rows[at].get("trades", "0") != "0"]
+    ends = [at for at in ends if rows[at].get("price", "n/a") != "n/a"]
     place = some(chance, ends)
     if place is None or any(row.get("auction") == "interrupted" for row in rows):
         return None
@@ -247,6 +283,71 @@ def busted(chance: random.Random, rows: Rows) -> int | None:
         rows.insert(at, {**wrong, "event": "bust"})
         rows.insert(place + 1, wrong)
     return place
+
+
+def unread_bust(chance: random.Random, rows: Rows) -> int | None:
+    """A trade was made by mistake, and the bust of it can't be read, or has other shares."""
+    place = some(chance, places(rows, "trade"))
+    if place is not None:
+        wrong = {**rows[place], "bid": rows[place]["ask"], "ask": rows[place]["bid"]}
+        bust = {**wrong, "event": "bust", "quantity": chance.choice(["n/a", "987654"])}
+        rows.insert(chance.randint(place + 1, len(rows)), bust)
+        rows.insert(place + 1, wrong)
+    return place
+
+
+# ---- what is written in two ways
+
+
+def spelled_otherwise(chance: random.Random, rows: Rows) -> int | None:
+    """Trades have the ids of orders in small letters, or with a zero in front."""
+    those = places(rows, "trade", "bust")
+    change: Callable[[str], str] = chance.choice([str.lower, lambda text: f"0{text}"])
+    for place in those:
+        rows[place] |= {name: change(rows[place][name]) for name in ("bid", "ask")}
+    return min(those, default=None)
+
+
+def order_spelled_otherwise(chance: random.Random, rows: Rows) -> int | None:
+    """A replace or a cancel has its order's id in small letters, or with zeros."""
+    place = some(chance, places(rows, "replace", "cancel"))
+    if place is not None:
+        order = str(rows[place]["order"])
+        others = [order.lower(), f"0{order}", f"{order[:1]}0{order[1:]}"]
+        rows[place]["order"] = chance.choice([it for it in others if it != order])
+    return place
+
+
+def words_for_none(chance: random.Random, rows: Rows) -> int | None:
+    """Cells of orders that may be empty have a word for that, and members of trades too."""
+    word, known = chance.choice(["NULL", "N/A", "NaN", "-", "--"]), dict[str, bool]()
+    for row in rows:
+        if row["event"] in ORDERS:
+            names = ("price", "peak", "restriction", "member")
+            row |= {name: word for name in names if not row.get(name)}
+        elif row["event"] == "trade" and known.setdefault(row["bid"], chance.random() < 0.9):
+            row |= {"bid_member": word, "ask_member": word}
+    return min(places(rows, "trade"), default=None)
+
+
+def noisy_prices(chance: random.Random, rows: Rows) -> int | None:
+    """Prices have the noise of binary numbers."""
+    noisy = dict[str, str]()
+    for row in rows:
+        if row.get("price", "n/a").replace(".", "").isdigit():
+            factor = 1 + chance.choice([-1, 0, 1, 2]) * 2**-52
+            row["price"] = noisy.setdefault(row["price"], repr(float(row["price"]) * factor))
+    return 0
+
+
+def in_cents(chance: random.Random, rows: Rows) -> int | None:
+    """The prices of some rows are in cents, those of others in euros."""
+    events = chance.choice([("new", "replace"), ("uncross",), ("trade",)])
+    priced = [at for at in places(rows, *events) if rows[at].get("price", "n/a") != "n/a"]
+    priced = [at for at in priced if rows[at]["price"] not in ("?", "1e3")]
+    for place in priced:
+        rows[place]["price"] = f"{float(rows[place]['price']) * 100:g}"
+    return min(priced, default=None)
 
 
 # ---- what is no law
@@ -346,13 +447,14 @@ def interruptions_without_names(chance: random.Random, rows: Rows) -> int | None
 
 
 DAMAGES: dict[str, Damage] = {
+    "missing rows": missing_rows,
+    "missing uncross": missing_uncross,
     "unread order": unread_order,
     "missing entry": missing_entry,
     "missing head": missing_head,
     "stray cancel": stray_cancel,
     "unread trade": unread_trade,
     "unread result": unread_result,
-    "missing uncross": missing_uncross,
     "ties": ties,
     "ties of an order": ties_of_an_order,
     "at the uncross": at_the_uncross,
@@ -361,12 +463,23 @@ DAMAGES: dict[str, Damage] = {
     "sent again with sequences": sent_again_with_sequences,
     "paired otherwise": paired_otherwise,
     "copied trade": copied_trade,
+    "copied at once": copied_at_once,
     "corrected result": corrected_result,
     "busted": busted,
+    "unread bust": unread_bust,
     "trades between": trades_between,
     "trades of both sides": trades_of_both_sides,
     "beyond the program": beyond_the_program,
     "no names": interruptions_without_names,
     "peaks of all": peaks_of_all,
     "unchanged prices": unchanged_prices,
+    "spelled otherwise": spelled_otherwise,
+    "order spelled otherwise": order_spelled_otherwise,
+    "unread time": unread_time,
+    "in cents": in_cents,
+    "noisy prices": noisy_prices,
+    "words for none": words_for_none,
 }
+"""By their names, in the order in which several are done to one day: what takes rows out is first,
+so that a missing order stays named.
+"""

@@ -117,11 +117,13 @@ def trade_missing(chance: random.Random, extract: Extract) -> Planted | None:
     return "trade", above[-1]
 
 
-def trade_twice(chance: random.Random, extract: Extract) -> Planted | None:
+def trade_again(chance: random.Random, extract: Extract) -> Planted | None:
+    """A second one of other shares; one of the same may be a copy."""
     found = _trade(chance, extract)
     if found is None:
         return None
-    extract.rows.insert(found[0], dict(found[1]))
+    quantity = str(int(found[1]["quantity"]) + 1)
+    extract.rows.insert(found[0], dict(found[1], quantity=quantity))
     return "trade", found[0]
 
 
@@ -180,9 +182,15 @@ def uncross_before_its_orders(chance: random.Random, extract: Extract) -> Plante
         ]
         if outcome.trades and own and not outcome.is_interrupted:
             first = own[0]
+            above = extract.rows[first - 1].get("time", "") if first else "00:00:00"
+            is_timed = extract.rows[place].get("time", "") > extract.rows[first].get("time", "")
             if not _are_entries(extract.rows[first:place]):
                 continue
+            if is_timed and above == extract.rows[first]["time"]:
+                continue
             row = extract.rows.pop(place)
+            if is_timed:
+                row["time"] = f"{above}.5"  # the engine's, so that rows are in their order of time
             extract.rows.insert(first, row)
             return "auction", first
     return None
@@ -218,7 +226,7 @@ FAULTS: dict[str, Fault] = {
     "uncross behind the end": late_uncross,
     "uncross before its orders": uncross_before_its_orders,
     "trade missing": trade_missing,
-    "trade twice": trade_twice,
+    "trade again": trade_again,
     "trade of nobody": trade_of_nobody,
     "trade of too much": _cell("quantity", lambda text: str(int(text) + 3)),
     "trade at another price": _cell("price", lambda text: price_of(int(text.replace(".", "")) + 1)),

@@ -51,6 +51,7 @@ CALLS: list[tuple[str, int, Call]] = [
     ("max_open", 2**32, lambda a, value: Auction(max_open=value)),
     ("max_calls", 2**32, lambda a, value: Auction(max_calls=value)),
     ("range", 2**32, lambda a, value: Auction(range=value)),
+    ("reserve", 2**32, lambda a, value: Auction(reserve=value)),
 ]
 MAY_BE_NONE = {"limit", "peak", "range"}
 

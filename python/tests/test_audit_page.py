@@ -24,8 +24,8 @@ def test_the_page_shows_the_stored_extract_and_its_verdict(
     assert indented(printed) in page
     extract = EXTRACT.read_text(encoding="utf-8")
     assert indented(extract) in page and len(extract.splitlines()) == 10
-    begin = "    python3 -m callauction"
+    begin = "    python3 -P -m callauction"
     [command] = [part for part in page.split("\n\n") if part.startswith(begin)]
     shown = command.replace("\\\n", " ").replace("'", "").split()
-    assert shown[:5] == ["python3", "-m", "callauction", "audit", "examples/extracts/german.csv"]
-    assert shown[5:] == words
+    assert shown[:5] == ["python3", "-P", "-m", "callauction", "audit"]
+    assert shown[5:] == ["examples/extracts/german.csv", *words]

@@ -88,7 +88,7 @@ def watch(member: Member, is_over: threading.Event) -> bool:
 
 
 def test_eight_threads_beside_the_rules() -> None:
-    board = Board(MEMBERS + 1, **DAY, max_calls=MEMBERS * CALLS + 1)
+    board = Board(MEMBERS + 1, **DAY, max_calls=MEMBERS * CALLS + 1, reserve=1)
     is_over = threading.Event()
     with ThreadPoolExecutor(MEMBERS + 1) as pool:
         watching = pool.submit(watch, board[MEMBERS], is_over)
@@ -111,7 +111,7 @@ def test_eight_threads_beside_the_rules() -> None:
 
 
 def test_what_a_member_sees() -> None:
-    with Board(2, **DAY, max_calls=10) as board:
+    with Board(2, **DAY, max_calls=10, reserve=2) as board:
         first, second = board.members
         assert (first.number, second.number, len(board)) == (0, 1, 2)
         assert second.look().display == NoPrice(None, None)
@@ -141,6 +141,32 @@ def test_a_full_board() -> None:
         with pytest.raises(FullError):
             board[0].indicate()
         assert board[0].calls == 2
+
+
+def test_the_last_calls_are_the_operators() -> None:
+    """16 of a board, where nothing else is said: its day can be uncrossed and audited, whatever its
+    members call.
+    """
+    cases: list[tuple[dict[str, int], int]] = [({}, 16), ({"reserve": 2}, 2)]
+    for given, reserve in cases:
+        board = Board(2, **DAY, max_calls=reserve + 3, **given)
+        assert board.config.reserve == reserve
+        for number in (1, 2, 3):
+            assert board[1].indicate().number == number
+        copied = board[1].auction()
+        for _ in range(reserve):
+            with pytest.raises(FullError, match="^no call is left to the member$"):
+                board[1].indicate()
+            board[0].uncross()
+        with pytest.raises(FullError):
+            board[0].uncross()
+        day = board.close()
+        assert day.counts == (reserve, 3) and day.audit().empty
+        with pytest.raises(FullError):
+            copied.indicate(1)
+        assert copied.config == board.config and isinstance(copied.uncross(), Uncrossed)
+    with Board(2, **DAY, max_calls=1, reserve=0) as board:
+        assert board[1].indicate().number == 1
 
 
 def test_a_closed_board() -> None:
@@ -336,7 +362,7 @@ def test_the_example_prints_its_lines() -> None:
 
 
 def test_a_copy_of_the_boards_auction_goes_on_by_itself() -> None:
-    board = Board(2, **DAY, max_calls=9)
+    board = Board(2, **DAY, max_calls=9, reserve=0)
     board[1].enter(Side.BID, 5, 500)
     copied = board[0].auction()
     assert (copied.calls, copied.config) == (1, board.config)
@@ -400,7 +426,7 @@ def test_many_calls_have_no_other_between() -> None:
 
 
 def test_many_calls_end_at_the_first_error() -> None:
-    board = Board(2, **DAY, max_calls=5)
+    board = Board(2, **DAY, max_calls=5, reserve=0)
     made = commands(side=[Side.BID] * 4, quantity=[7] * 4)
     made["member"] = 63
     assert len(board[1].apply_many(made[:0])) == 0

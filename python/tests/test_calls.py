@@ -228,7 +228,7 @@ def test_the_config() -> None:
     with Auction(2, 9, 5, 3, 4, 1) as auction:
         assert auction.config == Config(2, 9, 5, 3, 4, 1)
     with Auction() as auction:
-        assert auction.config == Config(1, 1000, 200, 4096, 65536, None)
+        assert auction.config == Config(1, 1000, 200, 4096, 65536, None, 0)
 
 
 def test_a_full_auction_raises_and_stays() -> None:
@@ -243,6 +243,28 @@ def test_a_full_auction_raises_and_stays() -> None:
             assert raised.value.applied == 0 and raised.value.replies is None
         assert auction.calls == 2
         assert auction.display() == NoPrice(5, None)
+
+
+def test_the_last_calls_are_the_operators() -> None:
+    with Auction(max_calls=5, reserve=3) as auction, Auction(max_calls=5) as other:
+        assert auction.state().calls_left_to_members == 2
+        auction.indicate(1)
+        auction.copy_into(other)
+        copies = [auction.copy(), copy.deepcopy(auction), other]
+        for opened in (auction, *copies):
+            opened.enter(2, BID, 5, 5)
+            with pytest.raises(FullError, match="^no call is left to the member$"):
+                opened.indicate(1)
+            with pytest.raises(FullError):
+                opened.uncross(255)
+            assert opened.config.reserve == 3 and opened.calls == 2 and not opened.is_full
+            assert (opened.state().calls_left, opened.state().calls_left_to_members) == (3, 0)
+            for _ in range(3):
+                assert isinstance(opened.uncross(), Uncrossed)
+            with pytest.raises(FullError):
+                opened.uncross()
+        auction.reset()
+        assert auction.config.reserve == 3 and auction.state().calls_left_to_members == 2
 
 
 @pytest.mark.parametrize("copied", [Auction.copy, copy.copy, copy.deepcopy])

@@ -225,7 +225,7 @@ CASES: dict[str, tuple[Change, tuple[int, ...], list[str]]] = {
     "two zones": (zones, (0,), []),
     "two zones, sorted": (zones, (0,), ["--sort"]),
     "times that can't be sorted": (
-        all_cells("time", lambda text: f"11/25/2026 {text}"), (5, 1, 2), ["--sort"]),
+        all_cells("time", lambda text: f"Nov 25 {text}"), (5, 1, 2), ["--sort"]),
     "new twice": (twice("new"), (0, 5), []),
     "replace twice": (twice("replace"), (0, 5), []),
     "cancel twice": (twice("cancel"), (0, 5), []),
@@ -408,11 +408,11 @@ def test_a_title_above_the_header_is_named(
 @pytest.mark.parametrize("change, words, status, line", [
     (lambda rows: None, [], 0, ""),
     (lambda rows: None, ["DE1,DE2,DE3"], 5, "DE3, it is among the days, and no row is of it"),
-    (lambda rows: None, ["DE1"], 5, "DE2, DE2 has order events: say --reference and --tick-size"),
+    (lambda rows: None, ["DE1"], 5, "DE2, there are order events: say --reference and --tick-size"),
     (lambda rows: cells(TRADE, "isin", lambda text: "")(rows), [], 5, " rows have no isin"),
-    (lambda rows: cells("cancel", "isin", lambda text: "", 1)(rows), [], 5, "1 rows have no isin"),
+    (lambda rows: cells("cancel", "isin", lambda text: "", 1)(rows), [], 5, "1 row has no isin"),
     (lambda rows: rows[places(rows, TRADE)[0]].update(isin="", event="?"), [], 5,
-     "1 rows have no isin"),
+     "1 row has no isin"),
 ])
 def test_one_instrument_never_ends_the_run_of_the_others(
     change: Any, words: list[str], status: int, line: str, tmp_path: Path,
@@ -432,6 +432,27 @@ def test_one_instrument_never_ends_the_run_of_the_others(
     assert line in capsys.readouterr().err
     table = csv.DictReader(written.read_text().splitlines())
     assert {"DE1", "DE2"} <= {row["instrument"] for row in table}
+
+
+@pytest.mark.parametrize("separator", [";", "\t"])
+def test_days_as_spreadsheets_write_them(separator: str, tmp_path: Path) -> None:
+    path, days = tmp_path / "day.csv", tmp_path / "days.csv"
+    path.write_text(text_of([dict(row, isin="DE1") for row in base_day().rows]))
+    header, line = ["isin", "reference", "tick_size"], ["DE1", f"{base_day().reference}", "0.01"]
+    rows = "".join(f"{separator.join(it)}\r\n" for it in (header, line))
+    days.write_bytes(b"\xef\xbb\xbf" + rows.encode())
+    assert main(["audit", str(path), "--by", "isin", "--days", str(days)]) == 0
+
+
+def test_findings_in_files_have_numbers_without_commas(tmp_path: Path) -> None:
+    rows = [dict(row) for row in base_day().rows]
+    rows[places(rows, UNCROSS)[0]]["quantity"] = "1234567"
+    path, written = tmp_path / "day.csv", tmp_path / "findings.csv"
+    path.write_text(text_of(rows))
+    given = ["audit", str(path), "--reference", f"{base_day().reference}", "--tick-size", "0.01"]
+    assert main([*given, "--findings", str(written)]) == 4
+    found = [row["recorded"] for row in csv.DictReader(written.read_text().splitlines())]
+    assert "1234567" in found
 
 
 def test_segments_of_an_instrument_are_apart(tmp_path: Path) -> None:
@@ -458,7 +479,7 @@ def test_findings_and_verdicts_are_read_by_machines(
         assert audited(text_of(rows), words, tmp_path) == 4
         line = json.loads(capsys.readouterr().out)
         assert line["verdict"] == "unlawful" and line["findings"] == 1 and line["bad_rows"] == 1
-        assert len(line["file_sha256"]) == 64 and line["command"].startswith("python3 -m callauc")
+        assert len(line["file_sha256"]) == 64 and line["command"].startswith("python3 -P -m ")
     found = [*csv.DictReader((tmp_path / "found.csv").read_text().splitlines())]
     assert [row["kind"] for row in found].count("certain") == 1
     assert found[0]["item"] == "volume" and found[0]["recorded"] == "7"
@@ -569,8 +590,8 @@ def test_what_is_written_says_what_it_is_of(tmp_path: Path) -> None:
         assert re.fullmatch(r"\d{4}-\d\d-\d\dT\d\d:\d\d:\d\d\+00:00", row["date"])
         assert len(row["program_sha256"]) == 64 and row["version"]
         repeated = shlex.split(row["command"])
-        assert repeated[:4] == ["python3", "-m", "callauction", "audit"]
-        assert main(repeated[3:]) == 4
+        assert repeated[:5] == ["python3", "-P", "-m", "callauction", "audit"]
+        assert main(repeated[4:]) == 4
 
 
 def test_rows_that_were_not_read_are_said_before_the_findings(

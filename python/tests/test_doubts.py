@@ -7,7 +7,8 @@ import os
 import random
 
 import pytest
-from callauction.verdict import ExtractError, Verdict
+from callauction.verdict import ExtractError, Verdict, judging
+from callauction.verdict.phases import BeyondError
 from damage import DAMAGES, ORDERS, places, stray_cancel, ties, timed_day, trades_of_both_sides
 from extracts import Extract, random_day
 from faults import FAULTS
@@ -17,7 +18,8 @@ SEEDS = range(40)
 NEVER_LAWFUL = ("unread order", "missing entry", "missing head", "stray cancel", "unread trade",
                 "unread result", "missing uncross")  # fmt: skip
 NEVER_IN_DOUBT = ("sent again", "sent again with sequences", "busted", "peaks of all")
-OF_THE_DAY = ("missing head", "missing entry", "stray cancel", "ties")
+OF_THE_DAY = ("missing head", "missing entry", "stray cancel", "order spelled otherwise", "ties",
+              "missing rows", "unread time")  # fmt: skip
 """Damages that may leave a doubt from the day's begin on."""
 DAYS = int(os.environ.get("DAMAGED_DAYS", "120"))
 """How many days are damaged in several ways; by hand more, as DAMAGED_DAYS=5000 says."""
@@ -93,15 +95,15 @@ def test_two_damages_leave_a_lawful_day(names: tuple[str, str]) -> None:
 
 
 def damaged(seed: int, extract: Extract, most: int) -> list[int]:
-    """Damages a day in up to so many ways; answers the first places that are touched."""
+    """Damages a day in up to so many ways; answers the first places that are touched, of a whole
+    day where it isn't known which result or order is which.
+    """
     chance = random.Random(seed * 7919 + 1)
     names = sorted(chance.sample([*DAMAGES], chance.randint(1, most)), key=[*DAMAGES].index)
     if "sent again with sequences" in names:  # they would say that all else is right
         names = ["sent again with sequences"]
-    if {"missing uncross", "corrected result"} <= {*names}:  # names may be wrong ones then
-        names.remove("corrected result")
     found = [DAMAGES[name](chance, extract.rows) for name in names]
-    whole = (*OF_THE_DAY, "missing uncross", "corrected result")  # which is which isn't known
+    whole = (*OF_THE_DAY, "missing uncross", "corrected result", "spelled otherwise")
     return [0 if name in whole else it for it, name in zip(found, names) if it is not None]
 
 
@@ -123,6 +125,32 @@ def test_a_lawful_day_with_several_damages_is_never_unlawful() -> None:
     assert words["lawful"] > DAYS / 20 and words["incomplete"] > DAYS / 3
 
 
+@pytest.mark.parametrize("names", [
+    ("missing uncross", "corrected result"),
+    ("missing uncross", "corrected result", "no names"),
+    ("missing uncross", "paired otherwise", "no names"),
+    ("missing entry", "at the uncross", "copied trade"),
+    ("busted", "trades of both sides"),
+    ("copied trade", "beyond the program"),
+    ("unread order", "at the uncross"),
+    ("unread trade", "paired otherwise"),
+    ("corrected result", "unchanged prices"),
+])  # fmt: skip
+@pytest.mark.parametrize("unsaid", [{}, {"range": None}])
+def test_damages_that_meet_leave_a_lawful_day(
+    names: tuple[str, ...], unsaid: dict[str, None]
+) -> None:
+    for seed in range(DAYS // 10):
+        extract, chance = timed_day(seed), random.Random(seed)
+        for name in names:
+            DAMAGES[name](chance, extract.rows)
+        try:
+            verdict = judged(extract, **unsaid)
+        except ExtractError:
+            continue
+        assert verdict.word != "unlawful", f"{seed}\n{verdict}"
+
+
 def test_any_fault_before_the_damage_is_found() -> None:
     """Its auction is over before the first row that is damaged."""
     count = 0
@@ -133,9 +161,13 @@ def test_any_fault_before_the_damage_is_found() -> None:
         if found is None or fault in ("uncross behind the end", "trade missing"):
             continue  # a trade may be missing by an unread one
         marked, end = extract.rows[found[1]], _end_of_auction(extract, fault, found[1])
-        if min(damaged(seed, extract, 1), default=0) > end:
+        if min(damaged(seed, extract, 3), default=0) > end:
+            try:
+                verdict = judged(extract)
+            except ExtractError as refused:
+                assert "say --sort" in str(refused), f"{seed} {fault}"
+                continue
             count += 1
-            verdict = judged(extract)
             assert verdict.word == "unlawful", f"{seed} {fault}\n{verdict}"
             own = [at for at, row in enumerate(extract.rows) if row is marked]
             rows = {row for finding in verdict.findings for row in finding.rows}
@@ -256,6 +288,26 @@ def test_a_day_that_was_interrupted_is_in_doubt_without_its_range() -> None:
             verdict = judged(extract, range=None)
             assert verdict.word == "incomplete" and verdict.doubtful, str(verdict)
     assert seen > 3
+
+
+def test_another_moment_that_does_not_fit_is_left_out_and_said(
+    monkeypatch: pytest.MonkeyPatch,
+) -> None:
+    """The findings are those of the uncross at its row."""
+    extract = timed_day(3, 12)
+    fault = planted(extract, len(extract.rows))
+    assert fault is not None
+    extract.rows[fault]["surplus"] = str(int(extract.rows[fault]["surplus"]) + 1)
+    found = [str(finding) for finding in judged(extract).findings]
+    assert len(found) == 2 and judging.NO_SEARCH not in judged(extract).notes
+
+    def beyond(*_: object) -> None:
+        raise BeyondError("more than it holds")
+
+    monkeypatch.setattr(judging, "indicated", beyond)
+    verdict = judged(extract)
+    assert [str(finding) for finding in verdict.findings] == found
+    assert verdict.notes[judging.NO_SEARCH] == 1
 
 
 def test_a_doubtful_finding_has_its_reason_in_its_line() -> None:

@@ -212,6 +212,7 @@ def test_a_board_lists_what_an_auction_does() -> None:
     for seed in range(30):
         options, text = orders.order_file("short", seed)
         numbers = [options[name] for name in NUMBERS]
+        numbers.append(0)  # no reserve
         with Board(64, *numbers) as board, opened(options) as auction:
             for member, *fields in (line.split(",") for line in text.splitlines() if line):
                 if auction.is_full:

@@ -2,6 +2,7 @@
 themselves.
 """
 import inspect
+import os
 import subprocess
 import sys
 from pathlib import Path
@@ -47,6 +48,20 @@ def test_an_audit_needs_no_library() -> None:
     assert printed(code) == "callauction.verdict.audits"
 
 
+def test_a_module_that_is_missing_is_named_in_one_line(tmp_path: Path) -> None:
+    missing = "No module named 'tqdm'"
+    (tmp_path / "tqdm.py").write_text(f'raise ModuleNotFoundError("{missing}", name="tqdm")\n')
+    orders = Path(__file__).resolve().parents[2] / "examples/opening.csv"
+    words = [sys.executable, "-P", "-m", "callauction", "report", str(orders), "-o"]
+    folders = [str(tmp_path), *filter(None, [os.environ.get("PYTHONPATH")])]
+    environment = os.environ | {"PYTHONPATH": os.pathsep.join(folders)}
+    ran = subprocess.run(
+        [*words, str(tmp_path / "day.html")], capture_output=True, text=True, env=environment
+    )
+    assert (ran.returncode, ran.stdout) == (3, "")
+    assert ran.stderr == f"callauction: {missing}\n"
+
+
 NEEDING = [
     "from callauction import Auction",
     "import callauction.board",
@@ -84,6 +99,20 @@ def test_without_a_library_a_command_line_says_what_to_run_in_one_line(tmp_path:
     assert line.startswith(f"callauction: {folder}/callauction has no built library: run `")
 
 
+def test_a_shown_command_passes_over_the_modules_of_a_strangers_folder(tmp_path: Path) -> None:
+    top = Path(__file__).resolve().parents[2]
+    pages = [top / "README.md", *top.glob("docs/*.md"), *top.glob("*/README.md")]
+    for page in pages:
+        assert "python3 -m callauction" not in page.read_text(encoding="utf-8"), page
+    for name in ("csv", "json", "pandas"):
+        (tmp_path / f"{name}.py").write_text("raise SystemExit(9)\n", encoding="utf-8")
+    environment = {"PYTHONPATH": str(top / "python")}
+    for option, status in (("-P", 0), ("-B", 9)):
+        words = [sys.executable, option, "-m", "callauction", "audit", "--help"]
+        ran = subprocess.run(words, cwd=tmp_path, env=environment, capture_output=True)
+        assert ran.returncode == status
+
+
 def test_a_library_for_another_python_is_named(tmp_path: Path) -> None:
     (tmp_path / "_native.cpython-39-x86_64-linux-gnu.so").touch()
     assert library.missing(tmp_path).startswith(
@@ -99,7 +128,7 @@ def test_the_version_is_that_of_the_program() -> None:
 
 def test_signatures_are_real() -> None:
     wanted = "(low: int = 1, high: int = 1000, reference: int = 200, max_open: int = 4096, "
-    wanted += "max_calls: int = 65536, range: int | None = None)"
+    wanted += "max_calls: int = 65536, range: int | None = None, reserve: int = 0)"
     for opened in (Auction, RecordedAuction):
         assert str(inspect.signature(opened)).startswith(wanted)
 

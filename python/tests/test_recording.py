@@ -145,6 +145,22 @@ def test_many_commands_are_kept_up_to_an_error() -> None:
         assert len(auction.journal()) == 4
 
 
+def test_a_call_that_is_the_operators_is_not_recorded() -> None:
+    with RecordedAuction(max_calls=5, reserve=2) as auction:
+        three = array_of([(1, words.Indicate())] * 3)
+        auction.indicate(1)
+        with pytest.raises(FullError) as raised:
+            auction.apply_many(three)
+        assert raised.value.applied == 2
+        with pytest.raises(FullError):
+            auction.enter(1, Side.BID, 5, 200)
+        assert len(auction.journal()) == 3
+        auction.uncross()
+        auction.uncross()
+        audit = auction.audit()
+        assert audit.attrs["is_legal"] and len(auction.journal()) == 5
+
+
 def test_a_refused_command_is_kept_and_raised() -> None:
     with RecordedAuction() as auction:
         with pytest.raises(RefusedError):

@@ -4,11 +4,10 @@ import re
 import subprocess
 import sys
 from pathlib import Path
-from typing import Any
 
 import pytest
 from callauction import pages, program, report
-from callauction.__main__ import Watched, main
+from callauction.__main__ import main, watched
 from callauction.program import Day
 from callauction.tables import read_journal
 from days import EXAMPLES, day_of, options_of
@@ -280,7 +279,14 @@ def test_it_runs_as_a_module_and_reads_standard_input(tmp_path: Path) -> None:
     assert ran.stdout.decode("ascii").splitlines() == AUDITED
 
 
-def test_short_work_shows_no_bar(capsys: pytest.CaptureFixture[str]) -> None:
-    watched: Any = Watched(range(1000))
-    assert sum(watched) == 499_500
-    assert capsys.readouterr().err == ""
+@pytest.mark.parametrize("seconds, is_terminal", [(2, True), (0, True), (0, False)])
+def test_only_long_work_shows_a_bar_on_a_terminal(
+    seconds: int,
+    is_terminal: bool,
+    capsys: pytest.CaptureFixture[str],
+    monkeypatch: pytest.MonkeyPatch,
+) -> None:
+    monkeypatch.setattr("callauction.__main__.SECONDS", seconds)
+    monkeypatch.setattr("sys.stderr.isatty", lambda: is_terminal)
+    assert sum(watched(range(1000))) == 499_500
+    assert bool(capsys.readouterr().err) == (is_terminal and not seconds)

@@ -26,7 +26,7 @@ def state_by_the_rules(day: Day, calls: int, most: int) -> State:
     """Where a day of the rules is after these calls, of as many as may be."""
     kind = day.kind()
     auction = AuctionKind[kind.upper()] if kind else None
-    return State(auction, day.extended, day.reference, calls, most - calls)
+    return State(auction, day.extended, day.reference, calls, most - calls, most - calls)
 
 
 def test_the_state_is_that_of_the_rules_after_each_command() -> None:
@@ -52,40 +52,40 @@ def test_the_state_is_that_of_the_rules_after_each_command() -> None:
 
 def test_an_interruption_extends_one_call_phase() -> None:
     with Auction(range=3, max_calls=20) as auction, Auction(range=3, max_calls=20) as other:
-        assert auction.state() == State(AuctionKind.OPENING, False, 200, 0, 20)
+        assert auction.state() == State(AuctionKind.OPENING, False, 200, 0, 20, 20)
         auction.enter(1, BID, 5, 204)
         auction.enter(2, ASK, 5, 204)
         assert isinstance(auction.uncross(), Interrupted)
         assert isinstance(auction.uncross(1), Refused)
-        extended = State(AuctionKind.OPENING, True, 200, 4, 16)
+        extended = State(AuctionKind.OPENING, True, 200, 4, 16, 16)
         assert auction.state() == extended
         auction.copy_into(other)
         assert other.state() == extended
         assert isinstance(other.uncross(), Uncrossed)
-        assert other.state() == State(AuctionKind.INTRADAY, False, 204, 5, 15)
+        assert other.state() == State(AuctionKind.INTRADAY, False, 204, 5, 15, 15)
         auction.reset()
-        assert auction.state() == State(AuctionKind.OPENING, False, 200, 0, 20)
+        assert auction.state() == State(AuctionKind.OPENING, False, 200, 0, 20, 20)
 
 
 def test_after_the_day_there_is_no_auction() -> None:
     with RecordedAuction(max_calls=3) as auction:
         for _ in range(3):
             auction.uncross()
-        assert auction.state() == State(None, False, 200, 3, 0)
+        assert auction.state() == State(None, False, 200, 3, 0, 0)
     with pytest.raises(ClosedError):
         auction.state()
 
 
 def test_a_member_sees_where_the_board_is() -> None:
-    board = Board(3, range=3, max_calls=9)
-    assert board[2].state() == State(AuctionKind.OPENING, False, 200, 0, 9)
+    board = Board(3, range=3, max_calls=9, reserve=6)
+    assert board[2].state() == State(AuctionKind.OPENING, False, 200, 0, 9, 3)
     board[1].enter(BID, 5, 204)
     board[2].enter(ASK, 5, 204)
     assert isinstance(board[0].uncross().reply, Interrupted)
     for member in board.members:
-        assert member.state() == State(AuctionKind.OPENING, True, 200, 3, 6)
+        assert member.state() == State(AuctionKind.OPENING, True, 200, 3, 6, 0)
     assert isinstance(board[0].uncross().reply, Uncrossed)
-    assert board[1].state() == State(AuctionKind.INTRADAY, False, 204, 4, 5)
+    assert board[1].state() == State(AuctionKind.INTRADAY, False, 204, 4, 5, 0)
     board.close()
     with pytest.raises(ClosedError):
         board[1].state()

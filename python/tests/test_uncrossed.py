@@ -115,6 +115,7 @@ def test_a_board_says_it_of_each_uncross_to_each_member() -> None:
         options, text = orders.order_file("short", seed)
         said: dict[AuctionKind, Structs] = {}
         numbers = [options[name] for name in ("low", "high", "reference", "open", "calls", "range")]
+        numbers.append(0)  # no reserve
         with Board(64, *numbers) as board, opened(options) as auction:
             for member, command in commands_of(text):
                 if auction.is_full:

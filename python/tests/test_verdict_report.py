@@ -3,6 +3,7 @@ import html
 import re
 from decimal import Decimal
 from pathlib import Path
+from urllib.parse import unquote
 
 import pandas
 import pytest
@@ -224,7 +225,29 @@ def test_a_market_has_one_page_with_links(tmp_path: Path) -> None:
     names = [cells[0] for cells in cells_of(text, "instruments")]
     assert '<a href="market/DE2.html">DE2</a>' in text and text.count("<a href=") == 3
     assert [it.name for it in (tmp_path / "market").iterdir()] == ["DE2.html"]
-    assert "1 fault, 1 lawful, 1 unlawful" in text
+    assert "1 unlawful, 1 fault, 1 lawful" in text
     own = (tmp_path / "market/DE2.html").read_text(encoding="utf-8")
     assert "<strong>unlawful</strong>: 1 finding." in own
+    assert '<a href="../market.html">All of day.csv</a>' in own
     assert names[1:] == ["DE3", "DE 1"]
+
+
+def test_pages_of_instruments_have_links_to_one_another(tmp_path: Path) -> None:
+    """In the order of the market's page; two names that make one file have two."""
+    names = ["A/1", "A 1", "B"]
+    rows = [dict(row, isin=name) for row in small_day() for name in names]
+    for row in rows:
+        if "surplus" in row:
+            row["surplus"] = int(row["surplus"]) + 1
+    frame_of(rows).to_csv(tmp_path / "day.csv", index=False)
+    path = tmp_path / "the market.html"
+    words = ["report", str(tmp_path / "day.csv"), "--by", "isin", "--reference", "10.00"]
+    assert main([*words, "--tick-size", "0.01", "-o", str(path)]) == 0
+    links = re.findall('href="(the%20market/[^"]*)"', path.read_text(encoding="utf-8"))
+    assert links == [f"the%20market/{it}.html" for it in ("A_1", "A_1-2", "B")]
+    pages = [(tmp_path / unquote(it)).read_text(encoding="utf-8") for it in links]
+    found = [re.findall('<li><a href="([^#"]*)">([^<]*)</a>', text) for text in pages]
+    up = ("../the%20market.html", "All of day.csv")
+    assert found[0] == [up, ("A_1-2.html", "next: A/1")]
+    assert found[1] == [up, ("A_1.html", "before: A 1"), ("B.html", "next: B")]
+    assert found[2] == [up, ("A_1-2.html", "before: A/1")]

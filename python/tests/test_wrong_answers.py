@@ -224,6 +224,8 @@ def test_one_wrong_price_of_a_whole_auction_is_one_finding() -> None:
 def test_an_uncross_at_a_wrong_moment_is_a_finding() -> None:
     rows = small_day()
     rows.insert(2, rows.pop(3))
+    assert "by its time row 3 is above row 2" in str(verdict_of(rows))
+    rows = [dict(row, time="") for row in rows]
     verdict = verdict_of(rows)
     [finding] = verdict.findings
     assert (finding.item, finding.recorded, finding.lawful) == (
@@ -238,7 +240,7 @@ def test_an_uncross_at_a_wrong_moment_is_a_finding() -> None:
 def test_an_uncross_before_its_own_orders_is_a_finding() -> None:
     rows = small_day()
     rows.insert(0, rows.pop(3))
-    [finding] = verdict_of(rows).findings
+    [finding] = verdict_of([dict(row, time="") for row in rows]).findings
     assert (finding.item, finding.recorded) == ("auction", "before all orders")
 
 
@@ -348,9 +350,9 @@ COMMAS = GERMAN.replace(",", ".").replace(";", ",")
     (LINE, GERMAN, 1, "the fields are parted by semicolons: say separator ';'"),
     (["audit", "day.csv"], COMMAS, 1, "unknown columns 'Aktion', 'AuftragsNr'"),
     (["audit", "day.csv"], "event,order,side,price,quantity\n", 2,
-     "the file has order events: say --reference and --tick-size"),
+     "there are order events: say --reference and --tick-size"),
     (["report", "day.csv", "-o", "x.html"], "event,order,side,price,quantity\n", 2,
-     "the file has order events: say --reference and --tick-size"),
+     "there are order events: say --reference and --tick-size"),
     (LINE, "event,order,side,price,quantity,Only\n", 1,
      "unknown column 'Only' (is it restriction?)"),
     (LINE, "", 1, "the file is empty: it needs a header with the names of its columns"),

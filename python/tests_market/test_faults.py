@@ -16,6 +16,12 @@ from distributed import Client
 TEXTS = {f"good {seed}": text for seed, text in enumerate(rules.random_texts(8).values())}
 EMPTY_DAY = "day,1,9,5,4,9,9,\n"
 MIB = 1 << 20
+WHEN_LIMITED = """#!/bin/sh
+# Runs the program when this process has its limit: a busy machine may take a while to set it.
+tries=0
+until [ "$(ulimit -v)" = {kibibytes} ] || [ $((tries += 1)) -gt 3000 ]; do sleep 0.01; done
+exec "{program}" "$@"
+"""
 
 
 def rows_with(faults: dict[str, str]) -> list[rules.Columns]:
@@ -106,11 +112,14 @@ def test_the_least_memory(memory: str, status: int, capsys: pytest.CaptureFixtur
 
 
 def test_a_program_that_runs_out_of_memory(
-    crew: Client | None, tmp_path: pathlib.Path
+    crew: Client | None, program: str, tmp_path: pathlib.Path
 ) -> None:
     large = "day,1,65536,200,64,65536,1048576,\n"
     paths = write(tmp_path, TEXTS | {"large": large})
-    found = market.audit(paths, crew, memory=16 * MIB)
+    script = tmp_path / "when limited"
+    script.write_text(WHEN_LIMITED.format(kibibytes=16 * 1024, program=program))
+    script.chmod(0o755)
+    found = market.audit(paths, crew, program=str(script), memory=16 * MIB)
     assert columns(found) == rows_with({"large": "out of memory: it may have 16 MiB"})
     (row,) = columns(market.audit(paths[-1:], crew))
     assert row["entries"] == 0

@@ -1,0 +1,168 @@
+"""What an audit says beside its verdict: options that help, why an order comes first, what files
+say of a day without findings.
+"""
+import csv
+import json
+from pathlib import Path
+
+import pytest
+from callauction.__main__ import main
+from callauction.verdict import Reading, audit_events
+from damage import places, timed_day
+from shapes import Written, total_quantities
+from test_desk import UNCROSS, audited, base_day, text_of
+from test_holes import rows_of
+from test_verdict import frame_of, judged
+
+Printed = pytest.CaptureFixture[str]
+HEADER = "event,order,side,price,quantity,surplus,auction,trades,bid,ask\n"
+
+
+# ---- what replaces say
+
+
+TOTALS = """new A bid 300 10.00
+new S ask 100 10.00
+uncross 10.00 100 200
+trade A S 100 10.00
+replace A bid 300 10.00
+new T ask 300 10.00
+uncross 10.00 200 100
+trade A T 200 10.00"""
+HELD = ["opening", "closing"]
+
+
+def test_total_quantities_that_are_not_said_condemn_no_day() -> None:
+    """Of A's 300, whether or not it was replaced, 100 were executed before."""
+    terms = dict(reference="10", tick_size="0.01", auctions=HELD)
+    frame = frame_of(rows_of(TOTALS))
+    verdict = audit_events(frame, **terms)  # type: ignore[arg-type]
+    assert verdict.word == "incomplete", str(verdict)
+    assert "--quantity says which" in verdict.doubtful[0].doubt
+    for quantity, word in (("open", "unlawful"), ("total", "incomplete")):
+        reading = Reading(quantity=quantity)  # type: ignore[arg-type]
+        verdict = audit_events(frame, reading=reading, **terms)  # type: ignore[arg-type]
+        assert verdict.word == word and not verdict.doubtful, str(verdict)
+    wrong = frame_of(rows_of(TOTALS.replace("10.00 200 100", "10.00 250 100")))
+    assert audit_events(wrong, **terms).word == "unlawful"  # type: ignore[arg-type]
+
+
+def test_days_of_total_quantities_are_never_unlawful() -> None:
+    import random
+
+    hints = 0
+    for seed in range(60):
+        found = Written(timed_day(seed, 20), {})
+        total_quantities(random.Random(seed), found)
+        verdict = judged(found.extract)
+        assert verdict.word != "unlawful", f"{seed}\n{verdict}"
+        hints += any("--quantity says which" in it.doubt for it in verdict.doubtful)
+    assert hints > 3
+
+
+# ---- why an order comes first
+
+
+@pytest.mark.parametrize("side, other", [("bid", "ask"), ("ask", "bid")])
+def test_the_order_that_was_jumped_is_explained(
+    side: str, other: str, tmp_path: Path, capsys: Printed
+) -> None:
+    """B trades in the place of A; the order of the other side has its shares."""
+    pair = "B,S" if side == "bid" else "S,B"
+    text = (
+        f"{HEADER}new,A,{side},10.00,100,,,,,\nnew,B,{side},10.00,100,,,,,\n"
+        f"new,S,{other},10.00,100,,,,,\nuncross,,{side},10.00,100,100,opening,1,,\n"
+        f"trade,,,10.00,100,,,,{pair}\n"
+    )
+    assert audited(text, ["--reference", "10", "--auctions", "opening", "--explain"], tmp_path) == 4
+    line, first, second, *_ = capsys.readouterr().out.splitlines()
+    why = "A entered in row 2 stands before B entered in row 3 at 10.00"
+    assert line.endswith(f": {why}") and first.strip() == why
+    assert "is number 1 of 2 in" in second or "is number 2 of 2 in" in second
+
+
+def test_doubts_come_in_the_order_of_harm(tmp_path: Path, capsys: Printed) -> None:
+    """Two jumps, of 20 shares and of 500, of orders that a missing one may be before; the first
+    has the better price.
+    """
+    text = f"""{HEADER}new,X,bid,?,10,,,,,
+new,A,bid,10.02,20,,,,,
+new,B,bid,10.02,20,,,,,
+new,C,bid,10.01,500,,,,,
+cancel,Y,,,,,,,,
+new,D,bid,10.00,500,,,,,
+new,E,bid,10.00,500,,,,,
+new,S,ask,10.00,1040,,,,,
+uncross,,,10.00,1040,,opening,,,
+trade,,,10.00,20,,,,A,S
+trade,,,10.00,10,,,,B,S
+trade,,,10.00,510,,,,C,S
+trade,,,10.00,500,,,,E,S
+"""
+    words = ["--reference", "10", "--auctions", "opening"]
+    audited(text, words, tmp_path)
+    lines = [it for it in capsys.readouterr().out.splitlines() if "trade: recorded" in it]
+    moved = [max(int(part.split(" at ")[0].replace(",", "")) for part in line.split(": ")
+                 if " at 10" in part and part[0].isdigit()) for line in lines]  # fmt: skip
+    doubts = [it for line, it in zip(lines, moved) if line.startswith("doubtful")]
+    assert len(doubts) > 1 and doubts == sorted(doubts, reverse=True), lines
+
+
+# ---- files of findings
+
+
+@pytest.mark.parametrize("words", [
+    ["--findings", "x.xlsx"], ["--findings", "x.parquet"], ["-o", "x.xlsx"], ["-o", "x.json"],
+])
+def test_a_file_of_another_form_is_refused(
+    words: list[str], tmp_path: Path, capsys: Printed
+) -> None:
+    with pytest.raises(SystemExit) as ended:
+        audited(text_of(base_day().rows), words, tmp_path)
+    assert ended.value.code == 2
+    found = capsys.readouterr()
+    forms = "csv or json" if words[0] == "--findings" else "csv"
+    assert found.err.endswith(f": {words[1]}: what is written is {forms}\n") and not found.out
+
+
+def findings_of(path: Path) -> list[dict[str, str]]:
+    if path.suffix == ".json":
+        found: list[dict[str, str]] = json.loads(path.read_text())
+        return found
+    return [*csv.DictReader(path.read_text().splitlines())]
+
+
+@pytest.mark.parametrize("name", ["found.csv", "found.json"])
+@pytest.mark.parametrize("change, status, word, kinds", [
+    (lambda rows: None, 0, "lawful", {"none"}),
+    (lambda rows: rows.__delitem__(slice(places(rows, UNCROSS)[-1], None)), 5, "incomplete",
+     {"none"}),
+    (lambda rows: rows.clear(), 5, "incomplete", {"none"}),
+    (lambda rows: rows[places(rows, UNCROSS)[0]].update(quantity="7"), 4, "unlawful", {"certain"}),
+])
+def test_a_file_of_findings_says_the_verdict(
+    name: str, change: object, status: int, word: str, kinds: set[str], tmp_path: Path
+) -> None:
+    rows = [dict(row) for row in base_day().rows]
+    change(rows)  # type: ignore[operator]
+    path = tmp_path / name
+    assert audited(text_of(rows), ["--findings", str(path)], tmp_path) == status
+    found = findings_of(path)
+    assert {it["kind"] for it in found} == kinds and {it["verdict"] for it in found} == {word}
+    assert found[0]["command"] and len(found) == 1
+
+
+def test_each_instrument_has_a_row_among_findings(tmp_path: Path) -> None:
+    rows = [dict(row, isin=name) for row in base_day().rows for name in ("DE1", "DE2", "DE3")]
+    next(it for it in rows if it["event"] == UNCROSS and it["isin"] == "DE2")["quantity"] = "7"
+    path, days, written = (tmp_path / it for it in ("day.csv", "days.csv", "found.json"))
+    path.write_text(text_of(rows))
+    reference = base_day().reference
+    days.write_text(f"isin,reference,tick_size\nDE1,{reference},0.01\nDE2,{reference},0.01\n")
+    words = ["audit", str(path), "--by", "isin", "--days", str(days), "--findings", str(written)]
+    assert main(words) == 4
+    found = {it["instrument"]: it for it in findings_of(written)}
+    kinds = {name: (it["kind"], it["verdict"]) for name, it in found.items()}
+    assert kinds == {"DE1": ("none", "lawful"), "DE2": ("certain", "unlawful"),
+                     "DE3": ("none", "fault")}  # fmt: skip
+    assert "it isn't among the days" in found["DE3"]["why"] or "--reference" in found["DE3"]["why"]

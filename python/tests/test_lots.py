@@ -1,0 +1,108 @@
+"""What other systems mean by quantities: lots; trades of which one side has no row; and what is
+read of a market.
+"""
+import random
+from pathlib import Path
+
+import pytest
+from callauction.__main__ import main
+from callauction.verdict import Reading
+from damage import places, timed_day
+from extracts import Extract, Rows
+from test_desk import TRADE, UNCROSS
+from test_doubts import planted
+from test_verdict import judged
+
+Printed = pytest.CaptureFixture[str]
+SEEDS = range(40)
+OF_ORDERS = ("new", "replace", "cancel")
+
+
+# ---- lots
+
+
+def in_lots(seed: int, *events: str) -> Extract:
+    """A lawful day whose orders have a hundred times the shares, and so have the results of these
+    events; those of others are in lots.
+    """
+    extract = timed_day(seed)
+    for row in extract.rows:
+        if row["event"] in (*OF_ORDERS, *events):
+            for name in ("quantity", "peak", "surplus"):
+                if row.get(name):
+                    row[name] = str(100 * int(row[name]))
+    return extract
+
+
+@pytest.mark.parametrize("events", [(), (UNCROSS,), (TRADE,)])
+def test_a_lawful_day_in_lots_is_never_unlawful(events: tuple[str, ...]) -> None:
+    in_doubt = 0
+    for seed in SEEDS:
+        extract = in_lots(seed, *events)
+        if len(places(extract.rows, TRADE)) < 2:
+            continue  # one number may be wrong
+        verdict = judged(extract)
+        assert verdict.word != "unlawful", f"{seed}\n{verdict}"
+        in_doubt += any("in lots of 100" in it.doubt for it in verdict.doubtful)
+    assert in_doubt > 20
+    assert all(judged(in_lots(seed, UNCROSS, TRADE)).word == "lawful" for seed in SEEDS)
+
+
+def test_a_fault_beside_lots_is_found() -> None:
+    found = 0
+    for seed in SEEDS:
+        extract = in_lots(seed)
+        if planted(extract, len(extract.rows)) is not None:
+            found += judged(extract).word == "unlawful"
+    assert found > 20
+
+
+# ---- one side of a trade
+
+
+def of_both_sides(rows: Rows) -> Rows:
+    """The rows with one for each side of a trade, which a column joins."""
+    found = Rows()
+    for number, row in enumerate(rows):
+        if row["event"] != TRADE:
+            found.append(row)
+            continue
+        for side in ("bid", "ask"):
+            own = {name: it for name, it in row.items() if name not in ("bid", "ask")}
+            found.append({**own, "order": row[side], "side": side, "match": f"m{number}"})
+    return found
+
+
+def test_a_lawful_day_that_lacks_one_side_of_a_trade_is_never_unlawful() -> None:
+    in_doubt = 0
+    for seed in SEEDS:
+        extract = timed_day(seed)
+        extract.rows[:] = of_both_sides(extract.rows)
+        those = places(extract.rows, TRADE)
+        if len(those) < 4:
+            continue
+        del extract.rows[random.Random(seed).choice(those)]
+        verdict = judged(extract, reading=Reading(pair="match"))
+        assert verdict.word == "incomplete", f"{seed}\n{verdict}"
+        in_doubt += any("no row of its other side" in it.doubt for it in verdict.doubtful)
+    assert in_doubt > 10
+
+
+# ---- what is read of a market
+
+
+ROWS = [
+    "new,A1,Adler,bid,20.02,1000,,,,", "new,B1,Birk,ask,20.01,800,,,,",
+    "uncross,,,bid,20.02,800,200,opening,,", "trade,,,,20.02,800,,opening,A1,B1",
+]  # fmt: skip
+
+
+def test_check_reads_each_instrument_by_itself(tmp_path: Path, capsys: Printed) -> None:
+    header = "event,order,member,side,price,quantity,surplus,auction,bid,ask,isin"
+    rows = [f"{row},{name}" for row in ROWS for name in ("DE1", "DE2")]
+    text = "".join(f"{row}\n" for row in (header, *rows, "new,A9,Adler,bid,20.02,1,,,,,"))
+    (tmp_path / "day.csv").write_text(text)
+    words = ["audit", str(tmp_path / "day.csv"), "--by", "isin", "--check"]
+    assert main([*words, "--reference", "20.05", "--tick-size", "0.01"]) == 0
+    printed = capsys.readouterr().out.splitlines()
+    assert {"by: isin, 2 instruments", "rows without isin 1", "bad rows 0"} <= {*printed}

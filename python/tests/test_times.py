@@ -1,0 +1,166 @@
+"""Times of an extract in many forms: what can't be read says nothing of which row came first."""
+from collections.abc import Callable
+from pathlib import Path
+
+import pytest
+from damage import ORDERS, places
+from extracts import Rows
+from test_desk import TRADE, UNCROSS, audited, base_day, by_order, text_of
+
+Printed = pytest.CaptureFixture[str]
+Form = Callable[[str], str]
+
+
+def base_rows() -> Rows:
+    return [dict(row) for row in base_day().rows]
+
+
+def timed(form: Form, *events: str) -> Rows:
+    """The base day's rows with times in another form, of all events or of these."""
+    rows = base_rows()
+    for place in places(rows, *(events or (*ORDERS, UNCROSS, TRADE))):
+        rows[place]["time"] = form(rows[place]["time"])
+    return rows
+
+
+def seconds(time: str) -> int:
+    hour, minute, second = map(int, time.split(":"))
+    return 3600 * hour + 60 * minute + second
+
+
+def halved(time: str) -> str:
+    return f"{int(time[:2]) % 12 or 12}{time[2:]} {'AM' if time < '12' else 'PM'}"
+
+
+# ---- dates with strokes
+
+
+@pytest.mark.parametrize("form, words", [
+    ("11/25/2026 {}", []),
+    ("25/11/2026 {}", []),
+    ("4/4/2026 {}", []),
+    ("5/6/2026 {}", []),
+    ("2026/11/25 {}", []),
+    ("2026/1/5 {}", []),
+    ("25.11.2026 {}", []),
+    ("5.6.2026 {}", []),
+    ("5/6/2026 {}", ["--dates", "dmy"]),
+    ("5/6/2026 {}", ["--dates", "mdy"]),
+])  # fmt: skip
+@pytest.mark.parametrize("clock", [str, halved])
+def test_dates_that_all_rows_leave_one_reading_of_are_read(
+    form: str, words: list[str], clock: Form, tmp_path: Path
+) -> None:
+    rows = timed(lambda text: form.format(clock(text)))[::-1]
+    assert audited(text_of(by_order(rows)), ["--sort", *words], tmp_path) == 0
+    rows[places(rows, UNCROSS)[0]]["quantity"] = "7"
+    assert audited(text_of(by_order(rows)), ["--sort", *words], tmp_path) == 4
+
+
+def test_one_row_may_say_what_all_dates_are(tmp_path: Path) -> None:
+    """An order of 13 November and the others of 12 December, or of two days in the other reading.
+    """
+    rows = timed(lambda text: f"12/12/2026 {text}")
+    first = places(rows, "new")[0]
+    rows[first]["time"] = rows[first]["time"].replace("12/12", "11/13")
+    assert audited(text_of(rows[::-1]), ["--sort"], tmp_path) in (0, 5)
+    rows[first]["time"] = rows[first]["time"].replace("11/13", "13/11")
+    assert audited(text_of(rows[::-1]), ["--sort"], tmp_path) in (0, 5)
+
+
+def test_dates_of_two_readings_are_refused_with_the_option_that_says_it(
+    tmp_path: Path, capsys: Printed
+) -> None:
+    """The orders are of 3 April and of 4 March, the results of 4 April: all before them in one
+    reading alone would be of another day.
+    """
+    rows = timed(lambda text: f"4/4/2026 {text}")
+    first = places(rows, "new")[0]
+    rows[first]["time"] = rows[first]["time"].replace("4/4", "4/3")
+    assert audited(text_of(rows), ["--sort"], tmp_path) == 1
+    assert "row 2 (say --dates dmy or mdy)\n" in capsys.readouterr().err
+    for dates in ("dmy", "mdy"):
+        assert audited(text_of(rows), ["--sort", "--dates", dates], tmp_path) == 0
+    audited(text_of(rows), [], tmp_path)
+    assert "(--dates dmy or mdy says it): 1\n" in capsys.readouterr().err
+
+
+def test_dates_of_no_reading_are_refused(tmp_path: Path, capsys: Printed) -> None:
+    rows = timed(lambda text: f"25/11/2026 {text}")
+    rows[0]["time"] = rows[0]["time"].replace("25/11", "11/25")
+    assert audited(text_of(rows), ["--sort"], tmp_path) == 1
+    assert "times can't be read to sort rows" in capsys.readouterr().err
+
+
+def test_conditions_have_dates_with_strokes(tmp_path: Path) -> None:
+    rows = timed(lambda text: f"11/25/2026 {text}")
+    late = [dict(rows[0], order="LATE", time="11/26/2026 09:00:00")]
+    words = ["--where", "time < 11/26/2026 00:00:00"]
+    assert audited(text_of(rows + late), words, tmp_path) == 0
+
+
+# ---- times that say nothing of an order
+
+
+@pytest.mark.parametrize("change", [
+    by_order,
+    lambda rows: rows[::-1],
+    lambda rows: sorted(rows, key=lambda row: row["event"] not in ORDERS),
+])
+def test_times_that_cannot_be_read_are_no_proof_of_an_order(
+    change: Callable[[Rows], Rows], tmp_path: Path
+) -> None:
+    """The day is lawful by its times, and its rows are in another order."""
+    rows = change(timed(lambda text: f"Nov 25 {text}"))
+    assert audited(text_of(rows), [], tmp_path) in (1, 5)
+    assert audited(text_of(rows), ["--sort"], tmp_path) == 1
+
+
+def test_one_time_that_cannot_be_read_leaves_what_is_above_certain(tmp_path: Path) -> None:
+    rows = base_rows()
+    ends = places(rows, UNCROSS)
+    later = next(at for at in places(rows, *ORDERS) if at > ends[1])
+    rows[later]["time"] = "?"
+    assert audited(text_of(rows), [], tmp_path) == 0
+    for number, status in enumerate((4, 4, 5)):
+        wrong = [dict(row) for row in rows]
+        wrong[ends[number]]["surplus"] = "987654"
+        assert audited(text_of(wrong), [], tmp_path) == status
+
+
+@pytest.mark.parametrize("event", ["new", "cancel", UNCROSS])
+def test_rows_without_a_time_are_not_sorted(event: str, tmp_path: Path, capsys: Printed) -> None:
+    """They stay where they are where all others do."""
+    rows = base_rows()
+    rows[places(rows, event)[-1]]["time"] = ""
+    assert audited(text_of(rows), ["--sort"], tmp_path) in (0, 5)
+    assert audited(text_of(by_order(rows)), ["--sort"], tmp_path) == 1
+    assert "1 rows have no time, such as row " in capsys.readouterr().err
+
+
+@pytest.mark.parametrize("form", [
+    lambda text: str(1795737600 + seconds(text)),
+    lambda text: f"20261127{text.replace(':', '')}",
+    lambda text: f"11/27/2026 {text}",
+])
+def test_times_of_two_forms_are_not_sorted(form: Form, tmp_path: Path, capsys: Printed) -> None:
+    """Numbers of an epoch beside times of a day, as well as dates beside none."""
+    rows = timed(form, *ORDERS)
+    assert audited(text_of(rows), ["--sort"], tmp_path) == 1
+    assert "have times of two forms" in capsys.readouterr().err
+
+
+@pytest.mark.parametrize("own, late", [
+    ("1795737678310", "1795737678"), ("9018.31", "9018"), ("20261127090018310", "20261127090018"),
+])
+def test_numbers_of_results_may_be_coarser_than_those_of_orders(
+    own: str, late: str, tmp_path: Path
+) -> None:
+    """Sorted the result is above an order that was before it in its second."""
+    text = f"""event,time,order,side,price,quantity,surplus,auction,trades,bid,ask
+new,{own[:-2]}00,A,bid,10.02,1000,,,,,
+new,{own},S,ask,10.02,1000,,,,,
+uncross,{late},,,10.02,1000,0,opening,1,,
+trade,{late},,,10.02,1000,,opening,,A,S
+"""
+    assert audited(text, ["--auctions", "opening", "--sort"], tmp_path) == 5
