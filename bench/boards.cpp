@@ -15,7 +15,7 @@ namespace {
 
 constexpr int standing = 1000, calls = 40000, rounds = 5;
 constexpr std::array<int, 4> thread_counts{1, 2, 4, 8};
-constexpr callauction_config config{1, 1000, 500, 4096, 65536, 0, 0};
+constexpr callauction_config config{1, 1000, 500, 4096, 65536, 0, 0, 0, 0};
 
 void want(bool holds) {
     if (!holds) std::exit(1);

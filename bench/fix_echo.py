@@ -5,20 +5,10 @@ import asyncio
 import pathlib
 import sys
 
-from callauction.fix import dictionaries
 from callauction.fix._quickfix import Engine
-from callauction.fix.tags import packed, pairs_of
+from callauction.fix.settings import settings_of
+from callauction.fix.tags import FIX44, Given
 
-SETTINGS = """[DEFAULT]
-ConnectionType=acceptor
-SocketAcceptPort=0
-HeartBtInt=30
-StartTime=00:00:00
-EndTime=00:00:00
-FileStorePath={folder}
-DataDictionary={folder}/FIX44.xml
-"""
-SESSION = "[SESSION]\nBeginString=FIX.4.4\nSenderCompID=VENUE\nTargetCompID={member}\n"
 COPIED = (11, 38, 40, 44, 54, 55)
 
 
@@ -26,27 +16,25 @@ class Echo:
     """The sessions, and where each is connected."""
 
     def __init__(self, folder: pathlib.Path, members: list[str]) -> None:
-        dictionaries.write(folder)
-        text = SETTINGS.format(folder=folder)
-        text += "".join(SESSION.format(member=it) for it in members)
+        text = settings_of(folder, dict.fromkeys(members, FIX44))
         self.engine = Engine(text, lambda session, password: True)
         self.count = 0
 
-    def answer(self, session: str, text: bytes) -> None:
+    def answer(self, session: str, order: Given) -> None:
         """Answers an order."""
         self.count += 1
-        order = dict(pairs_of(text))
         pairs = [(tag, order[tag]) for tag in COPIED if tag in order]
         pairs += [(37, str(self.count)), (17, f"XYZ.{self.count}"), (150, "0"), (39, "0")]
         pairs += [(151, order[38]), (14, "0"), (6, "0"), (59, "0"), (60, "20261126-09:00:00")]
-        self.engine.send(session, "8", packed(pairs))
+        self.engine.send(session, "8", pairs)
 
     def take(self, number: int, data: bytes) -> None:
         """Takes what came on a connection."""
         self.engine.feed(number, data)
-        for what, session, text in self.engine.drain():
-            if what == "message":
-                self.answer(session, text)
+        self.engine.events()
+        for session, order, _ in self.engine.said():
+            self.answer(session, order)
+        self.engine.stored()
 
     async def serve(self, reader: asyncio.StreamReader, writer: asyncio.StreamWriter) -> None:
         """Serves a connection."""
@@ -54,7 +42,7 @@ class Echo:
         writers[number] = writer
         while data := await reader.read(1 << 16):
             self.take(number, data)
-            for it, out, _ in self.engine.outgoing():
+            for it, out, *_ in self.engine.outgoing():
                 writers[it].write(out)
         self.engine.lost(number)
 

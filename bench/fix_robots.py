@@ -1,5 +1,6 @@
 """Robots of a measure by FIX 4.4: sessions that each send an order, wait for its answer, send the
-next; it is told once on standard input and answers as venue_robots.py does.
+next; it is told once on standard input and answers as venue_robots.py does. As there, all that is
+sent is made before.
 
 The line of JSON has `port`, `sessions` (CompID and password of each) and `orders` (how many each
 sends).
@@ -13,6 +14,7 @@ import time
 SOH = b"\x01"
 END = SOH + b"10="
 REPORT = SOH + b"35=8" + SOH
+REFUSED = SOH + b"150=8" + SOH
 Streams = tuple[asyncio.StreamReader, asyncio.StreamWriter]
 
 
@@ -44,21 +46,28 @@ async def connected(port: int, comp_id: str, password: str) -> Streams:
     return reader, writer
 
 
-async def play(streams: Streams, comp_id: str, orders: int) -> list[float]:
-    """The seconds that each order's answer took."""
-    reader, writer = streams
+def texts(comp_id: str, orders: int) -> list[bytes]:
+    """The orders of a session, whose Logon had the number 1."""
     found = []
     for number in range(2, orders + 2):
         side, tick = "12"[number % 2], 150 + number * 37 % 100
         rest = f"11={number}|55=XYZ|54={side}|60={stamp()}|38={1 + number % 900}|40=2"
-        rest += f"|44={tick / 100:.2f}"
+        found.append(written("D", number, comp_id, f"{rest}|44={tick / 100:.2f}"))
+    return found
+
+
+async def play(streams: Streams, those: list[bytes]) -> list[float]:
+    """The seconds that each order's answer took."""
+    reader, writer = streams
+    found = []
+    for text in those:
         begin = time.perf_counter()
-        writer.write(written("D", number, comp_id, rest))
+        writer.write(text)
         answer = await heard(reader)
         while REPORT not in answer:
             answer = await heard(reader)
         found.append(time.perf_counter() - begin)
-        if SOH + b"150=8" + SOH in answer:
+        if REFUSED in answer:
             sys.exit(f"fix_robots: {answer!r}")
     return found
 
@@ -67,11 +76,11 @@ async def main() -> None:
     asked = json.loads(sys.stdin.readline())
     those = asked["sessions"]
     streams = [await connected(asked["port"], *it) for it in those]
+    orders = [texts(name, asked["orders"]) for name, _ in those]
     print("ready", flush=True)
     await asyncio.to_thread(sys.stdin.readline)
     begin = time.monotonic()
-    works = (play(it, name, asked["orders"]) for it, (name, _) in zip(streams, those))
-    waits = await asyncio.gather(*works)
+    waits = await asyncio.gather(*map(play, streams, orders))
     end = time.monotonic()
     print(json.dumps([begin, end, [it for each in waits for it in each]]), flush=True)
     for _, writer in streams:

@@ -40,7 +40,7 @@ static callauction_command command_of(uint32_t k, uint32_t id) {
     return command;
 }
 
-static const callauction_config config = {1, 1000, 500, 4096, 1048576, 0, 0};
+static const callauction_config config = {1, 1000, 500, 4096, 1048576, 0, 0, 0, 0};
 
 static void begin(callauction_handle *auction) {
     callauction_reply reply;

@@ -34,7 +34,7 @@ static callauction_command order(uint8_t side, uint32_t tick) {
 }
 
 static void begin(callauction_handle *auction, uint32_t standing) {
-    static const callauction_config config = {1, 1000, 500, 65536, 1048576, 0, 0};
+    static const callauction_config config = {1, 1000, 500, 65536, 1048576, 0, 0, 0, 0};
     callauction_reply reply;
     want(callauction_open(auction, &config));
     for (uint32_t k = 0; k < standing; k++) {
@@ -96,7 +96,7 @@ static void measure_apply_many(void) {
 }
 
 static void measure_board(void) {
-    static const callauction_config config = {1, 1000, 500, 65536, 1048576, 0, 0};
+    static const callauction_config config = {1, 1000, 500, 65536, 1048576, 0, 0, 0, 0};
     callauction_member members[2] = {0};
     callauction_receipt receipt;
     want(callauction_board_open(members, 2, &config));

@@ -2,19 +2,21 @@
 
 1, 10 and 60 sessions send 1,000, 5,000 and 6,000 orders in a call phase, each the next one once the
 last is answered. The echo is QuickFIX's sessions behind the same loop of Python, which answers each
-order with a report; the engine is QuickFIX's sessions alone, in one process without a socket.
-Prints the orders a second, the milliseconds of an answer at the middle and at the 99th of 100, and
-the processor's seconds of the server and its program. All is right where each journal has all
-orders and is lawful by the program, and the front by FIX, synced, answers at least half as many
-orders a second as the other one with as many members. Needs Debian's python3-aiohttp,
-libquickfix-dev and pybind11-dev.
+order with a report; the engine is QuickFIX's sessions alone, in one process without a socket. All
+take turns. Prints of all runs the middle ones of the orders a second, of the milliseconds of an
+answer at the middle and at the 99th of 100, and of the microseconds of the processor that an order
+takes of the server and its program. All is right where each journal has all orders and is lawful by
+the program, and the front by FIX answers at least as many orders a second as the other one with as
+many members. Needs Debian's python3-aiohttp, libquickfix-dev and pybind11-dev.
 """
 import argparse
 import contextlib
+import itertools
 import json
 import os
 import pathlib
 import socket
+import statistics
 import subprocess
 import sys
 import tempfile
@@ -30,10 +32,14 @@ sys.path.insert(0, str(measuring.TOP / "build"))
 import debian  # noqa: E402
 
 BENCH = measuring.TOP / "bench"
-ROBOTS = 2
 ALONE = 10_000
 """How many QuickFIX takes alone."""
-LEAST_SHARE = 0.5
+Kind = tuple[str, int, bool]
+"""What is measured: a server, its sessions, and whether it is synced."""
+Figures = list[float]
+"""Of a run: orders a second, milliseconds at the middle and at the 99th of 100, and microseconds of
+the processor, as far as they were measured.
+"""
 DAY = """
 sync = {sync}
 [phases]
@@ -78,9 +84,9 @@ def robots(
     pipe, those = subprocess.PIPE, [*passwords.items()]
     words = [task.interpreter, str(BENCH / "fix_robots.py")]
     crew = []
-    for place in range(min(ROBOTS, len(those))):
+    for place in range(min(venue.ROBOTS, len(those))):
         it = subprocess.Popen(words, stdin=pipe, stdout=pipe, text=True)
-        asked = {"port": port, "sessions": those[place::ROBOTS], "orders": orders}
+        asked = {"port": port, "sessions": those[place :: venue.ROBOTS], "orders": orders}
         assert it.stdin is not None and it.stdout is not None
         print(json.dumps(asked), file=it.stdin, flush=True)
         it.stdout.readline()
@@ -121,17 +127,16 @@ def begun(
         yield child, found["members"], found["code"], port
 
 
-def is_right(program: str, journal: pathlib.Path, orders: int) -> bool:
-    """Whether a journal has so many orders and is lawful by the program."""
+def check(program: str, journal: pathlib.Path, orders: int) -> None:
+    """Raises SystemExit where a journal hasn't so many orders or isn't lawful by the program."""
     with open(journal, "rb") as given:
         ran = subprocess.run([program, "--audit"], stdin=given, capture_output=True, text=True)
-    return ran.returncode == 0 and f"compared {orders}\n" in ran.stdout
+    if ran.returncode != 0 or f"compared {orders}\n" not in ran.stdout:
+        sys.exit(f"fix: a journal isn't whole and lawful: {ran.stdout}{ran.stderr}")
 
 
-def by_fix(
-    task: venue.Task, count: int, orders: int, is_synced: bool
-) -> tuple[float, bool]:
-    """Prints what the front by FIX takes: its orders a second, and whether all is right."""
+def by_fix(task: venue.Task, count: int, orders: int, is_synced: bool) -> Figures:
+    """What the front by FIX takes."""
     with tempfile.TemporaryDirectory() as work:
         folder = pathlib.Path(work)
         with begun(task, folder, count, is_synced) as (child, _, _, port):
@@ -140,15 +145,12 @@ def by_fix(
             before = venue.processor_seconds(child.pid)
             played = robots(task, port, passwords, orders)
             processor = venue.processor_seconds(child.pid) - before
-        print_row("FIX", count, is_synced, played, processor)
-        journal = folder / "venue/XYZ.journal.csv"
-        return len(played[1]) / played[0], is_right(task.program, journal, len(played[1]))
+        check(task.program, folder / "venue/XYZ.journal.csv", len(played[1]))
+        return figures(played, processor)
 
 
-def by_socket(
-    task: venue.Task, count: int, orders: int, is_synced: bool
-) -> tuple[float, bool]:
-    """Prints what the other front takes: its orders a second, and whether all is right."""
+def by_socket(task: venue.Task, count: int, orders: int, is_synced: bool) -> Figures:
+    """What the other front takes."""
     with tempfile.TemporaryDirectory() as work:
         folder = pathlib.Path(work)
         with begun(task, folder, 1, is_synced) as (child, url, code, _):
@@ -163,9 +165,8 @@ def by_socket(
             before = venue.processor_seconds(child.pid)
             played = venue.robots(one, f"{url}api/socket", hellos)
             processor = venue.processor_seconds(child.pid) - before
-        print_row("WebSocket", count, is_synced, played, processor)
-        journal = folder / "venue/XYZ.journal.csv"
-        return len(played[1]) / played[0], is_right(task.program, journal, len(played[1]))
+        check(task.program, folder / "venue/XYZ.journal.csv", len(played[1]))
+        return figures(played, processor)
 
 
 def order_of(number: int) -> str:
@@ -175,34 +176,40 @@ def order_of(number: int) -> str:
     return json.dumps(fields | {"quantity": 1 + number % 900, "price": f"{tick / 100:.2f}"})
 
 
-def echo(task: venue.Task, count: int, orders: int) -> None:
-    """Prints what the echo takes."""
+def echo(task: venue.Task, count: int, orders: int) -> Figures:
+    """What the echo takes."""
     with tempfile.TemporaryDirectory() as work:
         words = [task.interpreter, str(BENCH / "fix_echo.py"), work, *comp_ids(count)]
         with venue.started(words, environment_of(task), "^echo") as (child, said):
             before = venue.processor_seconds(child.pid)
             played = robots(task, int(said.split()[1]), dict.fromkeys(comp_ids(count), "x"), orders)
-            processor = venue.processor_seconds(child.pid) - before
-        print_row("echo", count, False, played, processor)
+            return figures(played, venue.processor_seconds(child.pid) - before)
 
 
-def engine(task: venue.Task) -> None:
-    """Prints what QuickFIX's sessions alone take."""
+def engine(task: venue.Task) -> Figures:
+    """What QuickFIX's sessions alone take."""
     with tempfile.TemporaryDirectory() as work:
         text = ENGINE.format(bench=BENCH, folder=work, orders=ALONE)
         words = [task.interpreter, "-c", text]
         said = subprocess.check_output(words, env=environment_of(task), text=True)
-    row("engine", "1", "no", f"{ALONE / float(said):,.0f}", "", "", f"{float(said):.1f}")
+    return [ALONE / float(said)]
 
 
-def print_row(
-    name: str, count: int, is_synced: bool, played: venue.Played, processor: float
-) -> None:
-    """Prints a row."""
+def figures(played: venue.Played, processor: float) -> Figures:
+    """The figures of a run."""
     seconds, waits = played
-    middle, late = (f"{1000 * waits[len(waits) * share // 100]:.1f}" for share in (50, 99))
-    synced, rate = "yes" if is_synced else "no", f"{len(waits) / seconds:,.0f}"
-    row(name, str(count), synced, rate, middle, late, f"{processor:.1f}")
+    middle, late = (1000 * waits[len(waits) * share // 100] for share in (50, 99))
+    return [len(waits) / seconds, middle, late, 1_000_000 * processor / len(waits)]
+
+
+def print_table(found: dict[Kind, list[Figures]]) -> None:
+    """Prints the middle ones of all runs."""
+    waits = ("middle, ms", "99th of 100, ms")
+    head("server", "sessions", "synced", "orders a second", *waits, "processor, us")
+    for (name, count, is_synced), runs in found.items():
+        rate, *others = map(statistics.median, zip(*runs))
+        cells = [f"{it:,.{place}f}" for it, place in zip(others, (1, 1, 0))] or ["-"] * 3
+        row(name, str(count), "yes" if is_synced else "no", f"{rate:,.0f}", *cells)
 
 
 def measure(asked: argparse.Namespace) -> bool:
@@ -210,18 +217,19 @@ def measure(asked: argparse.Namespace) -> bool:
     task = venue.Task(program, debian.python_with(("aiohttp",)), [])
     build = [task.interpreter, "-P", "-m", "callauction.fix.build"]
     subprocess.run(build, env=environment_of(task), check=True, stdout=subprocess.DEVNULL)
-    are_whole, is_fast = True, True
-    waits = ("middle, ms", "99th of 100, ms")
-    head("server", "sessions", "synced", "orders a second", *waits, "processor, s")
+    sizes = [tuple(map(int, it.split(":"))) for it in asked.sessions.split(",")]
+    servers = {"FIX": by_fix, "WebSocket": by_socket}
+    found: dict[Kind, list[Figures]] = {}
     for _ in range(asked.runs):
-        engine(task)
-        for each in asked.sessions.split(","):
-            count, orders = map(int, each.split(":"))
-            echo(task, count, orders // count)
-            for is_synced in (True, False):
-                fix, is_right_by_fix = by_fix(task, count, orders // count, is_synced)
-                other, is_right_by_socket = by_socket(task, count, orders // count, is_synced)
-                are_whole &= is_right_by_fix and is_right_by_socket
-                is_fast &= not is_synced or fix >= LEAST_SHARE * other
-    print("\njournals: " + ("whole and lawful" if are_whole else "NOT whole and lawful"))
-    return are_whole and is_fast
+        found.setdefault(("engine", 1, False), []).append(engine(task))
+        for count, orders in sizes:
+            took = echo(task, count, orders // count)
+            found.setdefault(("echo", count, False), []).append(took)
+            for is_synced, name in itertools.product((True, False), servers):
+                took = servers[name](task, count, orders // count, is_synced)
+                found.setdefault((name, count, is_synced), []).append(took)
+    print_table(found)
+    print("\njournals: whole and lawful")
+    rates = {kind: statistics.median(it[0] for it in runs) for kind, runs in found.items()}
+    those = [(count, is_synced) for name, count, is_synced in found if name == "FIX"]
+    return all(rates["FIX", *it] >= rates["WebSocket", *it] for it in those)
