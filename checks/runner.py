@@ -184,7 +184,7 @@ PARTS = [
     ),
     Part(
         "market",
-        "a market on threads and on workers of Dask",
+        "a market by processes and by workers of Dask",
         MARKET,
         "openssl prlimit setpriv",
         "distributed dask hypothesis mypy pandas psutil pytest tqdm",

@@ -233,6 +233,12 @@ def long_table() -> Iterator[Case]:
         [],
         lambda: (b"1,ask" + b"," * 1_000_000, fault("record 1: wrong number of fields")),
     )
+    count = fault("record 3: wrong number of fields")
+    yield Case(
+        "60,000,000 commas in the third record",
+        [],
+        lambda: (b'1,ask\n1,"ask"\n1,ask' + b"," * 60_000_000, count),
+    )
     yield Case(
         "a field of 60,000,000 digits",
         [],

@@ -173,6 +173,12 @@ def longest_entries() -> tuple[bytes, Answer]:
     return LARGEST_DAY + longest * CALLS, (0, TRADE_COLUMNS + "\n", "")
 
 
+def many_fields() -> tuple[bytes, Answer]:
+    """An entry of very many fields."""
+    entry = b"1,ask" + b"," * 60_000_000 + b"\n"
+    return DAY + entry, fault("record 2: wrong number of fields")
+
+
 def long_table() -> Iterator[Case]:
     """Journals as long as may be, and longer; order files that only a journal could be."""
     left = MOST_JOURNAL_BYTES - len(DAY)
@@ -187,6 +193,10 @@ def long_table() -> Iterator[Case]:
     yield Case("the same for an audit", AUDIT, lambda: (b"1,ask\n" * count, no_day))
     name = "a field of 60,000,000 bytes before a day"
     yield Case(name, AUDIT, lambda: (b"x" * 60_000_000 + DAY, no_day))
+    name = "as many commas as a journal may have"
+    yield Case(name, AUDIT, lambda: (b"," * (MOST_JOURNAL_BYTES - 1) + b"\n", no_day))
+    yield Case("60,000,000 commas in an entry", [], many_fields)
+    yield Case("the same entry for an audit", AUDIT, many_fields)
     entry = f"1,ask,{NO_PRICE}\n".encode()
     whole = audited(CALLS, CALLS)
     yield Case(f"{CALLS:,} entries", AUDIT, lambda: (LARGEST_DAY + entry * CALLS, whole))

@@ -12,6 +12,10 @@ import pytest
 
 from checks import built
 
+sys.path.insert(0, str(built.TOP / "bench"))
+
+import measuring  # noqa: E402
+
 BENCH = built.TOP / "bench/bench"
 LEFT_OUT = {"build", "records"}
 """The measure that proves all anew, which takes half an hour, and the one that builds a crate by
@@ -70,3 +74,25 @@ def test_a_measure_that_is_broken_is_seen(given: list[str]) -> None:
     words = [sys.executable, str(BENCH), "journal", "--smallest", *given, "--program", "/bin/true"]
     ran = subprocess.run(words, capture_output=True, text=True, timeout=600)
     assert ran.returncode != 0
+
+
+TABLE = """| what | ms | times |
+| --- | --- | --- |
+| ours | 1,000 | 1.00 |
+| peer | 100.0 | 2.00 |
+"""
+
+
+@pytest.mark.parametrize(
+    ("old", "new", "rows"),
+    [
+        ("1,000", "1,049", []),
+        ("1,000", "1,060", ["| ours | 1,060 | 1.00 |"]),
+        ("100.0", "94.0", ["| peer | 94.0 | 2.00 |"]),
+        ("1.00", "1.01", []),
+        ("2.00", "-", ["| ours | 1,000 | 1.00 |", "| peer | 100.0 | - |"]),
+        ("what", "an hour", []),
+    ],
+)
+def test_runs_agree_where_each_number_is_near(old: str, new: str, rows: list[str]) -> None:
+    assert measuring.apart(TABLE, TABLE.replace(old, new)) == rows

@@ -1,7 +1,7 @@
 """Cut and malicious files, full boards, and devices that fail.
 
 Each answer is the one that the file format says (docs/FORMATS.md), within 2 seconds of the
-processor (a journal of more than 64 MiB: as much for each 64 MiB) and with at most 8 times the
+processor (a journal of more than 64 MiB: as much for each 64 MiB) and with at most 4 times the
 file's size in memory plus 64 MiB. Prints a table of what the large files took.
 """
 import subprocess
@@ -67,7 +67,7 @@ def hold(program: str, tables: dict[str, list[str]], case: Case) -> None:
     if answer != wanted:
         pytest.fail(f"wanted {str(wanted)[:200]}, got {str(answer)[:200]}", pytrace=False)
     assert processor <= 2 * max(1, size / 64)
-    assert memory <= 8 * size + 64
+    assert memory <= 4 * size + 64
 
 
 @pytest.mark.parametrize("case", CASES, ids=[case.name for case in CASES])

@@ -166,6 +166,17 @@ def test_installing(built: dict[str, str], tmp_path: pathlib.Path, is_staged: bo
     assert [*place.rglob("*")] == [place / "share"]
 
 
+def test_all_may_use_what_is_installed_under_any_umask(
+    built: dict[str, str], tmp_path: pathlib.Path
+) -> None:
+    place = tmp_path / "own"
+    words = [TOP / "install", "--without-python", place]
+    done("sh", "-c", 'umask 077; exec "$@"', "", *words, env=built)
+    modes = {it: it.stat().st_mode & 0o777 for it in (place, *place.rglob("*"))}
+    assert {mode for it, mode in modes.items() if it.is_dir()} == {0o755}
+    assert {mode for it, mode in modes.items() if it.is_file()} == {0o755, 0o644}
+
+
 def test_using_what_is_installed(built: dict[str, str], tmp_path: pathlib.Path) -> None:
     place = tmp_path / "a place"
     installed = run(TOP / "install", place, env=built)

@@ -10,8 +10,7 @@
   to, and that `rt` looks there.
 - No two lemmas have names that differ by hyphens and underscores alone.
 - No type, trait, record or definition of specs/ has its name in two crates, nor one of proofs/ that
-  begins with a capital letter, but for those of the two boards (TWINS) and for a type and the
-  record that it is in contracts (MODELS).
+  begins with a capital letter, but for a type and the record that it is in contracts (MODELS).
 - A limit of the market or of memory (LIMITS) isn't written as a number, where it isn't the value of
   a constant: in sources, definitions and proofs, but for tests, examples, comments and texts.
 - No name says buy or sell where docs/GLOSSARY.md says bid and ask.
@@ -35,7 +34,7 @@ LIMITS = {
     268_435_456: "the most bytes of a journal",
 }
 SHARED = {"Lib", "Answers", "Invariants", "Proof"}
-TWINS, MODELS = {"member_board", "shared_board"}, {"Leaders"}
+MODELS = {"Leaders"}
 TYPE = re.compile(r"(?:pub(?:\([a-z]+\))? )?(?:struct|enum|trait|union) (?P<name>\w+)")
 DEFINED = r"(?:(?:pub|abbrev|unfoldable|opaque|record|data) +)+(?P<name>[{}]\w*)(?= *[:({{])"
 NAMES_IN = {
@@ -136,7 +135,7 @@ def names_of_two_crates(tree: Tree) -> Iterator[str]:
                 where = f"{tree.name(file)}:{place}"
                 places[found["name"]].setdefault(tree.crate(file), where)
     for name, crates in sorted(places.items()):
-        if len(crates) > 1 and name not in MODELS and not set(crates) <= TWINS:
+        if len(crates) > 1 and name not in MODELS:
             yield f"{name} has two meanings: {', '.join(crates.values())}"
 
 
