@@ -18,6 +18,7 @@ PACKAGES = {
     "Python.h": "python3-dev",
     "prometheus_client": "python3-prometheus-client",
     "pytest_aiohttp": "python3-pytest-aiohttp",
+    "pytest_rerunfailures": "python3-pytest-rerunfailures",
 }
 """Debian's package of a module, or of a header, whose name isn't python3-MODULE."""
 LOOK = f"""

@@ -261,6 +261,8 @@ class Schedule:
                 continue
             self.left.remove(task)
             log = logs / f"{task.name}.log"
+            if task.is_alone:
+                os.sync()  # so that it doesn't wait for a disk that writes what others wrote
             try:
                 self.running.append(Running(task, log, top, rooms / task.name))
                 self.viewer.begun(task)

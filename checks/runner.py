@@ -90,7 +90,8 @@ MEASURING = ("tests_venue/test_floods.py", "tests_venue/test_hangs.py")
 REST_OF_VENUE = " ".join([VENUE, *(f"--ignore={file}" for file in MEASURING)])
 FLOODS = " ".join([VENUE, *MEASURING])
 OF_VENUES = (
-    "aiohttp hypothesis jsonschema mypy prometheus_client psutil pytest pytest_aiohttp selenium"
+    "aiohttp hypothesis jsonschema mypy prometheus_client psutil pytest pytest_aiohttp "
+    "pytest_rerunfailures selenium"
 )
 LAYOUT = f"{PYTEST} checks/parts/test_layout.py"
 RUNNER = f"{PYTEST} checks/parts/test_runner.py"

@@ -13,6 +13,7 @@ import served
 from callauction.venue import checking
 from callauction.venue.process import ProcessError
 from conftest import FAST
+from patience import TIMED
 
 BURST = (signal.SIGTERM, signal.SIGINT, signal.SIGHUP)
 PAUSE = 0.002
@@ -26,6 +27,7 @@ def burst(child: "subprocess.Popen[str]", numbers: tuple[signal.Signals, ...]) -
         time.sleep(PAUSE)
 
 
+@TIMED
 @pytest.mark.parametrize("count", range(3))
 def test_signals_in_bursts(tmp_path: pathlib.Path, count: int) -> None:
     with served.served(tmp_path, FAST) as venue:

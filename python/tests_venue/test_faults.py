@@ -16,6 +16,7 @@ import pytest
 import served
 from callauction.venue import Answer, AsyncClient, Client, VenueError
 from conftest import FAST
+from patience import TIMED
 from served import Served
 from test_doors import ended, hello
 from test_robots import until
@@ -59,6 +60,7 @@ asyncio.run(main(*sys.argv[1:]))
 """Connections that never read, and ask for more answers than any buffer has room for."""
 
 
+@TIMED
 def test_slow_clients_hold_up_nobody(tmp_path: pathlib.Path) -> None:
     day = "sync = false\n[phases]\ncall = 0\n[members]\nrate = 100\nburst = 500"
     with served.served(tmp_path, day) as venue:

@@ -18,8 +18,11 @@ from callauction.fix.front import REMOVED
 from callauction.fix.wires import ANSWER_SECONDS
 from callauction.venue.gates import IN_VAIN_SECONDS, SLICE, STUCK_SECONDS
 from fixing import SOH, Closed, Pairs, Peer
+from patience import TIMED
 from served import Served
 from test_operations import certificate
+
+pytestmark = TIMED
 
 MEGABYTE = 1 << 20
 MOST_WAIT = 1.0

@@ -26,10 +26,13 @@ from callauction.venue import AsyncClient, Client, VenueError, gates, rates
 from callauction.venue.gates import Gate, Gates, Stage
 from callauction.venue.rates import Guesses
 from conftest import FAST
+from patience import TIMED, tmp_path  # noqa: F401
 from served import Served
 from test_doors import hello, said
 from test_operations import certificate
 from test_robots import until
+
+pytestmark = TIMED
 
 HALF = b"GET / HTTP/1.1\r\nHost: 127.0.0.1\r\nX-Half: "
 HALF_BODY = (

@@ -18,7 +18,10 @@ import served
 from callauction.venue import AsyncClient, Client, process, serving
 from callauction.venue.process import Process
 from conftest import FAST
+from patience import TIMED, tmp_path  # noqa: F401
 from served import Served
+
+pytestmark = TIMED
 
 TWO = FAST + '[[instrument]]\nname = "HUNG"\n[[instrument]]\nname = "SOUND"\n'
 ANSWER_SECONDS, END_SECONDS = 10.0, 5.0

@@ -13,6 +13,9 @@ import pytest
 import served
 from browsing import Page, enters, joins, opened
 from conftest import FAST
+from patience import TIMED
+
+pytestmark = TIMED
 
 LOST_SECONDS = 3.0
 LATE = """

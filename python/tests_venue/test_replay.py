@@ -11,6 +11,7 @@ import pytest
 import served
 from callauction.venue import Client, replay
 from conftest import FAST
+from patience import TIMED
 from served import Served
 
 SCHEMA = json.loads((served.PACKAGE / "callauction/venue/schema.json").read_text("utf-8"))
@@ -85,6 +86,7 @@ def test_an_auction_without_an_order(venue: Served) -> None:
     assert (found["frames"], found["book"]["levels"]) == ([], [])
 
 
+@TIMED
 def test_signs_of_life(venue: Served) -> None:
     token = venue.join("Anna")
 
