@@ -53,6 +53,10 @@ OWED_SECONDS, OWED_PAUSE = 8.0, 0.02
 """How long connections wait for reports that are made again: clients wait for 10 s, or longer."""
 RESET_SECONDS, RESET_PAUSE = 10.0, 0.02
 """How long the reset of a session waits for what that has said."""
+LOGOUT_SECONDS, LOGOUT_PAUSE = 1.0, 0.01
+"""How long the answer to a Logout waits for what was said before: clients wait for 2 s, or longer."""
+LEAVE_SECONDS = 4.0
+"""How long a session that is reset may take to answer its Logout."""
 MORE: dict[str, Act] = {
     Type.MASS_CANCEL: requests.cancel_all,
     Type.MASS_STATUS: requests.show_all,
@@ -76,6 +80,7 @@ COUNTED = {
 """What the module counts."""
 DIGITS = re.compile("[0-9]+")
 """What differs in texts of one kind."""
+RESET = "the operator resets this session: begin at 1 with an empty store"
 UNANSWERED = "{} isn't reset: not all that it said is answered: resume what has halted first"
 ENDS = "the venue ends: what was answered stays"
 REMOVED = "the operator has removed this member, whose orders are cancelled"
@@ -118,6 +123,7 @@ class Front:
         self._sockets: list[socket.socket] = []
         self._counts: Callable[[], dict[str, int]] = dict
         self._resetting: set[Seat] = set()
+        self._beginning: set[Seat] = set()
         venue.on_entry, venue.reset_session = self._entered, self._reset
 
     def measures(self) -> dict[str, tuple[str, float]]:
@@ -361,6 +367,21 @@ class Front:
             self.engine.log_out(wire.number, text)
             self._drain()
 
+    def logs_off(self, wire: Wire) -> None:
+        """A connection has said a Logout: it is answered once all is that was said before, or soon.
+        """
+        self._start(self._log_off(wire))
+
+    async def _log_off(self, wire: Wire) -> None:
+        """Answers a Logout, and what QuickFIX makes of it."""
+        loop = asyncio.get_running_loop()
+        last = loop.time() + LOGOUT_SECONDS
+        while wire.seat is not None and wire.seat.is_awaiting and loop.time() < last:
+            await asyncio.sleep(LOGOUT_PAUSE)
+        if wire.number in self._wires:
+            self.engine.log_off(wire.number)
+            self._drain()
+
     def lost(self, wire: Wire) -> None:
         """A connection has ended."""
         self._wires.pop(wire.number, None)
@@ -448,7 +469,7 @@ class Front:
     def _write(self) -> None:
         """Writes what sessions were sent, and sends then what waits for that."""
         self._is_writing = True
-        seats = (it for it in self._seats.values() if not it.owed and it not in self._resetting)
+        seats = (it for it in self._seats.values() if not it.owed and it not in self._beginning)
         self._sent.write(self.engine, [it.session for it in seats], self._written)
 
     def _written(self) -> None:
@@ -495,14 +516,18 @@ class Front:
         self._resetting.add(seat)
         try:
             if (wire := self._on.get(seat)) is not None:
-                wire.cut()
+                self.engine.log_out(wire.number, RESET)
+                self._drain()
+                asyncio.get_running_loop().call_later(LEAVE_SECONDS, wire.cut)
             await asyncio.wait_for(self._ended(seat), RESET_SECONDS)
+            self._beginning.add(seat)
             begin_anew = functools.partial(resets.begin_anew, self.engine, seat)
             await self._sent.begin_anew(self.engine, seat.session, begin_anew)
         except TimeoutError:
             raise MessageError("halted", UNANSWERED.format(comp_id)) from None
         finally:
             self._resetting.discard(seat)
+            self._beginning.discard(seat)
 
     async def _ended(self, seat: Seat) -> None:
         """Waits until a session is off and all that it said is answered."""

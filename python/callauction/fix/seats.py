@@ -172,6 +172,11 @@ class Seat:
         return bool(self._came)
 
     @property
+    def is_awaiting(self) -> bool:
+        """Whether something that came isn't answered yet."""
+        return bool(self._came or self._unanswered or self._awaited or self.promised)
+
+    @property
     def member(self) -> Member:
         """Whose session it is. Raises MessageError where the venue hasn't it."""
         if self._member is None:

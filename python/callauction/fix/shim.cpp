@@ -34,6 +34,7 @@ namespace {
 
 const size_t most_unread = 16384;  // bytes of a message that hasn't ended
 const size_t most_unsent = 65536;  // bytes to send with which a connection is read no further
+const int most_again = 64;  // messages that are sent again at a time
 const char* const unsupported = "3";
 const int last_tag = 1617;  // of the standard
 const size_t most_digits = 9, most_letters = 18;  // of a MsgSeqNum and a HeartBtInt, without zeros before and with them
@@ -170,11 +171,15 @@ class KeptStores : public FIX::MessageStoreFactory {
 // How many messages came and were sent on all connections, and of these how many refused one, and were sent again.
 struct Counts { long received = 0, sent = 0, rejects = 0, resends = 0; };
 
+// A ResendRequest that is answered in parts, as others wait meanwhile: from which number on, and the last one. What is
+// sent for the first time comes after it.
+struct Again { std::string asked, after; int begin = 0, end = 0; };
+
 // A connection: what is to be sent on it, and whether it is to be closed then.
 struct Wire : FIX::Responder {
   explicit Wire(Counts& counts) : counts(counts) {}
   bool send(const std::string& text) override {
-    out += text;
+    (again.asked.empty() || is_part ? out : again.after) += text;
     ++counts.sent;
     const std::string type = type_of(text);
     if (value_of(text, "43") == "Y") ++counts.resends;
@@ -186,7 +191,9 @@ struct Wire : FIX::Responder {
   FIX::Parser parser;
   FIX::Session* session = nullptr;
   size_t unread = 0;
-  std::string out;
+  std::string out, logout;  // to be sent; a Logout that came, and is answered after all that came before it
+  Again again;
+  bool is_part = false;  // whether what is sent now is a part of that
   bool is_closed = false;
   int waits = 0;  // seconds since its session was sent a Logout
 };
@@ -244,11 +251,22 @@ class Engine : public FIX::Application, FIX::LogFactory {
     return !wire.is_closed;
   }
 
+  // Whether a connection has said a Logout, which QuickFIX would answer at once: `log_off` does, once all that was said
+  // before is answered.
+  bool is_leaving(int number) { return !wires_.at(number)->logout.empty(); }
+  void log_off(int number) {
+    Wire& wire = *wires_.at(number);
+    std::string text;
+    text.swap(wire.logout);
+    take(wire, text);
+  }
+
   // What is to be sent on each connection, up to which number of its session, and whether to close it then.
   std::vector<Outgoing> outgoing() {
     std::vector<Outgoing> found;
     for (auto& each : wires_) {
       Wire& wire = *each.second;
+      if (wire.is_closed) end_again(wire);
       if (wire.out.empty() && !wire.is_closed) continue;
       const int last = wire.session ? wire.session->getExpectedSenderNum() - 1 : 0;
       found.emplace_back(each.first, py::bytes(wire.out), last, wire.is_closed);
@@ -288,6 +306,7 @@ class Engine : public FIX::Application, FIX::LogFactory {
   void log_out(int number, const std::string& why) {
     FIX::Session* found = wires_.at(number)->session;
     if (!found) return;
+    end_again(*wires_.at(number));
     found->logout(why);
     found->next();
   }
@@ -457,25 +476,96 @@ class Engine : public FIX::Application, FIX::LogFactory {
   FIX::Log* create(const FIX::SessionID& id) override { return new EventLog(*this, id.toString()); }
   void destroy(FIX::Log* log) override { delete log; }
 
-  // Takes the next whole message: whether there is one. One with a wrong checksum is passed over, as the standard says.
+  // Takes the next whole message, or goes on with what is sent again: whether there is one.
   bool takes(Wire& wire) {
+    if (!wire.again.asked.empty()) return send_part(wire);
+    if (!wire.logout.empty()) return false;
     std::string text;
     try {
       if (!wire.parser.readFixMessage(text)) {
         wire.is_closed = wire.unread > most_unread;
         return false;
       }
-      wire.unread = 0;
-      ++counts_.received;
+    } catch (FIX::Exception&) {
+      wire.is_closed = true;
+      return true;
+    }
+    wire.unread = 0;
+    ++counts_.received;
+    const bool is_logout = acceptor_ && wire.session && type_of(text) == "5" && !wire.session->sentLogout();
+    if (is_logout) wire.logout = text;
+    else take(wire, text);
+    return !is_logout;
+  }
+
+  // Takes a message. One with a wrong checksum is passed over, as the standard says.
+  void take(Wire& wire, const std::string& text) {
+    try {
       if (!wire.session) wire.is_closed = !begins(wire, text) || !takes_logon(wire, text);
       else if (acceptor_ && type_of(text) == "A") wire.is_closed = !say_why(wire, logged_on);
-      else if (!acceptor_ || has_head(text) || is_passed(wire, text)) wire.session->next(text, FIX::UtcTimeStamp());
+      else if (acceptor_ && !has_head(text) && !is_passed(wire, text)) return;
+      else if (acceptor_ && is_long(wire, text)) begin_again(wire, text);
+      else wire.session->next(text, FIX::UtcTimeStamp());
     } catch (FIX::InvalidMessage&) {
       wire.is_closed = !wire.session || !wire.session->isLoggedOn();
     } catch (FIX::Exception&) {
       wire.is_closed = true;
     }
+  }
+
+  // Whether a message asks for more messages again than are sent at a time. Raises InvalidMessage where its length or
+  // its sum is wrong.
+  static bool is_long(const Wire& wire, const std::string& text) {
+    if (type_of(text) != "2") return false;
+    FIX::Message message;
+    message.setString(text, true);
+    const std::string first = value_of(text, "7"), last = value_of(text, "16");
+    if (!is_count(first) || !is_count(last)) return false;
+    const Again all = asked_again(wire, text);
+    return all.begin >= 1 && all.end - all.begin >= most_again;
+  }
+
+  // What such a message asks for: up to the last one that was sent where its end is 0.
+  static Again asked_again(const Wire& wire, const std::string& text) {
+    const int begin = FIX::IntConvertor::convert(value_of(text, "7"));
+    const int end = FIX::IntConvertor::convert(value_of(text, "16"));
+    const int last = wire.session->getExpectedSenderNum() - 1;
+    return {text, "", begin, end == 0 ? last : std::min(end, last)};
+  }
+
+  // Sends the first part of what is asked for again.
+  void begin_again(Wire& wire, const std::string& text) {
+    wire.again = asked_again(wire, text);
+    const std::string from = std::to_string(wire.again.begin), to = std::to_string(wire.again.end);
+    put("event", wire.session->getSessionID().toString(), "Received ResendRequest FROM: " + from + " TO: " + to);
+    send_part(wire);
+  }
+
+  // Sends the next part of what is sent again, as if it alone was asked for. QuickFIX counts the request once, as its
+  // number is none that is expected after that; and where it refuses it, nothing is sent again.
+  bool send_part(Wire& wire) {
+    Again& again = wire.again;
+    FIX::Message part;
+    part.setString(again.asked, false);
+    const int last = std::min(again.end, again.begin + most_again - 1), next = wire.session->getExpectedSenderNum();
+    part.setField(FIX::BeginSeqNo(again.begin));
+    part.setField(FIX::EndSeqNo(last));
+    wire.is_part = is_quiet_ = true;
+    try {
+      wire.session->next(part.toString(), FIX::UtcTimeStamp());
+    } catch (FIX::Exception&) {
+      wire.is_closed = true;
+    }
+    wire.is_part = is_quiet_ = false;
+    again.begin = last + 1;
+    if (again.begin > again.end || wire.is_closed || wire.session->getExpectedSenderNum() != next) end_again(wire);
     return true;
+  }
+
+  // Nothing more is sent again: what waited for that is sent.
+  static void end_again(Wire& wire) {
+    wire.out += wire.again.after;
+    wire.again = Again();
   }
 
   // Whether a message has in its head what each must have, as far as a look says, and isn't sent again.
@@ -760,7 +850,7 @@ class Engine : public FIX::Application, FIX::LogFactory {
   }
 
   void put(const char* what, const std::string& session, const std::string& text) {
-    events_.push_back({what, session, text});
+    if (!is_quiet_) events_.push_back({what, session, text});
   }
   FIX::Session& of(const std::string& session) {
     FIX::Session*& found = sessions_[session];
@@ -776,6 +866,7 @@ class Engine : public FIX::Application, FIX::LogFactory {
   Accepts accepts_;
   std::string password_, time_;  // of a Logon, and of what is sent now
   std::string ends_;  // what a Logout says that follows a Reject
+  bool is_quiet_ = false;  // while a part is sent again
   std::vector<Kept> events_;
   std::vector<Said> said_;
   std::map<std::string, FIX::SessionID> ids_;
@@ -797,6 +888,8 @@ PYBIND11_MODULE(_quickfix, module) {
       .def("connect", &Engine::connect)
       .def("begin", &Engine::begin)
       .def("feed", &Engine::feed)
+      .def("is_leaving", &Engine::is_leaving)
+      .def("log_off", &Engine::log_off)
       .def("outgoing", &Engine::outgoing)
       .def("lost", &Engine::lost)
       .def("session_on", &Engine::session_on)

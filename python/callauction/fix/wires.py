@@ -43,6 +43,9 @@ class Host(Protocol):
     def begun(self, wire: "Wire") -> None:
         """A connection is somebody's now."""
 
+    def logs_off(self, wire: "Wire") -> None:
+        """A connection has said a Logout, which is to be answered after what it said before."""
+
     def lost(self, wire: "Wire") -> None:
         """A connection has ended."""
 
@@ -65,7 +68,7 @@ class Wire(asyncio.Protocol):
         self.is_leaving = False
         self.topics: frozenset[str] = frozenset()
         self._is_left = self._is_full = self._is_paused = False
-        self._is_asked = False
+        self._is_asked = self._is_ending = False
         self._rests_until = 0.0
         self.seat: Seat | None = None
 
@@ -93,6 +96,9 @@ class Wire(asyncio.Protocol):
         if seat is not None and seat.is_busy:
             self._gate.untaken = 0
         self._host.take()
+        if not self._is_ending and self._host.engine.is_leaving(self.number):
+            self._is_ending = True
+            self._host.logs_off(self)
         self.go_on()
 
     @property
