@@ -74,6 +74,8 @@ def step(engine: Engine, number: int, chance: random.Random) -> tuple[int, int]:
     else:
         expected = engine.expected(SESSION) + chance.choice((0, 0, 0, 1, -1, 7))
         engine.feed(number, message(chance, max(0, expected)))
+        if engine.is_leaving(number) and chance.random() < 0.9:
+            engine.log_off(number)
     is_over = any(closes for it, *_, closes in engine.outgoing() if it == number)
     engine.events()
     engine.stored()

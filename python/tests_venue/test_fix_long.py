@@ -7,9 +7,13 @@ import statistics
 import time
 
 import fixing
+import pytest
 import served
+from callauction.fix import settings
+from callauction.fix.tags import FIX44
 from fixing import Peer
 from patience import TIMED
+from test_fix_slips import Speaker
 from test_fix_venue import on
 
 ORDERS = 3000
@@ -99,3 +103,24 @@ def test_others_wait_little_meanwhile(tmp_path: pathlib.Path) -> None:
                 while block := alice.socket.recv(1 << 16):
                     taken += block
         assert len(waits) >= 10 and statistics.median(waits) < MOST_WAIT, waits
+
+
+def test_one_that_takes_longer_than_a_message_may(
+    tmp_path: pathlib.Path, monkeypatch: pytest.MonkeyPatch
+) -> None:
+    """The request is as old then as QuickFIX lets none be."""
+    monkeypatch.setattr(settings, "DEFAULT", settings.DEFAULT + "MaxLatency=1\n")
+    peer, count = Speaker(tmp_path, FIX44), 600
+    for number in range(count):
+        peer.engine.send(peer.session, "8", [(17, f"XYZ.{number}"), (58, "x" * 200)])
+    peer.heard()
+    is_left = peer.engine.feed(peer.connection, peer.written("2", [(7, "1"), (16, "0")]))
+    found = peer.heard()
+    assert is_left and len(found) < count
+    time.sleep(2.1)
+    while peer.engine.feed(peer.connection, b""):
+        found += peer.heard()
+    found += peer.heard()
+    assert not peer.is_closed
+    assert [it[17] for it in found if it[35] == "8"] == [f"XYZ.{it}" for it in range(count)]
+    assert {it[43] for it in found} == {"Y"}

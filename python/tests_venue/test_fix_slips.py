@@ -47,6 +47,8 @@ class Speaker:
     def say(self, kind: str, pairs: Pairs, heads: Heads = {}) -> list[Message]:
         """What is answered to a message with the next number, and with these tags in its head."""
         self.engine.feed(self.connection, self.written(kind, pairs, heads))
+        if self.engine.is_leaving(self.connection):
+            self.engine.log_off(self.connection)
         self.number += 1
         return self.heard()
 

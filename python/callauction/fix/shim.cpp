@@ -173,7 +173,7 @@ struct Counts { long received = 0, sent = 0, rejects = 0, resends = 0; };
 
 // A ResendRequest that is answered in parts, as others wait meanwhile: from which number on, and the last one. What is
 // sent for the first time comes after it.
-struct Again { std::string asked, after; int begin = 0, end = 0; };
+struct Again { std::string asked, after; int begin = 0, end = 0; bool is_begun = false; };
 
 // A connection: what is to be sent on it, and whether it is to be closed then.
 struct Wire : FIX::Responder {
@@ -479,7 +479,10 @@ class Engine : public FIX::Application, FIX::LogFactory {
   // Takes the next whole message, or goes on with what is sent again: whether there is one.
   bool takes(Wire& wire) {
     if (!wire.again.asked.empty()) return send_part(wire);
-    if (!wire.logout.empty()) return false;
+    if (!wire.logout.empty()) {
+      wire.is_closed = wire.unread > most_unread;
+      return false;
+    }
     std::string text;
     try {
       if (!wire.parser.readFixMessage(text)) {
@@ -530,7 +533,11 @@ class Engine : public FIX::Application, FIX::LogFactory {
     const int begin = FIX::IntConvertor::convert(value_of(text, "7"));
     const int end = FIX::IntConvertor::convert(value_of(text, "16"));
     const int last = wire.session->getExpectedSenderNum() - 1;
-    return {text, "", begin, end == 0 ? last : std::min(end, last)};
+    Again found;
+    found.asked = text;
+    found.begin = begin;
+    found.end = end == 0 ? last : std::min(end, last);
+    return found;
   }
 
   // Sends the first part of what is asked for again.
@@ -541,13 +548,15 @@ class Engine : public FIX::Application, FIX::LogFactory {
     send_part(wire);
   }
 
-  // Sends the next part of what is sent again, as if it alone was asked for. QuickFIX counts the request once, as its
-  // number is none that is expected after that; and where it refuses it, nothing is sent again.
+  // Sends the next part of what is sent again, as if it alone was asked for, and now. QuickFIX counts the request once,
+  // as its number is none that is expected after that; and where it refuses it, nothing is sent again.
   bool send_part(Wire& wire) {
     Again& again = wire.again;
     FIX::Message part;
     part.setString(again.asked, false);
-    const int last = std::min(again.end, again.begin + most_again - 1), next = wire.session->getExpectedSenderNum();
+    const int last = std::min(again.end, again.begin + most_again - 1);
+    const long refused = counts_.rejects;
+    if (again.is_begun) part.getHeader().setField(FIX::SendingTime(FIX::UtcTimeStamp(), 3));
     part.setField(FIX::BeginSeqNo(again.begin));
     part.setField(FIX::EndSeqNo(last));
     wire.is_part = is_quiet_ = true;
@@ -558,7 +567,8 @@ class Engine : public FIX::Application, FIX::LogFactory {
     }
     wire.is_part = is_quiet_ = false;
     again.begin = last + 1;
-    if (again.begin > again.end || wire.is_closed || wire.session->getExpectedSenderNum() != next) end_again(wire);
+    again.is_begun = true;
+    if (again.begin > again.end || wire.is_closed || counts_.rejects != refused) end_again(wire);
     return true;
   }
 
