@@ -11,16 +11,20 @@ mod execution;
 mod journals;
 mod ladder;
 mod largest;
+mod late_ends;
 mod limits;
 mod members;
 mod one_thread;
 mod options;
+mod order_files;
 mod prices;
 mod printing;
 mod reading;
 mod refused;
 mod selection;
+mod sessions;
 mod sums;
+mod torn_journals;
 
 /// The day of a board whose options are left out: ticks from 1 to 1000 and a reference of 200.
 const DAY: Config = Config {

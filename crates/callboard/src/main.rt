@@ -6,36 +6,14 @@
 
 ghost use Rattle.std.specs.Prelude.{◌≡◌, ◌<◌, ◌⊎◌, map, string_bytes, IfErr, IfOk};
 ghost use Rattle.clap.specs.Walk.{texts};
-ghost use Rattle.callboard.specs.Served.{IsAnswer};
+ghost use Rattle.program_runs.specs.Served.{IsAnswer};
 ghost use Rattle.std.specs.Process.{exit_status};
 
-mod audit;
-mod day;
-mod fault;
-mod floor;
-mod journal_lines;
-mod journals;
-mod keeping;
-mod kept;
-mod kept_day;
-mod laws;
-mod live;
-mod orders;
-mod printing;
-mod run;
-mod scripts;
-mod serve;
-
 use byte_streams::{Failures, FromRead, ToWrite};
-pub use fault::{Fault, Finish};
-pub use floor::run_floor;
 use input_hints::StartKeeper;
 use journal_file::{OpenFileFault, Opened, Syncing, Tracked, open};
-pub use keeping::{OpenedJournal, OpensJournal};
-pub use laws::printed_journals_are_lawful;
 use process_ends::Patient;
-pub use run::run_file;
-pub use serve::serve;
+use program_runs::{OpenedJournal, OpensJournal, serve};
 use settings::JournalFile;
 use std::alloc::{AllocError, Global};
 use std::marker::Brand;
@@ -63,7 +41,7 @@ struct Files<'a> {
 }
 
 impl<'a> OpensJournal<Tracked<Opened<'a>>> for Files<'a> {
-    ghost use Rattle.callboard.specs.Served.{OpensAsAsked};
+    ghost use Rattle.program_runs.specs.Served.{OpensAsAsked};
 
     ghost Opens = { λ _ file device. OpensAsAsked file device };
 

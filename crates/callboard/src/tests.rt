@@ -2,13 +2,13 @@
 
 ghost use Rattle.std.specs.Prelude.{◌≡◌, ◌<◌};
 
-use crate::{Fault, Finish, OpenedJournal, OpensJournal, run_file, run_floor, serve};
 use auction_terms::Config;
 use byte_streams::{Failures, FromMemory, Sink, Source, ToMemory, ToWrite};
 use input_hints::StartKeeper;
 use journal::DayHeader;
 use journal_file::{Device, OpenFileFault, Opened, Tracked};
 use member_floor::Gate;
+use program_runs::{Fault, Finish, OpenedJournal, OpensJournal, run_file, run_floor, serve};
 use settings::{FloorForm, Form, JournalFile};
 use std::alloc::Global;
 use std::fmt;

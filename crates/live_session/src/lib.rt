@@ -20,6 +20,3 @@ pub use fault::{BadRecord, Ending, LiveFault};
 pub use line::{MAX_RECORD_BYTES, stated_limit};
 pub use run::{ROOM_OF_A_READ, run_live};
 pub use terms::SessionTerms;
-
-#[cfg(test)]
-mod tests;

@@ -234,7 +234,7 @@ impl Blocks {
     }
 
     /// The lines of this block.
-    pub(crate) fn lines(&self) -> &[u8]
+    pub fn lines(&self) -> &[u8]
         ensures { records default_config (strip_bom result.now) ≡ block_rows self.now }
     {
         &self.bytes[..self.whole]

@@ -15,8 +15,6 @@ mod reading;
 mod record;
 mod records;
 mod spot;
-#[cfg(test)]
-mod tests;
 
 pub use blocks::Blocks;
 pub use calls::Calls;

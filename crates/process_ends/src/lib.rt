@@ -8,6 +8,3 @@ mod patient;
 mod streams;
 
 pub use patient::Patient;
-
-#[cfg(test)]
-mod tests;

@@ -1,9 +1,9 @@
 //! What is a file, and what is said of a bad one.
 
 use super::{PLAIN, Row, SHOWN, each_gives, gives};
-use crate::Fault;
 use auction::OpenFault;
 use order_file::FileFault;
+use program_runs::Fault;
 use std::fmt::InlineText;
 
 static GOOD: [(&str, &str); 12] = [

@@ -1,11 +1,11 @@
 //! Members that call at once on a board.
 
 use super::{PLAIN, Row, SHOWN, each_gives, run_under};
-use crate::{Fault, Finish};
 use auction::OpenFault;
 use auction_terms::Config;
 use member_floor::{Gate, OpenGate};
 use order_file::FileFault;
+use program_runs::{Fault, Finish};
 use std::sync::Wait;
 use std::sync::atomic::Ordering::SeqCst;
 use std::sync::atomic::{AtomicBool, AtomicUsize};

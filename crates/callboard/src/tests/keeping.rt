@@ -3,11 +3,11 @@
 ghost use Rattle.std.specs.Prelude.{◌≡◌, is_ok};
 
 use super::{Printed, each_gives, run_to_memory};
-use crate::{OpenedJournal, OpensJournal};
 use journal_file::{
     ASIDE, FOUND, OpenFileFault, RESIZED, RawFault, RawFile, Record, SYNCED, Tracked, WRITTEN,
     committed_len,
 };
+use program_runs::{OpenedJournal, OpensJournal};
 use settings::JournalFile;
 use std::alloc::{AllocError, Global};
 use std::io;

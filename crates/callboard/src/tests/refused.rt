@@ -7,9 +7,9 @@
 
 use super::live::LIVE;
 use super::{PLAIN, RunResult, run, run_under};
-use crate::Fault;
 use auction_terms::Config;
 use member_floor::OpenGate;
+use program_runs::Fault;
 use std::alloc::AllocError;
 use std::process::Abort;
 use std::str::from_utf8;

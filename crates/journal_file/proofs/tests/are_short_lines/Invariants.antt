@@ -1,7 +1,0 @@
--- Invariants of the loop of `are_short_lines` (src/tests.rt); rt looks here.
-use Rattle.std.proofs.Common.{take}
-use Rattle.journal_file.proofs.ShortLines.{HasReadLines}
-use Rattle.journal_file.proofs.tests.are_short_lines.Given as goal
-
-abbrev pub invariant-loop-byte : goal.invariant-loop-byte
-invariant-loop-byte l = HasReadLines (take l.byte-index l.lines) l.count

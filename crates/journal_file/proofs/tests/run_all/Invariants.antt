@@ -1,8 +1,0 @@
--- Invariants of the loops of `run_all` (src/tests.rt); rt looks here.
-use Rattle.journal_file.specs.Settled.{IsSettled}
-use Rattle.journal_file.specs.Events.{left_by, seen_of}
-use Rattle.journal_file.proofs.tests.run_all.Given as goal
-
-abbrev pub invariant-loop-batch : goal.invariant-loop-batch
-invariant-loop-batch l =
-    IsSettled (λ d. seen_of d.file.calls.events) (λ d c. left_by d.file.calls.events c) l.journal

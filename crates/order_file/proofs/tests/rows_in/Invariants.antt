@@ -1,6 +1,0 @@
--- Invariants of the loops of `rows_in` (src/tests.rt); rt looks here.
-use Rattle.order_file.specs.Rows.{IsRecordReader}
-use Rattle.order_file.proofs.tests.rows_in.Given as goal
-
-abbrev pub invariant-loop-count : goal.invariant-loop-count
-invariant-loop-count l = IsRecordReader l.records.rows

@@ -1,0 +1,141 @@
+-- The days of calls that come from an input.
+use Rattle.std.proofs.Common.{◌≡◌, ◌≤◌, ◌+◌, ◌∙◌, [], ℕ, List, length, map, None, Result, Ok, Err}
+use Rattle.std.proofs.Common.{refl, ap, arith, subst, sym}
+use Rattle.std.proofs.lemmas.List.{length-map}
+use Rattle.std.specs.Prelude.{unwrap_or}
+use Rattle.auction.specs.ConfigFault.{open_fault}
+use Rattle.auction.specs.declared.OpenFault.{OpenFault}
+use Rattle.auction.specs.declared.OpenFault.TheVariants.{NoMemory}
+use Rattle.auction_terms.specs.declared.Call.{Call}
+use Rattle.auction_terms.specs.declared.Entry.{Entry}
+use Rattle.auction_terms.specs.Results.{◌>>=◌}
+use Rattle.auction_terms.specs.Auxiliary.RunningAuction.{RunningAuction, opened_auction}
+use Rattle.day_road.specs.Heard.{HearsAll, after_all}
+use Rattle.auction_terms.specs.Day.{IsLegal, calls_of}
+use Rattle.day_road.specs.Inputs.{PassesOver, silent, silent_all}
+use Rattle.journal.specs.DayWithCalls.{DayWithCalls, calls_coming, run_input_of}
+use Rattle.journal.specs.JournalEntries.{day_left, entries_left}
+use Rattle.journal.specs.EntryRecord.{RecordedCall, call_part}
+use Rattle.journal.specs.JournalFile.{journal_of}
+use Rattle.journal.specs.declared.day.DayHeader.{DayHeader}
+use Rattle.journal.specs.declared.entries.Entries.{Entries}
+use Rattle.journal.proofs.EntryLaws.{fails-alike}
+use Rattle.journal.proofs.EntryReadLaws.{entries-run}
+use Rattle.order_file.specs.File.{FailsAsWanted}
+use Rattle.order_file.specs.declared.fault.FileFault.{FileFault}
+use Rattle.settings.specs.declared.types.Form.{Form}
+use Rattle.settings.specs.declared.types.Form.TheVariants as forms
+use Rattle.settings.specs.declared.types.Listing.{Listing}
+use Rattle.program_runs.specs.EntriesHeard.{entries_heard}
+use Rattle.program_runs.specs.KeptEntries.{IsClosedDay, KeepsDay, KeepsEntries, KeepsWholeDay, after_calls, calls_for}
+use Rattle.program_runs.specs.KeptEntries.{form_kept}
+use Rattle.program_runs.specs.Printed.{IfBegun, IsWideForm, IsWideListing, history_of, listing_text, printed}
+use Rattle.program_runs.proofs.EntriesLaws.{legal-history}
+use Rattle.program_runs.specs.declared.fault.Fault.{Fault}
+use Rattle.program_runs.specs.declared.fault.Fault.TheVariants as fault
+use Rattle.program_runs.specs.declared.kept.Kept.{Kept}
+use Rattle.program_runs.specs.declared.kept_day.KeptDay.{KeptDay}
+use Rattle.program_runs.proofs.EntriesHeardLaws.{heard-entries, silent-calls}
+use Rattle.program_runs.proofs.KeptLaws.{calls-kept}
+
+-- a fault of the input
+pub coming-fails : (form : Form) (day : DayHeader) (coming : Result (List RecordedCall) FileFault) (f : FileFault)
+    → FailsAsWanted f coming → KeepsDay form (calls_coming day coming) (Err (fault.File f))
+coming-fails form day coming f h = fails-alike f coming (calls_coming day coming) (λ e. rw e refl) h
+
+-- a day that can't be opened
+pub coming-refused : (form : Form) (day : DayHeader) (coming : Result (List RecordedCall) FileFault) (f : OpenFault)
+    → PassesOver coming (Ok tt) → f ≡ unwrap_or (open_fault day.config) NoMemory
+    → KeepsDay form (calls_coming day coming) (Err (fault.Open f))
+coming-refused form day coming f (rs, is) why =
+    (record { day = day; calls = map call_part rs }, rw is refl, why)
+
+came-calls : (auction : RunningAuction) (rs : List RecordedCall)
+    → after_all auction rs ≡ after_calls auction (map call_part rs)
+came-calls auction rs = rw (length-map rs call_part) refl
+
+-- a day whose calls have come
+pub coming-kept : (form : Form) (day : DayHeader) (kept : Kept) (old new : RunningAuction)
+    (coming : Result (List RecordedCall) FileFault) (r : Result KeptDay Fault) → old ≡ opened_auction day.config
+    → form_kept kept ≡ form → open_fault day.config ≡ None → new.calls ≤ old.config.max_calls
+    → HearsAll (λ heard. KeepsEntries kept new (entries_heard heard)) [] old new coming (Ok tt)
+    → ((entries : List Entry) → KeepsEntries kept new entries → IsClosedDay day kept new.config entries r)
+    → KeepsDay form (calls_coming day coming) r
+coming-kept form day kept old new coming r fresh for opens room (rs, is, came, holds) closes =
+    let calls : List Call = map call_part rs in
+    let after : new ≡ after_calls old calls = came ∙ came-calls old rs in
+    let count : new.calls ≡ old.calls + length calls = ap (λ (a : RunningAuction). a.calls) after in
+    let none : old.calls ≡ 0 = ap (λ (a : RunningAuction). a.calls) fresh in
+    let most : old.config.max_calls ≡ day.config.max_calls =
+    ap (λ (a : RunningAuction). a.config.max_calls) fresh in
+    rw is
+    (calls-kept form day kept old new calls r fresh for opens (omega (arith, room, count, none, most))
+    (calls, refl, after, subst (KeepsEntries kept new) (heard-entries old.config old.state rs) holds) closes)
+
+-- ---- an order file
+
+pub coming-orders : (day : DayHeader) (calls : Result (List Call) FileFault)
+    → calls_coming day (calls >>= silent_all) ≡ calls_for day calls
+coming-orders day (Ok calls) = rw (silent-calls calls) refl
+coming-orders day (Err f) = refl
+
+-- ---- a journal
+
+pub entries-said : (form : Form) (day : DayHeader) (bytes : List ℕ) (entries : Entries) (r : Result KeptDay Fault)
+    → journal_of bytes ≡ day_left entries → KeepsDay form (calls_coming entries.day (entries_left entries)) r
+    → KeepsDay form (run_input_of day bytes) r
+entries-said form day bytes entries r is =
+    subst (λ (said : Result DayWithCalls FileFault). KeepsDay form said r) (entries-run day bytes entries is)
+
+-- ---- a history
+
+if-begun : (r : Result (Unit {0}) Fault) {P : Type 0} → P → IfBegun r P
+if-begun (Ok u) p = p
+if-begun (Err fault.WriteFailed) p = p
+if-begun (Err fault.NoMemory) p = tt
+if-begun (Err fault.NotClosed) p = tt
+if-begun (Err (fault.File f)) p = tt
+if-begun (Err (fault.Open f)) p = tt
+
+-- what a day is whose calls are those of a legal history
+record IsListed (listing : Listing) (day : DayHeader) (entries : List Entry) (kept_day : KeptDay) : Type 0 where
+  same : kept_day.day ≡ day
+  form : form_kept kept_day.kept ≡ forms.Listing listing
+  keeps : KeepsWholeDay kept_day.kept kept_day.day.config entries
+
+listed : (listing : Listing) (day : DayHeader) (entries : List Entry) (kept_day : KeptDay)
+    → IsLegal day.config entries
+    → KeepsDay (forms.Listing listing) (calls_coming day (silent_all (calls_of entries))) (Ok kept_day)
+    → IsListed listing day entries kept_day
+listed listing day entries kept_day legal (calls, is, (form, opens, few, keeps)) =
+    let given : ◌≡◌ {A = DayWithCalls} (record { day = day; calls = map call_part (map silent (calls_of entries)) })
+    (record { day = kept_day.day; calls = calls }) = cc (is) in
+    let same : kept_day.day ≡ day = sym (ap (λ (d : DayWithCalls). d.day) given) in
+    let came : calls ≡ calls_of entries =
+    sym (ap (λ (d : DayWithCalls). d.calls) given) ∙ silent-calls (calls_of entries) in
+    let history : history_of kept_day.day.config calls ≡ entries =
+    rw (same, came) (legal-history day.config entries legal) in
+    record { same = same; form = form; keeps = subst (KeepsWholeDay kept_day.kept kept_day.day.config) history keeps }
+
+-- what is kept of it
+pub listing-kept : (listing : Listing) (day : DayHeader) (entries : List Entry) (kept_day : KeptDay)
+    → IsLegal day.config entries
+    → KeepsDay (forms.Listing listing) (calls_coming day (silent_all (calls_of entries))) (Ok kept_day)
+    → KeepsWholeDay kept_day.kept kept_day.day.config entries
+listing-kept listing day entries kept_day legal kept = (listed listing day entries kept_day legal kept).keeps
+
+-- and printed of it
+pub listing-printed : (listing : Listing) (day : DayHeader) (entries : List Entry) (kept_day : KeptDay)
+    → IsLegal day.config entries
+    → KeepsDay (forms.Listing listing) (calls_coming day (silent_all (calls_of entries))) (Ok kept_day)
+    → printed (form_kept kept_day.kept) kept_day.day entries ≡ listing_text listing day entries
+listing-printed listing day entries kept_day legal kept =
+    let is = listed listing day entries kept_day legal kept in
+    rw (is.form, is.same) refl
+
+pub listing-wide : (listing : Listing) (day : DayHeader) (entries : List Entry) (kept_day : KeptDay)
+    (r : Result (Unit {0}) Fault) → IsLegal day.config entries
+    → KeepsDay (forms.Listing listing) (calls_coming day (silent_all (calls_of entries))) (Ok kept_day)
+    → IsWideForm (form_kept kept_day.kept) entries → IfBegun r (IsWideListing listing entries)
+listing-wide listing day entries kept_day r legal kept wide =
+    if-begun r (rw (listed listing day entries kept_day legal kept).form at wide)

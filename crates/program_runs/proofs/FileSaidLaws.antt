@@ -1,0 +1,242 @@
+-- What an input says of which the start was read apart.
+use Rattle.std.proofs.Common.{◌≡◌, ◌≤◌, ◌<◌, ◌⊎◌, inl, inr, ◌++◌, ◌∷◌, ◌∙◌, [], ℕ, List, length, Option, None, Some}
+use Rattle.std.proofs.Common.{Result, Ok, Err, Bool, true, false, nat_lt, refl, ap, sym, subst, arith, rules}
+use Rattle.std.specs.Prelude.{IfErr, IfSome, IsErrAnd, IsErrOf}
+use Rattle.csv.specs.Records.{field_at}
+use Rattle.std.specs.Io.KnownBytes.{Consumes, prepend_known}
+use Rattle.auction.specs.ConfigFault.{open_fault}
+use Rattle.auction_terms.specs.declared.Call.{Call}
+use Rattle.auction_terms.specs.declared.Config.{Config}
+use Rattle.auction_terms.specs.declared.Entry.{Entry}
+use Rattle.auction_terms.specs.Auxiliary.RunningAuction.{RunningAuction, opened_auction}
+use Rattle.auction_terms.specs.Results.{◌>>=◌}
+use Rattle.journal.specs.DayWithCalls.{DayWithCalls, run_input, run_input_of, orders_for}
+use Rattle.journal.specs.DayRecord.{is_day_row}
+use Rattle.journal.specs.JournalFile.{journal_of, journal_of_rows}
+use Rattle.journal.specs.declared.day.DayHeader.{DayHeader}
+use Rattle.journal.specs.declared.reading.TheConstants.{MAX_JOURNAL_BYTES}
+use Rattle.order_file.specs.File.{FailsAsWanted, calls_of_file, file, within_limit}
+use Rattle.order_file.specs.declared.fault.FileFault.{FileFault}
+use Rattle.order_file.specs.declared.fault.FileFault.TheVariants as faults
+use Rattle.order_file.specs.declared.reading.TheConstants.{MAX_BYTES}
+use Rattle.order_file.proofs.CallLaws.{fails-at}
+use Rattle.order_file.proofs.FirstFieldLaws.{BeginsWith, digit-first}
+use Rattle.settings.specs.declared.types.Form.{Form}
+use Rattle.program_runs.specs.declared.fault.Fault.{Fault}
+use Rattle.program_runs.specs.declared.fault.Fault.TheVariants as fault
+use Rattle.program_runs.specs.declared.kept.Kept.{Kept}
+use Rattle.program_runs.specs.declared.kept_day.KeptDay.{KeptDay}
+use Rattle.program_runs.specs.KeptEntries.{KeepsCallsOfText, KeepsEntries, IsClosedDay, KeepsDay, KeepsDayOfText}
+use Rattle.program_runs.specs.KeptEntries.{after_calls, calls_for, form_kept}
+use Rattle.program_runs.specs.Printed.{entries_from, history_of}
+use Rattle.program_runs.proofs.BlockRunLaws.{fails-then}
+use Rattle.program_runs.proofs.KeptLaws.{orders-long, refused-records, said_closed}
+
+-- ---- a file of a day
+
+orders-known : (day : DayHeader) (wanted : Result (List Call) FileFault) (text : Option (List ℕ))
+    → IfSome text (λ bytes. file bytes day.members day.config.max_calls ≡ wanted)
+    → IfSome text (λ bytes. calls_for day wanted ≡ orders_for day bytes)
+unfolding orders_for
+orders-known day wanted None h = tt
+orders-known day wanted (Some bytes) h = ap (calls_for day) (sym h)
+
+-- all of its calls came to an auction, and are kept
+pub file-kept : (form : Form) (day : DayHeader) (kept : Kept) (auction : RunningAuction) (calls : List Call)
+    (text : Option (List ℕ)) (r : Result KeptDay Fault) → auction ≡ after_calls (opened_auction day.config) calls
+    → form_kept kept ≡ form → open_fault day.config ≡ None → auction.calls ≤ day.config.max_calls
+    → IfSome text (λ bytes. file bytes day.members day.config.max_calls ≡ Ok calls)
+    → KeepsEntries kept auction (history_of day.config calls)
+    → ((entries : List Entry) → KeepsEntries kept auction entries → IsClosedDay day kept auction.config entries r)
+    → KeepsDayOfText form r text (orders_for day)
+file-kept form day kept auction calls text r is for opens room known follows closes =
+    let few : length calls ≤ day.config.max_calls = omega (arith, rw is at room) in
+    let closed : IsClosedDay day kept day.config (history_of day.config calls) r =
+    rw is at (closes (history_of day.config calls) follows) in (
+      calls_for day (Ok calls),
+      said_closed form day calls kept r for opens few closed,
+      orders-known day (Ok calls) text known,
+    )
+
+-- it has a fault
+pub file-fails : (form : Form) (day : DayHeader) (text : Option (List ℕ)) (f : FileFault)
+    → IfSome text (λ bytes. FailsAsWanted f (file bytes day.members day.config.max_calls))
+    → KeepsDayOfText form (Err (fault.File f)) text (orders_for day)
+unfolding orders_for
+file-fails form day None f h = (Err f, fails-at f (Err f) refl, tt)
+file-fails form day (Some bytes) f h =
+    (orders_for day bytes, refused-records form day f (file bytes day.members day.config.max_calls) h, refl)
+
+-- one that a `?` handed on
+pub file-stops : {X : Type 0} (form : Form) (day : DayHeader) (text : Option (List ℕ)) (r : Result X Fault)
+    (f : FileFault) → IsErrAnd r (λ x. x ≡ fault.File f)
+    → IfSome text (λ bytes. FailsAsWanted f (file bytes day.members day.config.max_calls))
+    → IfErr r (λ x. KeepsDayOfText form (Err x) text (orders_for day))
+file-stops form day text (Ok x) f is h = absurd is
+file-stops form day text (Err x) f is h =
+    subst (λ (e : Fault). KeepsDayOfText form (Err e) text (orders_for day)) (sym is) (file-fails form day text f h)
+
+-- the file was read whole
+pub file-read : (form : Form) (day : DayHeader) (text : Option (List ℕ)) (bytes : List ℕ) (r : Result KeptDay Fault)
+    → IfSome text (λ t. within_limit MAX_BYTES t ≡ Ok bytes)
+    → KeepsDay form (calls_for day (calls_of_file day.members day.config.max_calls bytes)) r
+    → KeepsDayOfText form r text (orders_for day)
+unfolding orders_for file
+file-read form day None bytes r read keeps = (_, keeps, tt)
+file-read form day (Some t) bytes r read keeps = (_, keeps, rw read refl)
+
+-- it couldn't be read
+pub file-unread : (form : Form) (day : DayHeader) (text : Option (List ℕ)) (f : FileFault)
+    → IfSome text (λ t. FailsAsWanted f (within_limit MAX_BYTES t))
+    → KeepsDayOfText form (Err (fault.File f)) text (orders_for day)
+unfolding orders_for file
+file-unread form day None f h = (Err f, fails-at f (Err f) refl, tt)
+file-unread form day (Some t) f h = (
+  orders_for day t,
+  fails-then f _ (λ calls. Ok (record { day = day; calls = calls }))
+      (fails-then f (within_limit MAX_BYTES t) (calls_of_file day.members day.config.max_calls) h),
+  refl,
+)
+
+-- memory was refused
+pub said-memory : (form : Form) (text : Option (List ℕ)) (says : List ℕ → Result DayWithCalls FileFault)
+    → KeepsDayOfText form (Err (fault.File faults.NoMemory)) text says
+said-memory form None says = (Err faults.NoMemory, tt, tt)
+said-memory form (Some bytes) says = (says bytes, tt, refl)
+
+-- what a `?` handed on
+pub said-handed : (form : Form) (text : Option (List ℕ)) (says : List ℕ → Result DayWithCalls FileFault)
+    (r : Result KeptDay Fault) (f : Fault) → IsErrAnd r (λ x. x ≡ f) → KeepsDayOfText form (Err f) text says
+    → KeepsDayOfText form r text says
+said-handed form text says (Ok kept) f is keeps = absurd is
+said-handed form text says (Err e) f is keeps =
+    subst (λ (x : Fault). KeepsDayOfText form (Err x) text says) (sym is) keeps
+
+-- ---- the start of an input
+
+pub start-said : (form : Form) (start : List ℕ) (a b : Option (List ℕ)) (r : Result KeptDay Fault) (says : List ℕ
+    → Result DayWithCalls FileFault) → Consumes a b start
+    → KeepsDayOfText form r (prepend_known start b) says → KeepsDayOfText form r a says
+start-said form start None b r says read (said, keeps, known) = (said, keeps, tt)
+start-said form start (Some xs) None r says read h = absurd read
+start-said form start (Some xs) (Some ys) r says read (said, keeps, known) = (said, keeps, known ∙ ap says (sym read))
+
+pub start-unread : (form : Form) (text : Option (List ℕ)) (f : FileFault) (says : List ℕ
+    → Result DayWithCalls FileFault)
+    → (f ≡ faults.ReadFailed) ⊎ (f ≡ faults.NoMemory) → KeepsDayOfText form (Err (fault.File f)) text says
+start-unread form text f says (inl is) = rw is (by_option text)
+  where
+    by_option : (text : Option (List ℕ)) → KeepsDayOfText form (Err (fault.File faults.ReadFailed)) text says
+    by_option None = (Err faults.ReadFailed, tt, tt)
+    by_option (Some bytes) = (says bytes, tt, refl)
+start-unread form text f says (inr is) = rw is (said-memory form text says)
+
+-- ---- what begins with a digit
+
+digit-no-day : (d : ℕ) (fields : List (List ℕ)) → d ≤ 57 → BeginsWith d fields → is_day_row fields ≡ false
+unfolding is_day_row field_at
+digit-no-day d fields high (more, others, is) = rw is (search rules)
+
+digit-journal : (d : ℕ) (rest : List ℕ) → 48 ≤ d → d ≤ 57 → journal_of (d ∷ rest) ≡ Err faults.NotADay
+unfolding journal_of journal_of_rows
+digit-journal d rest low high =
+    let (row, rows, is, begins) = digit-first d rest low high in
+    rw (is, digit-no-day d row high begins) refl
+
+digit-run_input : (day : DayHeader) (d : ℕ) (rest : List ℕ) → 48 ≤ d → d ≤ 57
+    → orders_for day (d ∷ rest) ≡ run_input day (d ∷ rest)
+unfolding run_input run_input_of within_limit
+digit-run_input day d rest low high = by_less (nat_lt MAX_JOURNAL_BYTES (length (d ∷ rest))) refl
+  where
+    by_less : (b : Bool) → nat_lt MAX_JOURNAL_BYTES (length (d ∷ rest)) ≡ b
+        → orders_for day (d ∷ rest) ≡ (within_limit MAX_JOURNAL_BYTES (d ∷ rest) >>= run_input_of day)
+    by_less true e =
+        let long : MAX_JOURNAL_BYTES < length (d ∷ rest) = search rules in
+        rw e (orders-long day (d ∷ rest) (omega (arith, long)))
+    by_less false e = rw (e, digit-journal d rest low high) refl
+
+pub digit-said : (form : Form) (day : DayHeader) (start : List ℕ) (b : Option (List ℕ)) (r : Result KeptDay Fault)
+    → ((digit : ℕ) × (rest : List ℕ) × (start ≡ digit ∷ rest) × (48 ≤ digit) × (digit ≤ 57))
+    → KeepsDayOfText form r (prepend_known start b) (orders_for day)
+    → KeepsDayOfText form r (prepend_known start b) (run_input day)
+digit-said form day start None r digit (said, keeps, known) = (said, keeps, tt)
+digit-said form day start (Some left) r (d, rest, is, low, high) (said, keeps, known) = (
+  said,
+  keeps,
+  known ∙ ap (λ (front : List ℕ). orders_for day (front ++ left)) is ∙ digit-run_input day d (rest ++ left) low high
+      ∙ ap (λ (front : List ℕ). run_input day (front ++ left)) (sym is),
+)
+
+-- ---- a file that begins with a digit
+
+-- what it says is what the input says, which begins with its start
+pub begun-said : (form : Form) (day : DayHeader) (left rest : Option (List ℕ)) (start : List ℕ)
+    (r : Result KeptDay Fault) → Consumes left rest start
+    → ((digit : ℕ) × (more : List ℕ) × (start ≡ digit ∷ more) × (48 ≤ digit) × (digit ≤ 57))
+    → KeepsDayOfText form r (prepend_known start rest) (orders_for day) → KeepsDayOfText form r left (run_input day)
+begun-said form day left rest start r read digit keeps =
+    start-said form start left rest r (run_input day) read (digit-said form day start rest r digit keeps)
+
+-- ---- what its blocks say
+
+-- a fault of it
+pub blocks-stop : (kept : Kept) (old new : RunningAuction) (r : Result (Unit {0}) FileFault)
+    (f : FileFault) (text : Option (List ℕ)) (members : ℕ) → IsErrAnd r (λ x. x ≡ f)
+    → IfSome text (λ bytes. FailsAsWanted f (file bytes members old.config.max_calls))
+    → KeepsCallsOfText (KeepsEntries kept new) old new r text members
+blocks-stop kept old new (Ok u) f text members is fails = absurd is
+blocks-stop kept old new (Err e) f None members is fails = (Err e, fails-at e (Err e) refl, tt)
+blocks-stop kept old new (Err e) f (Some bytes) members is fails = (
+  file bytes members old.config.max_calls,
+  subst (λ (x : FileFault). FailsAsWanted x (file bytes members old.config.max_calls)) (sym is) fails,
+  refl,
+)
+
+-- all of its calls
+pub blocks-end : (kept : Kept) (old new : RunningAuction) (calls : List Call)
+    (text : Option (List ℕ)) (members : ℕ) → IfSome text (λ bytes. file bytes members old.config.max_calls ≡ Ok calls)
+    → new ≡ after_calls old calls → KeepsEntries kept new (entries_from old.config old.state calls)
+    → KeepsCallsOfText (KeepsEntries kept new) old new (Ok tt) text members
+blocks-end kept old new calls None members says came holds = (Ok calls, (calls, refl, came, holds), tt)
+blocks-end kept old new calls (Some bytes) members says came holds =
+    (Ok calls, (calls, refl, came, holds), sym says)
+
+known-calls : (text : Option (List ℕ)) (members max_calls : ℕ) (wanted : Result (List Call) FileFault)
+    (calls : List Call) → wanted ≡ Ok calls → IfSome text (λ bytes. wanted ≡ file bytes members max_calls)
+    → IfSome text (λ bytes. file bytes members max_calls ≡ Ok calls)
+known-calls None members max_calls wanted calls is known = tt
+known-calls (Some bytes) members max_calls wanted calls is known = sym known ∙ is
+
+known-fault : (text : Option (List ℕ)) (members max_calls : ℕ) (wanted : Result (List Call) FileFault)
+    (f : FileFault) → FailsAsWanted f wanted → IfSome text (λ bytes. wanted ≡ file bytes members max_calls)
+    → IfSome text (λ bytes. FailsAsWanted f (file bytes members max_calls))
+known-fault None members max_calls wanted f fails known = tt
+known-fault (Some bytes) members max_calls wanted f fails known = rw known at fails
+
+-- its calls came to the auction, and the day was closed
+pub blocks-kept : (form : Form) (day : DayHeader) (kept : Kept) (old new : RunningAuction) (text : Option (List ℕ))
+    (r : Result KeptDay Fault) → old ≡ opened_auction day.config → form_kept kept ≡ form
+    → open_fault day.config ≡ None → new.calls ≤ old.config.max_calls
+    → KeepsCallsOfText (KeepsEntries kept new) old new (Ok tt) text day.members
+    → ((entries : List Entry) → KeepsEntries kept new entries → IsClosedDay day kept new.config entries r)
+    → KeepsDayOfText form r text (orders_for day)
+blocks-kept form day kept old new text r fresh for opens room keeps closes =
+    let (wanted, (calls, is, came, holds), known) = rw fresh at keeps in
+    file-kept form day kept new calls text r came for opens (rw fresh at room)
+    (known-calls text day.members day.config.max_calls wanted calls is known) holds closes
+
+-- it has a fault
+pub blocks-failed : (form : Form) (day : DayHeader) (kept : Kept) (old new : RunningAuction)
+    (text : Option (List ℕ)) (f : FileFault) (r : Result KeptDay Fault) → old ≡ opened_auction day.config
+    → IsErrAnd r (λ x. x ≡ fault.File f) → KeepsCallsOfText (KeepsEntries kept new) old new (Err f) text day.members
+    → KeepsDayOfText form r text (orders_for day)
+blocks-failed form day kept old new text f r fresh is keeps =
+    let (wanted, fails, known) = rw fresh at keeps in
+    said-handed form text (orders_for day) r (fault.File f) is
+    (file-fails form day text f (known-fault text day.members day.config.max_calls wanted f fails known))
+
+-- memory that was refused at a day's end is no failed read
+pub closed-read : (day : DayHeader) (kept : Kept) (config : Config) (entries : List Entry) (r : Result KeptDay Fault)
+    → IsClosedDay day kept config entries r → IsErrOf r (fault.File faults.ReadFailed) → ⊥
+closed-read day kept config entries (Ok closed) is e = absurd (cc (e))
+closed-read day kept config entries (Err f) is e = absurd (cc (is, e))

@@ -1,0 +1,7 @@
+-- Answers of `refused` (src/journals.rt): what the prover left open; rt looks here.
+use Rattle.program_runs.proofs.ComingLaws.{coming-refused}
+use Rattle.program_runs.proofs.journals.refused.Goals as goal
+
+pub returns-in-Ok-clause-kept : goal.returns-in-Ok-clause-kept
+returns-in-Ok-clause-kept g c = λ form.
+    coming-refused form c.args.day _ c.args.fault c.in-Ok.ensures.passed c.requires.fault

@@ -1,0 +1,11 @@
+-- Answers of `keep_file` (src/orders.rt): what the prover left open; rt looks here.
+use Rattle.auction.specs.ConfigFault.{open_fault}
+use Rattle.program_runs.proofs.OpeningLaws.{none_refused}
+use Rattle.program_runs.proofs.orders.keep_file.Goals as goal
+
+pub keep_opened-requires-clause-opens : goal.keep_opened-requires-clause-opens
+keep_opened-requires-clause-opens g c =
+    none_refused (open_fault c.args.day.config) c.open.result c.in-Ok.auction c.in-Ok.is c.open.ensures.refused
+
+pub returns-in-Err-clause-kept : goal.returns-in-Err-clause-kept
+returns-in-Err-clause-kept g c = c.refused_file.ensures.kept c.args.form

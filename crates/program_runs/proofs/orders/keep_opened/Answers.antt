@@ -1,0 +1,26 @@
+-- Answers of `keep_opened` (src/orders.rt): what the prover left open; rt looks here.
+use Rattle.std.proofs.Common.{◌∙◌}
+use Rattle.journal.specs.DayWithCalls.{orders_for}
+use Rattle.program_runs.proofs.FileSaidLaws.{blocks-failed, blocks-kept, said-memory}
+use Rattle.program_runs.proofs.KeptLaws.{opened_so}
+use Rattle.program_runs.proofs.orders.keep_opened.Goals as goal
+
+pub returns-in_default-clause-kept : goal.returns-in_default-clause-kept
+returns-in_default-clause-kept g c = said-memory c.args.form _ (orders_for c.args.day)
+
+pub keep_text-requires-clause-opened : goal.keep_text-requires-clause-opened
+keep_text-requires-clause-opened g c = opened_so _ _ c.requires.opened
+
+pub keep_text-requires-clause-none : goal.keep_text-requires-clause-none
+keep_text-requires-clause-none g c = c.in-Ok.ensures.none (opened_so _ _ c.requires.opened)
+
+pub returns-in_err-keep_text-clause-kept : goal.returns-in_err-keep_text-clause-kept
+returns-in_err-keep_text-clause-kept g c =
+    blocks-failed c.args.form c.args.day c.keep_text.new.kept _ c.keep_text.new.auction _ c.in_err-keep_text.field-0.0
+    c.from_residual.result c.requires.opened c.from_residual.ensures.1 c.in_err-keep_text.ensures.kept
+
+pub returns-clause-kept : goal.returns-clause-kept
+returns-clause-kept g c =
+    blocks-kept c.args.form c.args.day c.keep_text.new.kept _ c.keep_text.new.auction _ c.close_day.result
+    c.requires.opened (c.in_ok-keep_text.ensures.form ∙ c.in-Ok.ensures.form) c.requires.opens
+    c.in_ok-keep_text.ensures.room c.in_ok-keep_text.ensures.kept c.close_day.ensures

@@ -1,0 +1,18 @@
+-- Answers of `refused_file` (src/orders.rt): what the prover left open; rt looks here.
+use Rattle.std.proofs.Common.{ℕ, List, Err, subst}
+use Rattle.order_file.specs.File.{calls_of_file}
+use Rattle.program_runs.specs.KeptEntries.{KeepsDay, calls_for}
+use Rattle.program_runs.proofs.FileSaidLaws.{file-read, file-unread}
+use Rattle.program_runs.proofs.orders.refused_file.Goals as goal
+
+pub returns-in-Ok-clause-kept : goal.returns-in-Ok-clause-kept
+returns-in-Ok-clause-kept g c = λ form.
+    file-read form c.args.day _ c.in-Ok.bytes.items (Err c.refused_orders.result) c.in-Ok.ensures.bytes
+    (subst
+    (λ (bytes : List ℕ). KeepsDay form
+    (calls_for c.args.day (calls_of_file c.args.day.members c.args.day.config.max_calls bytes))
+    (Err c.refused_orders.result))
+    c.as_slice.ensures.value (c.refused_orders.ensures.kept form))
+
+pub returns-in-Err-clause-kept : goal.returns-in-Err-clause-kept
+returns-in-Err-clause-kept g c = λ form. file-unread form c.args.day _ c.in-Err.fault c.in-Err.ensures.bytes

@@ -1,0 +1,116 @@
+//! The commands of an input that was read whole, a journal or an order file, applied to an auction.
+
+ghost use Rattle.std.specs.Prelude.{◌≡◌, ◌≢◌, ◌≤◌, Err, None, unwrap_or};
+ghost use Rattle.auction_terms.specs.Auxiliary.RunningAuction.{opened_auction};
+ghost use Rattle.auction.specs.ConfigFault.{open_fault};
+ghost use Rattle.journal.specs.DayWithCalls.{calls_coming, run_input_of, or_orders, orders_for};
+ghost use Rattle.program_runs.specs.KeptEntries.{KeepsDay};
+
+use crate::fault::Fault;
+use crate::kept::Kept;
+use crate::kept_day::{KeptDay, close_day};
+use auction::{Auction, OpenFault};
+use day_road::{Input, hear_all, pass_over};
+use journal::{DayHeader, Entries};
+use order_file::{Calls, FileFault, MAX_BYTES};
+use settings::Form;
+use std::alloc::Global;
+
+/// What an input owes whose day can't be opened: a fault of its own comes first.
+fn refused<I: Input>(input: &mut I, day: DayHeader, fault: OpenFault) -> Fault
+    requires ready { I.CanRead input.old }
+    requires fault { fault ≡ unwrap_or (open_fault day.config) OpenFault.NoMemory }
+    ensures kept { (form : Form) → KeepsDay form (calls_coming day (I.coming input.old)) (Err result) }
+    ensures read { result ≢ Fault.File FileFault.ReadFailed }
+{
+    match pass_over(input) {
+        Ok(()) => Fault::Open(fault),
+        Err(fault) => Fault::File(fault),
+    }
+}
+
+/// Runs the calls of an input, of which none has come, on the auction of this day.
+fn keep_on<I: Input>(
+    alloc: Global,
+    input: &mut I,
+    mut auction: Auction,
+    day: DayHeader,
+    form: Form,
+) -> Result<KeptDay, Fault>
+    requires ready { I.CanRead input.old }
+    requires room { I.room input.old ≤ day.config.max_calls }
+    requires opened { auction ≡ opened_auction day.config }
+    requires opens { open_fault day.config ≡ None }
+    ensures kept { KeepsDay form (calls_coming day (I.coming input.old)) result }
+    ensures read { result ≢ Err (Fault.File FileFault.ReadFailed) }
+{
+    let Ok(mut kept) = Kept::open(alloc, form, &auction) else {
+        return Err(Fault::File(FileFault::NoMemory));
+    };
+    match hear_all(alloc, input, &mut auction, &mut kept) {
+        Ok(()) => close_day(alloc, day, &mut auction, kept),
+        Err(fault) => Err(Fault::File(fault)),
+    }
+}
+
+/// Runs the calls of an input, of which none has come, on this day.
+pub fn keep_calls<I: Input>(
+    alloc: Global,
+    input: &mut I,
+    day: DayHeader,
+    form: Form,
+) -> Result<KeptDay, Fault>
+    requires ready { I.CanRead input.old }
+    requires room { I.room input.old ≤ day.config.max_calls }
+    ensures kept { KeepsDay form (calls_coming day (I.coming input.old)) result }
+    ensures read { result ≢ Err (Fault.File FileFault.ReadFailed) }
+{
+    match Auction::open(alloc, day.config) {
+        Ok(auction) => keep_on(alloc, input, auction, day, form),
+        Err(fault) => Err(refused(input, day, fault)),
+    }
+}
+
+/// Runs the commands of the bytes of an order file of this day, whose own fault comes before one of the day.
+fn keep_orders(alloc: Global, bytes: &[u8], day: DayHeader, form: Form) -> Result<KeptDay, Fault>
+    ensures kept { KeepsDay form (orders_for day bytes.now) result }
+    ensures read { result ≢ Err (Fault.File FileFault.ReadFailed) }
+{
+    if bytes.len() > MAX_BYTES {
+        return Err(Fault::File(FileFault::TooLong));
+    }
+    let mut calls = Calls::open(alloc, bytes, day.members, day.config.max_calls)?;
+    keep_calls(alloc, &mut calls, day, form)
+}
+
+/// Runs the commands of an input that has this fault as a journal: what is no journal is an order file of this day.
+fn keep_or_refuse(
+    alloc: Global,
+    bytes: &[u8],
+    day: DayHeader,
+    form: Form,
+    fault: FileFault,
+) -> Result<KeptDay, Fault>
+    requires { fault ≢ FileFault.ReadFailed }
+    ensures kept { KeepsDay form (or_orders (orders_for day bytes.now) fault) result }
+    ensures read { result ≢ Err (Fault.File FileFault.ReadFailed) }
+{
+    match fault {
+        FileFault::NotADay => keep_orders(alloc, bytes, day, form),
+        _ => Err(Fault::File(fault)),
+    }
+}
+
+/// Runs the commands of an input, a journal or an order file of this day.
+pub fn keep_input(alloc: Global, bytes: &[u8], day: DayHeader, form: Form) -> Result<KeptDay, Fault>
+    ensures kept { KeepsDay form (run_input_of day bytes.now) result }
+    ensures read { result ≢ Err (Fault.File FileFault.ReadFailed) }
+{
+    match Entries::open(alloc, bytes) {
+        Ok(mut entries) => {
+            let day = entries.day();
+            keep_calls(alloc, &mut entries, day, form)
+        }
+        Err(fault) => keep_or_refuse(alloc, bytes, day, form, fault),
+    }
+}

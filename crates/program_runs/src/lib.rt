@@ -1,0 +1,28 @@
+//! The runs of the program, but for the process's own ends: of an order file or a journal, on an auction or by members
+//! at once on a board; of a session that answers each record as it comes, with a journal or without; and an audit's.
+//! `serve` takes the process's words and answers its status.
+#![tactic(auto)]
+
+mod audit;
+mod day;
+mod fault;
+mod floor;
+mod journal_lines;
+mod journals;
+mod keeping;
+mod kept;
+mod kept_day;
+mod laws;
+mod live;
+mod orders;
+mod printing;
+mod run;
+mod scripts;
+mod serving;
+
+pub use fault::{Fault, Finish};
+pub use floor::run_floor;
+pub use keeping::{OpenedJournal, OpensJournal};
+pub use laws::printed_journals_are_lawful;
+pub use run::run_file;
+pub use serving::serve;

@@ -1,0 +1,177 @@
+//! The commands of an order file, applied to an auction as they are read.
+
+ghost use Rattle.std.specs.Prelude.{◌≡◌, ◌≢◌, ◌<◌, ◌≤◌, ◌↔◌, ℕ, [], List, length, Option, None, unwrap_or, Ok, Err};
+ghost use Rattle.std.specs.Prelude.{IfErr, IfOk, IfSome, IsErrOf};
+ghost use Rattle.std.specs.Io.KnownBytes.{prepend_known};
+ghost use Rattle.auction_terms.specs.declared.Entry.{Entry};
+ghost use Rattle.auction_terms.specs.Auxiliary.RunningAuction.{opened_auction};
+ghost use Rattle.auction.specs.ConfigFault.{open_fault};
+ghost use Rattle.journal.specs.DayWithCalls.{orders_for};
+ghost use Rattle.order_file.specs.Blocks.{OpensBlock, block_rows};
+ghost use Rattle.order_file.specs.File.{IsOfRecord, calls_after, calls_of_file};
+ghost use Rattle.program_runs.specs.KeptEntries.{KeepsEntries, KeepsCalls, KeepsDay, KeepsDayOfText, calls_for};
+ghost use Rattle.program_runs.specs.KeptEntries.{KeepsCallsOfText, form_kept};
+
+use crate::fault::Fault;
+use crate::kept::Kept;
+use crate::kept_day::{KeptDay, close_day};
+use auction::{Auction, OpenFault};
+use byte_streams::Source;
+use day_road::hear_all;
+use journal::DayHeader;
+use order_file::{Blocks, FileFault, MAX_BYTES, bytes_after, calls_of_file};
+use settings::Form;
+use std::alloc::Global;
+
+/// Applies the calls of a block's records, which come after the auction's so far, and keeps their entries; or answers
+/// the first fault, which may be that memory is refused.
+fn keep_block(
+    alloc: Global,
+    blocks: &Blocks,
+    auction: &mut Auction,
+    kept: &mut Kept,
+    members: u8,
+) -> Result<(), FileFault>
+    requires { auction.old.calls ≤ auction.old.config.max_calls }
+    ensures form { form_kept kept.new ≡ form_kept kept.old }
+    ensures kept { (entries : List Entry) → KeepsEntries kept.old auction.old entries
+        → KeepsCalls (KeepsEntries kept.new auction.new) entries auction.old auction.new result
+        (calls_after members auction.old.config.max_calls auction.old.calls (block_rows blocks.now)) }
+    ensures room { auction.new.calls ≤ auction.old.config.max_calls }
+    ensures parsed { IfErr result IsOfRecord }
+{
+    let max_calls = auction.config().max_calls;
+    let mut calls = blocks.calls(alloc, members, max_calls, auction.calls())?;
+    hear_all(alloc, &mut calls, auction, kept)
+}
+
+/// Applies the calls of this block's records, of which none has come, and of those behind it, and keeps their entries;
+/// or answers the first fault, before which one of the reading comes.
+fn keep_blocks<R: Source>(
+    alloc: Global,
+    reader: &mut R,
+    auction: &mut Auction,
+    kept: &mut Kept,
+    blocks: &mut Blocks,
+    members: u8,
+) -> Result<(), FileFault>
+    requires opened { auction.old ≡ opened_auction auction.old.config }
+    requires none { KeepsEntries kept.old auction.old [] }
+    ensures failed { IsErrOf result FileFault.ReadFailed ↔ (R.failures reader.old < R.failures reader.new) }
+    ensures form { form_kept kept.new ≡ form_kept kept.old }
+    ensures room { auction.new.calls ≤ auction.old.config.max_calls }
+    ensures kept { (text : Option (List ℕ))
+        → IfSome text (OpensBlock (Ok blocks.old) MAX_BYTES (R.left reader.old))
+        → KeepsCallsOfText (KeepsEntries kept.new auction.new) auction.old auction.new result text members }
+{
+    'turns: loop {
+        if let Err(fault) = keep_block(alloc, blocks, auction, kept, members) {
+            blocks.drain(reader)?;
+            return Err(fault);
+        }
+        if !blocks.next(reader)? {
+            return Ok(());
+        }
+    }
+}
+
+/// What an order file owes whose day can't be opened: a fault of its own comes first.
+fn refused_orders(alloc: Global, bytes: &[u8], day: DayHeader, fault: OpenFault) -> Fault
+    requires { fault ≡ unwrap_or (open_fault day.config) OpenFault.NoMemory }
+    ensures kept { (form : Form)
+        → KeepsDay form (calls_for day (calls_of_file day.members day.config.max_calls bytes.now)) (Err result) }
+    ensures read { result ≢ Fault.File FileFault.ReadFailed }
+{
+    if let Err(fault) = calls_of_file(alloc, bytes, day.members, day.config.max_calls) {
+        return Fault::File(fault);
+    }
+    Fault::Open(fault)
+}
+
+/// What an order file owes whose day can't be opened, and of which these bytes at the start were read: a fault of its
+/// own comes first.
+fn refused_file<R: Source>(
+    alloc: Global,
+    start: Vec<u8>,
+    reader: &mut R,
+    day: DayHeader,
+    fault: OpenFault,
+) -> Fault
+    requires short { length start.items ≤ MAX_BYTES }
+    requires fault { fault ≡ unwrap_or (open_fault day.config) OpenFault.NoMemory }
+    ensures failed { (result ≡ Fault.File FileFault.ReadFailed) ↔ (R.failures reader.old < R.failures reader.new) }
+    ensures kept { (form : Form)
+        → KeepsDayOfText form (Err result) (prepend_known start.items (R.left reader.old)) (orders_for day) }
+{
+    match bytes_after(start, reader, MAX_BYTES) {
+        Ok(bytes) => refused_orders(alloc, bytes.as_slice(), day, fault),
+        Err(fault) => Fault::File(fault),
+    }
+}
+
+/// Applies the calls of an order file, of which these bytes at the start were read, to an auction that was just opened,
+/// and keeps their entries; or answers the file's first fault. The start is dropped once the first block has a copy, as
+/// it may be the whole input.
+fn keep_text<R: Source>(
+    alloc: Global,
+    start: Vec<u8>,
+    reader: &mut R,
+    auction: &mut Auction,
+    kept: &mut Kept,
+    members: u8,
+) -> Result<(), FileFault>
+    requires short { length start.items ≤ MAX_BYTES }
+    requires opened { auction.old ≡ opened_auction auction.old.config }
+    requires none { KeepsEntries kept.old auction.old [] }
+    ensures failed { IsErrOf result FileFault.ReadFailed ↔ (R.failures reader.old < R.failures reader.new) }
+    ensures form { form_kept kept.new ≡ form_kept kept.old }
+    ensures room { IfOk result (λ _. auction.new.calls ≤ auction.old.config.max_calls) }
+    ensures kept { KeepsCallsOfText (KeepsEntries kept.new auction.new) auction.old auction.new result
+        (prepend_known start.items (R.left reader.old)) members }
+{
+    let mut blocks = Blocks::open(alloc, start.as_slice(), reader, MAX_BYTES)?;
+    drop(start);
+    keep_blocks(alloc, reader, auction, kept, &mut blocks, members)
+}
+
+/// Runs the commands of an order file of this day on its auction, as `keep_file`.
+fn keep_opened<R: Source>(
+    alloc: Global,
+    start: Vec<u8>,
+    reader: &mut R,
+    mut auction: Auction,
+    day: DayHeader,
+    form: Form,
+) -> Result<KeptDay, Fault>
+    requires short { length start.items ≤ MAX_BYTES }
+    requires opened { auction ≡ opened_auction day.config }
+    requires opens { open_fault day.config ≡ None }
+    ensures failed { IsErrOf result (Fault.File FileFault.ReadFailed)
+        ↔ (R.failures reader.old < R.failures reader.new) }
+    ensures kept { KeepsDayOfText form result (prepend_known start.items (R.left reader.old)) (orders_for day) }
+{
+    let Ok(mut kept) = Kept::open(alloc, form, &auction) else {
+        return Err(Fault::File(FileFault::NoMemory));
+    };
+    keep_text(alloc, start, reader, &mut auction, &mut kept, day.members)?;
+    close_day(alloc, day, &mut auction, kept)
+}
+
+/// Runs the commands of an order file of this day, of which these bytes at the start were read, block by block.
+pub fn keep_file<R: Source>(
+    alloc: Global,
+    start: Vec<u8>,
+    reader: &mut R,
+    day: DayHeader,
+    form: Form,
+) -> Result<KeptDay, Fault>
+    requires { length start.items ≤ MAX_BYTES }
+    ensures failed { IsErrOf result (Fault.File FileFault.ReadFailed)
+        ↔ (R.failures reader.old < R.failures reader.new) }
+    ensures kept { KeepsDayOfText form result (prepend_known start.items (R.left reader.old)) (orders_for day) }
+{
+    match Auction::open(alloc, day.config) {
+        Ok(auction) => keep_opened(alloc, start, reader, auction, day, form),
+        Err(fault) => Err(refused_file(alloc, start, reader, day, fault)),
+    }
+}

@@ -1,0 +1,125 @@
+//! The printed text of a day that is over.
+
+ghost use Rattle.std.specs.Prelude.{◌≡◌, ◌<◌, ◌↔◌, List, IfErr, IsErrOf};
+ghost use Rattle.auction_terms.specs.declared.Entry.{Entry};
+ghost use Rattle.byte_streams.specs.Writing.{WritesAll};
+ghost use Rattle.printed_lines.specs.Printing.{Prints};
+ghost use Rattle.printed_lines.specs.ReplyLines.{lines};
+ghost use Rattle.program_runs.specs.BoardRun.{closing_text};
+ghost use Rattle.program_runs.specs.FileRun.{WritesText};
+ghost use Rattle.program_runs.specs.KeptEntries.{KeepsWholeDay, form_kept};
+ghost use Rattle.program_runs.specs.Printed.{IsWideForm, printed};
+
+use crate::fault::Fault;
+use crate::kept::Kept;
+use auction_terms::Reply;
+use byte_streams::{Sink, WriteFailed};
+use journal::{DayHeader, print_kept_journal};
+use member_board::Closing;
+use printed_lines::{Printer, print_history, print_line, print_tally};
+use reply_list::ReplyList;
+
+/// Prints the line of each reply.
+fn print_replies<S: Sink>(
+    printer: &mut Printer<'_, S>,
+    replies: &ReplyList,
+) -> Result<(), WriteFailed>
+    ensures { Prints S.Sink printer.old printer.new result (lines replies.now) }
+{
+    let mut left = replies.iter();
+    let mut lent = Reply::Deleted;
+    for place in 0..replies.len() {
+        print_line(printer, place as u64 + 1, left.next_reply(&mut lent))?;
+    }
+    Ok(())
+}
+
+/// What is written of a closed day.
+#[derive(Clone, Copy)]
+pub enum ClosingForm {
+    /// Its tally.
+    Tally,
+    /// The tally, and then its history.
+    History,
+}
+
+/// Prints what a closed day comes to.
+fn print_closing<S: Sink>(
+    printer: &mut Printer<'_, S>,
+    closing: &Closing,
+    first_bad: Option<u64>,
+    form: ClosingForm,
+) -> Result<(), WriteFailed>
+    ensures { Prints S.Sink printer.old printer.new result (closing_text form closing.now first_bad) }
+{
+    let entries = closing.history.as_slice();
+    let calls = closing.calls.as_slice();
+    print_tally(printer, entries.len() as u64, calls, first_bad)?;
+    match form {
+        ClosingForm::Tally => Ok(()),
+        ClosingForm::History => print_history(printer, entries),
+    }
+}
+
+/// Writes what a closed day comes to. It takes no memory.
+pub fn write_closing<S: Sink>(
+    writer: &mut S,
+    closing: &Closing,
+    first_bad: Option<u64>,
+    form: ClosingForm,
+) -> Result<(), WriteFailed>
+    ensures { WritesAll S.Sink writer.old writer.new result (closing_text form closing.now first_bad) }
+{
+    let mut printer = Printer::new(writer);
+    print_closing(&mut printer, closing, first_bad, form)?;
+    printer.flush()
+}
+
+/// Prints a day in the form that its entries are kept for.
+fn print_kept<S: Sink>(
+    printer: &mut Printer<'_, S>,
+    day: DayHeader,
+    kept: &mut Kept,
+) -> Result<(), WriteFailed>
+    requires { (entries : List Entry) × KeepsWholeDay kept.old day.config entries }
+    ensures { (entries : List Entry) → KeepsWholeDay kept.old day.config entries
+        → Prints S.Sink printer.old printer.new result (printed (form_kept kept.old) day entries) }
+{
+    match kept {
+        Kept::Lines(replies) => print_replies(printer, replies),
+        Kept::Journal(lines) => print_kept_journal(printer, day, lines),
+        Kept::Trades(trades) => trades.print(printer),
+        Kept::Book(book) => book.print(printer),
+    }
+}
+
+fn write_printed<S: Sink>(
+    writer: &mut S,
+    day: DayHeader,
+    kept: &mut Kept,
+) -> Result<(), WriteFailed>
+    requires { (entries : List Entry) × KeepsWholeDay kept.old day.config entries }
+    ensures { (entries : List Entry) → KeepsWholeDay kept.old day.config entries
+        → WritesAll S.Sink writer.old writer.new result (printed (form_kept kept.old) day entries) }
+{
+    let mut printer = Printer::new(writer);
+    print_kept(&mut printer, day, kept)?;
+    printer.flush()
+}
+
+/// Writes what is printed of a day in the form that its entries are kept for. It takes no memory, and a write that
+/// fails leaves a beginning of the text.
+pub fn write_kept<S: Sink>(writer: &mut S, day: DayHeader, kept: &mut Kept) -> Result<(), Fault>
+    requires { (entries : List Entry) × KeepsWholeDay kept.old day.config entries }
+    ensures text { (entries : List Entry) → KeepsWholeDay kept.old day.config entries
+        → WritesText (S.written writer.old) (S.written writer.new) (printed (form_kept kept.old) day entries) result }
+    ensures failed { IsErrOf result Fault.WriteFailed ↔ (S.failures writer.old < S.failures writer.new) }
+    ensures fault { IfErr result (λ f. f ≡ Fault.WriteFailed) }
+    ensures wide { (entries : List Entry) → KeepsWholeDay kept.old day.config entries
+        → IsWideForm (form_kept kept.old) entries }
+{
+    let Ok(()) = write_printed(writer, day, kept) else {
+        return Err(Fault::WriteFailed);
+    };
+    Ok(())
+}

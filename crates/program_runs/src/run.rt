@@ -1,0 +1,86 @@
+//! The run of commands on an auction.
+
+ghost use Rattle.std.specs.Prelude.{◌≡◌, ◌<◌, ◌≤◌, ◌↔◌, ◌∷◌, ℕ, List, Option, Result, true, IsErrOf};
+ghost use Rattle.program_runs.specs.AuctionRun.{RunsOnAuction};
+ghost use Rattle.program_runs.specs.FileRun.{ends_by, ends_of};
+ghost use Rattle.program_runs.specs.KeptEntries.{KeepsDay, KeepsDayOfText};
+ghost use Rattle.journal.specs.DayWithCalls.{DayWithCalls, run_input};
+
+use crate::fault::{Fault, Finish};
+use crate::journals::keep_input;
+use crate::kept_day::KeptDay;
+use crate::orders::keep_file;
+use crate::printing::write_kept;
+use byte_streams::{Sink, Source};
+use journal::{DayHeader, MAX_JOURNAL_BYTES};
+use order_file::{FileFault, bytes_after, read_start};
+use settings::Form;
+use std::alloc::Global;
+
+/// Writes what is printed of a day that was kept, or hands on why it wasn't.
+fn write_run<S: Sink>(writer: &mut S, run: Result<KeptDay, Fault>) -> Result<Finish, Fault>
+    requires { (form : Form) × (said : Result DayWithCalls FileFault) × KeepsDay form said run }
+    ensures { (day : DayHeader) (form : Form) (left rest : Option (List ℕ)) (reads reads_after : ℕ)
+        → KeepsDayOfText form run left (run_input day)
+        → (IsErrOf run (Fault.File FileFault.ReadFailed) ↔ (reads < reads_after))
+        → RunsOnAuction day form (ends_by left rest (S.written writer.old) (S.written writer.new) reads reads_after
+        (S.failures writer.old) (S.failures writer.new)) result }
+{
+    let mut kept_day = match run {
+        Ok(kept_day) => kept_day,
+        Err(fault) => return Err(fault),
+    };
+    write_kept(writer, kept_day.day, &mut kept_day.kept)?;
+    Ok(Finish::Lawful)
+}
+
+/// Whether the first of these bytes is a digit, so that what they begin is no journal.
+fn begins_with_digit(start: &[u8]) -> bool
+    ensures { result ≡ true
+        → (digit : ℕ) × (rest : List ℕ) × (start.now ≡ digit ∷ rest) × (48 ≤ digit) × (digit ≤ 57) }
+{
+    match start.first() {
+        Some(byte) => byte.is_ascii_digit(),
+        None => false,
+    }
+}
+
+/// Runs the commands of an input, a journal or an order file of this day; of one that begins with a digit block by
+/// block.
+fn keep_run<R: Source>(
+    alloc: Global,
+    reader: &mut R,
+    day: DayHeader,
+    form: Form,
+) -> Result<KeptDay, Fault>
+    ensures failed { IsErrOf result (Fault.File FileFault.ReadFailed)
+        ↔ (R.failures reader.old < R.failures reader.new) }
+    ensures kept { KeepsDayOfText form result (R.left reader.old) (run_input day) }
+{
+    let start = read_start(alloc, reader)?;
+    if begins_with_digit(start.as_slice()) {
+        return keep_file(alloc, start, reader, day, form);
+    }
+    let bytes = bytes_after(start, reader, MAX_JOURNAL_BYTES)?;
+    keep_input(alloc, bytes.as_slice(), day, form)
+}
+
+/// Reads and checks a whole input, an order file or a journal, applies its commands to an auction, and then writes
+/// what is printed of them in this form. An order file is one of this day; one that begins with a digit is read block
+/// by block.
+///
+/// A fault of the input comes before one of the config. Nothing is written where either has a fault,
+/// and a write that fails leaves a beginning of the text. Once the input was read it takes no memory.
+pub fn run_file<R: Source, S: Sink>(
+    alloc: Global,
+    reader: &mut R,
+    writer: &mut S,
+    day: DayHeader,
+    form: Form,
+) -> Result<Finish, Fault>
+    ensures { RunsOnAuction day form
+        (ends_of R.Source S.Sink reader.old reader.new writer.old writer.new) result }
+{
+    let run = keep_run(alloc, reader, day, form);
+    write_run(writer, run)
+}
