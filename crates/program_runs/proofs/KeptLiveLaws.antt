@@ -23,8 +23,8 @@ use Rattle.live_session.specs.declared.fault.LiveFault.{LiveFault}
 use Rattle.live_session.specs.declared.terms.SessionTerms.{SessionTerms}
 use Rattle.settings.specs.declared.types.JournalFile.{JournalFile}
 use Rattle.program_runs.specs.FileRun.{ends_of}
-use Rattle.program_runs.specs.KeptLive.{EndsWithStatus, IsBegunFor, IsReason, IsRefusedOn, JournalFiles, RunsKeptSession}
-use Rattle.program_runs.specs.KeptLive.{RunsToEnd}
+use Rattle.program_runs.specs.KeptLive.{EndsWithStatus, IsBegunFor, IsReason, IsRefusedOn, JournalFiles}
+use Rattle.program_runs.specs.KeptLive.{RunsKeptSession, RunsToEnd}
 use Rattle.program_runs.specs.KeptLive.{begin_status, kept_status, resume_status}
 use Rattle.program_runs.specs.LiveRun.{terms_of}
 use Rattle.program_runs.specs.declared.keeping.KeptFault.{KeptFault}

@@ -54,7 +54,8 @@ OWED_SECONDS, OWED_PAUSE = 8.0, 0.02
 RESET_SECONDS, RESET_PAUSE = 10.0, 0.02
 """How long the reset of a session waits for what that has said."""
 LOGOUT_SECONDS, LOGOUT_PAUSE = 1.0, 0.01
-"""How long the answer to a Logout waits for what was said before: clients wait for 2 s, or longer."""
+"""How long the answer to a Logout waits for what was said before: clients wait for 2 s or longer.
+"""
 LEAVE_SECONDS = 4.0
 """How long a session that is reset may take to answer its Logout."""
 MORE: dict[str, Act] = {
