@@ -56,8 +56,6 @@ def test_all_comes_again_in_its_order_and_then_what_is_new(tmp_path: pathlib.Pat
         assert (answer[34], answer[11], answer.get(43)) == (str(last + 1), "later", None)
 
 
-
-
 def test_what_is_asked_twice_comes_twice(tmp_path: pathlib.Path) -> None:
     port = served.free_port()
     with on(tmp_path, fixing.day_of(port, "ALICE"), port, "ALICE") as (venue, [peer]):
@@ -93,7 +91,8 @@ def test_others_wait_little_meanwhile(tmp_path: pathlib.Path) -> None:
         many(alice)
         alice.socket.settimeout(0.0)
         alice.say("2", [(7, "1"), (16, "0")])
-        waits, taken = [], b""
+        waits: list[float] = []
+        taken = b""
         while b"\x0134=%d\x01" % (alice.expected - 1) not in taken[-400:]:
             begin = time.monotonic()
             bob.enter(f"o{len(waits)}", "2", 1, "3.00")
