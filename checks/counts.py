@@ -6,7 +6,7 @@ import pytest
 
 class Counts:
     """How many tests passed and failed. A test that is skipped, or that pytest doesn't come to,
-    failed. Those that look at a clock may be tried again, which is printed.
+    failed. A try that failed and was made again counts as nothing, and is printed.
     """
 
     def __init__(self) -> None:

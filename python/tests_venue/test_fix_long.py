@@ -78,8 +78,8 @@ def test_one_whose_sum_is_wrong_is_passed_over(tmp_path: pathlib.Path) -> None:
         right = fixing.written("2", peer.number, "ALICE", [(7, "1"), (16, "0")])
         peer.socket.sendall(right[:-4] + b"%03d" % ((int(right[-4:-1]) + 1) % 256) + right[-1:])
         peer.say("1", [(112, "there")])
-        assert peer.take(lambda it: it[35] == "0" and it.get(112) == "there")[34]
-        assert len(peer.got) == ORDERS
+        answer = dict(fixing.parsed(peer.whole()))
+        assert (answer[35], answer[112], answer.get(43)) == ("0", "there", None)
 
 
 @TIMED
