@@ -179,24 +179,28 @@ def test_what_is_garbled_is_passed_over(tmp_path: pathlib.Path, begin: str) -> N
     assert speaker.is_heard()
 
 
+WRONG_IDS = "SenderCompID (49) or TargetCompID (56) isn't this session's"
+WRONG_TIME = "SendingTime (52) isn't the time, or is before OrigSendingTime (122)"
+
+
 @pytest.mark.parametrize(
-    "heads, text",
+    "heads, tag, reason, text",
     [
-        ({49: "EVE"}, "SenderCompID (49) or TargetCompID (56) isn't this session's"),
-        ({56: "EVE"}, "SenderCompID (49) or TargetCompID (56) isn't this session's"),
-        (
-            {52: "20200101-00:00:00"},
-            "SendingTime (52) isn't the time, or is before OrigSendingTime (122)",
-        ),
+        ({49: "EVE"}, "49", "9", WRONG_IDS),
+        ({56: "EVE"}, "56", "9", WRONG_IDS),
+        ({52: "20200101-00:00:00"}, "52", "10", WRONG_TIME),
+        ({34: "1", 43: "Y", 122: "20991231-00:00:00"}, "122", "10", WRONG_TIME),
     ],
 )
 def test_a_logout_says_why(
-    tmp_path: pathlib.Path, begin: str, heads: Heads, text: str
+    tmp_path: pathlib.Path, begin: str, heads: Heads, tag: str, reason: str, text: str
 ) -> None:
-    """After the Reject; who doesn't answer it is ended soon, also without heartbeats."""
+    """After the Reject, which names the tag; who doesn't answer it is ended soon, also without
+    heartbeats.
+    """
     speaker = Speaker(tmp_path, begin, "0")
     reject, logout = speaker.say("D", ORDER, heads)
-    assert (reject[35], reject[373]) == ("3", "10" if 52 in heads else "9")
+    assert refusal([reject]) == (heads.get(34, "2"), "D", tag, reason)
     assert (logout[35], logout[58]) == ("5", text)
     for _ in range(4):
         assert not speaker.is_closed

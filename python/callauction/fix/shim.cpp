@@ -423,8 +423,14 @@ class Engine : public FIX::Application, FIX::LogFactory {
     ends_.clear();
     if (type != reject || !message.isSetField(FIX::FIELD::SessionRejectReason)) return;
     const int reason = std::stoi(message.getField(FIX::FIELD::SessionRejectReason));
-    if (reason == FIX::SessionRejectReason_COMPID_PROBLEM) ends_ = wrong_ids;
-    if (reason == FIX::SessionRejectReason_SENDINGTIME_ACCURACY_PROBLEM) ends_ = wrong_time;
+    if (reason == FIX::SessionRejectReason_COMPID_PROBLEM) {
+      ends_ = wrong_ids;
+      message.setField(FIX::RefTagID(wrong_id(id)));
+    }
+    if (reason == FIX::SessionRejectReason_SENDINGTIME_ACCURACY_PROBLEM) {
+      ends_ = wrong_time;
+      message.setField(FIX::RefTagID(late_tag()));
+    }
     if (reason == FIX::SessionRejectReason_INVALID_TAG_NUMBER) tell_other_tag(message);
     if (reason != FIX::SessionRejectReason_INVALID_MSGTYPE) return;
     message.getHeader().setField(FIX::FIELD::MsgType, "j");
@@ -503,6 +509,7 @@ class Engine : public FIX::Application, FIX::LogFactory {
 
   // Takes a message. One with a wrong checksum is passed over, as the standard says.
   void take(Wire& wire, const std::string& text) {
+    heard_ = &text;
     try {
       if (!wire.session) wire.is_closed = !begins(wire, text) || !takes_logon(wire, text);
       else if (acceptor_ && type_of(text) == "A") wire.is_closed = !say_why(wire, logged_on);
@@ -514,6 +521,18 @@ class Engine : public FIX::Application, FIX::LogFactory {
     } catch (FIX::Exception&) {
       wire.is_closed = true;
     }
+    heard_ = nullptr;
+  }
+
+  // Which tag of what was heard is at fault, where QuickFIX says only that an id is, or a time.
+  int wrong_id(const FIX::SessionID& id) const {
+    const bool is_sender = !heard_ || value_of(*heard_, "49") != id.getTargetCompID().getValue();
+    return is_sender ? FIX::FIELD::SenderCompID : FIX::FIELD::TargetCompID;
+  }
+  int late_tag() const {
+    const bool is_again = heard_ && value_of(*heard_, "43") == "Y";
+    const bool is_before = is_again && value_of(*heard_, "52") < value_of(*heard_, "122");
+    return is_before ? FIX::FIELD::OrigSendingTime : FIX::FIELD::SendingTime;
   }
 
   // Whether a message asks for more messages again than are sent at a time. Raises InvalidMessage where its length or
@@ -876,6 +895,7 @@ class Engine : public FIX::Application, FIX::LogFactory {
   Accepts accepts_;
   std::string password_, time_;  // of a Logon, and of what is sent now
   std::string ends_;  // what a Logout says that follows a Reject
+  const std::string* heard_ = nullptr;  // what is taken now
   bool is_quiet_ = false;  // while a part is sent again
   std::vector<Kept> events_;
   std::vector<Said> said_;
