@@ -209,6 +209,46 @@ def test_a_logout_says_why(
     assert speaker.is_closed
 
 
+# ---- ends and refusals of a client that don't come in their turn
+
+
+@pytest.mark.parametrize("kind, pairs", [("5", []), ("3", [(45, "1"), (58, "text")])])
+def test_what_is_missing_before_an_end_or_a_refusal_is_expected_on(
+    tmp_path: pathlib.Path, begin: str, kind: str, pairs: Pairs
+) -> None:
+    """By the standard the number that is expected is that of the first message that is missing,
+    whatever came after it: the next Logon has it asked for.
+    """
+    speaker = Speaker(tmp_path, begin)
+    speaker.say(kind, pairs, {34: "4"})
+    assert (speaker.expected, speaker.is_closed) == (2, kind == "5")
+    speaker.engine.lost(speaker.connection)
+    speaker.number = 5
+    logon, asked = speaker.connect("30")
+    assert (logon[35], asked[35], asked[7], asked[16]) == ("A", "2", "2", "0")
+    speaker.number = 2
+    assert speaker.say("D", ORDER, {43: "Y", 122: TIME}) == []
+    [(_, given, _)] = speaker.engine.said()
+    assert (given[11], speaker.expected) == ("a1", 3)
+
+
+@pytest.mark.parametrize("kind, pairs", [("5", []), ("3", [(45, "1"), (58, "text")])])
+def test_an_end_or_a_refusal_in_its_turn_counts(
+    tmp_path: pathlib.Path, begin: str, kind: str, pairs: Pairs
+) -> None:
+    speaker = Speaker(tmp_path, begin)
+    speaker.say(kind, pairs)
+    assert speaker.expected == 3
+
+
+def test_an_end_that_came_before_counts_once(tmp_path: pathlib.Path, begin: str) -> None:
+    """The number of the next message isn't too low then."""
+    speaker = Speaker(tmp_path, begin)
+    assert speaker.is_heard()
+    [found] = speaker.say("5", [], {34: "2"})
+    assert (found[35], speaker.is_closed, speaker.expected) == ("5", True, 3)
+
+
 # ---- what is sent again
 
 

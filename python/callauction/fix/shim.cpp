@@ -515,13 +515,22 @@ class Engine : public FIX::Application, FIX::LogFactory {
       else if (acceptor_ && type_of(text) == "A") wire.is_closed = !say_why(wire, logged_on);
       else if (acceptor_ && !has_head(text) && !is_passed(wire, text)) return;
       else if (acceptor_ && is_long(wire, text)) begin_again(wire, text);
-      else wire.session->next(text, FIX::UtcTimeStamp());
+      else hand(*wire.session, text);
     } catch (FIX::InvalidMessage&) {
       wire.is_closed = !wire.session || !wire.session->isLoggedOn();
     } catch (FIX::Exception&) {
       wire.is_closed = true;
     }
     heard_ = nullptr;
+  }
+
+  // Gives QuickFIX a message. It would count a Logout or a Reject also where messages before it are missing, and then
+  // never ask for one of those.
+  static void hand(FIX::Session& session, const std::string& text) {
+    const int expected = session.getExpectedTargetNum();
+    session.next(text, FIX::UtcTimeStamp());
+    if (session.getExpectedTargetNum() == expected || type_of(text) == "4") return;
+    if (FIX::IntConvertor::convert(value_of(text, "34")) != expected) session.setNextTargetMsgSeqNum(expected);
   }
 
   // Which tag of what was heard is at fault, where QuickFIX says only that an id is, or a time.
