@@ -156,7 +156,8 @@ def test_orders_that_have_ended(tmp_path: pathlib.Path) -> None:
         found = answer(peer, "D", order("late", "1", "10", (40, "1")))
         assert picked(found, 39, 103, 58) == ("8", "2", "the day is over")
         ask_data(peer, "m1", "0")
-        assert peer.take(lambda it: it[35] == "W")[268] == "0"
+        found = peer.take(lambda it: it[35] == "W")
+        assert picked(found, 268, 269) == ("1", "J")
 
 
 REFUSED: list[tuple[Pairs, str]] = [

@@ -212,7 +212,7 @@ def test_the_market_as_it_changes(tmp_path: pathlib.Path) -> None:
     with on(tmp_path, day, port, "ALICE", "BOB") as (venue, [alice, bob]):
         venue.do("start")
         ask_data(bob, "d1", "1", (265, "1"))
-        assert rows(bob, "W") == []
+        assert rows(bob, "W") == [{269: "J"}]
         alice.enter("a1", "1", 500, "2.00")
         assert rows(bob, "X") == [{279: "0", 269: "0", 55: "XYZ", 270: "2.00"}]
         alice.enter("a2", "2", 300, "2.10")
@@ -242,11 +242,41 @@ def test_the_market_as_it_changes(tmp_path: pathlib.Path) -> None:
         assert bob.all() == []
 
 
-def ask_data(peer: Peer, request: str, how: str, *more: tuple[int, str]) -> None:
-    """Sends a MarketDataRequest for all."""
-    types = [(269, it) for it in "QBA01"]
-    symbols = [(267, "5"), *types, (146, "1"), (55, "XYZ")]
-    peer.say("V", [(262, request), (263, how), (264, "1"), *more, *symbols])
+def test_a_book_that_is_empty(tmp_path: pathlib.Path) -> None:
+    """By the standard a group has a row: a whole that shows nothing has the row of an empty book,
+    changes have those that are gone. Nothing of it is in what follows.
+    """
+    port = served.free_port()
+    with on(tmp_path, fixing.day_of(port, "ALICE", "BOB"), port, "ALICE", "BOB") as (
+        venue,
+        [alice, bob],
+    ):
+        venue.do("start")
+        ask_data(bob, "d1", "1", (265, "1"))
+        ask_data(bob, "d2", "1", (265, "0"))
+        assert [rows(bob, "W") for _ in range(2)] == [[{269: "J"}]] * 2
+        for client in ("a1", "a2"):
+            alice.enter(client, "1", 500, "2.00")
+            assert rows(bob, "X") == [{279: "0", 269: "0", 55: "XYZ", 270: "2.00"}]
+            assert rows(bob, "W") == [{269: "0", 270: "2.00"}]
+            alice.cancel(client, f"{client}c", "1")
+            assert rows(bob, "X") == [{279: "2", 269: "0", 55: "XYZ"}]
+            assert rows(bob, "W") == [{269: "J"}]
+        alice.enter("a3", "1", 500, "2.00")
+        bob.take(lambda it: it[35] == "W")
+        ask_data(bob, "d3", "0", types="Q")
+        assert rows(bob, "W") == [{269: "J"}]  # no price: nothing that was asked for
+        ask_data(bob, "d4", "0", types="J")
+        assert bob.take(lambda it: it[35] == "Y")[281] == "8"
+
+
+def ask_data(
+    peer: Peer, request: str, how: str, *more: tuple[int, str], types: str = "QBA01"
+) -> None:
+    """Sends a MarketDataRequest for these types of entries, which are all."""
+    entries = [(267, str(len(types))), *((269, it) for it in types)]
+    symbols = [(146, "1"), (55, "XYZ")]
+    peer.say("V", [(262, request), (263, how), (264, "1"), *more, *entries, *symbols])
 
 
 def rows(peer: Peer, kind: str) -> list[Message]:

@@ -106,7 +106,7 @@ def test_tags_that_change_nothing(tmp_path: pathlib.Path) -> None:
         found = answer(peer, "x", [(320, "l1"), (559, "4"), (207, "XETR"), (58, "t"), (263, "0")])
         assert picked(found, 35, 560, 393) == ("y", "0", "1")
         found = answer(peer, "V", [*whole("V"), (207, "XETR")])
-        assert picked(found, 35, 262, 268) == ("W", "n1", "0")
+        assert picked(found, 35, 262, 268, 269) == ("W", "n1", "1", "J")
         gone = [(41, "a2"), *order("a3", "1", "99"), *NOTHING, (37, "9")]
         assert picked(answer(peer, "F", gone, HEAD), 150, 37, 38) == ("4", "XYZ.1", "12")
         found = answer(peer, "q", [(11, "a4"), (530, "7"), (60, TIME), (58, "text"), (207, "XETR")])
@@ -272,7 +272,8 @@ def test_instruments_and_the_market_by_name(tmp_path: pathlib.Path) -> None:
             *("l1", "R.ALICE.2", "0", "1", "1", "XYZ"),
         )
         ask_data(peer, "d1", "1", (265, "1"))
-        assert picked(peer.take(lambda it: it[35] == "W"), 262, 55, 268) == ("d1", "XYZ", "0")
+        found = peer.take(lambda it: it[35] == "W")
+        assert picked(found, 262, 55, 268, 269) == ("d1", "XYZ", "1", "J")
         venue.do("start")
         peer.enter("a1", "1", 10, "2.00")
         found = peer.take(lambda it: it[35] == "X")

@@ -13,8 +13,11 @@ import served
 from callauction.fix import dictionaries
 from callauction.fix._quickfix import Engine
 from callauction.fix.build import QUICKFIX
+from callauction.fix.feeds import snapshot
+from callauction.fix.settings import settings_of
+from callauction.fix.tags import FIX44, FIXT
 from fixing import Peer
-from test_fix_venue import Initiator
+from test_fix_venue import DICTIONARIES, SETTINGS, Initiator
 
 FIELD = re.compile(r"FIELD_SET\(\*this, FIX::(\w+)\)")
 OTHERS = {
@@ -91,6 +94,43 @@ def test_quickfix_s_own_initiator(tmp_path: pathlib.Path) -> None:
         mine.send("D", pairs)
         mine.until(lambda: any(it.get(11) == "a1" for it in mine.got))
         assert mine.got[0][150] == "0"
+
+
+OWN_VALUES = "0123456789ABC"
+"""What FIX 4.4 has for MDEntryType, as the dictionaries of clients list it."""
+
+
+@pytest.mark.parametrize("begin", [FIX44, FIXT])
+@pytest.mark.parametrize("values", ["", OWN_VALUES])
+def test_quickfix_s_own_initiator_takes_an_empty_book(
+    tmp_path: pathlib.Path, begin: str, values: str
+) -> None:
+    """By the venue's dictionary, and by one that lists the values of FIX 4.4."""
+    (tmp_path / "venue").mkdir()
+    venue = Engine(settings_of(tmp_path / "venue", {"EMPTY": begin}), lambda *_: True)
+    listed = "".join(f'<value enum="{it}" description="V{it}"/>' for it in values)
+    dictionaries.write(tmp_path)
+    for path in tmp_path.glob("*.xml"):
+        named = f'name="MDEntryType" type="CHAR">{listed}</field>'
+        path.write_text(re.sub(r'name="MDEntryType" type="CHAR"\s*/>', named, path.read_text()))
+    text = SETTINGS.format(store=tmp_path, begin=begin, member="EMPTY")
+    client = Engine(text + DICTIONARIES[begin].format(folder=tmp_path))
+    one, other = venue.connect(), client.begin(f"{begin}:EMPTY->VENUE", "any")
+
+    def carry() -> list[bytes]:
+        """Brings what each has said to the other: what the client said."""
+        said = [data for _, data, *_ in client.outgoing()]
+        for data in said:
+            venue.feed(one, data)
+        for _, data, *_ in venue.outgoing():
+            client.feed(other, data)
+        return said
+
+    assert len(carry()) == 1 and client.is_logged_on(f"{begin}:EMPTY->VENUE")
+    venue.send(f"{begin}:VENUE->EMPTY", "W", *snapshot("d1", "XYZ", {}))
+    assert carry() == [] and carry() == []  # it refuses nothing
+    [(_, given, entries)] = client.said()
+    assert (given[55], given[262], given[268], entries) == ("XYZ", "d1", "1", [(269, "J")])
 
 
 def test_a_version_of_nobody(tmp_path: pathlib.Path) -> None:

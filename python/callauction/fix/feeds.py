@@ -100,11 +100,12 @@ class Phases:
 
 
 def snapshot(request: str, market: str, rows: Rows) -> tuple[Pairs, Groups]:
-    """A MarketDataSnapshotFullRefresh."""
+    """A MarketDataSnapshotFullRefresh, which has a row also where there is nothing to show: by the
+    standard a count is positive.
+    """
     head: Pairs = [(Tag.MD_REQ_ID, request), (Tag.SYMBOL, market)]
-    if not rows:
-        return [*head, (Tag.NO_MD_ENTRIES, "0")], []
-    return head, [(int(Tag.NO_MD_ENTRIES), int(Tag.MD_ENTRY_TYPE), [*rows.values()])]
+    entries = [*rows.values()] or [snapshots.EMPTY]
+    return head, [(int(Tag.NO_MD_ENTRIES), int(Tag.MD_ENTRY_TYPE), entries)]
 
 
 def changes_of(market: str, before: Rows, after: Rows) -> list[Pairs]:

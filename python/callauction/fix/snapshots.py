@@ -10,6 +10,8 @@ TYPES = PRICE, VOLUME, IMBALANCE, BID, ASK = "Q", "B", "A", "0", "1"
 """MDEntryType of what is indicated; Q is of FIX 5.0."""
 CONDITIONS = {"bid": "P", "ask": "Q"}
 """TradeCondition: more is bid, or more is asked."""
+EMPTY: Pairs = [(Tag.MD_ENTRY_TYPE, "J")]
+"""The one row of a snapshot that has no other: an empty book; of FIX 5.0, as Q."""
 Rows = dict[str, Pairs]
 """Rows of market data by their MDEntryType, which each begins with."""
 
