@@ -8,8 +8,10 @@ import fixing
 import psutil
 import served
 from callauction.fix.front import MOST_AGE
-from fixing import Message, Peer
+from callauction.fix.seats import OTHER_DAY
+from fixing import Message, Pairs, Peer
 from test_fix_requests import Killable, killable, until_logged
+from test_fix_tags import order, picked
 
 
 def heard_again(day: Killable, peer: Peer, folder: pathlib.Path, client: str) -> Message:
@@ -84,3 +86,50 @@ def test_a_reject_is_sent_again(tmp_path: pathlib.Path) -> None:
         again.number, again.sent = peer.number, peer.sent
         again.logon(fixing.token_of(folder, "ALICE"))
         assert told.items() <= again.take(lambda it: it[35] == "3").items()
+
+
+class Former(Peer):
+    """A client whose store has messages of the day before, and so its number."""
+
+    def __init__(self, port: int, member: str, former: list[tuple[str, str, Pairs]]) -> None:
+        super().__init__(port, member)
+        self._former = former
+        self.number = len(former) + 1
+
+    def _again(self, begin: int) -> None:
+        for number, (first, kind, pairs) in enumerate(self._former[begin - 1 :], begin):
+            head = [(43, "Y"), (122, first)]
+            self.socket.sendall(self.written(kind, number, pairs, head))
+        gap = [(123, "Y"), (36, str(self.number))]
+        self.socket.sendall(self.written("4", number + 1, gap, [(43, "Y")]))
+
+
+def test_what_was_for_another_day(tmp_path: pathlib.Path) -> None:
+    """The store that a client should have emptied gives it again to a venue that asks for all: it
+    isn't done today. What waited for the first Logon of this day is.
+    """
+    port, folder, before = served.free_port(), tmp_path / "venue", "20260102-09:00:00.123"
+    day = fixing.day_of(port, "ALICE")
+    with served.served(tmp_path, day) as venue:
+        venue.do("start")
+        limit: Pairs = [(40, "2"), (44, "2.00")]
+        all_orders: Pairs = [(11, "q1"), (530, "7"), (60, before)]
+        former = [
+            (fixing.stamp(), "D", order("a1", "1", "10", *limit)),
+            (before, "D", order("a2", "1", "10", *limit)),
+            (before, "F", [(41, "a1"), (11, "f1"), (55, "XYZ"), (54, "1"), (60, before)]),
+            (before, "G", [(41, "a1"), *order("g1", "1", "99", *limit)]),
+            (before, "q", all_orders),
+            (before, "H", [(11, "a1"), (55, "XYZ"), (54, "1")]),
+        ]
+        peer = Former(port, "ALICE", former)
+        peer.logon(fixing.token_of(folder, "ALICE"))
+        peer.take(lambda it: it.get(17) == "R.ALICE.6")
+        assert [picked(it, 35, 11, 150, 39, 531, 58) for it in peer.got] == [
+            ("8", "a1", "0", "0", "", ""),
+            ("8", "a2", "8", "8", "", OTHER_DAY),
+            ("9", "f1", "", "0", "", OTHER_DAY),
+            ("9", "g1", "", "0", "", OTHER_DAY),
+            ("r", "q1", "", "", "0", OTHER_DAY),
+            ("8", "a1", "I", "0", "", ""),
+        ]

@@ -64,6 +64,7 @@ from callauction.fix.tags import (
     event_in,
     now,
     refusal_of,
+    time_of,
 )
 from callauction.limits import MOST_NUMBER
 from callauction.venue import messages
@@ -95,6 +96,11 @@ LOST: Given = {}
 """What comes in a session's queue when its connection is lost, whose orders are to end with it."""
 NOT_DONE = "it wasn't executed before its venue or program ended, and a gap came in its place"
 USED = "this ClOrdID was used"
+COMMANDS = (Type.ENTER, Type.CANCEL, Type.REPLACE, Type.MASS_CANCEL)
+"""Messages that change orders."""
+MOST_BEHIND = 120
+"""Seconds by which a client's clock may be behind, which are those that QuickFIX lets it be."""
+OTHER_DAY = "it was sent first before this day began: empty your store each day"
 GONE = "the connection has ended, or its venue: CancelOrdersOnDisconnect (8013=Y)"
 PENDING = {"enter": Status.PENDING_NEW, "change": Status.PENDING_REPLACE}
 PENDING["delete"] = Status.PENDING_CANCEL
@@ -239,6 +245,7 @@ class Seat:
         self._lost.pop(number, None)  # it has come again
         before = SOURCE.set(self.address)
         try:
+            self._check_day(given)
             self._enter_new(given, number)
         except MessageError as fault:
             refuse(self, given, event, fault)
@@ -323,12 +330,23 @@ class Seat:
             return
         SOURCE.set(self.address)
         try:
+            self._check_day(given)
             if (act := self._does.get(kind)) is None:
                 self.refuse_type(given, event)
             else:
                 await act(self, rows, given, number)
         except MessageError as fault:
             refuse(self, given, event, fault)
+
+    def _check_day(self, given: Given) -> None:
+        """Raises SeatError where a command that is sent again was for another day: a client's store
+        that has the numbers of that day would have it done today.
+        """
+        if given.get(Tag.POSS_DUP) != "Y" or given[Tag.MSG_TYPE] not in COMMANDS:
+            return
+        begin = time_of(int(self.desk.venue.began) - MOST_BEHIND)
+        if given.get(Tag.ORIG_SENDING_TIME, begin) < begin:
+            raise SeatError(OTHER, OTHER_DAY)
 
     def refuse_type(self, given: Given, event: str) -> None:
         """Says that it may not do this: a member may do all that the dictionary has."""

@@ -37,6 +37,7 @@ class Tag(enum.IntEnum):
     ORD_REJ_REASON = 103
     MAX_FLOOR = 111
     TEST_REQ_ID = 112
+    ORIG_SENDING_TIME = 122
     NO_RELATED_SYM = 146
     EXEC_TYPE = 150
     LEAVES_QTY = 151
