@@ -241,6 +241,19 @@ def test_an_end_or_a_refusal_in_its_turn_counts(
     assert speaker.expected == 3
 
 
+def test_numbers_that_are_lost(tmp_path: pathlib.Path, begin: str) -> None:
+    """The Logout begins as clients know it, and says what to do."""
+    speaker = Speaker(tmp_path, begin)
+    assert speaker.is_heard()
+    speaker.engine.lost(speaker.connection)
+    speaker.number = 1
+    [found] = speaker.connect("30")
+    assert (found[35], speaker.is_closed, speaker.expected) == ("5", True, 3)
+    first, _, remedy = found[58].partition("; ")
+    assert first == "MsgSeqNum too low, expecting 3 but received 1"
+    assert remedy.startswith("where yours are lost, the venue's operator resets the session")
+
+
 def test_an_end_that_came_before_counts_once(tmp_path: pathlib.Path, begin: str) -> None:
     """The number of the next message isn't too low then."""
     speaker = Speaker(tmp_path, begin)

@@ -41,9 +41,11 @@ const size_t most_digits = 9, most_letters = 18;  // of a MsgSeqNum and a HeartB
 const size_t to_second = 17;  // letters of a time, without what is less than a second
 const size_t most_shown = 24;  // letters of what a refused Logon says of itself
 const int most_waits = 3;  // seconds in which a Logout is to be answered
-const char* const no_reset =
-    "numbers are kept for the day: log on without ResetSeqNumFlag (ResetOnLogon=N); where yours are lost, the venue's "
-    "operator resets the session, and you begin at 1 with an empty store";
+const std::string too_low = "MsgSeqNum too low";  // how QuickFIX begins a Logout for one
+const std::string remedy =
+    "; where yours are lost, the venue's operator resets the session, and you begin at 1 with an empty store";
+const std::string no_reset =
+    "numbers are kept for the day: log on without ResetSeqNumFlag (ResetOnLogon=N)" + remedy;
 const char* const seconds = " from 0 (no heartbeats) to 999999999 seconds";
 const char* const wrong_ids = "SenderCompID (49) or TargetCompID (56) isn't this session's";
 const char* const wrong_time = "SendingTime (52) isn't the time, or is before OrigSendingTime (122)";
@@ -419,7 +421,7 @@ class Engine : public FIX::Application, FIX::LogFactory {
     const std::string type = message.getHeader().getField(FIX::FIELD::MsgType);
     if (initiator_ && type == "A") message.setField(FIX::FIELD::Password, password_);
     if (acceptor_ && type == "A" && cancelling_.count(id)) message.setField(cancels_on_disconnect, "Y");
-    if (type == "5" && !ends_.empty() && !message.isSetField(FIX::FIELD::Text)) message.setField(FIX::Text(ends_));
+    if (acceptor_ && type == "5") tell_end(message);
     ends_.clear();
     if (type != reject || !message.isSetField(FIX::FIELD::SessionRejectReason)) return;
     const int reason = std::stoi(message.getField(FIX::FIELD::SessionRejectReason));
@@ -783,6 +785,13 @@ class Engine : public FIX::Application, FIX::LogFactory {
   bool refused(const std::string& why, const std::string& session = "") {
     put("event", session, "a Logon is refused: " + why);
     return false;
+  }
+
+  // Has a Logout say why it follows a Reject, and what to do about a number that is too low.
+  void tell_end(FIX::Message& message) const {
+    const std::string text = message.isSetField(FIX::FIELD::Text) ? message.getField(FIX::FIELD::Text) : ends_;
+    const bool is_low = text.compare(0, too_low.size(), too_low) == 0;
+    if (!text.empty()) message.setField(FIX::Text(is_low ? text + remedy : text));
   }
 
   // Says of a Reject for a tag of the standard that it isn't defined for that message.
