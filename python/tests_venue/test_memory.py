@@ -1,11 +1,16 @@
-"""A venue that gets no thread, as where its memory is limited: it ends, or halts, by a sentence."""
+"""A venue that gets no thread, as where its memory is limited: it ends, or halts, by a sentence.
+What Python's collector looks at while one runs.
+"""
+import gc
 import pathlib
 import subprocess
 import sys
+import weakref
 
 import psutil
 import pytest
 import served
+from callauction.venue import serving
 from test_robots import until
 
 BEGIN = """
@@ -80,3 +85,51 @@ def test_a_program_that_isnt_run_again(tmp_path: pathlib.Path) -> None:
             assert (child.returncode, error) == (0, f"venue: XYZ halted: {halted}\n")
         finally:
             child.kill()
+
+
+COLLECTS = """
+import gc, sys
+from callauction.venue import __main__, serving
+begin = serving.collect_rarely
+def collect_rarely():
+    begin()
+    print("frozen", gc.get_freeze_count(), *gc.get_threshold(), file=sys.stderr)
+serving.collect_rarely = collect_rarely
+sys.exit(__main__.main())
+"""
+"""A venue that says what of its objects no collection looks at, and when others do."""
+
+
+def test_a_collection_looks_at_what_is_new(tmp_path: pathlib.Path) -> None:
+    """Not at what there was as the venue began, which held up orders, and not after each few."""
+    pipe, environment = subprocess.PIPE, served.environment()
+    words = [sys.executable, "-c", COLLECTS, "--folder", str(tmp_path / "venue")]
+    words += ["--port", str(served.free_port())]
+    with subprocess.Popen(words, env=environment, stdout=pipe, stderr=pipe, text=True) as child:
+        try:
+            served.begun(child)
+            child.terminate()
+            _, error = child.communicate(timeout=served.SECONDS)
+        finally:
+            child.kill()
+    word, frozen, first, *_ = error.split()
+    assert word == "frozen" and int(frozen) > 10_000 and int(first) >= 10_000
+
+
+class Node:
+    """What holds itself, and nobody else does."""
+
+    def __init__(self) -> None:
+        self.itself = self
+
+
+def test_what_nobody_holds_is_collected_by_itself() -> None:
+    """Also with these thresholds: memory doesn't grow by what connections leave."""
+    before, there = gc.get_threshold(), weakref.WeakSet[Node]()
+    gc.set_threshold(*serving.COLLECTED)
+    try:
+        for _ in range(10 * serving.COLLECTED[0]):
+            there.add(Node())
+    finally:
+        gc.set_threshold(*before)
+    assert len(there) <= 2 * serving.COLLECTED[0]

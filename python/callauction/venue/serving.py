@@ -3,6 +3,7 @@ import asyncio
 import contextlib
 import dataclasses
 import functools
+import gc
 import logging
 import os
 import pathlib
@@ -32,6 +33,10 @@ MOST_PEM = 1 << 20
 """The bytes that a file of a certificate or of a key may have."""
 HOSTS = ("DNS", "IP Address")
 """The kinds of names in a certificate by which it is for a host."""
+COLLECTED = 10_000, 5, 2
+"""After how many more objects, and how often that, Python's collector looks at the youngest, at
+those of some age, and at all.
+"""
 END_SECONDS = 4.5
 """How long after a signal the venue ends, whatever hangs."""
 ENDING = (signal.SIGHUP, signal.SIGINT, signal.SIGTERM)
@@ -330,6 +335,7 @@ async def listen(
         port = await stack.enter_async_context(served(site.application(), own, *where))
         venue.urls = functools.partial(address.urls, port)
         others = [await stack.enter_async_context(it.served(context)) for it in fronts]
+        collect_rarely()
         print("\n".join([*begin, *lines_of_address(venue, address, others)]), flush=True)
         NOTICES.info("serving at port %s, %s entries so far", port, entries)
         supervising.notify("READY=1")
@@ -340,6 +346,14 @@ async def listen(
         supervising.notify("STOPPING=1")
         NOTICES.info("ending")
         venue.dismiss()
+
+
+def collect_rarely() -> None:
+    """Has Python's collector look at less, and less often: what there is as a venue begins stays,
+    and so does nearly all that an order leaves. Each look holds up all orders.
+    """
+    gc.freeze()
+    gc.set_threshold(*COLLECTED)
 
 
 def measures(venue: Venue, found: gates.Gates, fronts: Sequence[Front]) -> web.Application:
