@@ -30,6 +30,7 @@ from callauction.fix.tags import (
     Pairs,
     Tag,
     Type,
+    is_recent,
     now,
     pairs_of,
 )
@@ -570,7 +571,7 @@ class Front:
         if number := seat.owed.pop(report.event, 0):
             self.engine.store(seat.session, number, report.type, pairs, time)
             return
-        if not now(MOST_AGE) <= time <= now():
+        if promised and not is_recent(time, MOST_AGE):
             promised = 0
         if self._send(seat, report.type, pairs, report.groups, promised, time) == promised:
             self._sent.follows(seat.session, promised)

@@ -153,6 +153,7 @@ MARKET, LIMIT = "1", "2"
 OPENING, CLOSING, DAY, GOOD_TILL_CANCEL = "2", "7", "0", "1"
 NONE = "NONE"
 SOH = "\x01"
+SECOND_LETTERS = len("20261126-09:00:00")
 EVENTS = {
     Type.REPORT: Tag.EXEC_ID,
     Type.CANCEL_REJECT: Tag.EVENT_ID,
@@ -220,6 +221,13 @@ def now(ago: int = 0) -> str:
     """The time so many seconds ago as FIX has it, to a millisecond."""
     second, part = divmod(int(time.time() * 1000), 1000)
     return f"{time_of(second - ago)}.{part:03}"
+
+
+def is_recent(text: str, seconds: int) -> bool:
+    """Whether a time as FIX has it is now, or was at most so many seconds ago."""
+    current = now()
+    is_this_second = text[:SECOND_LETTERS] == current[:SECOND_LETTERS]
+    return text <= current and (is_this_second or now(seconds) <= text)
 
 
 @functools.lru_cache(2)
