@@ -151,7 +151,7 @@ class KeptStore : public FIX::MemoryStore {
 
  private:
   bool keep(int number, const std::string& text) {
-    numbers_.insert(number);
+    numbers_.insert(numbers_.end(), number);  // most are the greatest so far
     return FIX::MemoryStore::set(number, text);
   }
   FIX::SessionID id_;
@@ -224,6 +224,7 @@ class Engine : public FIX::Application, FIX::LogFactory {
       if (FIX::Session::doesSessionExist(id)) throw std::runtime_error("there is the session " + id.toString());
     if (accepts_) acceptor_.reset(new Accepting(*this, stores_, settings_, *this));
     else initiator_.reset(new Initiating(*this, files_, settings_, *this));
+    if (acceptor_) share_dictionaries();
   }
 
   // ---- connections
@@ -483,6 +484,18 @@ class Engine : public FIX::Application, FIX::LogFactory {
   FIX::Log* create() override { return new EventLog(*this, ""); }
   FIX::Log* create(const FIX::SessionID& id) override { return new EventLog(*this, id.toString()); }
   void destroy(FIX::Log* log) override { delete log; }
+
+  // Gives all sessions of a version one dictionary: QuickFIX has made a copy for each, and those of many are in none of
+  // the processor's caches as their messages come.
+  void share_dictionaries() {
+    std::map<std::string, FIX::Session*> firsts;
+    for (auto& each : ids_) {
+      FIX::Session& session = of(each.first);
+      FIX::Session*& first = firsts[each.second.getBeginString().getValue()];
+      if (first) session.setDataDictionaryProvider(first->getDataDictionaryProvider());
+      else first = &session;
+    }
+  }
 
   // Takes the next whole message, or goes on with what is sent again: whether there is one.
   bool takes(Wire& wire) {
