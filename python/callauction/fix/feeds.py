@@ -79,7 +79,7 @@ class Data:
             return
         head: Pairs = [(Tag.MD_REQ_ID, self.request)]
         changes = changes_of(market, before, wanted)
-        send(Type.CHANGES, head, [(int(Tag.NO_MD_ENTRIES), int(Tag.MD_UPDATE_ACTION), changes)])
+        send(Type.CHANGES, head, [(Tag.NO_MD_ENTRIES, Tag.MD_UPDATE_ACTION, changes)])
 
 
 @dataclasses.dataclass
@@ -105,7 +105,7 @@ def snapshot(request: str, market: str, rows: Rows) -> tuple[Pairs, Groups]:
     """
     head: Pairs = [(Tag.MD_REQ_ID, request), (Tag.SYMBOL, market)]
     entries = [*rows.values()] or [snapshots.EMPTY]
-    return head, [(int(Tag.NO_MD_ENTRIES), int(Tag.MD_ENTRY_TYPE), entries)]
+    return head, [(Tag.NO_MD_ENTRIES, Tag.MD_ENTRY_TYPE, entries)]
 
 
 def changes_of(market: str, before: Rows, after: Rows) -> list[Pairs]:

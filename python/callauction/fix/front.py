@@ -322,7 +322,7 @@ class Front:
 
     def heard(self, wire: Wire) -> Seat | None:
         """Something was said on a connection, which is to be taken: whose it is."""
-        self._drain(wire.address)
+        self._drain(wire)
         return wire.seat or self._seats.get(self.engine.session_on(wire.number))
 
     def begun(self, wire: Wire) -> None:
@@ -398,9 +398,9 @@ class Front:
         self._venue.watchers.pop(wire, None)
         self._venue.show_members()
 
-    def _drain(self, address: str = "") -> None:
+    def _drain(self, wire: Wire | None = None) -> None:
         """Learns what has happened to sessions, and what they have said, which is to be taken; a
-        Logon that is refused came from this address.
+        Logon that is refused came on this connection.
         """
         self._wake()
         for what, session, text in self.engine.events():
@@ -408,7 +408,7 @@ class Front:
                 self._seats[session].cancels = text == b"Y"
             else:
                 said = text.decode("latin-1")
-                source = f", from {address}" if said.startswith(REFUSED) else ""
+                source = f", from {wire.address}" if wire and said.startswith(REFUSED) else ""
                 kind = {"of": f"{what} {session} {DIGITS.sub('', said)}{source}"}
                 NOTICES.info("fix: %s %s %s%s", what, session, said, source, extra=kind)
         for session, given, rows in self.engine.said():

@@ -65,10 +65,8 @@ MOST_PRICES = 4096
 """How many ticks are kept with their prices."""
 DIGITS = Context(prec=15)
 """How many digits of an average price are sent: as many as a float of FIX may have."""
-CLIENT, ORIGIN, TIME = (str(int(it)) for it in (Tag.CL_ORD_ID, Tag.ORIG_CL_ORD_ID, 59))
-NUMBER, WHEN, SAID = (
-    str(int(it)) for it in (Tag.MSG_SEQ_NUM, Tag.TRANSACT_TIME, Tag.TEXT)
-)
+CLIENT, ORIGIN, TIME = map(str, (Tag.CL_ORD_ID, Tag.ORIG_CL_ORD_ID, Tag.TIME_IN_FORCE))
+NUMBER, WHEN, SAID = map(str, (Tag.MSG_SEQ_NUM, Tag.TRANSACT_TIME, Tag.TEXT))
 """What the log keeps beside a message of a member by FIX; the last three are of the report of it.
 """
 
@@ -256,7 +254,7 @@ class Orders:
             (Tag.TRADE_DATE, now()[:8]),
             (Tag.TRD_MATCH_ID, f"{self._board.board.key}.{trade.number}"),
         ]
-        groups = [(int(Tag.NO_SIDES), int(Tag.SIDE), sides)]
+        groups = [(Tag.NO_SIDES, Tag.SIDE, sides)]
         return Report(OPERATOR, Type.TRADE, event, pairs, groups)
 
     def _seen_after(self, held: Held, seen: Seen, event: str) -> list[Report]:

@@ -30,7 +30,7 @@ REPORTS_A_MESSAGE = 10
 """How many reports of a mass status count as a message of its member, as all of them are kept."""
 
 
-def boards_of(seat: Seat, given: Given, tag: Tag, one: str, every: str) -> list[Instrument]:
+def boards_of(seat: Seat, given: Given, tag: int, one: str, every: str) -> list[Instrument]:
     """The boards that a request asks for by this tag. Raises MessageError."""
     if given[tag] == one and Tag.SYMBOL in given:
         return [seat.board(given)]
@@ -144,7 +144,7 @@ async def show_list(seat: Seat, rows: Pairs, given: Given, number: int) -> None:
         (Tag.SECURITY_REQUEST_RESULT, "0"),
         (Tag.TOT_NO_RELATED_SYM, str(len(boards))),
     ]
-    groups: Groups = [(int(Tag.NO_RELATED_SYM), int(Tag.SYMBOL), [row_of(it) for it in boards])]
+    groups: Groups = [(Tag.NO_RELATED_SYM, Tag.SYMBOL, [row_of(it) for it in boards])]
     seat.desk.send(seat, Type.LIST, head, groups)
 
 

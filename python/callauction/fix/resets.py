@@ -18,5 +18,5 @@ def begin_anew(engine: Engine, seat: Seat) -> None:
             seat.told.add(event)
             pairs = pairs_of(text)
             body, groups = body_of(pairs)
-            body.append((int(Tag.POSS_RESEND), "Y"))
+            body.append((Tag.POSS_RESEND, "Y"))
             engine.send(seat.session, dict(pairs)[Tag.MSG_TYPE], body, groups)

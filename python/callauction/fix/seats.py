@@ -29,7 +29,7 @@ from callauction.fix.orders import (
     refusal,
 )
 from callauction.fix.feeds import Feeds
-from callauction.fix.numbering import Number
+from callauction.fix.numbering import Number, key_of
 from callauction.fix.refusals import (
     ALL,
     DUPLICATE,
@@ -238,7 +238,7 @@ class Seat:
             return False
         number, member = int(given[Tag.MSG_SEQ_NUM]), self.member
         event, is_known = self.refusal_of(number), given[Tag.CL_ORD_ID] in self.clients
-        if is_known or event in self.told or -self.number(number).key in member.done:
+        if is_known or event in self.told or -key_of(number, 0, self.epoch) in member.done:
             return False
         if self._is_full(given) or not member.bucket.takes():
             return False
@@ -359,7 +359,7 @@ class Seat:
     async def is_done(self, given: Given, number: int) -> bool:
         """Whether a message was executed before; one that wasn't waits until it may be."""
         member = self.member
-        if -self.number(number).key in member.done:
+        if -key_of(number, 0, self.epoch) in member.done:
             return True
         if not member.bucket.takes():
             await self.allowed(member.bucket)
@@ -664,7 +664,7 @@ def price_of(given: Given) -> str:
     return f"{whole or '0'}.{part}" if part else whole
 
 
-def shares_of(given: Given, tag: Tag) -> int:
+def shares_of(given: Given, tag: int) -> int:
     """A quantity of whole shares, of an order or its peak; one above all limits is the greatest.
     Raises SeatError.
     """

@@ -4,8 +4,10 @@ import functools
 import time
 
 
-class Tag(enum.IntEnum):
-    """The tags that the venue reads or writes."""
+class Tag:
+    """The tags that the venue reads or writes: numbers, as an order needs some fifty of them, and
+    members of an enumeration take three times as long.
+    """
 
     ACCOUNT = 1
     AVG_PX = 6
@@ -214,7 +216,7 @@ def body_of(pairs: Pairs) -> tuple[Pairs, Groups]:
             rows.append([])
         rows[-1].append(body[end])
         end += 1
-    return body[:place] + body[end:], [(int(Tag.NO_SIDES), int(Tag.SIDE), rows)]
+    return body[:place] + body[end:], [(Tag.NO_SIDES, Tag.SIDE, rows)]
 
 
 def now(ago: int = 0) -> str:
