@@ -15,7 +15,7 @@ import aiohttp
 import pytest
 import pytest_asyncio
 import served
-from callauction.venue import connection, gates, http, rates, serving, tokens, views
+from callauction.venue import clock, connection, gates, http, log, rates, serving, tokens, views
 from callauction.venue.config import DayTerms, Plan
 from callauction.venue.gates import Gates
 from callauction.venue.http import Site
@@ -318,3 +318,17 @@ async def test_who_is_gone_as_the_venue_ends_is_no_fault(inside: Venue) -> None:
     await asyncio.sleep(0)
     listening.close()
     assert faults == []
+
+
+@pytest.mark.parametrize("source", ["", "127.0.0.1"])
+@pytest.mark.parametrize("note", [{}, {"11": 'a"\\\x01é', "59": "0"}])
+async def test_a_line_of_a_message_is_as_all_lines_are(
+    monkeypatch: pytest.MonkeyPatch, source: str, note: dict[str, str]
+) -> None:
+    monkeypatch.setattr(clock, "now", lambda: 1795958051.8)
+    line: dict[str, object] = {"kind": "sent", "instrument": "X", "member": 'Ä "B"\n'}
+    line |= {"number": -(1 << 70), "record": "1,enter,bid,5,200"}
+    line |= {"from": source} if source else {}
+    line |= {"note": note} if note else {}
+    texts = "X", 'Ä "B"\n', -(1 << 70), "1,enter,bid,5,200", source, note
+    assert log.sent_text(*texts) == log.text_of(line)

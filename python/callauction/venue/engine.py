@@ -19,7 +19,7 @@ from typing import ParamSpec, TypeVar
 
 from callauction.venue import owned
 from callauction.venue.latency import Times
-from callauction.venue.log import Line, Log, text_of
+from callauction.venue.log import Log, sent_text, text_of
 from callauction.venue.messages import MessageError
 from callauction.venue.owned import OwnerError
 from callauction.venue.process import IN_USE, Process, ProcessError
@@ -251,11 +251,8 @@ class Engine:
 
     def _line(self, message: Message) -> str:
         """The log's line of a message."""
-        line: Line = {"kind": "sent", "instrument": self.name, "member": message.member}
-        line |= {"number": message.number, "record": message.record}
-        line |= {"from": message.source} if message.source else {}
-        line |= {"note": dict(message.note)} if message.note else {}
-        return text_of(line)
+        of, it = self.name, message
+        return sent_text(of, it.member, it.number, it.record, it.source, it.note)
 
     def _mark_line(self, kind: str) -> str:
         """The log's line of the entries so far."""

@@ -9,10 +9,11 @@ import contextlib
 import contextvars
 import errno
 import fcntl
+import functools
 import json
 import os
 import pathlib
-from collections.abc import Callable, Iterator
+from collections.abc import Callable, Iterator, Mapping
 from typing import Any
 
 from callauction.venue import clock, owned
@@ -39,6 +40,9 @@ FIELDS: dict[str, dict[str, type]] = {
 """What lines of some kinds have at least."""
 MOST_SHOWN = 80
 ENCODER = json.JSONEncoder(separators=(",", ":"), allow_nan=False)
+quoted = ENCODER.encode
+known = functools.lru_cache(4096)(quoted)
+"""A text as JSON has it, for those that come again and again."""
 WRITE_SECONDS = 10.0
 """How long a write of the log may take before the venue says that it waits for it."""
 
@@ -58,6 +62,20 @@ class OtherVersion(LogError):
 def text_of(line: Line) -> str:
     """A line of the log as it is written, with the time in seconds of the epoch."""
     return ENCODER.encode({"time": round(clock.now(), 3)} | line)
+
+
+def sent_text(
+    instrument: str, member: str, number: int, record: str, source: str, note: Mapping[str, str]
+) -> str:
+    """The line of a message that is sent to a program, as `text_of` writes it, from parts: each
+    order has one, and it takes half of the time.
+    """
+    time = round(clock.now(), 3)
+    whose = f'"instrument":{known(instrument)},"member":{known(member)},"number":{number}'
+    origin = f',"from":{known(source)}' if source else ""
+    within = ",".join([f"{known(tag)}:{quoted(text)}" for tag, text in note.items()])
+    beside = f'{origin},"note":{{{within}}}' if note else origin
+    return f'{{"time":{time!r},"kind":"sent",{whose},"record":{quoted(record)}{beside}}}'
 
 
 def read_lines(text: bytes, name: str) -> list[Line]:
