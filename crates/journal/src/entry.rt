@@ -1,6 +1,8 @@
 //! The record of a call with its reply.
 
-ghost use Rattle.std.specs.Prelude.{◌≡◌, ◌<◌, ◌++◌, ◌∷◌, [], length, true, IfErr, IfOk, MatchResult, OnOk};
+ghost use Rattle.std.specs.Prelude.{◌≡◌, ◌<◌, ◌≤◌, ◌+◌, ◌++◌, ◌∷◌, [], drop, length, true};
+ghost use Rattle.std.specs.Prelude.{IfErr, IfOk, MatchResult, OnOk};
+ghost use Rattle.std.specs.Simd.Lanes.{chunk};
 ghost use Rattle.std.specs.List.{list_all};
 ghost use Rattle.csv.specs.Records.{fields_of, partial_of};
 ghost use Rattle.order_file.specs.File.{FailsAsWanted, IsOfRecord};
@@ -11,6 +13,7 @@ ghost use Rattle.journal.specs.EntryRecord.{is_reply_text, reply_of_fields, reco
 use auction_terms::Call;
 use csv::ByteRecord;
 use order_file::{FileFault, RecordFault, Word, command_of, member_of, word_at};
+use std::simd::prelude::*;
 
 /// How many bytes a recorded reply may have.
 pub const MAX_REPLY: usize = 256;
@@ -29,10 +32,44 @@ fn is_printable(byte: u8) -> bool
     32 <= byte && byte <= 126
 }
 
+/// Whether the eight bytes from `at` on are printable.
+#[inline]
+fn are_eight_printable(text: &[u8], at: usize) -> bool
+    requires { at + 8 ≤ length text.now }
+    ensures { result ≡ list_all is_printable (chunk at 8 text.now) }
+{
+    let bytes = u8x8::from_slice(&text[at..]);
+    let below = bytes.simd_lt(u8x8::splat(32)).to_bitmask();
+    let above = bytes.simd_gt(u8x8::splat(126)).to_bitmask();
+    below == 0 && above == 0
+}
+
+/// Whether the bytes from `from` on are printable, one by one.
+fn is_rest_printable(text: &[u8], from: usize) -> bool
+    requires { from ≤ length text.now }
+    ensures { result ≡ list_all is_printable (drop from text.now) }
+{
+    let mut at = from;
+    'rest: while at < text.len() {
+        if !is_printable(text[at]) {
+            return false;
+        }
+        at += 1;
+    }
+    true
+}
+
 fn is_all_printable(text: &[u8]) -> bool
     ensures { result ≡ list_all is_printable text.now }
 {
-    text.iter().all(|byte| is_printable(*byte))
+    let mut at = 0;
+    'eights: while text.len() - at >= 8 {
+        if !are_eight_printable(text, at) {
+            return false;
+        }
+        at += 8;
+    }
+    is_rest_printable(text, at)
 }
 
 /// Whether this may be the text of a reply.
