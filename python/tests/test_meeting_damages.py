@@ -1,6 +1,7 @@
 """Lawful days in which several of an extract's damages meet, by hand: none is unlawful, and a fault
 before the damage is one.
 """
+import re
 from typing import Any
 
 import pytest
@@ -454,3 +455,110 @@ def test_a_trade_that_names_another_auction_is_of_its_own(other: str, time: str)
     [finding] = verdict.findings
     assert (finding.row, finding.time, finding.auction) == (3, "09:01", "opening"), str(verdict)
     assert f"in the {other}, lawful in the opening" in str(finding) and time not in str(finding)
+
+
+# ---- trades of an auction whose result has no row
+
+HELD = """
+    new 09:00:00 A bid 10 10.00
+    new 09:00:10 S ask 10 10.00
+    uncross 09:01 10.00 10 0 none 1 opening
+    trade 09:01 A S 10 10.00
+    new 12:50 B bid 20 10.05
+    new 12:51 T ask 20 10.05
+    uncross 13:00 10.05 20 0 none 1 intraday
+    trade 13:00 B T 20 10.05
+    new 17:20 C bid 30 10.10
+    new 17:21 U ask 30 10.10
+    uncross 17:30 10.10 30 0 none 1 closing
+    trade 17:30 C U 30 10.10
+"""
+
+
+def held_without(*results: str, has_names: bool = True) -> str:
+    """The day whose trades name no auction, without the rows of these results."""
+    lines = [line for line in HELD.splitlines() if line.rpartition(" ")[2] not in results]
+    names = r" (opening|intraday|closing)$"
+    return "\n".join(line if has_names else re.sub(names, "", line) for line in lines)
+
+
+TIMED = {"13:00": "intraday", "17:30": "closing", "09:01": "opening"}
+
+
+@pytest.mark.parametrize("has_names", [True, False])
+@pytest.mark.parametrize("lost", [
+    ("opening",), ("intraday",), ("closing",), ("intraday", "closing"), ("opening", "closing"),
+])  # fmt: skip
+def test_each_row_is_of_the_auction_of_its_time(lost: tuple[str, ...], has_names: bool) -> None:
+    """Whichever results have no row: there are as many blocks of trades as auctions."""
+    verdict = judged(held_without(*lost, has_names=has_names))
+    assert verdict.word == "incomplete" and verdict.doubtful, str(verdict)
+    assert [it.auction for it in verdict.doubtful] == [TIMED[it.time] for it in verdict.doubtful]
+
+
+def test_a_trade_of_an_auction_without_a_row_says_so() -> None:
+    verdict = judged(held_without("closing"))
+    assert str(verdict.doubtful[0]) == (
+        "doubtful: row 10, 17:30, closing: trade: recorded bid C ask U: 30 at 10.10, "
+        "lawful no such trade: the closing has no row: --auctions says which are held"
+    )
+    assert verdict.explain(verdict.doubtful[0])[0] == "No row says what the closing published."
+    assert not len(verdict.queue(verdict.doubtful[0]))
+    named = held_without("closing").replace("C U 30 10.10", "C U 30 10.10 closing")
+    [finding] = judged(named).doubtful
+    assert (finding.auction, finding.doubt) == ("closing", "the closing has no row uncross")
+
+
+def test_a_trade_of_one_of_two_auctions_without_a_row_is_in_doubt_between_them() -> None:
+    """An order that is entered below it says that the closing isn't over."""
+    day = held_without("intraday", "closing")
+    lone = day[: day.index("new 17:20")]
+    [finding] = judged(lone).doubtful
+    assert finding.auction == "intraday or closing" and "the intraday and the closing have no" in (
+        finding.doubt
+    )
+    [finding] = judged(f"{lone}new 17:20 C bid 30 9.00").doubtful
+    assert finding.auction == "intraday"
+
+
+def test_orders_for_the_closing_alone_trade_in_it_without_its_row() -> None:
+    """They are entered above the intraday auction, and nothing is between it and their trade."""
+    day = rows_of(held_without("closing"))
+    both = [row for row in day if row["time"] in ("17:20", "17:21")]
+    rest = [row for row in day if row not in both]
+    for row, time in zip(both, ("12:52", "12:53")):
+        row |= {"time": time, "restriction": "closing"}
+    rest[5:5] = both
+    terms = dict(reference="10", tick_size="0.01")
+    verdict = audit_events(frame_of(rest), **terms)  # type: ignore[arg-type]
+    assert verdict.word == "incomplete", str(verdict)
+    assert [it.auction for it in verdict.doubtful] == ["closing"]
+    rest[-1]["time"] = "13:00"
+    verdict = audit_events(frame_of(rest), **terms)  # type: ignore[arg-type]
+    assert verdict.word == "unlawful", str(verdict)
+
+
+# ---- corrections at the end of a file
+
+
+@pytest.mark.parametrize("span", [None, "1"])
+@pytest.mark.parametrize("has_names", [True, False])
+@pytest.mark.parametrize("number", range(3))
+@pytest.mark.parametrize("time", ["its own", "18:00"])
+def test_a_corrected_result_below_all_rows_condemns_no_day(
+    time: str, number: int, has_names: bool, span: str | None
+) -> None:
+    """It has the time of its auction, or that of the correction; a day with a fault in another
+    auction is unlawful.
+    """
+    rows = rows_of(held_without(has_names=has_names))
+    ends = [row for row in rows if row["event"] == "uncross"]
+    right = dict(ends[number])
+    ends[number]["price"] = f"{float(right['price']) + 0.02:.2f}"
+    rows.append(right if time == "its own" else right | {"time": time})
+    terms: dict[str, Any] = dict(reference="10", tick_size="0.01", range=span)
+    verdict = audit_events(frame_of(rows), **terms)
+    assert verdict.word == "incomplete", str(verdict)
+    other = ends[0 if number == 2 else 2]
+    other["surplus"] = "7"
+    assert audit_events(frame_of(rows), **terms).word == "unlawful"

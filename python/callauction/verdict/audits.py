@@ -12,7 +12,10 @@ from callauction.verdict.events import read_zeros, refuse_limits, rows_of
 from callauction.verdict.findings import Verdict, verdict_of
 from callauction.verdict.joining import with_results
 from callauction.verdict.judged import Rules
-from callauction.verdict.mixed import corrected, has_more, refuse_days, refuse_sums
+from callauction.verdict.judging import Judge
+from callauction.verdict.mixed import (
+    corrected, has_more, refuse_days, refuse_sums, with_late_results,
+)  # fmt: skip
 from callauction.verdict.ranges import argument, range_of
 from callauction.verdict.reading import Reading, Table, read_table
 from callauction.verdict.readings import judged_day
@@ -75,6 +78,9 @@ def judge_rows(rows: Rows, rules: Rules, watch: Watch = iter) -> Verdict:
         rows = corrected(rows, rules.due)
     read_zeros(rows, rules.prices)
     refuse_limits(rows, rules.tick_size, rules.low, rules.high)
+    other = with_late_results(rows, rules.due)
+    if other is not None and Judge(rows, rules).judge().unlawful:
+        rows = whole = other
     found = judged_day(rows, rules, whole, watch)
     if found.unlawful:
         refuse_sums(whole, rules.due)

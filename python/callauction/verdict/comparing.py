@@ -9,6 +9,7 @@ import numpy
 from callauction.verdict.cells import Codes, Ints, Mask
 from callauction.verdict.phases import Result, Sums, sums
 from callauction.verdict.rows import MISSING, NO_PRICE, SIDES, STATES, STOPPED, Rows
+from callauction.words import AUCTIONS
 
 FILL = "fill"
 """The item of an order's shares."""
@@ -56,7 +57,8 @@ def members_of(made: Trade | Fill) -> tuple[str, ...]:
 class Difference:
     """A recorded value of an item that isn't the lawful one: None where there is no such trade or
     fill. `places` are the rows that record it, `keys` the orders that it is of. `doubt` says why it
-    isn't certain, empty where it is; `rule` the rule, where that isn't the item's own.
+    isn't certain, empty where it is; `rule` the rule, where that isn't the item's own; `auction`
+    which auction without a row a trade or a fill may be of.
     """
 
     item: str
@@ -67,6 +69,7 @@ class Difference:
     stamp: int | None = None
     doubt: str = ""
     rule: str = ""
+    auction: str = ""
 
     @property
     def excess(self) -> int:
@@ -411,9 +414,10 @@ def reconciled(
                 continue
             found[other].remove(gap)
             found[number].remove(each)
-            if each.stamp not in (None, MISSING, other, NAMED + auctions[other]):
-                lawful = STATES[1 + auctions[other]]
-                found[number].append(dataclasses.replace(each, lawful=lawful))
+            name = AUCTIONS[auctions[other]]
+            is_there = each.stamp in (None, MISSING, other, NAMED + auctions[other])
+            if not is_there and each.auction != name:
+                found[number].append(dataclasses.replace(each, lawful=name))
     return [paired(those) for those in found]
 
 

@@ -21,6 +21,7 @@ from callauction.verdict.rows import (
     BAD, FILL, MISSING, NEW, STOPPED, TAKEN, TRADE, BadRow, Doubt, Rows,
 )  # fmt: skip
 from callauction.verdict.spelling import is_placeholder, respelled
+from callauction.verdict.strays import Strays
 from callauction.verdict.ties import Ties
 from callauction.words import AUCTIONS
 
@@ -71,7 +72,11 @@ class Doubts:
         self.last_bust = max((it.since for it in rows.holes if has_busts), default=-1)
         """Above which place a bust may be missing that contradictions go by."""
         self.gap = self._gap(due)
-        self.within = self._within()
+        strays = Strays(rows, self.all_orders, uncrosses)
+        self.within, self.homes = strays.within(), strays.auctions(due)
+        """The trades within a call phase; and by the places of rows that name no auction of which
+        they may be.
+        """
         self.unknown = self._unknown()
 
     def _named(self, row: BadRow) -> set[int]:
@@ -178,42 +183,6 @@ class Doubts:
         odd = (row for row in self.bad if row.doubt is Doubt.ANY and row.since < place)
         return next((row.unknown for row in odd), "")
 
-    def _within(self) -> Ints:
-        """The trades and fills within a call phase: they name no auction, and orders are before and
-        after them, by times where all have one, else by places.
-        """
-        rows, kind = self.rows, self.rows.kind
-        made = numpy.flatnonzero(((kind == TRADE) | (kind == FILL)) & (rows.state <= 0))
-        parts = (made, self.all_orders, self.uncrosses)
-        is_timed = all((rows.time[these] != clocks.NONE).all() for these in parts)
-        at, orders, ends = (
-            rows.time[these] if is_timed else these.astype("i8") for these in parts
-        )
-        orders, ends = numpy.sort(orders), numpy.sort(ends)
-        before = numpy.concatenate([[clocks.NONE], ends])[numpy.searchsorted(ends, at, "right")]
-        last = numpy.iinfo("i8").max
-        after = numpy.concatenate([ends, [last]])[numpy.searchsorted(ends, at, "right")]
-        began = numpy.searchsorted(orders, at) > numpy.searchsorted(orders, before, "right")
-        goes_on = numpy.searchsorted(orders, after) > numpy.searchsorted(orders, at, "right")
-        if is_timed and len(orders):
-            above, below, is_own = self._beside(made)
-            began |= above & (at > before)
-            goes_on |= (below | is_own) & (at < after)
-        found: Ints = made[began & goes_on & (after < last)]
-        return found
-
-    def _beside(self, made: Ints) -> tuple[Mask, Mask, Mask]:
-        """Whether the row of an order above each trade or fill, and that below it, has its time,
-        and whether that above is of an order of it, above the next uncross.
-        """
-        rows, orders, time = self.rows, self.all_orders, self.rows.time
-        place = numpy.searchsorted(orders, made)
-        above, below = orders[numpy.maximum(place - 1, 0)], orders[place % len(orders)]
-        is_above = (above < made) & (time[above] == time[made])
-        keys = (rows.bid[made], rows.ask[made], rows.key[made])
-        is_own = numpy.any([it == rows.key[above] for it in keys], axis=0) & is_above
-        return is_above, (below > made) & (time[below] == time[made]), is_own
-
     def _unknown(self) -> Reason | None:
         """Why all books of the day are in doubt: a trade or a fill, which may be a bad row, names
         an order that no row enters.
@@ -266,18 +235,20 @@ class Doubts:
         why, strays = why or self.ties.of_shares(book, auction, result, *own), {*outside.tolist()}
         if why:
             return [
-                dataclasses.replace(
-                    it, doubt=self._of_naming(it) if _has_lawful_orders(it)
-                    else self._of_stray(it, strays) or why,
+                self.stray(it) if _is_extra(it, strays) else dataclasses.replace(
+                    it, doubt=self._of_naming(it) if _has_lawful_orders(it) else why
                 )
                 for it in found
             ]  # fmt: skip
         end = self.lost(place, traded, filled, result.volume)
-        of_orders = [self._of_trade(it, strays, end) for it in by_order]
+        of_orders = [
+            self.stray(it).doubt if _is_extra(it, strays) else self._of_trade(it, end)
+            for it in by_order
+        ]
         chosen = of_orders[0] if all(of_orders) and of_orders else ""
         return [
-            dataclasses.replace(
-                it, doubt=self._of_trade(it, strays, end) or self._of_naming(it)
+            self.stray(it) if _is_extra(it, strays) else dataclasses.replace(
+                it, doubt=self._of_trade(it, end) or self._of_naming(it)
                 or (chosen if it.recorded is not None and not _has_lawful_orders(it) else ""),
             )
             for it in found
@@ -324,33 +295,42 @@ class Doubts:
         is_other = these > first
         if self.gap is not None:
             is_other |= (these >= self.gap[0]) & (rows.time[these] != rows.time[place])
-        found: Ints = these[is_other & (rows.state[these] <= 0) | numpy.isin(these, self.within)]
+        is_other = is_other & (rows.state[these] <= 0) | numpy.isin(these, self.within)
+        found: Ints = these[is_other | numpy.isin(these, [*self.homes])]
         return found
 
-    @property
-    def why_outside(self) -> str:
-        """Why such a trade may be another auction's, or of none."""
-        return OUTSIDE if self.gap is None else self.gap[1]
+    def stray(self, each: Difference) -> Difference:
+        """An extra trade or fill that may be another auction's, or of none: which, and why."""
+        homes = self.homes.get(each.places[0], ())
+        why = OUTSIDE if self.gap is None else self.gap[1]
+        if homes:
+            are = "has no row" if len(homes) == 1 else "have no row"
+            why = f"the {' and the '.join(homes)} {are}: --auctions says which are held"
+        return self.filed(dataclasses.replace(each, doubt=why))
+
+    def filed(self, each: Difference) -> Difference:
+        """The difference of a trade or a fill that is in doubt, with the auction that it may be of.
+        """
+        is_made = each.doubt and isinstance(each.recorded, Trade | Fill)
+        homes = {self.homes.get(place) for place in each.places if is_made}
+        home = homes.pop() if len(homes) == 1 else None
+        return dataclasses.replace(each, auction=" or ".join(home)) if home else each
+
+    def is_stray(self, each: Difference) -> bool:
+        """Whether an extra trade or fill may be so."""
+        return each.recorded is not None and each.places != () and each == self.stray(each)
 
     def strays_in(self, found: Iterable[Difference]) -> set[int]:
         """The rows of extra trades and fills that may be another auction's, or of none."""
-        return {place for it in found if it.doubt == self.why_outside for place in it.places}
+        return {place for it in found if self.is_stray(it) for place in it.places}
 
     def below(self, strays: set[int]) -> str:
         """Why the books below such rows are in doubt: their orders may have traded before."""
         first = min(strays - {*self.within.tolist()}, default=None)
         return "" if first is None else f"row {self.rows.labels[first]} {MAY_BE_OUTSIDE}"
 
-    def _of_stray(self, each: Difference, strays: set[int]) -> str:
-        """Why an extra trade or fill, whose rows are all such strays, may be of no auction."""
-        is_stray = each.lawful is None and each.places and {*each.places} <= strays
-        return self.why_outside if is_stray else ""
-
-    def _of_trade(self, each: Difference, strays: set[int], end: str) -> str:
+    def _of_trade(self, each: Difference, end: str) -> str:
         """Why the difference of a trade or a fill isn't certain."""
-        why = self._of_stray(each, strays)
-        if why:
-            return why
         if each.recorded is None or each.excess < 0:
             return self.of_missing(each.lawful) or end
         return self.of_extra(each) if each.excess > 0 else ""
@@ -442,6 +422,11 @@ class Doubts:
             keys = (rows.bid[taken], rows.ask[taken], rows.key[taken])
             taken = taken[numpy.any([it == lawful.order for it in keys], axis=0)]
         return f"a bust takes the trade of row {rows.labels[taken[0]]} out" if len(taken) else ""
+
+
+def _is_extra(each: Difference, strays: set[int]) -> bool:
+    """Whether a trade or a fill is an extra one, whose rows are all such strays."""
+    return each.lawful is None and each.places != () and {*each.places} <= strays
 
 
 def _has_lawful_orders(each: Difference) -> bool:

@@ -156,6 +156,9 @@ def _of_interruption(context: Context) -> str:
 def _of_trade(context: Context, difference: Difference) -> Iterator[str]:
     """Why a trade or a fill isn't lawful, or is missing."""
     recorded, lawful = difference.recorded, difference.lawful
+    if difference.auction:
+        yield f"No row says what the {difference.auction} published."
+        return
     if context.judged.result is None:
         yield "The auctions of the day were over, or the book is more than the program holds."
         return

@@ -124,10 +124,11 @@ class Verdict:
     def queue(self, finding: Finding, around: int = AROUND) -> pandas.DataFrame:
         """The orders of both sides in their priority around those of a finding, with the shares
         that were recorded as executed and those that are lawful: the columns are queue.COLUMNS.
-        `around` is how many orders are shown before and after.
+        `around` is how many orders are shown before and after; none are of an auction without row.
         """
         context, difference = finding._of
-        return queue_of(context, difference.keys, around)
+        found = queue_of(context, difference.keys, around)
+        return found[:0] if difference.auction else found
 
     def orders(self) -> pandas.DataFrame:
         """The orders that the rules accept, with what became of each: the columns are
@@ -246,7 +247,8 @@ def _is_elsewhere(difference: Difference) -> bool:
 
 def _auction(context: Context, difference: Difference) -> str:
     """The auction of a difference, of a trade of another one that one."""
-    return str(difference.lawful) if _is_elsewhere(difference) else context.auction
+    elsewhere = str(difference.lawful) if _is_elsewhere(difference) else difference.auction
+    return elsewhere or context.judged.name or context.auction
 
 
 def _both(context: Context, difference: Difference) -> tuple[str, str]:

@@ -103,6 +103,8 @@ class Judged:
     beyond: str = ""
     second: int = MISSING
     """The number of the second reference."""
+    name: str = ""
+    """Of which auctions it may be, where that isn't known."""
 
     @property
     def certain(self) -> list[Difference]:

@@ -431,7 +431,7 @@ class Judge:
         inner = compared_trades(rows, own, result, self.owners, allowed, stamps).differences
         outer = compared_trades(rows, outside, NOTHING, self.owners, MISSING, stamps).differences
         fewer = len(inner) < sum(not each.doubt for each in found)
-        return [*inner, *doubted(outer, self.doubts.why_outside)] if fewer else found
+        return [*inner, *map(self.doubts.stray, outer)] if fewer else found
 
     def _doubt_count(
         self, moment: Moment, items: dict[str, Difference | None], found: list[Difference],
@@ -444,7 +444,7 @@ class Judge:
         if count is None:
             return
         bids, asks = len(numpy.unique(result.bid)), len(numpy.unique(result.ask))
-        open_ones = [it for it in found if it.doubt not in ("", self.doubts.why_outside)]
+        open_ones = [it for it in found if it.doubt and not self.doubts.is_stray(it)]
         why = next((it.doubt for it in open_ones), "")
         if self.has_trades and recorded == many:
             items["count"] = None
@@ -642,8 +642,9 @@ class Judge:
             traded, filled = self._of(NAMED + auction)
             made = compared_trades(rows, traded, NOTHING, self.owners, MISSING, stamps)
             fills = compared_fills(rows, filled, NOTHING, self.owners, MISSING, stamps)
-            why = f"the {AUCTIONS[auction]} has no row uncross"
-            found += doubted([*made.differences, *fills], why)
+            name = AUCTIONS[auction]
+            extra = doubted([*made.differences, *fills], f"the {name} has no row uncross")
+            found += [dataclasses.replace(it, auction=name) for it in extra]
         if not path.judged or not found:
             return path
         return path.with_last(differences=(*path.judged[-1].differences, *found))
@@ -651,7 +652,13 @@ class Judge:
     def _judgement(self, path: Path) -> Judgement:
         """The judgement of the best path."""
         pairs = zip(path.judged, self._reconciled(path.judged))
-        judged = tuple(dataclasses.replace(it, differences=tuple(those)) for it, those in pairs)
+        judged = tuple(
+            dataclasses.replace(
+                it, differences=tuple(map(self.doubts.filed, those)),
+                name=" or ".join(self.doubts.homes.get(it.place, ())),
+            )
+            for it, those in pairs
+        )  # fmt: skip
         notes = Counter(self.rows.notes)
         notes[FALLING] += self.doubts.falls
         notes[CLOSED_CANCELS] += path.closed

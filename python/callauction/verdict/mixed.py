@@ -11,7 +11,7 @@ from callauction.verdict import clocks
 from callauction.verdict.cells import Ints
 from callauction.verdict.reading import ExtractError
 from callauction.verdict.rows import (
-    BAD, FILL, MISSING, NEW, OF_ORDERS, STOPPED, TRADE, UNCROSS, BadRow, Doubt, Rows,
+    BAD, FILL, MISSING, NEW, OF_ORDERS, SAID, STOPPED, TRADE, UNCROSS, BadRow, Doubt, Rows,
 )  # fmt: skip
 from callauction.words import AUCTIONS
 
@@ -193,6 +193,35 @@ def doubled(rows: Rows, due: Sequence[int]) -> dict[int, Ints]:
     names[(names < 0) & (len(due) == 1)] = due[0]
     those = {it: results[names == it] for it in due if due.count(it) == 1}
     return {it: own for it, own in those.items() if len(own) > 1}
+
+
+def with_late_results(rows: Rows, due: Sequence[int]) -> Rows | None:
+    """The rows with the results below all orders that are of an earlier time than one above, or
+    that without a name say one other thing alone than a result above the last one, where that time
+    is, or with that result; None where there are none.
+    """
+    results, key = _results(rows), numpy.arange(len(rows.kind), dtype="f8")
+    rows = dataclasses.replace(rows, time=rows.time.copy(), group=rows.group.copy())
+    is_more, last = has_more(rows, due), rows.of(*OF_ORDERS).max(initial=-1)
+    for place in results[results > last].tolist():
+        above, time = results[results < place], rows.time[place]
+        if clocks.NONE < time < rows.time[above].max(initial=clocks.NONE):
+            key[place] = numpy.flatnonzero(rows.time > time)[0] - 0.5
+        elif is_more and rows.state[place] <= 0:
+            own = above[:-1][others_said(rows, above[:-1], place) == 1]
+            if len(own) == 1:
+                key[place] = own[0] + 0.5
+                rows.time[place], rows.group[place] = rows.time[own[0]], rows.group[own[0]]
+    order = numpy.argsort(key, kind="stable")
+    return rows.ordered(order) if (key % 1).any() else None
+
+
+def others_said(rows: Rows, one: Ints, other: Ints | int) -> Ints:
+    """In how many things results that say them differ."""
+    said = numpy.array([getattr(rows, name) for name in SAID])
+    is_said = (said[:, one] != MISSING) & (said[:, other].reshape(len(SAID), -1) != MISSING)
+    found: Ints = (is_said & (said[:, one] != said[:, other].reshape(len(SAID), -1))).sum(axis=0)
+    return found
 
 
 def _moment(rows: Rows, those: Ints, end: int) -> int:

@@ -368,13 +368,4 @@ def _across(rows: Rows) -> str:
 
 def _by_all_times(rows: Rows) -> Rows:
     """The rows in the order of their times, over uncrosses too."""
-    order = _all_times(rows)
-    place = numpy.append(numpy.argsort(order), -1)
-    bad = [
-        dataclasses.replace(it, place=int(place[it.place]), since=int(place[it.since]))
-        for it in rows.bad
-    ]
-    at = order if rows.names.places is None else rows.names.places[order]
-    names = dataclasses.replace(rows.names, places=at)
-    holes = [dataclasses.replace(it, since=int(place[it.since])) for it in rows.holes]
-    return dataclasses.replace(rows.moved(order), bad=bad, holes=holes, names=names)
+    return rows.ordered(_all_times(rows))

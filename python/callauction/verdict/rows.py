@@ -262,6 +262,18 @@ class Rows:
         parts = {name: it[places] for name, it in self._parts().items()}
         return dataclasses.replace(self, **parts)
 
+    def ordered(self, order: Ints) -> "Rows":
+        """The rows in another order, with the bad ones."""
+        place = numpy.append(numpy.argsort(order), -1)
+        bad = [
+            dataclasses.replace(it, place=int(place[it.place]), since=int(place[it.since]))
+            for it in self.bad
+        ]
+        at = order if self.names.places is None else self.names.places[order]
+        names = dataclasses.replace(self.names, places=at)
+        holes = [dataclasses.replace(it, since=int(place[it.since])) for it in self.holes]
+        return dataclasses.replace(self.moved(order), bad=bad, holes=holes, names=names)
+
     def take(self, begin: int, end: int) -> "Rows":
         """The rows of one instrument, with keys of its own."""
         parts = {name: it[begin:end] for name, it in self._parts().items()}

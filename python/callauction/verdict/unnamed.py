@@ -7,8 +7,8 @@ import numpy
 
 from callauction.verdict.cells import Ints
 from callauction.verdict.judged import Judgement, Rules
-from callauction.verdict.mixed import with_last
-from callauction.verdict.rows import FILL, MISSING, SAID, STOPPED, TRADE, UNCROSS, Rows
+from callauction.verdict.mixed import others_said, with_last
+from callauction.verdict.rows import FILL, MISSING, STOPPED, TRADE, UNCROSS, Rows
 
 MOST_RESULTS, MOST_ODD = 8, 2
 """How many results are named, and how many of them and of the auctions may be corrected or have
@@ -68,10 +68,7 @@ def _corrected_by_next(rows: Rows, results: Ints, is_more: bool) -> list[bool]:
     """Which results the next one may correct: it says another thing, and where there aren't more
     results than auctions one other thing alone.
     """
-    said = numpy.array([getattr(rows, name)[results] for name in SAID])
-    one, two = said[:, :-1], said[:, 1:]
-    both = (one != MISSING) & (two != MISSING)
-    count = ((one != two) & both).sum(axis=0)
+    count = others_said(rows, results[:-1], results[1:])
     return [bool(it > 0 if is_more else it == 1) for it in count]
 
 
