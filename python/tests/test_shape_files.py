@@ -11,7 +11,7 @@ from damage import places, timed_day
 from extracts import TOP, Extract, random_day
 from logs import FixLog, instant, kept_for_supervision, line
 from test_desk import base_day, text_of
-from test_verdict import judged
+from test_verdict import frame_of, judged
 
 EXTRACTS = TOP / "examples/extracts"
 SEEDS = range(25)
@@ -256,6 +256,73 @@ def test_a_condition_that_drops_a_report_of_a_trade_leaves_a_doubt(tmp_path: Pat
         assert verdict.word == "incomplete", f"{where}\n{verdict}"
 
 
+def log_of_one_time(executed: str = "B") -> FixLog:
+    """A and B have one limit and one time, and A's report is the first one; D has the time of the
+    uncross, and its report is behind those of the trade.
+    """
+    day = timed_day(1, 2)
+    shared = dict(member="M1", quantity="9", price="10.00")
+    day.rows[:] = [
+        dict(shared, event="new", order="A", side="bid", time="08:51:01"),
+        dict(shared, event="new", order="B", side="bid", time="08:51:01"),
+        dict(shared, event="new", order="S", side="ask", time="08:52:00"),
+        dict(shared, event="uncross", surplus="9", side="bid", auction="opening", time="09:00:00"),
+        dict(shared, event="trade", bid=executed, ask="S", auction="opening", time="09:00:00"),
+        dict(shared, event="new", order="D", side="ask", time="09:00:00"),
+    ]
+    return FixLog(day)
+
+
+def word_of(log: FixLog, path: Path, *more: str) -> str:
+    path.write_text(log.tagged(), encoding="utf-8")
+    reading = shapes.joined(shapes.reading_of("fix"), {"sort": "--sort" in more})
+    terms = dict(reference="10", tick_size="0.01", auctions=["opening"], reading=reading)
+    return audit_events(path, **terms).word  # type: ignore[arg-type]
+
+
+@pytest.mark.parametrize("words", [[], ["--sort"]])
+def test_numbers_of_messages_are_the_order_of_reports_of_one_time(
+    words: list[str], tmp_path: Path
+) -> None:
+    assert word_of(log_of_one_time(), tmp_path / "day.log", *words) == "unlawful"
+    log = log_of_one_time("A")
+    assert word_of(log, tmp_path / "day.log", *words) == "incomplete"
+    late = next(it for it in log.messages if (37, "D") in it)
+    late[:] = [(tag, "0" if tag == 34 else it) for tag, it in late]
+    assert word_of(log, tmp_path / "day.log", *words) == "incomplete"
+
+
+@pytest.mark.parametrize("numbers", [
+    [(34, None)], [(34, "7")], [(34, "4"), (37, "S")], [(34, "x")],
+    [(56, "X"), (37, "A")], [(49, "X"), (37, "S")],
+])  # fmt: skip
+def test_numbers_of_several_sessions_are_no_order(
+    numbers: list[tuple[int, str | None]], tmp_path: Path
+) -> None:
+    """None, one for all, one by which times fall, no number, and another sender or target."""
+    log, (tag, text) = log_of_one_time(), numbers[0]
+    for fields in log.messages:
+        if len(numbers) < 2 or numbers[1] in fields:
+            fields[:] = [it for it in fields if it[0] != tag]
+            fields += [(tag, text)] if text is not None else []
+    assert word_of(log, tmp_path / "day.log") == "incomplete"
+
+
+def test_a_result_without_a_sequence_has_the_time_of_orders() -> None:
+    """S may have been before it."""
+    rows = [
+        dict(event="new", order="A", side="bid", price="10", quantity="9", time="09:00"),
+        dict(event="uncross", price="10", quantity="9", auction="opening", time="09:01"),
+        dict(event="new", order="S", side="ask", price="10", quantity="9", time="09:01"),
+    ]
+    for number, word in (("", "incomplete"), ("2", "unlawful")):
+        for place, row in enumerate(rows):
+            row["sequence"] = str(1 + place) if row["event"] == "new" else number
+        verdict = audit_events(frame_of(rows), reference="10", tick_size="0.01",
+                               auctions=["opening"])  # fmt: skip
+        assert verdict.word == word, str(verdict)
+
+
 def test_orders_of_other_types_are_bad_rows(tmp_path: Path) -> None:
     log = lawful_log()
     [first, *_] = [it for it in log.messages if (150, "0") in it]
@@ -423,3 +490,41 @@ def test_a_bust_of_a_wrong_trade_leaves_the_fault() -> None:
 
 def test_random_days_have_times_that_logs_can_have() -> None:
     assert instant(random_day(1).rows[0]["time"]).startswith("20261127-0")
+
+
+@pytest.mark.parametrize("cells, said", [
+    ({"quantity": "999"}, "{bid} ask {ask}: 999 at {price}"),
+    ({"bid": "XX", "ask": "YY"}, "XX ask YY: {quantity} at {price}"),
+    ({"price": "9.5"}, "{bid} ask {ask}: {quantity} at 9.5"),
+    ({"price": ""}, ""),
+])  # fmt: skip
+def test_a_bust_of_no_trade_is_said_with_its_row_and_trade(
+    cells: dict[str, str], said: str, tmp_path: Path, capsys: pytest.CaptureFixture[str]
+) -> None:
+    """It is the only fault; the last one here names a trade, which is in doubt."""
+    day = base_day().copy()
+    trade = day.rows[places(day.rows, "trade")[0]]
+    day.rows.append(trade | {"event": "bust"} | cells)
+    path, table = tmp_path / "day.csv", tmp_path / "findings.csv"
+    path.write_text(text_of(day.rows))
+    words = ["audit", str(path), "--tick-size", "0.01", "--reference", day.reference]
+    assert main([*words, "--findings", str(table)]) == 5
+    line = f"row {len(day.rows) + 1}: no trade has its orders, its shares and its price: bid "
+    line += said.format(**trade)
+    assert (f"callauction: {line}\n" in capsys.readouterr().err) == (said != "")
+    assert (line in table.read_text()) == (said != "")
+
+
+def test_a_trade_cancel_of_an_unknown_report_takes_no_other_out(tmp_path: Path) -> None:
+    """It has the order, the shares and the price of a lawful trade, whose sides stay joined."""
+    log = lawful_log()
+    [first, *_] = [it for it in log.messages if (150, "F") in it]
+    bust = {tag: text for tag, text in first if tag != 880}
+    log.messages.append([*(bust | {150: "H", 19: "W9", 17: "B9"}).items()])
+    verdict = read_as("fix", log.tagged(), base_day(), tmp_path / "day.log")
+    whole, due = verdict.coverage["trades"]
+    assert whole == due > 0 and not verdict.doubtful, str(verdict)
+    label, order = len(log.messages), bust[37]
+    said = f"row {label}: no trade has its orders, its shares and its price: {order}: {bust[32]}"
+    assert [str(row) for row in verdict.bad_rows] == [f"{said} at {bust[31]}"]
+    assert f"(17), such as 'W9' in row {label}: 1" in "\n".join(verdict.remarks())

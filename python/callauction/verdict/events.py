@@ -289,13 +289,14 @@ def _members(columns: Columns, name: str, known: list[str]) -> Codes:
 
 def _groups(time: Ints, sequence: Ints | None, lead: Codes) -> Ints:
     """Equal numbers for rows of one instrument, time and sequence, or time alone where sequences
-    fall; numbers of their own for rows without a time.
+    fall or some have none; numbers of their own for rows without a time.
     """
     found = paired_codes(lead, numbered(time))
     if sequence is not None:
         order = numpy.argsort(found, kind="stable")
         one, two = order[:-1], order[1:]
-        falls = found[one[(found[one] == found[two]) & (sequence[two] < sequence[one])]]
+        is_unknown = (sequence[two] < sequence[one]) | (sequence[one] < 0)
+        falls = found[one[(found[one] == found[two]) & is_unknown]]
         found = paired_codes(found, numpy.where(numpy.isin(found, falls), 0, sequence + 1))
     own = time == clocks.NONE
     found[own] = len(time) + numpy.flatnonzero(own)

@@ -4,7 +4,8 @@ A log has lines of `tag=value` parted by any sign, or is a CSV file headed by ta
 have the names of the standard, of the tags in NAMES. Market data (MsgType W and X) with the price
 of an auction is a row where trades of the instrument are next to it (_Phase.is_result), or where it
 names one that has no price and no trades, the last time that it does; else it is an indication.
-What else is done to a message is in _Log.
+The numbers of messages are the order of reports of one time where all are of one session. What else
+is done to a message is in _Log.
 """
 import csv
 import dataclasses
@@ -16,7 +17,10 @@ from collections import Counter
 from collections.abc import Iterable, Iterator
 from decimal import Decimal, InvalidOperation
 
-from callauction.verdict.cells import Short, Source, parted_source
+import numpy
+
+from callauction.verdict import clocks
+from callauction.verdict.cells import Cells, MadeSource, Short, Source, parted_source
 
 NAMES = {
     "1": "Account", "11": "ClOrdID", "14": "CumQty", "17": "ExecID", "19": "ExecRefID",
@@ -35,10 +39,12 @@ IMBALANCE = "Imbalance"
 """The column of a result's surplus, which is an entry of its own in market data."""
 RESULT = "AuctionResult"
 """The ExecType of a row that is the result of an auction."""
+NUMBER = "MsgSeqNum"
 HEADER = (*NAMES.values(), IMBALANCE)
 OTHERS = "messages of other types than execution reports and results"
 NO_MESSAGE = "lines without a FIX message"
 AGAIN = "messages that were sent again, read once"
+NO_TRADE = "trade cancels whose ExecRefID (19) no trade has as its ExecID (17)"
 INDICATIONS = "prices in market data that have no trades next to them: indications"
 _BEGIN = re.compile(r"8=FIXT?\.\d\.\d(?:SP\d)?(?P<sign>\D{1,6}?)9=")
 _ENDING = 24
@@ -160,12 +166,13 @@ def _name(head: str) -> str:
 @dataclasses.dataclass
 class _Phase:
     """Where an instrument is: its last price in market data, and from which place on trades follow
-    one another, no row of an order being between.
+    one another, no row of an order being between, with the price and the number of the first.
     """
 
     result: tuple[int, Message] | None = None
     trades: int = -1
     price: str = ""
+    number: str = ""
     is_done: bool = False
 
     def is_result(self, found: Message) -> bool:
@@ -186,8 +193,10 @@ class _Log:
         self.short: list[tuple[int, str]] = []
         self.notes: Counter[str] = Counter()
         self.seen: set[tuple[str, str, str, str]] = set()
+        self.sessions: set[tuple[str, str]] = set()
         self.known: set[tuple[str, str]] = set()
         self.matches: dict[tuple[str, str], str] = {}
+        self.lost_busts: list[str] = []
         self.phases: dict[str, _Phase] = {}
         self.empty: dict[tuple[str, str], tuple[int, int, Message]] = {}
         """By instrument and session the last market data of an auction without a price, and where.
@@ -229,6 +238,7 @@ class _Log:
             self.notes[AGAIN] += 1
             return
         self.seen.add(mark)
+        self.sessions.add((message.get("SenderCompID", ""), message.get("TargetCompID", "")))
         if message.get("PartyRole", "") != _EXECUTING_FIRM:
             message["PartyID"] = _member(pairs)
         self._restate(message, (_instrument(message), order or message.get("ClOrdID", "")))
@@ -237,8 +247,10 @@ class _Log:
         if kind in _TRADES:
             self._trade(message, phase)
         elif kind in _BUSTS:
-            match = self.matches.get((_instrument(message), message.get("ExecRefID", "")), "")
-            message["TrdMatchID"] = message.get("TrdMatchID", "") or match
+            named = message.get("ExecRefID", "")
+            match = self.matches.get((_instrument(message), named))
+            self.lost_busts += [f"{named!r} in row {line}"] * (match is None and named != "")
+            message["TrdMatchID"] = message.get("TrdMatchID", "") or match or ""
         else:
             self._forget(phase)
             self._type(message, kind)
@@ -273,7 +285,8 @@ class _Log:
         if own[1] not in _AUCTIONS:
             self.held |= {it for it in self.empty if it[0] == own[0]}
         if phase.trades < 0:
-            phase.trades, phase.price = len(self.rows), message.get("LastPx", "")
+            phase.trades, phase.number = len(self.rows), message.get(NUMBER, "")
+            phase.price = message.get("LastPx", "")
         if phase.result is not None and not phase.is_done and phase.is_result(phase.result[1]):
             self._result(phase, *phase.result)
 
@@ -296,7 +309,7 @@ class _Log:
             self.notes[OTHERS] += 1
             return
         time = message.get("TransactTime", "") or message.get("SendingTime", "")
-        kept = ("Symbol", "SecurityID", "TradingSessionID", "TradingSessionSubID", "MsgSeqNum")
+        kept = ("Symbol", "SecurityID", "TradingSessionID", "TradingSessionSubID")
         found |= {name: message[name] for name in kept if name in message}
         found |= {"ExecType": RESULT, "TransactTime": time}
         phase, own = self._phase(message), _session(message)
@@ -312,8 +325,8 @@ class _Log:
         phase.result = line, found
 
     def _result(self, phase: _Phase, line: int, found: Message) -> None:
-        """Puts a result above the first of its trades."""
-        self._put(phase.trades - 0.5, line, found)
+        """Puts a result above the first of its trades, with the number of that."""
+        self._put(phase.trades - 0.5, line, found | {NUMBER: phase.number})
         self.held.add(_session(found))
         phase.result, phase.is_done = None, True
 
@@ -340,8 +353,27 @@ class _Log:
         rows = sorted(self.rows, key=lambda row: row[0])
         texts, lines = [text for _, _, text in rows], [line for _, line, _ in rows]
         source, short = parted_source(HEADER, texts, lines)
+        if len(self.sessions) > 1 or not _is_of_one_session(source):
+            none = source.cells(NUMBER)
+            none = Cells(none.buffer, none.start, 0 * none.length)
+            source = MadeSource(source.names, source.labels, base=source, made={NUMBER: none})
+        if self.lost_busts:
+            self.notes[f"{NO_TRADE}, such as {self.lost_busts[0]}"] = len(self.lost_busts)
         is_ended = self.last > max(lines)
         return MessageLog(source, (*self.short, *short), +self.notes, is_ended)
+
+
+def _is_of_one_session(source: Source) -> bool:
+    """Whether each report has a number of its own, and no time falls by them."""
+    kinds, words = source.cells("ExecType").texts()
+    codes, texts = source.cells(NUMBER).texts()
+    numbers = [int(text) if text.isdecimal() else -1 for text in texts]
+    is_report = kinds != (words.index(RESULT) if RESULT in words else len(words))
+    number = numpy.array([*numbers, -1], "i8")[codes][is_report]
+    time = clocks.nanoseconds(source.cells("TransactTime"))[is_report][numpy.argsort(number)]
+    time = time[time != clocks.NONE]
+    is_own = len(numpy.unique(number)) == len(number) and number.min(initial=0) >= 0
+    return is_own and not (time[1:] < time[:-1]).any()
 
 
 def _number(text: str) -> Decimal | str:

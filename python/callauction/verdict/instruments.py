@@ -55,7 +55,7 @@ RECORD = (
 """The columns of findings: `kind` is `certain` or `doubtful`, `rows` are parted by blanks, `why` is
 the rule, or why a finding is doubtful, `effect` and `moved` (parted by semicolons) are a Finding's,
 `verdict` is the instrument's. One without findings has a row of the kind `none`, with the fault as
-`why` where it can't be judged.
+`why` where it can't be judged, or the first row that isn't read.
 """
 NO_FINDING = "none"
 PARTS = 4
@@ -119,7 +119,8 @@ class Audited:
     def records(self) -> list[Mapping[str, object]]:
         """The findings, or that there are none (RECORD)."""
         none = dict.fromkeys(RECORD, "")
-        none |= {"instrument": self.name, "kind": NO_FINDING, "why": self.fault}
+        why = self.fault or self.remarks[0] if self.fault or self.bad_rows else ""
+        none |= {"instrument": self.name, "kind": NO_FINDING, "why": why}
         return [{**it, "verdict": self.word} for it in self.found or (none,)]
 
     def row(self) -> dict[str, object]:

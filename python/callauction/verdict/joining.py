@@ -27,19 +27,23 @@ def join_sides(rows: Rows, codes: Codes | None, instrument: Codes) -> None:
     is_trade = (rows.kind == TRADE) | (rows.kind == BUST)
     alone = numpy.flatnonzero(is_trade & (rows.bid < 0) & (rows.ask < 0) & (rows.key >= 0))
     for number in numpy.unique(instrument[alone]).tolist():
-        _join(rows, alone[instrument[alone] == number], codes)
-
-
-def _join(rows: Rows, alone: Ints, codes: Codes | None) -> None:
-    """Joins these rows of an instrument."""
-    bids, asks = _both(rows, alone, codes)
-    if 2 * len(bids) < len(alone):
-        made = alone[rows.kind[alone] == TRADE]
+        those = alone[instrument[alone] == number]
+        made, busts = (those[rows.kind[those] == kind] for kind in (TRADE, BUST))
+        both = _both(rows, made, codes)
+        if 2 * len(both[0]) < len(made):
+            if codes is not None:
+                rows.is_half[_halves(rows, made, codes)] = True
+            rows.kind[made] = FILL
+            rows.notes[ONE_SIDED] += len(made)
+            continue
+        _join(rows, *both)
         if codes is not None:
-            rows.is_half[_halves(rows, made, codes)] = True
-        rows.kind[made] = FILL
-        rows.notes[ONE_SIDED] += len(made)
-        return
+            whole = busts[numpy.isin(codes[busts], _matched(rows, busts, codes))]
+            _join(rows, *_both(rows, whole, codes))
+
+
+def _join(rows: Rows, bids: Ints, asks: Ints) -> None:
+    """Makes a trade or a bust of each of these bids and its ask, in the row that is first."""
     first, second = numpy.minimum(bids, asks), numpy.maximum(bids, asks)
     for side, those in zip(SIDES[1:], (bids, asks)):
         for name, own in ((side, rows.key), (f"{side}_member", rows.member)):
@@ -52,11 +56,17 @@ def _join(rows: Rows, alone: Ints, codes: Codes | None) -> None:
 def _halves(rows: Rows, these: Ints, codes: Codes) -> Ints:
     """Which of these rows of trades are one side alone of what a column joins, where some are both.
     """
-    own, side = codes[these], rows.side[these]
-    sides = [numpy.unique(own[(side == it) & (own >= 0)]) for it in (1, 2)]
-    both = numpy.intersect1d(*sides)
-    found: Ints = these[(own >= 0) & (side > 0) & ~numpy.isin(own, both)]
+    both = _matched(rows, these, codes)
+    is_known = (codes[these] >= 0) & (rows.side[these] > 0)
+    found: Ints = these[is_known & ~numpy.isin(codes[these], both)]
     return found if len(both) else found[:0]
+
+
+def _matched(rows: Rows, these: Ints, codes: Codes) -> Codes:
+    """What rows of both sides have in a column."""
+    own, side = codes[these], rows.side[these]
+    found: Codes = numpy.intersect1d(*(own[(side == it) & (own >= 0)] for it in (1, 2)))
+    return found
 
 
 def _both(rows: Rows, these: Ints, codes: Codes | None) -> tuple[Ints, Ints]:
@@ -92,12 +102,20 @@ def take_busted(rows: Rows) -> None:
         those = known.get(_mark(rows, place), [])
         own = [it for it in those if price < 0 or rows.price[it] in (price, MISSING)]
         if not own:
-            rows.refuse(place, _NO_TRADE, Doubt.BUST)
+            rows.refuse(place, f"{_NO_TRADE}: {_shown(rows, place)}", Doubt.BUST)
             continue
         taken = max((it for it in own if it < place), default=own[0])
         those.remove(taken)
         rows.kind[taken], rows.kind[place] = TAKEN, BAD
         rows.notes[BUSTED] += 1
+
+
+def _shown(rows: Rows, place: int) -> str:
+    """The trade or the fill that a bust names."""
+    keys, price = (int(rows.bid[place]), int(rows.ask[place])), int(rows.price[place])
+    names = [f"{side} {rows.names.order(key)}" for side, key in zip(SIDES[1:], keys) if key >= 0]
+    name = " ".join(names) or rows.names.order(int(rows.key[place]))
+    return f"{name}: {rows.quantity[place]:,}" + (f" at {rows.prices[price]}" if price >= 0 else "")
 
 
 def _mark(rows: Rows, place: int) -> tuple[int, ...]:

@@ -138,7 +138,7 @@ class Table:
     dates: str = ""
     """What dates with strokes are (times.STROKES), empty where that isn't known."""
     is_whole: bool = True
-    """Whether numbers of sequences that it hasn't are missing, as they aren't of a book."""
+    """Whether numbers of sequences that it hasn't are missing, as they aren't of a book or log."""
 
     @property
     def left_out(self) -> int:
@@ -319,7 +319,7 @@ def file_of(source: str | os.PathLike[str] | BinaryIO, reading: Reading) -> Tabl
         except fix.MessageLogError as fault:
             raise ExtractError(str(fault)) from None
         end = None if log.is_ended else _end(log.source, False)
-        return Table(log.source, log.short, notes=log.notes, end=end)
+        return Table(log.source, log.short, notes=log.notes, end=end, is_whole=False)
     if content.count(b"\x00") > len(content) // 3:
         little = content[1:2] == b"\x00"
         raise ExtractError(f"the file is UTF-16: say encoding utf-16-{'le' if little else 'be'}")

@@ -101,12 +101,12 @@ class Columns:
 
     def sequence(self) -> Ints | None:
         """The order of each row among those of one time; None where the table has no such column,
-        or texts without an order, which count for what is equal alone where rows aren't sorted.
-        Raises ExtractError.
+        or no cell in it. Texts without an order count for what is equal alone where rows aren't
+        sorted. Raises ExtractError.
         """
-        if "sequence" not in self.names:
+        codes, keys = self._sequences if "sequence" in self.names else (None, [])
+        if codes is None or not keys:
             return None
-        codes, keys = self._sequences
         known = [key for key in keys if key is not None]
         if len(known) < len(keys) or len({prefix for prefix, _ in known}) > 1:
             if self.reading.sort:
