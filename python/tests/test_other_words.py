@@ -3,12 +3,12 @@ from collections.abc import Callable
 from pathlib import Path
 
 import pytest
-from callauction.verdict import audit_events
-from damage import ORDERS, places
+from callauction.verdict import Verdict, audit_events
+from damage import ORDERS, places, timed_day
 from extracts import Rows
 from test_desk import TRADE, UNCROSS, as_fills, audited, base_day, text_of
 from test_holes import rows_of
-from test_verdict import frame_of
+from test_verdict import frame_of, judged
 
 Printed = pytest.CaptureFixture[str]
 WORDS = ("NULL", "N/A", "NaN", "-", "--", "null", "#N/A")
@@ -196,3 +196,74 @@ trade a s 100 10.10""")
     terms = dict(reference="10", tick_size="0.01", auctions=["opening"], range="0.05")
     verdict = audit_events(frame_of(rows), **terms)  # type: ignore[arg-type]
     assert verdict.word == "incomplete", str(verdict)
+
+
+# ---- ids that replaces gave, and no column has
+
+
+def with_new_ids(rows: Rows, form: str) -> list[str]:
+    """Gives each replaced order another id in the rows below, which the replace hasn't; answers
+    these ids.
+    """
+    present, given = dict[str, str](), list[str]()
+    for row in rows:
+        for name in ("order", "bid", "ask"):
+            row.update({name: present[row[name]]} if row.get(name) in present else {})
+        if row["event"] == "replace":
+            given.append(form.format(900 + len(given), row["order"]))
+            present = {old: given[-1] if it == row["order"] else it for old, it in present.items()}
+            present[row["order"]] = given[-1]
+    return given
+
+
+@pytest.mark.parametrize("form", ["N{}", "R-{}", "{1}/{0}"])
+def test_ids_that_replaces_gave_without_a_column_condemn_no_day(form: str) -> None:
+    """Unless one alone is named in one row, and is no id as others are."""
+    said = 0
+    for seed in range(25):
+        day = timed_day(seed, 10)
+        given = with_new_ids(day.rows, form)
+        named = [row.get(name) for row in day.rows for name in ("order", "bid", "ask")]
+        if sum(named.count(it) for it in given) > (form != "N{}"):
+            verdict = judged(day)
+            assert verdict.word == "incomplete", f"{seed}\n{verdict}"
+            said += "(a column new_order says it)" in str(verdict)
+    assert said > 5
+
+
+def test_an_id_that_a_replace_may_have_given_is_named() -> None:
+    rows = rows_of("""new A1 bid 10 10.00
+new S1 ask 20 10.00
+replace A1 bid 15 10.00
+uncross 10.00 15 5
+trade A7 S1 15 10.00""")
+    rows[3]["side"] = "ask"
+    terms = dict(reference="10", tick_size="0.01", auctions=["opening"])
+
+    def verdict() -> Verdict:
+        return audit_events(frame_of(rows), **terms)  # type: ignore[arg-type]
+
+    assert str(verdict().doubtful[0]).endswith(
+        "no row enters 'A7': may the replace of row 2 have given that id to A1? (a column "
+        "new_order says it)"
+    ), str(verdict())
+    for place, cells in ((4, {"bid": "A1x"}), (4, {"quantity": "14"}), (2, {"new_order": "A8"})):
+        before = dict(rows[place])
+        rows[place] |= cells
+        assert verdict().word == "unlawful", f"{cells}\n{verdict()}"
+        rows[place] = before
+
+
+def test_a_replace_gives_no_id_where_an_order_trades_by_its_own() -> None:
+    rows = rows_of("""new A1 bid 10 10.00
+new B1 bid 10 10.00
+new S1 ask 25 10.00
+replace A1 bid 15 10.00
+replace B1 bid 10 10.00
+uncross 10.00 25 0
+trade A7 S1 15 10.00
+trade B1 S1 10 10.00""")
+    rows[5]["side"] = "none"
+    terms = dict(reference="10", tick_size="0.01", auctions=["opening"])
+    verdict = audit_events(frame_of(rows), **terms)  # type: ignore[arg-type]
+    assert verdict.word == "unlawful", str(verdict)

@@ -17,6 +17,7 @@ from callauction.verdict.judging import SUMS, Judge, Mark, marked
 from callauction.verdict.lots import in_shares, lot_of
 from callauction.verdict.mixed import corrected, doubled, has_more, refuse_markets, refuse_parts
 from callauction.verdict.reading import End
+from callauction.verdict.renamed import renamed
 from callauction.verdict.repeated import amended, copies, second_trades
 from callauction.verdict.rows import (
     BAD, FILL, INTERRUPTED, MARKET, NEW, OF_ORDERS, REPLACE, TRADE, UNCROSS, Bytes, Doubt, Rows,
@@ -137,7 +138,7 @@ def _changes(found: Judgement, rows: Rows, rules: Rules) -> Iterator[list[Change
     if rows.end is not None and rows.end.is_cut:
         why = f"the file ends within a line, and row {rows.end.label} may be cut"
         yield [(functools.partial(_cut_off, rows.end), why)]
-    spelled = respelled(rows)
+    spelled = respelled(rows) or renamed(rows, found)
     if spelled is not None:
         yield [(functools.partial(_respelled, spelled[0]), spelled[1])]
     price = _filled_prices(rows)

@@ -52,7 +52,7 @@ def _by_plain(texts: Iterable[tuple[int, str]]) -> dict[str, tuple[int, str]]:
 
 def _with_ids(rows: Rows) -> tuple[Rows, tuple[str, ...]]:
     """The rows with the keys of orders for ids that no row enters, and two such ids."""
-    made, lost = numpy.isin(rows.kind, (TRADE, FILL)), _lost(rows)
+    made, lost = numpy.isin(rows.kind, (TRADE, FILL)), lost_rows(rows)
     keys = {name: getattr(rows, name) for name in ("key", "bid", "ask")}
     of_lost = rows.key[[row.place for row in lost]]
     named = numpy.unique(numpy.concatenate([*(it[made] for it in keys.values()), of_lost]))
@@ -72,7 +72,7 @@ def _with_ids(rows: Rows) -> tuple[Rows, tuple[str, ...]]:
     changed = {name: numpy.where(it >= 0, meant[it], it) for name, it in keys.items()}
     if not both:
         return rows, ()
-    return _found(dataclasses.replace(rows, **changed), lost), both
+    return found_again(dataclasses.replace(rows, **changed), lost), both
 
 
 def _add_new_ids(rows: Rows, lost: list[BadRow], known: dict[str, tuple[int, str]]) -> None:
@@ -90,12 +90,12 @@ def _add_new_ids(rows: Rows, lost: list[BadRow], known: dict[str, tuple[int, str
             known.setdefault(_plain(text), (key, text))
 
 
-def _lost(rows: Rows) -> list[BadRow]:
+def lost_rows(rows: Rows) -> list[BadRow]:
     """The replaces and cancels of orders that no row enters."""
     return [row for row in rows.bad if row.kind in (REPLACE, CANCEL) and row.doubt is Doubt.ORDER]
 
 
-def _found(rows: Rows, lost: list[BadRow]) -> Rows:
+def found_again(rows: Rows, lost: list[BadRow]) -> Rows:
     """The rows with those of these that a row above enters by their keys, for its member."""
     entered = dict(zip(rows.key[rows.kind == NEW].tolist(), rows.of(NEW).tolist()))
     kind, found = rows.kind.copy(), set[int]()
