@@ -503,12 +503,12 @@ def _why_not(
 
 
 def plain_frame(table: Table, reading: Reading = Reading()) -> pandas.DataFrame:
-    """The rows of a table in our words and plain numbers; what is missing, or means a market order,
-    is None.
+    """The rows of a table in our words and plain numbers, in their order, so that no sequence is
+    left; what is missing, or means a market order, is None.
     """
     columns, _, _ = _ordered(table, reading, None)
     found = {}
-    for name in columns.names:
+    for name in (name for name in columns.names if name != "sequence"):
         codes, texts = columns.texts(name)
         found[name] = numpy.array([*_plain(columns, name, texts), None], "object")[codes]
     return pandas.DataFrame(found, columns.source.labels, dtype="object")

@@ -207,7 +207,7 @@ def with_late_results(rows: Rows, due: Sequence[int]) -> Rows | None:
         above, time = results[results < place], rows.time[place]
         if clocks.NONE < time < rows.time[above].max(initial=clocks.NONE):
             key[place] = numpy.flatnonzero(rows.time > time)[0] - 0.5
-        elif is_more and rows.state[place] <= 0:
+        elif is_more and rows.state[place] <= 0 and time not in rows.time[above]:
             own = above[:-1][others_said(rows, above[:-1], place) == 1]
             if len(own) == 1:
                 key[place] = own[0] + 0.5
