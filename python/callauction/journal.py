@@ -37,6 +37,7 @@ from callauction.limits import MOST_CALLS, MOST_MEMBERS, MOST_OPEN, MOST_TICKS
 from callauction.prices import (
     BadCellError,
     Grid,
+    argument,
     decimal_of,
     grid_of,
     tick_size_of,
@@ -432,7 +433,7 @@ def from_frame(
     """
     rows = _rows_of(frame.rename(columns=OTHER_NAMES), ignore)
     size = tick_size_of(tick_size)
-    first = _argument("reference", reference)
+    first = argument("reference", reference)
     lowest, highest = _bounds(rows, size, first, low, high)
     grid = grid_of(size, lowest, highest)
     span = None if range is None else _ticks("range", range, Grid(size))
@@ -477,18 +478,10 @@ def _entries(made: _Conversion) -> pandas.DataFrame:
     return found
 
 
-def _argument(name: str, value: object) -> Decimal:
-    """A decimal argument. Raises ValueError."""
-    try:
-        return decimal_of(value)
-    except BadCellError as fault:
-        raise ValueError(f"{name} {value!r} {fault}") from None
-
-
 def _ticks(name: str, value: object, grid: Grid) -> int:
     """The ticks of a decimal argument. Raises ValueError."""
     try:
-        return grid.tick(_argument(name, value))
+        return grid.tick(argument(name, value))
     except BadCellError as fault:
         raise ValueError(f"{name} {value} {fault}") from None
 
@@ -500,8 +493,8 @@ def _bounds(
     makes these more than 65,536 ticks.
     """
     plain, most = Grid(size), (MOST_TICKS - 1) * size
-    lowest = reference if low is None else _argument("low", low)
-    highest = reference if high is None else _argument("high", high)
+    lowest = reference if low is None else argument("low", low)
+    highest = reference if high is None else argument("high", high)
     for name, value in (("reference", reference), ("low", lowest), ("high", highest)):
         _ticks(name, value, plain)
     if not lowest <= reference <= highest or highest - lowest > most:

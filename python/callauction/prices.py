@@ -46,6 +46,14 @@ def whole_of(value: object) -> int:
     return int(found)
 
 
+def argument(name: str, value: object, shown: object = None) -> Decimal:
+    """A decimal argument, which a fault shows as it is or as it was said. Raises ValueError."""
+    try:
+        return decimal_of(value)
+    except BadCellError as fault:
+        raise ValueError(f"{name} {value if shown is None else shown!r} {fault}") from None
+
+
 @dataclasses.dataclass(frozen=True)
 class Grid:
     """The prices that a day may have: tick t is the price `base + t * tick_size`."""
@@ -79,10 +87,7 @@ def grid_of(tick_size: object, low: Decimal, high: Decimal) -> Grid:
 
 def tick_size_of(value: object) -> Decimal:
     """A tick size. Raises ValueError where it isn't above 0."""
-    try:
-        found = decimal_of(value)
-    except BadCellError as fault:
-        raise ValueError(f"tick_size {value!r} {fault}") from None
+    found = argument("tick_size", value)
     if found <= 0:
         raise ValueError(f"tick_size {value!r} isn't above 0")
     return found

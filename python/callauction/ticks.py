@@ -7,7 +7,7 @@ import numpy
 from numpy.typing import NDArray
 
 from callauction.limits import MOST_NUMBER
-from callauction.prices import BadCellError, Grid, decimal_of, tick_size_of
+from callauction.prices import BadCellError, Grid, argument, tick_size_of
 
 
 class Ticks:
@@ -26,7 +26,7 @@ class Ticks:
 
     def __init__(self, tick_size: object, base: object = 0) -> None:
         size = tick_size_of(tick_size)
-        self._grid = Grid(size, _money("base", base))
+        self._grid = Grid(size, argument("base", base))
 
     def __repr__(self) -> str:
         base = f", {self.base}" if self.base else ""
@@ -47,7 +47,7 @@ class Ticks:
         two ticks, or has no tick from 0 to 4,294,967,295.
         """
         try:
-            tick = self._grid.tick(_money("price", price))
+            tick = self._grid.tick(argument("price", price))
         except BadCellError:
             of_base = f" from {self.base}" if self.base else ""
             raise ValueError(
@@ -71,11 +71,3 @@ class Ticks:
     def price(self, tick: int) -> Decimal:
         """The price of a tick, exactly. Raises TypeError where the tick is no integer."""
         return self._grid.price(operator.index(tick))
-
-
-def _money(name: str, value: object) -> Decimal:
-    """The exact decimal of an amount. Raises ValueError with the name of the argument."""
-    try:
-        return decimal_of(value)
-    except BadCellError as fault:
-        raise ValueError(f"{name} {value!r} {fault}") from None

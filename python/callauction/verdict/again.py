@@ -6,17 +6,8 @@ from callauction.verdict import clocks
 from callauction.verdict.cells import Codes, Ints, numbered, paired_codes
 from callauction.verdict.columns import is_id
 from callauction.verdict.rows import (
-    BAD,
-    CANCEL,
-    FILL,
-    NEW,
-    REPLACE,
-    STOPPED,
-    TRADE,
-    UNCROSS,
-    Doubt,
-    Rows,
-)
+    BAD, CANCEL, FILL, NEW, REPLACE, STOPPED, TRADE, UNCROSS, Doubt, Rows,
+)  # fmt: skip
 from callauction.verdict.worded import Columns
 
 _NO_RESULT = -100

@@ -7,7 +7,7 @@ import numpy
 import pandas
 
 from callauction.course import Watch
-from callauction.prices import tick_size_of
+from callauction.prices import argument, tick_size_of
 from callauction.verdict.events import read_zeros, refuse_limits, rows_of
 from callauction.verdict.findings import Verdict, verdict_of
 from callauction.verdict.joining import with_results
@@ -16,7 +16,7 @@ from callauction.verdict.judging import Judge
 from callauction.verdict.mixed import (
     corrected, has_more, refuse_days, refuse_sums, with_late_results,
 )  # fmt: skip
-from callauction.verdict.ranges import argument, range_of
+from callauction.verdict.ranges import range_of
 from callauction.verdict.reading import Reading, Table, read_table
 from callauction.verdict.readings import judged_day
 from callauction.verdict.rows import BadRow, Doubt, Rows

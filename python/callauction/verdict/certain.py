@@ -55,7 +55,11 @@ class Certain:
     def of(self, place: int, auction: int, traded: Ints, filled: Ints) -> list[Difference]:
         """The contradictions of an auction's uncross at a place with its trades and fills."""
         if self.rows.state[place] == STOPPED:
-            return [*self._interruption(place, auction)]
+            if self.rows.price[place] != NO_PRICE and self.rows.count[place] <= 0:
+                return []
+            # an interruption without a price, or with trades
+            names = INTERRUPTED, AUCTIONS[auction]
+            return [Difference("auction", *names, (place,), rule=STOPS)]
         these = numpy.concatenate([traded, filled])
         own = these[~numpy.isin(these, self.doubts.outside(these, place))]
         state = self.rows.state
@@ -66,12 +70,6 @@ class Certain:
             found += [*self._volume(place, traded, filled)]
         own = own[~self.doubts.taken(own)]
         return [*found, *self._prices(place, own)] if len(own) else found
-
-    def _interruption(self, place: int, auction: int) -> Iterator[Difference]:
-        """An interruption without a price, or with trades."""
-        rows = self.rows
-        if rows.price[place] == NO_PRICE or rows.count[place] > 0:
-            yield Difference("auction", INTERRUPTED, AUCTIONS[auction], (place,), rule=STOPS)
 
     def _prices(self, place: int, these: Ints) -> Iterator[Difference]:
         """Trades of one auction at two prices, or at another one than the published."""

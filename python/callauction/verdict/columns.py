@@ -101,24 +101,15 @@ def likely(name: object, known: Collection[str]) -> str | None:
     return alike[near[0]] if near else None
 
 
-def unknown_columns(
-    found: Iterable[object], known: Collection[str], ignore: Collection[str] = ()
-) -> list[str]:
-    """Each column that is neither known nor to be ignored, with its likely meaning. `*` in `ignore`
-    is every column.
-    """
-    strange = [name for name in found if name not in known and name not in ignore]
-    guesses = [(name, likely(name, known)) for name in strange if "*" not in ignore]
-    return [f"{name!r} (is it {guess}?)" if guess else f"{name!r}" for name, guess in guesses]
-
-
 def refuse_unknown(
     found: Iterable[object], known: Collection[str], ignore: Collection[str] = ()
 ) -> None:
-    """Raises ColumnError where a column is neither known nor to be ignored: it may be a known one
-    by another name, and without that the table says something else.
+    """Raises ColumnError where a column is neither known nor to be ignored (`*` is each): it may be
+    a known one by another name, and without that the table says something else.
     """
-    unknown = unknown_columns(found, known, ignore)
+    strange = [name for name in found if name not in known and not {name, "*"} & {*ignore}]
+    guesses = [(name, likely(name, known)) for name in strange]
+    unknown = [f"{name!r} (is it {it}?)" if it else f"{name!r}" for name, it in guesses]
     if unknown:
         word = "column" if len(unknown) == 1 else "columns"
         raise ColumnError(

@@ -23,10 +23,15 @@ class Coverage:
     counts: dict[str, tuple[int, int]]
 
     @property
+    def total(self) -> tuple[int, int]:
+        """How many items were compared, and how many the rules give."""
+        counts = self.counts.values()
+        return sum(it for it, _ in counts), sum(of for _, of in counts)
+
+    @property
     def is_complete(self) -> bool:
         """Whether all that the rules give was compared, and there was something."""
-        compared = sum(compared for compared, _ in self.counts.values())
-        return compared > 0 and all(compared == of for compared, of in self.counts.values())
+        return self.total[0] > 0 and all(it == of for it, of in self.counts.values())
 
     def lines(self) -> list[str]:
         """A line for each item, such as `prices 3 of 3`."""

@@ -74,8 +74,8 @@ class Doubts:
         self.gap = self._gap(due)
         strays = Strays(rows, self.all_orders, uncrosses)
         self.within, self.homes = strays.within(), strays.auctions(due)
-        """The trades within a call phase; and by the places of rows that name no auction of which
-        they may be.
+        """The trades within a call phase; and by their places of which auctions trades that name
+        none, and results, may be, where a result is missing.
         """
         self.unknown = self._unknown()
 

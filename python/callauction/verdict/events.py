@@ -59,7 +59,10 @@ def rows_of(
     pairs = columns.source.cells(reading.pair).codes()[0] if reading.pair else None
     join_sides(rows, pairs, lead)
     _look_at_results(rows, columns)
-    _look_at_peaks(rows, columns)
+    if "peak" in columns.names:
+        peak = columns.wholes("peak")
+        odd = (peak <= 0) | (peak > rows.quantity) | (rows.price == MARKET)
+        rows.notes[PEAKS] += int((odd & (peak != MISSING) & (rows.kind == NEW)).sum())
     unread = numpy.array([it.place for it in rows.bad], "i8")
     is_new = (kind[unread] < 0) | (kind[unread] == NEW)
     ids_unread = numpy.concatenate([rows.key[unread[is_new]], rows.new_id[unread]])
@@ -94,9 +97,8 @@ def _read(
     price, prices, is_market = columns.prices(given)
     ids, first = _ids(columns, lead)
     member, members = columns.texts("member")
-    names = Names(
-        columns.source, first, _theirs(columns), members, table.names, dates=table.dates
-    )
+    theirs = tuple(columns.names[name] for name in IDS if name in columns.names)
+    names = Names(columns.source, first, theirs, members, table.names, dates=table.dates)
     bid_member, ask_member = (_members(columns, f"{it}_member", members) for it in SIDES[1:])
     end = table.end
     if end is not None and reading.sort:
@@ -140,11 +142,6 @@ def orders_in_time(table: Table, reading: Reading) -> tuple[Ints, Ints]:
         assert ranks is not None
         orders = orders[numpy.argsort(ranks, kind="stable")]
     return orders, others
-
-
-def _theirs(columns: Columns) -> tuple[str, ...]:
-    """Their names of the columns of ids."""
-    return tuple(columns.names[name] for name in IDS if name in columns.names)
 
 
 def _has(columns: Columns, name: str) -> Mask:
@@ -432,14 +429,6 @@ def _is_zero(rows: Rows) -> Mask:
     return found
 
 
-def _look_at_peaks(rows: Rows, columns: Columns) -> None:
-    """Counts the peaks that the rules would refuse."""
-    if "peak" in columns.names:
-        peak = columns.wholes("peak")
-        odd = (peak <= 0) | (peak > rows.quantity) | (rows.price == MARKET)
-        rows.notes[PEAKS] += int((odd & (peak != MISSING) & (rows.kind == NEW)).sum())
-
-
 # ---- limits that no order may have
 
 
@@ -461,7 +450,7 @@ def read_zeros(rows: Rows, said: Iterable[Decimal]) -> None:
         rows.notes[ZEROS] += int(zero.sum())
         return
     for place in numpy.flatnonzero(zero):
-        doubt = Doubt.ORDER if rows.kind[place] == NEW else Doubt.BOOKS
+        doubt = _DOUBTS.get(int(rows.kind[place]), Doubt.BOOKS)
         rows.refuse(place, "price 0 is no limit (--market 0 reads a market order)", doubt)
 
 

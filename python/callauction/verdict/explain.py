@@ -108,10 +108,12 @@ def _of_auction(context: Context, difference: Difference) -> Iterator[str]:
     if context.judged.result is None:
         yield f"The auctions of the day ({due}) were over, and none follows."
     elif str(difference.lawful).startswith("behind"):
-        price = _published_result(context)
+        price, published = context.lawful_price, "no price"
+        if price is not None:
+            published = f"price {context.price(price)} and volume {context.result.volume:,}"
         yield (
-            f"What was published, {price}, is the result of the book {difference.lawful}, and not "
-            f"of the book {difference.recorded}."
+            f"What was published, {published}, is the result of the book {difference.lawful}, and "
+            f"not of the book {difference.recorded}."
         )
     elif INTERRUPTED in (difference.recorded, difference.lawful):
         yield _of_interruption(context)
@@ -120,14 +122,6 @@ def _of_auction(context: Context, difference: Difference) -> Iterator[str]:
             f"The auctions of the day follow one another ({due}), and here the "
             f"{difference.lawful} is due."
         )
-
-
-def _published_result(context: Context) -> str:
-    """The price and the volume of the lawful result in words."""
-    price = context.lawful_price
-    if price is None:
-        return "no price"
-    return f"price {context.price(price)} and volume {context.result.volume:,}"
 
 
 def _of_interruption(context: Context) -> str:

@@ -21,10 +21,8 @@ from callauction.verdict.rows import NO_PRICE, BadRow, Rows
 
 LAWFUL, UNLAWFUL, INCOMPLETE = "lawful", "unlawful", "incomplete"
 STATUSES = {
-    LAWFUL: statuses.DONE,
-    UNLAWFUL: statuses.UNLAWFUL,
-    INCOMPLETE: statuses.INCOMPLETE,
-}
+    LAWFUL: statuses.DONE, UNLAWFUL: statuses.UNLAWFUL, INCOMPLETE: statuses.INCOMPLETE,
+}  # fmt: skip
 """The exit status of each verdict."""
 MOST_BAD_ROWS = 20
 """How many bad rows are printed."""

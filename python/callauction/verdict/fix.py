@@ -9,7 +9,6 @@ is done to a message is in _Log.
 """
 import csv
 import dataclasses
-import functools
 import io
 import itertools
 import re
@@ -124,16 +123,11 @@ def _tagged(text: str, log: "_Log") -> Iterator[tuple[int, Pairs]]:
 def _pairs(message: str) -> Pairs:
     """The fields of a message with their names."""
     begin = _BEGIN.match(message)
-    fields = _field(begin["sign"] if begin else "\x01").findall(message)
+    sign = re.escape(begin["sign"] if begin else "\x01")
+    is_single = begin is None or len(begin["sign"]) == 1
+    field = rf"(\d+)=([^{sign}]*)" if is_single else rf"(\d+)=(.*?)(?:{sign}|$)"
+    fields = re.findall(field, message)
     return [(NAMES.get(tag, tag), value) for tag, value in fields]
-
-
-@functools.lru_cache(maxsize=8)
-def _field(sign: str) -> "re.Pattern[str]":
-    """The pattern of a field that ends with a sign."""
-    if len(sign) == 1:
-        return re.compile(rf"(\d+)=([^{re.escape(sign)}]*)")
-    return re.compile(rf"(\d+)=(.*?)(?:{re.escape(sign)}|$)")
 
 
 def _fields(text: str, separator: str, log: "_Log") -> Iterator[tuple[int, Pairs]]:

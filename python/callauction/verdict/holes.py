@@ -54,7 +54,8 @@ def find_holes(rows: Rows, gaps: Sequence[Gap]) -> None:
     lasts = numpy.array([it.last for it in gaps], "i8")
     nexts = numpy.searchsorted(rows.number[own], lasts, "right")
     first_below = numpy.minimum.accumulate(own[::-1])[::-1]
-    is_above = _has_trades_above(rows)
+    ends = rows.of(UNCROSS)
+    is_above = bool(numpy.isin(rows.kind[ends[ends > 0] - 1], _MADE).any())
     for number in numpy.unique(nexts, return_index=True)[1].tolist():
         at, doubt, since = int(nexts[number]), Doubt.TRADES, len(rows.kind) - 1
         if at < len(own):
@@ -62,12 +63,6 @@ def find_holes(rows: Rows, gaps: Sequence[Gap]) -> None:
             doubt = _doubt_between(rows, above, int(own[at]), is_above)
             since = int(first_below[at]) - 1
         rows.holes.append(Hole.of(doubt, since, *gaps[number]))
-
-
-def _has_trades_above(rows: Rows) -> bool:
-    """Whether a result has a trade or a fill next above it, as where trades are above results."""
-    ends = rows.of(UNCROSS)
-    return bool(numpy.isin(rows.kind[ends[ends > 0] - 1], _MADE).any())
 
 
 def _doubt_between(rows: Rows, above: int, below: int, is_above: bool) -> Doubt:

@@ -34,16 +34,10 @@ NO_TICK_SIZE = "none"
 """The tick size of an instrument for which it depends on the price."""
 FAULT = "fault"
 """The verdict of an instrument that can't be judged."""
+_COUNTS = (f"{name}{end}" for name in PLURALS.values() for end in ("", "_due"))
 COLUMNS = (
-    "instrument",
-    "verdict",
-    "findings",
-    *(f"{name}{end}" for name in PLURALS.values() for end in ("", "_due")),
-    "bad_rows",
-    "first_finding",
-    "fault",
-    "doubtful",
-)
+    "instrument", "verdict", "findings", *_COUNTS, "bad_rows", "first_finding", "fault", "doubtful",
+)  # fmt: skip
 """The columns of the rows: of each item how many were compared and how many the rules give; the
 line of the first finding, in the extract's ids, times and prices; why an instrument can't be
 judged; and how many findings are doubtful.
@@ -62,8 +56,6 @@ PARTS = 4
 """How many parts of the instruments each worker is given, one after the other."""
 FEW = 20_000
 """Rows that aren't worth another process."""
-
-
 _THOUSANDS = re.compile(r"\d{1,3}(,\d{3})+")
 
 Name = tuple[str, ...]

@@ -218,15 +218,14 @@ class Judge:
         published is lawful by that, the most; none where no more is.
         """
         last, these = found[0].judged[-1], moment.these
-        cuts = self.doubts.ties.cuts(moment.place, these)
+        cuts, best = self.doubts.ties.cuts(moment.place, these), list[Path]()
         why, others = self.doubts.ties.orders_of_ties(these)
-        ways = [*((it, self.doubts.ties.of_cut(moment.place, these, it)) for it in cuts)]
-        best = list[Path]()
-        for before, reason in [*ways, *((it, why) for it in others or ())]:
+        for before, reason in [*cuts, *((it, why) for it in others or ())]:
             courses = self._read_so(moment, before, found, reason)
-            if courses and (not best or len(_certain(courses)) < len(_certain(best))):
+            left = [each[0].judged[-1].certain for each in (courses, best) if each]
+            if courses and (not best or len(left[0]) < len(left[1])):
                 best = courses
-            if best and not _certain(best):
+            if best and not best[0].judged[-1].certain:
                 return best
         if others is not None:
             above = self.orders[: moment.path.taken]
@@ -244,11 +243,11 @@ class Judge:
         many.
         """
         differences = found[0].judged[-1].differences
-        certain, left = {marked(it) for it in _certain(found)}, set[Mark]()
+        certain, left = {marked(it) for it in found[0].judged[-1].certain}, set[Mark]()
         try:
             other = [*self._variants(dataclasses.replace(moment, these=before))]
             left = self.left_in(other[0].judged[-1]) & certain
-            if {marked(it) for it in _certain(other)} - certain or left == certain:
+            if {marked(it) for it in other[0].judged[-1].certain} - certain or left == certain:
                 return []
         except BeyondError:
             other = found
@@ -677,11 +676,6 @@ class Judge:
         stops = len(judged) - over - path.state.ended
         due = len(self.due) + max(0, stops)
         return Judgement(judged, due, tuple(bad), +notes, self.has_trades, self.has_fills)
-
-
-def _certain(courses: list[Path]) -> list[Difference]:
-    """The certain differences of the last uncross on the first of several courses."""
-    return courses[0].judged[-1].certain
 
 
 def marked(each: Difference) -> Mark:

@@ -8,7 +8,7 @@ from fractions import Fraction
 
 import numpy
 
-from callauction.verdict.comparing import Difference, Fill, Trade
+from callauction.verdict.comparing import Fill, Trade
 from callauction.verdict.judged import Judgement
 from callauction.verdict.rows import FILL, TRADE, UNCROSS, Rows
 
@@ -17,16 +17,8 @@ LOTS = (10, 100, 1000)
 LEAST = 2
 """In how many items lots have to be seen."""
 PARTS = {
-    "results and trades": (UNCROSS, TRADE, FILL),
-    "results": (UNCROSS,),
-    "trades": (TRADE, FILL),
-}
-
-
-def _certain(found: Judgement) -> Iterator[Difference]:
-    """What differs for certain."""
-    for each in found.uncrosses:
-        yield from each.certain
+    "results and trades": (UNCROSS, TRADE, FILL), "results": (UNCROSS,), "trades": (TRADE, FILL),
+}  # fmt: skip
 
 
 def _size(value: object) -> int:
@@ -40,7 +32,8 @@ def lot_of(found: Judgement) -> int:
     """How many shares a lot may have in which some quantities are, as several that differ are that
     many times what is lawful, or as small a part of it, and most are; 0 for none.
     """
-    sizes = [(_size(it.recorded), _size(it.lawful)) for it in _certain(found)]
+    certain = (it for each in found.uncrosses for it in each.certain)
+    sizes = [(_size(it.recorded), _size(it.lawful)) for it in certain]
     ratios = [Fraction(max(both), min(both)) for both in sizes if min(both) > 0]
     if not ratios:
         return 0
@@ -49,8 +42,10 @@ def lot_of(found: Judgement) -> int:
 
 
 def in_shares(rows: Rows, lot: int) -> Iterator[tuple[Rows, str]]:
-    """The rows with the quantities of a part of them in the unit of the others, and why."""
-    for what, kinds in PARTS.items():
+    """The rows with the quantities of a part of them in the unit of the others, and why; none for a
+    lot of 0.
+    """
+    for what, kinds in PARTS.items() if lot else ():
         these = numpy.isin(rows.kind, kinds)
         both = {name: getattr(rows, name) for name in ("quantity", "surplus")}
         said = {name: these & (it > 0) for name, it in both.items()}

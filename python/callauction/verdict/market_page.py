@@ -52,12 +52,6 @@ def _file_name(name: str, taken: set[str]) -> str:
     return found
 
 
-def _compared(each: Audited) -> str:
-    """How many items were compared, of those that the rules give."""
-    counts = each.coverage.counts.values()
-    return f"{sum(it for it, _ in counts):,} of {sum(due for _, due in counts):,}"
-
-
 def _first(each: Audited) -> str:
     """The fault of an instrument, its first finding, or what else leaves it open."""
     open_ = (*each.lines, *each.remarks) if each.word != LAWFUL else ()
@@ -74,7 +68,7 @@ def _html_of(
     text = f'<p class="{look}">{counted(len(found), "instrument")}: <strong>{counts}</strong>.</p>'
     rows = [
         (each.name or "(none)", each.word, each.findings, each.doubtful, each.bad_rows,
-         _compared(each), _first(each))
+         "{:,} of {:,}".format(*each.coverage.total), _first(each))
         for each in found
     ]  # fmt: skip
     frame = pandas.DataFrame(rows, columns=["instrument", *COLUMNS])

@@ -115,8 +115,9 @@ def _told_apart(
 
 def refuse_parts(rows: Rows, due: Sequence[int]) -> None:
     """Raises ExtractError where orders or results are put together so that their times, or their
-    names, are in another order than the rows. One result above the orders of its auction is a fault
-    of its own where its trades are below them.
+    names, are in another order than the rows; without times where orders are above all of several
+    uncrosses, of which a later one executes shares, or below all of them. One result above the
+    orders of its auction is a fault of its own where its trades are below them.
     """
     orders = rows.of(*OF_ORDERS)
     ends = rows.of(UNCROSS)
@@ -129,7 +130,10 @@ def refuse_parts(rows: Rows, due: Sequence[int]) -> None:
     if is_timed and len(falls):
         one, other = rows.labels[ends[falls[0] : falls[0] + 2]]
         raise ExtractError(f"the times of results, rows {one} and {other}, fall: say --sort")
-    wrong = _by_time(rows, timed, ends) if is_timed else _untimed(rows, orders, ends)
+    is_apart = len(orders) > 0 and len(ends) > 1
+    is_above = is_apart and orders[-1] < ends[0] and (rows.quantity[ends[1:]] > 0).any()
+    wrong = orders if is_above or is_apart and orders[0] > ends[-1] else orders[:0]
+    wrong = _by_time(rows, timed, ends) if is_timed else wrong
     if len(wrong):
         raise ExtractError(
             f"rows {rows.labels[wrong[0]]} and {rows.labels[ends[0]]} are in another order than "
@@ -158,15 +162,6 @@ def _by_time(rows: Rows, orders: Ints, ends: Ints) -> Ints:
     copies = pandas.DataFrame({it: getattr(rows, it)[orders] for it in names}).duplicated()
     found: Ints = orders[wrong & (is_dated[0] == is_dated[1]) & ~copies.to_numpy()]
     return found
-
-
-def _untimed(rows: Rows, orders: Ints, ends: Ints) -> Ints:
-    """The rows of orders above all of several uncrosses, of which a later one executes shares, or
-    below all of them.
-    """
-    is_apart = len(orders) > 0 and len(ends) > 1
-    is_above = is_apart and orders[-1] < ends[0] and (rows.quantity[ends[1:]] > 0).any()
-    return orders if is_above or is_apart and orders[0] > ends[-1] else orders[:0]
 
 
 # ---- a result and its correction
@@ -224,20 +219,16 @@ def others_said(rows: Rows, one: Ints, other: Ints | int) -> Ints:
     return found
 
 
-def _moment(rows: Rows, those: Ints, end: int) -> int:
-    """The place of the last of these results above the first trade between them and this end, else
-    of the first one.
-    """
-    made = numpy.flatnonzero((rows.kind[:end] == TRADE) | (rows.kind[:end] == FILL))
-    made = made[made > those[0]][:1]
-    return int(those[those < made[0]][-1] if len(made) else those[0])
-
-
 def with_last(rows: Rows, those: Ints, auction: int) -> Rows:
-    """The rows with the last of these results of an auction alone, at their moment."""
+    """The rows with the last of these results of an auction alone, in the place of the last above
+    its first trade, else of the first one.
+    """
     results = _results(rows)
     others = results[(results > those[0]) & ~numpy.isin(results, those)]
-    at = _moment(rows, those, int(others.min(initial=len(rows.kind))))
+    end = int(others.min(initial=len(rows.kind)))
+    made = numpy.flatnonzero((rows.kind[:end] == TRADE) | (rows.kind[:end] == FILL))
+    made = made[made > those[0]][:1]
+    at = int(those[those < made[0]][-1] if len(made) else those[0])
     bad, kind, last = [*rows.bad], rows.kind.copy(), int(those[-1])
     what = f"a later result of the {AUCTIONS[auction]}, read in its place"
     for place in those[:-1].tolist():

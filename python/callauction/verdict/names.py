@@ -14,8 +14,8 @@ FOREIGN = "cancels by others than the order's member"
 
 
 def make_keys(rows: Rows, unread: Codes) -> None:
-    """Puts keys in place of the ids of rows, and refuses the rows without a good one; `unread` are
-    the ids that rows have which weren't read.
+    """Puts keys in place of the ids of rows, and refuses the rows without a good one, and replaces
+    whose new id is another order's; `unread` are the ids that rows have which weren't read.
     """
     count = len(rows.names.ids)
     entered = _entered(rows, count)
@@ -24,9 +24,11 @@ def make_keys(rows: Rows, unread: Codes) -> None:
     for name in ("key", "bid", "ask"):
         array = getattr(rows, name)
         setattr(rows, name, numpy.where(array >= 0, root[array], MISSING).astype("i4"))
-    _refuse_other_ids(rows, root)
-    _refuse_unknown(rows, entered, {*unread.tolist()})
-    _refuse_foreign(rows, entered)
+    named = numpy.flatnonzero((rows.kind == REPLACE) & (rows.new_id >= 0))
+    for place in named[root[rows.new_id[named]] != rows.key[named]]:
+        name = rows.names.order(rows.new_id[place])
+        rows.refuse(place, f"new_order {name!r} is another order's id", Doubt.BOOKS)
+    _refuse_others(rows, entered, {*unread.tolist()})
 
 
 def _entered(rows: Rows, count: int) -> Ints:
@@ -94,30 +96,20 @@ def _roots(rows: Rows, entered: Ints, count: int) -> Ints:
     return root
 
 
-def _refuse_other_ids(rows: Rows, root: Ints) -> None:
-    """Refuses replaces whose new id is another order's."""
-    named = numpy.flatnonzero((rows.kind == REPLACE) & (rows.new_id >= 0))
-    for place in named[root[rows.new_id[named]] != rows.key[named]]:
-        name = rows.names.order(rows.new_id[place])
-        rows.refuse(place, f"new_order {name!r} is another order's id", Doubt.BOOKS)
-
-
-def _refuse_unknown(rows: Rows, entered: Ints, unread: set[int]) -> None:
-    """Refuses rows of orders that no row above enters."""
+def _refuse_others(rows: Rows, entered: Ints, unread: set[int]) -> None:
+    """Refuses rows of orders that no row above enters, and replaces by others than the order's
+    member; counts such cancels.
+    """
     events = rows.of(REPLACE, CANCEL)
     owner = entered[rows.key[events]]
-    for place in events[(owner < 0) | (owner > events)]:
+    is_known = (owner >= 0) & (owner <= events)
+    for place in events[~is_known]:
         is_unread = int(rows.key[place]) in unread
         where = "in a row that isn't read" if is_unread else "in no row above"
         order = rows.names.order(rows.key[place])
         since = int(place) if is_unread else -1
         rows.refuse(place, f"order {order!r} is entered {where}", Doubt.ORDER, since)
-
-
-def _refuse_foreign(rows: Rows, entered: Ints) -> None:
-    """Refuses replaces by others than the order's member, and counts such cancels."""
-    events = rows.of(REPLACE, CANCEL)
-    owner = entered[rows.key[events]]
+    events, owner = events[is_known], owner[is_known]
     one, other = rows.member[events], rows.member[owner]
     foreign = events[(one >= 0) & (other >= 0) & (one != other)]
     rows.notes[FOREIGN] += int((rows.kind[foreign] == CANCEL).sum())

@@ -5,26 +5,18 @@ from collections.abc import Mapping
 import numpy
 import pandas
 
+from callauction.prices import argument
 from callauction.verdict.audits import judge, rules_of
 from callauction.verdict.columns import EVENT_COLUMNS, ColumnError, refuse_unknown
 from callauction.verdict.events import orders_in_time, rows_of
 from callauction.verdict.findings import Verdict
-from callauction.verdict.ranges import argument
 from callauction.verdict.reading import ExtractError, Reading, read_table
 from callauction.verdict.rows import NEW, UNCROSS, Rows
 from callauction.words import AUCTIONS
 
 BOOK_COLUMNS = (
-    "order",
-    "member",
-    "side",
-    "price",
-    "quantity",
-    "peak",
-    "restriction",
-    "time",
-    "sequence",
-)
+    "order", "member", "side", "price", "quantity", "peak", "restriction", "time", "sequence",
+)  # fmt: skip
 """The columns of a book: `quantity` is what is open, `price` is missing for a market order."""
 BOOK_NAMES = {"open": "quantity", "limit": "price", "only": "restriction"}
 PUBLISHED = ("price", "volume", "quantity", "surplus", "side", "auction", "trades", "fills")

@@ -14,17 +14,9 @@ from callauction.verdict.phases import recorded_sums
 from callauction.verdict.rows import CANCEL, MARKET, NEW, OF_ORDERS, OWN, SIDES, Rows
 
 ORDERS = {
-    "order": "object",
-    "member": "object",
-    "side": "object",
-    "quantity": "int64",
-    "limit": "object",
-    "traded": "int64",
-    "recorded": "Int64",
-    "better": "object",
-    "open": "int64",
-    "became": "object",
-}
+    "order": "object", "member": "object", "side": "object", "quantity": "int64", "limit": "object",
+    "traded": "int64", "recorded": "Int64", "better": "object", "open": "int64", "became": "object",
+}  # fmt: skip
 """The columns of orders: a row for each that the rules accept, with the id that it had last.
 `quantity` shares were entered; `limit` is the last one, None for a market order. `traded` shares
 are lawful, `recorded` those that the extract has (`<NA>` where it has neither trades nor fills);
@@ -123,11 +115,6 @@ class _Course:
         order.became = became
         del self.open[order.key]
 
-    def over(self) -> None:
-        """The end of the day."""
-        for order in [*self.open.values()]:
-            self._close(order, "left")
-
     def _side(self, order: _Order) -> str:
         return SIDES[self.rows.side[order.place]]
 
@@ -152,7 +139,8 @@ def orders_of(judgement: Judgement, rows: Rows, rules: Rules) -> pandas.DataFram
     for place, judged in enumerate(those, 1):
         course.uncross(judged, place == len(those))
     if course.ended == len(rules.auctions):
-        course.over()
+        for order in [*course.open.values()]:
+            course._close(order, "left")
     else:
         course.take(course.places[course.taken :])
     has_records = judgement.has_trades or judgement.has_fills

@@ -47,14 +47,11 @@ def html_of(
     `watch` is given the auctions, such as tqdm.tqdm. Raises ProgramError.
     """
     parts = [_first(verdict), *_explained(verdict)]
-    parts += [_auction(verdict, judged) for judged in watch(_judged(verdict))]
+    held = [judged for judged in verdict.judgement.uncrosses if judged.result is not None]
+    parts += [_auction(verdict, judged) for judged in watch(held)]
     orders = verdict.orders()
     parts += [_members(orders), _orders(orders, verdict.rules), *_bad_rows(verdict)]
     return html_page(title, [*stamps.shortened(parts), *evidence_parts(facts)], "desk", pages)
-
-
-def _judged(verdict: Verdict) -> list[Judged]:
-    return [judged for judged in verdict.judgement.uncrosses if judged.result is not None]
 
 
 def _first(verdict: Verdict) -> Part:
@@ -108,7 +105,8 @@ def _finding(verdict: Verdict, finding: Finding) -> str:
         f"<ol>{sentences}</ol>"
     )
     text += f"<p>It also moved:</p><ul>{moved}</ul>" if moved else ""
-    queue = _words(verdict.queue(finding), verdict.rules)
+    queue = verdict.queue(finding).astype("object")
+    queue["price"] = _limits(queue["price"], verdict.rules)
     caption = "The queue: open before the uncross, recorded and lawful shares"
     name = mark_of(finding).replace("finding", "queue")
     table = html_table(queue, caption, f"{name}-table", QUEUED) if len(queue) else ""
@@ -116,13 +114,6 @@ def _finding(verdict: Verdict, finding: Finding) -> str:
     word = "Doubtful" if finding.doubt else "Finding"
     head = html.escape(f"{word} {finding.number}: {finding.item}, {where}")
     return f'<h3 id="{mark_of(finding)}">{head}</h3>{text}{table}'
-
-
-def _words(frame: pandas.DataFrame, rules: Rules) -> pandas.DataFrame:
-    """A queue with words for what is missing."""
-    shown = frame.astype("object")
-    shown["price"] = _limits(frame["price"], rules)
-    return shown
 
 
 def _limits(prices: "pandas.Series", rules: Rules) -> list[str]:
@@ -174,7 +165,9 @@ def lawful_trades(context: Context) -> pandas.DataFrame:
 def _draw(context: Context, axes: Axes) -> None:
     """The picture of a book, whose ticks are steps between its prices."""
     prices = [context.rows.prices[it] for it in context.uncross.named if it >= 0]
-    step = _step(context.rules.tick_size, prices)
+    size, digits = context.rules.tick_size, max(-int(it.as_tuple().exponent) for it in prices)
+    step = fractions.Fraction(1, 10 ** max(0, digits))  # else the last digit of the prices
+    step = step if size is None else fractions.Fraction(size)
     named = _namer(context, prices[0], step)
 
     def at(price: Decimal) -> int:
@@ -186,14 +179,6 @@ def _draw(context: Context, axes: Axes) -> None:
     plot.book(book, reference=at(context.reference), named=named, ax=axes)
     title = re.sub(r"(?<!,) ", _JOINED, axes.get_title("left").partition("\n")[2])
     axes.set_title("\n".join(textwrap.wrap(title, TITLE)).replace(_JOINED, " "), loc="left")
-
-
-def _step(tick_size: Decimal | None, prices: list[Decimal]) -> fractions.Fraction:
-    """The step of a picture: the tick size, else the last digit of the prices."""
-    if tick_size is not None:
-        return fractions.Fraction(tick_size)
-    digits = max(-int(price.as_tuple().exponent) for price in prices)
-    return fractions.Fraction(1, 10 ** max(0, digits))
 
 
 def _namer(context: Context, first: Decimal, step: fractions.Fraction) -> Callable[[int], str]:

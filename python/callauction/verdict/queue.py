@@ -27,7 +27,10 @@ def queue_of(
     rows: list[tuple[object, ...]] = []
     for side, queue in context.queues.items():
         keys = context.judged.book.key[queue].tolist()
-        first, last = _window(context, keys, orders, around)
+        touched = [place for place, key in enumerate(keys) if key in orders]
+        executed = [place for place, key in enumerate(keys) if key in context.fills]
+        center = touched or executed[-1:] or [0]
+        first, last = max(0, center[0] - around), center[-1] + around + 1
         for place, at in enumerate(queue[first:last].tolist(), first + 1):
             order = context.open_order(at)
             recorded = context.recorded.get(order.key, 0) if context.has_records else pandas.NA
@@ -37,13 +40,3 @@ def queue_of(
             ))  # fmt: skip
     frame = pandas.DataFrame(rows, columns=[*COLUMNS])
     return frame.astype({"recorded": "Int64", "price": "object"})
-
-
-def _window(
-    context: Context, keys: list[int], orders: Collection[int], around: int
-) -> tuple[int, int]:
-    """The places of a queue that are shown, from and to."""
-    touched = [place for place, key in enumerate(keys) if key in orders]
-    executed = [place for place, key in enumerate(keys) if key in context.fills]
-    center = touched or executed[-1:] or [0]
-    return max(0, center[0] - around), center[-1] + around + 1

@@ -4,7 +4,7 @@ import math
 from decimal import Decimal
 from fractions import Fraction
 
-from callauction.prices import BadCellError, decimal_of
+from callauction.prices import argument
 
 
 @dataclasses.dataclass(frozen=True)
@@ -43,14 +43,6 @@ class Range:
 
 def _decimal(number: Fraction) -> Decimal:
     return Decimal(number.numerator) / Decimal(number.denominator)
-
-
-def argument(name: str, value: object, shown: object = None) -> Decimal:
-    """A decimal argument, which a fault shows as it is or as it was said. Raises ValueError."""
-    try:
-        return decimal_of(value)
-    except BadCellError as fault:
-        raise ValueError(f"{name} {value if shown is None else shown!r} {fault}") from None
 
 
 def range_of(name: str, value: object) -> Range | None:

@@ -326,8 +326,11 @@ def file_of(source: str | os.PathLike[str] | BinaryIO, reading: Reading) -> Tabl
     if _MARKED.match(content):
         raise ExtractError("this is JSON, XML or HTML, and no table: save it as CSV")
     content = _SIGNED.sub(b"\n", content)
-    if reading.decimal == reading.separator:
-        _say_quotes(content, reading.separator)
+    if reading.decimal == reading.separator and b'"' not in content:
+        counts = [line.count(reading.separator.encode()) for line in content.splitlines()]
+        if max(counts, default=0) > next(iter(counts), 0):  # more than the header has
+            sign = repr(reading.separator)
+            raise ExtractError(f"separator and decimal are both {sign}, and no field is quoted")
     try:
         found, short = text_source(content, reading.separator)
     except csv.Error as fault:
@@ -363,15 +366,6 @@ def _plain(content: bytes, encoding: str) -> bytes:
         line = plain[: fault.start].count(b"\n") + 1
         hint = "utf-16" if plain[:2] in (b"\xff\xfe", b"\xfe\xff") else "latin-1"
         raise ExtractError(f"line {line} is no {encoding}: say encoding {hint}") from None
-
-
-def _say_quotes(content: bytes, separator: str) -> None:
-    """Raises ExtractError where the sign of decimals parts fields: no field is quoted, and a line
-    has more of them than the header.
-    """
-    counts = [line.count(separator.encode()) for line in content.splitlines()]
-    if b'"' not in content and max(counts, default=0) > next(iter(counts), 0):
-        raise ExtractError(f"separator and decimal are both {separator!r}, and no field is quoted")
 
 
 def _look_at_header(header: tuple[str, ...], separator: str) -> None:

@@ -2,8 +2,7 @@
 import dataclasses
 import functools
 import itertools
-from collections.abc import Callable, Iterator
-from typing import Any
+from collections.abc import Callable, Iterator, Mapping
 
 import numpy
 import pandas
@@ -20,11 +19,11 @@ from callauction.verdict.reading import End
 from callauction.verdict.renamed import renamed
 from callauction.verdict.repeated import amended, copies, second_trades
 from callauction.verdict.rows import (
-    BAD, FILL, INTERRUPTED, MARKET, NEW, OF_ORDERS, REPLACE, TRADE, UNCROSS, Bytes, Doubt, Rows,
+    BAD, FILL, INTERRUPTED, MARKET, NEW, OF_ORDERS, REPLACE, TRADE, UNCROSS, Doubt, Rows,
 )  # fmt: skip
 from callauction.verdict.spelling import respelled
 from callauction.verdict.units import in_one_unit, why_two_units
-from callauction.verdict.unnamed import Named, namings, with_names
+from callauction.verdict.unnamed import namings, with_names
 
 TWICE = "each trade has two rows: is there one for each side?"
 UNCHANGED = "replaces have no price: is it unchanged? --market says the word for market orders"
@@ -58,8 +57,8 @@ def judged_day(rows: Rows, rules: Rules, whole: Rows, watch: Watch = iter) -> Ju
     refuse_markets(whole, rules.due)
     ways = [*_changes(found, rows, rules), _orders_of_ties(judge), *_over_uncrosses(judge, found)]
     falls, across = falls or _falls(rows, True), _across(rows)
-    moves = ((_by_time, falls), (_by_all_times, across))
-    ways.append([(functools.partial(_in_order, move), why) for move, why in moves if why])
+    moves = ((_by_time, falls), (lambda it: it.ordered(_all_times(it)), across))
+    ways.append([_rows(move, why) for move, why in moves if why])
     combined = itertools.product(*([None, *those] for those in ways if those))
     readings = ([each for each in it if each is not None] for it in combined)
     first = found
@@ -120,9 +119,10 @@ def _changes(found: Judgement, rows: Rows, rules: Rules) -> Iterator[list[Change
     if len(again):
         yield [_without_rows(rows, again, TWICE)]
     if _may_correct(found, rows, rules):
-        yield [(lambda day: (corrected(day[0], day[1].due), day[1]), CORRECTED)]
-    ways = namings(found, rows, rules)
-    yield [(functools.partial(_with_names, way), UNNAMED) for way in ways]
+        yield [_rows(functools.partial(corrected, due=rules.due), CORRECTED)]
+    ways = [functools.partial(with_names, due=rules.due, way=it)
+            for it in namings(found, rows, rules)]  # fmt: skip
+    yield [_rows(way, UNNAMED) for way in ways]
     those = copies(rows, found)
     is_second = numpy.isin(those, again)
     those = those[numpy.argsort(is_second, kind="stable")]
@@ -137,33 +137,29 @@ def _changes(found: Judgement, rows: Rows, rules: Rules) -> Iterator[list[Change
         yield [_without_rows(rows, earlier, why)]
     if rows.end is not None and rows.end.is_cut:
         why = f"the file ends within a line, and row {rows.end.label} may be cut"
-        yield [(functools.partial(_cut_off, rows.end), why)]
+        yield [_rows(functools.partial(_cut_off, rows.end), why)]
     spelled = respelled(rows) or renamed(rows, found)
     if spelled is not None:
-        yield [(functools.partial(_respelled, spelled[0]), spelled[1])]
+        yield [_rows(functools.partial(_respelled, spelled[0]), spelled[1])]
     price = _filled_prices(rows)
     if price is not None:
-        yield [(functools.partial(_priced, price), UNCHANGED)]
+        yield [_rows(functools.partial(_priced, price), UNCHANGED)]
     if rules.range is not None and rules.range.whole is None and rules.reference:
         span = dataclasses.replace(rules.range, whole=rules.reference)
-        yield [(functools.partial(_ruled, dict(range=span)), PERCENT)]
+        yield [(lambda day: (day[0], dataclasses.replace(day[1], range=span)), PERCENT)]
     if rules.may_have_totals and _replaces_executed(found, rows):
-        yield [(functools.partial(_ruled, dict(has_totals=True)), TOTALS)]
-    if lot := lot_of(found):
-        yield [(functools.partial(_in_place, it), why) for it, why in in_shares(rows, lot)]
+        yield [(lambda day: (day[0], dataclasses.replace(day[1], has_totals=True)), TOTALS)]
+    lots = ((dict(quantity=it.quantity, surplus=it.surplus), why)
+            for it, why in in_shares(rows, lot_of(found)))  # fmt: skip
+    yield [_rows(functools.partial(_with, those), why) for those, why in lots]
     why = why_two_units(rows, rules.reference)
     if why:  # the last, as prices have other numbers then
-        yield [(lambda day: (in_one_unit(day[0], day[1].reference), day[1]), why)]
+        yield [_rows(functools.partial(in_one_unit, reference=rules.reference), why)]
 
 
-def _ruled(changes: dict[str, Any], day: Day) -> Day:
-    """The day by other rules."""
-    return day[0], dataclasses.replace(day[1], **changes)
-
-
-def _in_place(other: Rows, day: Day) -> Day:
-    """The day with the quantities of other rows."""
-    return dataclasses.replace(day[0], quantity=other.quantity, surplus=other.surplus), day[1]
+def _rows(change: Callable[[Rows], Rows], why: str) -> Change:
+    """What changes the rows of a day alone."""
+    return (lambda day: (change(day[0]), day[1])), why
 
 
 def _replaces_executed(found: Judgement, rows: Rows) -> bool:
@@ -177,9 +173,8 @@ def _replaces_executed(found: Judgement, rows: Rows) -> bool:
 
 def _without_rows(rows: Rows, these: Ints, why: str) -> Change:
     """The change that leaves rows out."""
-    kind = rows.kind.copy()
-    kind[these] = BAD
-    return functools.partial(_of_kinds, kind), why
+    is_out = numpy.isin(numpy.arange(len(rows.kind)), these)
+    return _rows(lambda it: _with({"kind": numpy.where(is_out, BAD, it.kind)}, it), why)
 
 
 def _may_correct(found: Judgement, rows: Rows, rules: Rules) -> bool:
@@ -196,15 +191,13 @@ def _may_correct(found: Judgement, rows: Rows, rules: Rules) -> bool:
     return bool(groups) and not is_stop and (has_more(rows, rules.due) or is_wrong)
 
 
-def _with_names(way: Named, day: Day) -> Day:
-    """The day with its results named in this way."""
-    return with_names(day[0], day[1].due, way), day[1]
-
-
 def _orders_of_ties(judge: Judge) -> list[Change]:
     """The other orders of an order's replaces at one time."""
     why, others = judge.doubts.ties.orders_of_ties(judge.orders)
-    return [(functools.partial(_reordered, judge.orders, other), why) for other in others or ()]
+    moved = [numpy.arange(len(judge.rows.kind)) for _ in others or ()]
+    for places, other in zip(moved, others or ()):
+        places[judge.orders] = other
+    return [_rows(functools.partial(_moved, at, "is_ordered"), why) for at in moved]
 
 
 def _over_uncrosses(judge: Judge, found: Judgement) -> Iterator[list[Change]]:
@@ -216,42 +209,34 @@ def _over_uncrosses(judge: Judge, found: Judgement) -> Iterator[list[Change]]:
     keys = {key for it in certain for key in it.keys} if named else set[int]()
     for place in judge.uncrosses.tolist():
         ways = judge.doubts.ties.over(place, keys)
-        yield [(functools.partial(_moved, moved), why) for moved, why in ways]
+        yield [_rows(functools.partial(_moved, moved, "is_cut"), why) for moved, why in ways]
 
 
-def _in_order(move: Callable[[Rows], Rows], day: Day) -> Day:
-    """The day with its rows in another order."""
-    return move(day[0]), day[1]
+def _moved(places: Ints, known: str, rows: Rows) -> Rows:
+    """The rows in another order, of which this is known."""
+    return dataclasses.replace(rows.moved(places), **{known: True})
 
 
-def _moved(places: Ints, day: Day) -> Day:
-    """The day with its rows in another order, each on its side of the uncross of its time."""
-    return dataclasses.replace(day[0].moved(places), is_cut=True), day[1]
+def _with(arrays: Mapping[str, Ints], rows: Rows) -> Rows:
+    """The rows with other arrays."""
+    return dataclasses.replace(rows, **arrays)
 
 
-def _reordered(orders: Ints, other: Ints, day: Day) -> Day:
-    """The day with its rows of orders in another order."""
-    moved = numpy.arange(len(day[0].kind))
-    moved[orders] = other
-    return dataclasses.replace(day[0].moved(moved), is_ordered=True), day[1]
-
-
-def _respelled(other: Rows, day: Day) -> Day:
-    """The day with the ids and the members of other rows, and with the rows that these read."""
+def _respelled(other: Rows, rows: Rows) -> Rows:
+    """The rows with the ids and the members of others, and those that these read."""
     names = ("key", "bid", "ask", "bid_member", "ask_member", "member")
     changed = {name: getattr(other, name) for name in names}
-    lost = [row for row in day[0].bad if row.kind != BAD and other.kind[row.place] >= NEW]
-    kind = day[0].kind.copy()
+    lost = [row for row in rows.bad if row.kind != BAD and other.kind[row.place] >= NEW]
+    kind = rows.kind.copy()
     kind[[row.place for row in lost]] = [row.kind for row in lost]
-    bad = [row for row in day[0].bad if row not in lost]
-    return dataclasses.replace(day[0], kind=kind, bad=bad, **changed), day[1]
+    bad = [row for row in rows.bad if row not in lost]
+    return dataclasses.replace(rows, kind=kind, bad=bad, **changed)
 
 
-def _priced(price: Codes, day: Day) -> Day:
-    """The day with these prices, and without a replace that is the same as the one above it of its
+def _priced(price: Codes, rows: Rows) -> Rows:
+    """The rows with these prices, and without a replace that is the same as the one above it of its
     order and time then.
     """
-    rows = day[0]
     price = numpy.where((rows.kind == NEW) | (rows.kind == REPLACE), price, rows.price)
     these = rows.of(REPLACE)
     frame = pandas.DataFrame({
@@ -260,20 +245,14 @@ def _priced(price: Codes, day: Day) -> Day:
     })  # fmt: skip
     kind = rows.kind.copy()
     kind[these[frame.duplicated().to_numpy()]] = BAD
-    return dataclasses.replace(rows, price=price, kind=kind), day[1]
+    return dataclasses.replace(rows, price=price, kind=kind)
 
 
-def _of_kinds(kind: Bytes, day: Day) -> Day:
-    """The day without the rows that are none by these kinds."""
-    kind = numpy.where(kind == BAD, kind, day[0].kind)
-    return dataclasses.replace(day[0], kind=kind), day[1]
-
-
-def _cut_off(end: End, day: Day) -> Day:
-    """The day without what the last row of a file says, which ends above it then; of a result this
+def _cut_off(end: End, rows: Rows) -> Rows:
+    """The rows without what the last row of a file says, which ends above it then; of a result this
     is all but that there is one.
     """
-    rows = dataclasses.replace(day[0], kind=day[0].kind.copy(), bad=[*day[0].bad])
+    rows = dataclasses.replace(rows, kind=rows.kind.copy(), bad=[*rows.bad])
     rows.end = End(end.label, "", False)
     for place in numpy.flatnonzero((rows.labels == end.label) & (rows.kind >= NEW)).tolist():
         if rows.kind[place] in (TRADE, FILL):
@@ -282,7 +261,7 @@ def _cut_off(end: End, day: Day) -> Day:
             rows = rows.with_said(place, None)
         else:
             rows.refuse(place, "the line is cut", Doubt.BOOKS)
-    return rows, day[1]
+    return rows
 
 
 def _filled_prices(rows: Rows) -> Codes | None:
@@ -365,8 +344,3 @@ def _across(rows: Rows) -> str:
     end = rows.labels[ends[min(own[first], due[first])]]
     side = "below" if own[first] < due[first] else "above"
     return f"by its time row {rows.labels[orders[first]]} is {side} row {end}"
-
-
-def _by_all_times(rows: Rows) -> Rows:
-    """The rows in the order of their times, over uncrosses too."""
-    return rows.ordered(_all_times(rows))

@@ -30,7 +30,10 @@ def show(found: list[Audited], asked: argparse.Namespace, contents: Sequence[byt
         write_rows(found, asked.output, facts)
     if asked.json:
         print("\n".join(json.dumps({**each.plain(), **facts}) for each in found))
-    _refuse_faults(found)
+    if found and all(each.fault for each in found):
+        line, more = _named(found[0].name, found[0].fault), len(found) - 1
+        line += f" (and {more:,} more can't be judged)" * bool(more)
+        raise ExtractError(line) if any(each.is_unread for each in found) else ValueError(line)
     if asked.json:
         return STATUSES[worst_of(each.word for each in found)]
     for each in found:
@@ -40,16 +43,6 @@ def show(found: list[Audited], asked: argparse.Namespace, contents: Sequence[byt
         for line in (*each.lines, *ranges):
             print(line if line.startswith(" ") else _named(each.name, line))
     return _print_end(found)
-
-
-def _refuse_faults(found: Sequence[Audited]) -> None:
-    """Raises ExtractError, or ValueError where the file is no fault, where all instruments have a
-    fault.
-    """
-    if found and all(each.fault for each in found):
-        line, more = _named(found[0].name, found[0].fault), len(found) - 1
-        line += f" (and {more:,} more can't be judged)" * bool(more)
-        raise ExtractError(line) if any(each.is_unread for each in found) else ValueError(line)
 
 
 def remark(name: str, line: str) -> None:

@@ -20,19 +20,16 @@ def shortened(parts: list[Part]) -> list[Part]:
         (len(it["part"].rstrip("0")) for text in texts for it in _CLOCK.finditer(text)), default=0
     )
 
+    def cut(found: "re.Match[str]") -> str:
+        clock, part = found["clock"], found["part"].ljust(digits, "0")[:digits]
+        return f"{clock}{found[0][len(clock)]}{part}" if digits else clock
+
     def short(text: str) -> str:
         text = _STAMP.sub("", text) if len(dates) == 1 else text
-        return _CLOCK.sub(lambda it: _cut(it, digits), text)
+        return _CLOCK.sub(cut, text)
 
     found = [(short(head), short(text)) for head, text in parts]
     if len(dates) == 1:
         head, text = found[0]
         found[0] = head, f"{text}<p>All times are of {dates.pop().strip('T- ')}.</p>"
     return found
-
-
-def _cut(found: "re.Match[str]", digits: int) -> str:
-    """A clock's time with as many digits of a second."""
-    sign = found[0][len(found["clock"])]
-    part = found["part"].ljust(digits, "0")[:digits]
-    return f"{found['clock']}{sign}{part}" if digits else found["clock"]

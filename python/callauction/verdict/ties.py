@@ -21,14 +21,16 @@ class Ties:
     def __init__(self, rows: Rows, orders: Ints) -> None:
         self.rows, self.orders = rows, orders
 
-    def cuts(self, place: int, these: Ints) -> Iterator[Ints]:
-        """The rows of a call phase, cut at another row of the uncross's time."""
+    def cuts(self, place: int, these: Ints) -> Iterator[tuple[Ints, str]]:
+        """The rows of a call phase, cut at another row of the uncross's time, and why they may be.
+        """
         end = int(numpy.searchsorted(self.orders, place))
         above, below = self._tied(place)
         begin = end - len(these)
         for cut in range(max(begin, end - above), end + below + 1):
             if cut != end:
-                yield self.orders[begin:cut]
+                first = self.orders[min(cut, end)]
+                yield self.orders[begin:cut], self._one_time(int(first), place)
 
     def _tied(self, place: int) -> tuple[int, int]:
         """How many rows of orders next above and below an uncross have its time, where it isn't
@@ -70,10 +72,6 @@ class Ties:
             moved[spots] = numpy.insert(those, at, place)
             found.append((moved, self._one_time(int(those[min(at, above)]), place)))
         return found
-
-    def of_cut(self, place: int, these: Ints, before: Ints) -> str:
-        """Why another cut of a call phase may be the right one."""
-        return self._one_time(int(numpy.setxor1d(these, before)[0]), place)
 
     def _one_time(self, one: int, other: int) -> str:
         rows = f"rows {self.rows.labels[one]} and {self.rows.labels[other]}"
@@ -131,7 +129,8 @@ class Ties:
         """Why the shares of both sides may be lawful: rows of one time came in another order."""
         rows = self.rows
         these = traded if len(traded) else filled
-        if result.price is None or not len(these) or not _has_ties(rows.group[book.since]):
+        has_ties = len(numpy.unique(rows.group[book.since])) < len(book)
+        if result.price is None or not len(these) or not has_ties:
             return ""
         own = book.counted(auction)
         reasons = []
@@ -175,7 +174,3 @@ class Ties:
 def _leading(values: Mask) -> int:
     """How many values are true before the first that isn't."""
     return int(values.argmin()) if not values.all() else len(values)
-
-
-def _has_ties(group: Ints) -> bool:
-    return len(numpy.unique(group)) < len(group)

@@ -38,7 +38,8 @@ def namings(found: Judgement, rows: Rows, rules: Rules) -> list[Named]:
     if not is_few or len({*due}) < len(due) or (rows.state[results] > 0).any():
         return []
     stops = _stops(found, rows, results)
-    earlier = [*_corrected_by_next(rows, results, len(results) > len(due)), False]
+    count = others_said(rows, results[:-1], results[1:])  # which the next one may correct
+    earlier = [bool(it > 0 if len(results) > len(due) else it == 1) for it in count] + [False]
     first = _judged(found, rules, dict(zip(results.tolist(), stops)))
     ways = [first[:-1] if first and earlier[len(first) - 1] else first]
     for place in range(len(ways[0]), len(results)):
@@ -62,14 +63,6 @@ def _stops(found: Judgement, rows: Rows, results: Ints) -> list[bool]:
     busy = [place for place, own in both if (rows.time[own] == rows.time[place]).any()]
     are = (rows.price[results] >= 0) & (rows.count[results] <= 0) & ~numpy.isin(results, busy)
     return [bool(it and made) for it in are]
-
-
-def _corrected_by_next(rows: Rows, results: Ints, is_more: bool) -> list[bool]:
-    """Which results the next one may correct: it says another thing, and where there aren't more
-    results than auctions one other thing alone.
-    """
-    count = others_said(rows, results[:-1], results[1:])
-    return [bool(it > 0 if is_more else it == 1) for it in count]
 
 
 def _judged(found: Judgement, rules: Rules, stops: dict[int, bool]) -> Named:
