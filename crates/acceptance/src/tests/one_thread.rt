@@ -3,6 +3,7 @@
 use super::{BEST_BID, DAY, bid_entered, order, reply_to};
 use auction::{Auction, AuditFinding, OpenFault, audit};
 use auction_terms::{AuctionKind, Command, Config, Display, Entry, Price, Reply, Side, Trade};
+use std::process::Abort;
 
 // Three bids and three asks: 500 shares are executed at 200, and 200 are left on the bid side.
 fn enter_six(auction: &mut Auction) {
@@ -21,21 +22,26 @@ const SIX: Price = Price {
     side: Some(Side::Bid),
 };
 
-#[test]
-fn opening_auction(rt: HostRuntime) -> Result<(), OpenFault> {
-    let mut auction = Auction::open(rt.alloc(), DAY)?;
-    enter_six(&mut auction);
-    assert!(rt; auction.display() == Display::Priced(SIX));
+/// Whether the price of the six is shown, and the ladder has what they come to at three of the ticks.
+fn shows_six(auction: &Auction) -> bool {
     let ladder = auction.ladder();
-    assert_eq!(rt; ladder.bids().get(199).copied(), Some(300));
-    assert_eq!(rt; ladder.asks().get(199).copied(), Some(100));
-    assert_eq!(rt; ladder.asks().get(198).copied(), Some(200));
+    auction.display() == Display::Priced(SIX)
+        && ladder.bids().get(199) == Some(&300)
+        && ladder.asks().get(199) == Some(&100)
+        && ladder.asks().get(198) == Some(&200)
+}
+
+fn uncrosses_six(auction: &mut Auction) -> bool {
     let uncrossed = Reply::Uncrossed {
         kind: AuctionKind::Opening,
         price: Some(SIX),
         trades: 3,
     };
-    assert!(rt; reply_to(&mut auction, 0, Command::Uncross) == Some(uncrossed));
+    reply_to(auction, 0, Command::Uncross) == Some(uncrossed)
+}
+
+/// Whether the trades of the six are read, in their order.
+fn reads_three_trades(auction: &mut Auction) -> bool {
     for (number, bid, ask, quantity) in [(1, 1, 6, 200), (2, 2, 5, 200), (3, 3, 4, 100)] {
         let trade = Trade {
             bid,
@@ -43,11 +49,30 @@ fn opening_auction(rt: HostRuntime) -> Result<(), OpenFault> {
             tick: 200,
             quantity,
         };
-        let reply = reply_to(&mut auction, 3, Command::ReadTrade { number });
-        assert!(rt; reply == Some(Reply::Traded(trade)));
+        let reply = reply_to(auction, 3, Command::ReadTrade { number });
+        if reply != Some(Reply::Traded(trade)) {
+            return false;
+        }
     }
-    assert_eq!(rt; auction.calls(), 10);
-    assert!(rt; auction.config() == DAY && !auction.is_full());
+    true
+}
+
+fn has_ten_calls(auction: &Auction) -> bool {
+    auction.calls() == 10 && auction.config() == DAY && !auction.is_full()
+}
+
+fn six_are_executed(rt: &impl Abort, auction: &mut Auction) {
+    enter_six(auction);
+    assert!(rt; shows_six(auction));
+    assert!(rt; uncrosses_six(auction));
+    assert!(rt; reads_three_trades(auction));
+    assert!(rt; has_ten_calls(auction));
+}
+
+#[test]
+fn opening_auction(rt: HostRuntime) -> Result<(), OpenFault> {
+    let mut auction = Auction::open(rt.alloc(), DAY)?;
+    six_are_executed(&rt, &mut auction);
     Ok(())
 }
 
