@@ -15,20 +15,34 @@ use clap::error::ErrorKind;
 use order_book::Orders;
 use order_file::FileFault;
 use settings::{WordsFault, settings};
-use std::alloc::AllocError;
+use std::alloc::{AllocError, Global};
 use tick_ladder::Ladder;
 
 mod board;
 
+/// Whether a ladder is opened with its ticks and no order.
+fn opens_a_ladder(alloc: Global) -> Result<bool, AllocError> {
+    let ladder = Ladder::open(alloc, 1, 1000)?;
+    Ok(ladder.bids().len() == 1000 && ladder.best(Side::Bid) == None)
+}
+
+/// Whether a book is opened with room and no order.
+fn opens_a_book(alloc: Global) -> Result<bool, AllocError> {
+    let orders = Orders::open(alloc, 8, 16)?;
+    Ok(!orders.full() && orders.get(1) == None)
+}
+
+/// Whether a desk is opened with no fill.
+fn opens_a_desk(alloc: Global) -> Result<bool, AllocError> {
+    let desk = Desk::open(alloc, 8)?;
+    Ok(desk.fills().is_empty())
+}
+
 #[test]
 fn the_parts_of_an_auction_are_opened(rt: HostRuntime) -> Result<(), AllocError> {
-    let ladder = Ladder::open(rt.alloc(), 1, 1000)?;
-    assert_eq!(rt; ladder.bids().len(), 1000);
-    assert_eq!(rt; ladder.best(Side::Bid), None);
-    let orders = Orders::open(rt.alloc(), 8, 16)?;
-    assert!(rt; !orders.full() && orders.get(1) == None);
-    let desk = Desk::open(rt.alloc(), 8)?;
-    assert!(rt; desk.fills().is_empty());
+    assert!(rt; opens_a_ladder(rt.alloc())?);
+    assert!(rt; opens_a_book(rt.alloc())?);
+    assert!(rt; opens_a_desk(rt.alloc())?);
     Ok(())
 }
 
