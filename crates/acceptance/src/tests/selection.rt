@@ -43,45 +43,76 @@ fn two_lists(rt: &impl Abort, alloc: Global, length: usize) -> Result<(), Fail> 
     Ok(())
 }
 
+/// The greatest and the least of the flagged values.
+fn flagged(values: &[u64], flags: &[u64]) -> (Option<u64>, Option<u64>)
+    requires { size values.now ≡ size flags.now }
+{
+    (greatest_where(values, flags), least_where(values, flags))
+}
+
+/// What each kernel says of the places of flags: the first and the last one, and whether there is one.
+type Places = (
+    Option<usize>,
+    Option<usize>,
+    Option<usize>,
+    Option<usize>,
+    bool,
+);
+
+fn places(flags: &[u64]) -> Places {
+    (
+        first(flags),
+        last(flags),
+        first_positive(flags),
+        last_positive(flags),
+        any(flags),
+    )
+}
+
+/// The least of `length` threes that end in a nine.
+fn least_of_threes(length: usize) -> Option<u64> {
+    match length {
+        0 => None,
+        1 => Some(9),
+        _ => Some(3),
+    }
+}
+
+/// Where all of the threes that end in a nine are flagged: the greatest and the least, and the places.
+fn all_are_flagged(rt: &impl Abort, values: &[u64], flags: &[u64])
+    requires { size values.now ≡ size flags.now }
+{
+    let length = values.len();
+    let (begin, end) = if length > 0 {
+        (Some(0), Some(length - 1))
+    } else {
+        (None, None)
+    };
+    let greatest = if length > 0 { Some(9) } else { None };
+    assert_eq!(rt; flagged(values, flags), (greatest, least_of_threes(length)));
+    assert_eq!(rt; places(flags), (begin, end, begin, end, length > 0));
+}
+
+/// The nine alone, and then nothing, is kept.
+fn narrowed(rt: &impl Abort, values: &[u64], flags: &mut [u64])
+    requires { size values.now ≡ size flags.old }
+{
+    let length = values.len();
+    let end = if length > 0 { Some(length - 1) } else { None };
+    keep_equal(values, 9, flags);
+    assert!(rt; are(flags, 0, 1), "equal of {length}");
+    assert_eq!(rt; places(flags), (end, end, end, end, length > 0));
+    keep_equal(values, 8, flags);
+    assert_eq!(rt; places(flags), (None, None, None, None, false));
+    assert_eq!(rt; flagged(values, flags), (None, None));
+}
+
 /// The greatest and the least of threes that end in a nine, and the places of the nine.
 fn one_list(rt: &impl Abort, alloc: Global, length: usize) -> Result<(), Fail> {
     let values = numbers(alloc, length, 3, 9)?;
     let mut flags = numbers(alloc, length, 1, 1)?;
-    let some = length > 0;
-    let end = if some { Some(length - 1) } else { None };
-    assert_eq!(rt;
-        greatest_where(&values, &flags),
-        if some { Some(9) } else { None }
-    );
-    let least = if length > 1 {
-        Some(3)
-    } else if some {
-        Some(9)
-    } else {
-        None
-    };
-    assert_eq!(rt; least_where(&values, &flags), least);
-    assert_eq!(rt;
-        (first(&flags), last(&flags)),
-        (if some { Some(0) } else { None }, end)
-    );
-    keep_equal(&values, 9, &mut flags);
-    assert!(rt; are(&flags, 0, 1), "equal of {length}");
-    assert_eq!(rt; (first(&flags), last(&flags)), (end, end));
-    assert_eq!(rt; (first_positive(&flags), last_positive(&flags)), (end, end));
-    assert_eq!(rt; any(&flags), some);
-    keep_equal(&values, 8, &mut flags);
-    assert_eq!(rt;
-        (first(&flags), last_positive(&flags), any(&flags)),
-        (None, None, false)
-    );
-    assert_eq!(rt;
-        (
-            greatest_where(&values, &flags),
-            least_where(&values, &flags)
-        ),
-        (None, None)
-    );
+    all_are_flagged(rt, &values, &flags);
+    narrowed(rt, &values, &mut flags);
     Ok(())
 }
 
