@@ -14,6 +14,30 @@ fn ones(alloc: Global, length: usize) -> Result<Vec<u64>, AllocError>
     vec![in alloc; 1; length]
 }
 
+/// The sums rise by one from the start.
+fn rise_by_one(rt: &impl Abort, start: u64, sums: &[u64]) {
+    for (place, &sum) in sums.iter().enumerate() {
+        assert_eq!(rt;
+            sum,
+            start.saturating_add(1).saturating_add(place as u64),
+            "rising, place {place} of {}",
+            sums.len()
+        );
+    }
+}
+
+/// The sums fall by one to the last of them, which is 1.
+fn fall_by_one(rt: &impl Abort, sums: &[u64]) {
+    for (place, &sum) in sums.iter().rev().enumerate() {
+        assert_eq!(rt;
+            sum,
+            (place as u64).saturating_add(1),
+            "falling, place {place} from the end of {}",
+            sums.len()
+        );
+    }
+}
+
 /// The sums of `length` ones, from the front over a start and from the back over 0, and all together.
 #[tactic(auto, using(lane_prefix::proofs::RunningSumLaws::sum_ones))]
 fn sums_of_ones(rt: &impl Abort, alloc: Global, start: u64, length: usize) -> Result<(), Fail>
@@ -23,21 +47,9 @@ fn sums_of_ones(rt: &impl Abort, alloc: Global, start: u64, length: usize) -> Re
     let src = ones(alloc, length)?;
     let mut out = ones(alloc, length)?;
     rising(start, &src, &mut out);
-    for (place, &sum) in out.iter().enumerate() {
-        assert_eq!(rt;
-            sum,
-            start + 1 + place as u64,
-            "rising, place {place} of {length}"
-        );
-    }
+    rise_by_one(rt, start, &out);
     falling(0, &src, &mut out);
-    for (place, &sum) in out.iter().rev().enumerate() {
-        assert_eq!(rt;
-            sum,
-            1 + place as u64,
-            "falling, place {place} from the end of {length}"
-        );
-    }
+    fall_by_one(rt, &out);
     assert_eq!(rt; total(&src), length as u64);
     Ok(())
 }
