@@ -4,22 +4,47 @@ use super::DAY;
 use auction_terms::Config;
 use clap::error::ErrorKind;
 use settings::{FloorForm, Form, JournalFile, Listing, Settings, Task, WordsFault, settings};
-use std::test::Fail;
+use std::alloc::Global;
 
-#[test]
-fn without_words_each_option_has_its_default(rt: HostRuntime) -> Result<(), Fail> {
-    let wanted = Settings {
+/// Whether these words give these settings.
+fn gives(alloc: Global, words: &[&str], wanted: Settings<'_>) -> bool {
+    match settings(alloc, words) {
+        Ok(found) => found == wanted,
+        Err(_) => false,
+    }
+}
+
+/// The name of the fault by which these words are refused; of words that are taken there is none.
+fn fault_of(alloc: Global, words: &[&str]) -> Option<&'static str> {
+    match settings(alloc, words) {
+        Ok(_) => None,
+        Err(WordsFault::Parse(_)) => Some("Parse"),
+        Err(WordsFault::AuditNotAlone) => Some("AuditNotAlone"),
+        Err(WordsFault::LiveNotAlone) => Some("LiveNotAlone"),
+        Err(WordsFault::ResultsWithoutAudit) => Some("ResultsWithoutAudit"),
+        Err(WordsFault::WithoutLive) => Some("WithoutLive"),
+        Err(WordsFault::SyncWithoutJournal) => Some("SyncWithoutJournal"),
+    }
+}
+
+/// The settings of a day whose options are left out, for this task.
+const fn settings_for(task: Task) -> Settings<'static> {
+    Settings {
         config: DAY,
         members: 4,
-        task: Task::Run(Form::Lines),
+        task,
         journal: None,
-    };
-    assert_eq!(rt; settings(rt.alloc(), &["callboard"])?, wanted);
-    Ok(())
+    }
 }
 
 #[test]
-fn each_option_is_read(rt: HostRuntime) -> Result<(), Fail> {
+fn without_words_each_option_has_its_default(rt: HostRuntime) {
+    let wanted = settings_for(Task::Run(Form::Lines));
+    assert!(rt; gives(rt.alloc(), &["callboard"], wanted));
+}
+
+#[test]
+fn each_option_is_read(rt: HostRuntime) {
     let words = [
         "callboard",
         "--low",
@@ -50,8 +75,7 @@ fn each_option_is_read(rt: HostRuntime) -> Result<(), Fail> {
         task: Task::Floor(FloorForm::Listing(Listing::Journal)),
         journal: None,
     };
-    assert_eq!(rt; settings(rt.alloc(), words.as_slice())?, wanted);
-    Ok(())
+    assert!(rt; gives(rt.alloc(), words.as_slice(), wanted));
 }
 
 #[test]
@@ -85,110 +109,67 @@ fn help_is_an_error_of_its_own(rt: HostRuntime) {
 }
 
 #[test]
-fn an_audit_stands_alone(rt: HostRuntime) -> Result<(), Fail> {
-    let wanted = Settings {
-        config: DAY,
-        members: 4,
-        task: Task::Audit { results: false },
-        journal: None,
-    };
-    assert_eq!(rt; settings(rt.alloc(), &["callboard", "--audit"])?, wanted);
+fn an_audit_stands_alone(rt: HostRuntime) {
+    let wanted = settings_for(Task::Audit { results: false });
+    assert!(rt; gives(rt.alloc(), &["callboard", "--audit"], wanted));
     for other in ["--floor", "--history", "--print=lines"] {
-        let Err(WordsFault::AuditNotAlone) = settings(rt.alloc(), &["callboard", "--audit", other])
-        else {
-            assert!(rt; false);
-            return Ok(());
-        };
+        let fault = fault_of(rt.alloc(), &["callboard", "--audit", other]);
+        assert!(rt; fault == Some("AuditNotAlone"), "{other}");
     }
-    Ok(())
 }
 
 #[test]
-fn results_go_with_an_audit(rt: HostRuntime) -> Result<(), Fail> {
-    let wanted = Settings {
-        config: DAY,
-        members: 4,
-        task: Task::Audit { results: true },
-        journal: None,
-    };
-    assert_eq!(rt;
-        settings(rt.alloc(), &["callboard", "--audit", "--results"])?,
-        wanted
-    );
+fn results_go_with_an_audit(rt: HostRuntime) {
+    let wanted = settings_for(Task::Audit { results: true });
+    assert!(rt; gives(rt.alloc(), &["callboard", "--audit", "--results"], wanted));
     for other in ["--floor", "--history", "--live", "--print=lines"] {
-        let Err(WordsFault::ResultsWithoutAudit) = settings(
+        let fault = fault_of(rt.alloc(), &["callboard", "--results", other]);
+        assert!(rt; fault == Some("ResultsWithoutAudit"), "{other}");
+    }
+}
+
+#[test]
+fn answers_as_records_come_stand_alone(rt: HostRuntime) {
+    let wanted = settings_for(Task::Live { reserve: 16 });
+    let none = settings_for(Task::Live { reserve: 0 });
+    assert!(rt; gives(rt.alloc(), &["callboard", "--live"], wanted));
+    assert!(rt;
+        gives(
             rt.alloc(),
-            &["callboard", "--results", other],
-        ) else {
-            assert!(rt; false);
-            return Ok(());
-        };
-    }
-    Ok(())
-}
-
-#[test]
-fn answers_as_records_come_stand_alone(rt: HostRuntime) -> Result<(), Fail> {
-    let wanted = Settings {
-        config: DAY,
-        members: 4,
-        task: Task::Live { reserve: 16 },
-        journal: None,
-    };
-    let none = Settings {
-        config: DAY,
-        members: 4,
-        task: Task::Live { reserve: 0 },
-        journal: None,
-    };
-    assert_eq!(rt; settings(rt.alloc(), &["callboard", "--live"])?, wanted);
-    assert_eq!(rt;
-        settings(rt.alloc(), &["callboard", "--live", "--print=lines"])?,
-        wanted
+            &["callboard", "--live", "--print=lines"],
+            wanted
+        )
     );
-    assert_eq!(rt;
-        settings(rt.alloc(), &["callboard", "--reserve=0", "--live"])?,
-        none
-    );
+    assert!(rt; gives(rt.alloc(), &["callboard", "--reserve=0", "--live"], none));
     for other in ["--floor", "--history", "--audit", "--print=book"] {
-        let Err(WordsFault::LiveNotAlone) = settings(rt.alloc(), &["callboard", "--live", other])
-        else {
-            assert!(rt; false);
-            return Ok(());
-        };
+        let fault = fault_of(rt.alloc(), &["callboard", "--live", other]);
+        assert!(rt; fault == Some("LiveNotAlone"), "{other}");
     }
-    Ok(())
+}
+
+/// The settings of a session that is kept in a file, with a sync before each answer or without one.
+const fn kept_session(is_synced: bool) -> Settings<'static> {
+    Settings {
+        journal: Some(JournalFile {
+            name: "day.csv",
+            is_synced,
+        }),
+        ..settings_for(Task::Live { reserve: 16 })
+    }
 }
 
 #[test]
-fn a_session_may_be_kept(rt: HostRuntime) -> Result<(), Fail> {
+fn a_session_may_be_kept(rt: HostRuntime) {
     for (words, is_synced) in [
         (["--live", "--reserve=16", "--journal", "day.csv"], true),
         (["--journal=day.csv", "--live", "--sync", "none"], false),
     ] {
         let [a, b, c, d] = words;
-        let wanted = Settings {
-            config: DAY,
-            members: 4,
-            task: Task::Live { reserve: 16 },
-            journal: Some(JournalFile {
-                name: "day.csv",
-                is_synced,
-            }),
-        };
-        assert_eq!(rt; settings(rt.alloc(), &["callboard", a, b, c, d])?, wanted);
+        let wanted = kept_session(is_synced);
+        assert!(rt; gives(rt.alloc(), &["callboard", a, b, c, d], wanted));
     }
-    let Err(WordsFault::WithoutLive) = settings(rt.alloc(), &["callboard", "--journal", "day.csv"])
-    else {
-        assert!(rt; false);
-        return Ok(());
-    };
-    let Err(WordsFault::SyncWithoutJournal) = settings(
-        rt.alloc(),
-        &["callboard", "--live", "--sync", "none"],
-    ) else {
-        assert!(rt; false);
-        return Ok(());
-    };
-    Ok(())
+    let fault = fault_of(rt.alloc(), &["callboard", "--journal", "day.csv"]);
+    assert!(rt; fault == Some("WithoutLive"));
+    let fault = fault_of(rt.alloc(), &["callboard", "--live", "--sync", "none"]);
+    assert!(rt; fault == Some("SyncWithoutJournal"));
 }
