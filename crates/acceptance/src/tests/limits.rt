@@ -3,6 +3,7 @@
 use super::{order, reply_to};
 use auction::{Auction, AuditFinding, OpenFault, audit};
 use auction_terms::{Command, Config, Limit, Refusal, Reply, Restriction, Side};
+use std::process::Abort;
 use std::test::Fail;
 
 const DAY: Config = Config {
@@ -120,88 +121,124 @@ fn changing(id: u32, limit: Limit, quantity: u64) -> Command {
     }
 }
 
-// Quantities and peaks of a call have 64 bits: those that would be good in their last 32 bits are bad.
-#[test]
-fn numbers_that_no_file_has(rt: HostRuntime) -> Result<(), Fail> {
+/// A command of a member, and the reply to it.
+type Row = (u8, Command, Reply);
+
+/// Orders whose numbers have 64 bits: those that would be good in their last 32 bits are bad.
+fn wide_orders() -> [Row; 8] {
     let at = Limit::At(15);
     let far = Limit::At(u32::MAX);
     let past = 1u64 << 32;
-    let refused = |reason| Reply::Refused(reason);
-    let rows = [
+    [
         (1, entering(at, 5, Some(5)), Reply::Entered { id: 1 }),
         (
             1,
             entering(at, past + 5, None),
-            refused(Refusal::BadQuantity),
+            Reply::Refused(Refusal::BadQuantity),
         ),
         (
             1,
             entering(at, u64::MAX, None),
-            refused(Refusal::BadQuantity),
+            Reply::Refused(Refusal::BadQuantity),
         ),
         (
             1,
             entering(at, 5, Some(past + 5)),
-            refused(Refusal::BadPeak),
+            Reply::Refused(Refusal::BadPeak),
         ),
-        (1, entering(at, 5, Some(past)), refused(Refusal::BadPeak)),
+        (
+            1,
+            entering(at, 5, Some(past)),
+            Reply::Refused(Refusal::BadPeak),
+        ),
         (
             1,
             entering(at, 5, Some(u64::MAX)),
-            refused(Refusal::BadPeak),
+            Reply::Refused(Refusal::BadPeak),
         ),
         (
             1,
             entering(Limit::At(0), 5, None),
-            refused(Refusal::BadLimit),
+            Reply::Refused(Refusal::BadLimit),
         ),
-        (1, entering(far, 5, None), refused(Refusal::BadLimit)),
-        (1, changing(1, at, past + 5), refused(Refusal::BadQuantity)),
-        (1, changing(1, far, 5), refused(Refusal::BadLimit)),
-        (1, changing(u32::MAX, at, 5), refused(Refusal::UnknownOrder)),
+        (1, entering(far, 5, None), Reply::Refused(Refusal::BadLimit)),
+    ]
+}
+
+/// Changes, numbers of orders and trades, and members that no file has.
+fn wide_commands() -> [Row; 10] {
+    let at = Limit::At(15);
+    let far = Limit::At(u32::MAX);
+    let past = 1u64 << 32;
+    [
+        (
+            1,
+            changing(1, at, past + 5),
+            Reply::Refused(Refusal::BadQuantity),
+        ),
+        (1, changing(1, far, 5), Reply::Refused(Refusal::BadLimit)),
+        (
+            1,
+            changing(u32::MAX, at, 5),
+            Reply::Refused(Refusal::UnknownOrder),
+        ),
         (
             1,
             Command::Delete { id: u32::MAX },
-            refused(Refusal::UnknownOrder),
+            Reply::Refused(Refusal::UnknownOrder),
         ),
         (
             1,
             Command::OrderStatus { id: 0 },
-            refused(Refusal::UnknownOrder),
+            Reply::Refused(Refusal::UnknownOrder),
         ),
         (
             1,
             Command::ReadTrade { number: u32::MAX },
-            refused(Refusal::NoSuchTrade),
+            Reply::Refused(Refusal::NoSuchTrade),
         ),
         // Any member may call, the last number of all too, but only member 0 may uncross.
         (255, order(Side::Bid, 5, 15), Reply::Entered { id: 2 }),
         (
             255,
             Command::Delete { id: 1 },
-            refused(Refusal::UnknownOrder),
+            Reply::Refused(Refusal::UnknownOrder),
         ),
-        (255, Command::Uncross, refused(Refusal::NotOperator)),
+        (255, Command::Uncross, Reply::Refused(Refusal::NotOperator)),
         (255, Command::Delete { id: 2 }, Reply::Deleted),
-    ];
-    let mut auction = Auction::open(rt.alloc(), DAY)?;
-    for (member, command, reply) in rows {
-        assert!(rt; reply_to(&mut auction, member, command) == Some(reply));
+    ]
+}
+
+/// Each command gets its reply.
+fn answers(rt: &impl Abort, auction: &mut Auction, rows: &[Row]) {
+    for (member, command, reply) in rows.iter().copied() {
+        assert!(rt; reply_to(auction, member, command) == Some(reply));
     }
+}
+
+#[test]
+fn numbers_that_no_file_has(rt: HostRuntime) -> Result<(), Fail> {
+    let mut auction = Auction::open(rt.alloc(), DAY)?;
+    answers(&rt, &mut auction, &wide_orders());
+    answers(&rt, &mut auction, &wide_commands());
     assert_eq!(rt; auction.calls(), 18);
     Ok(())
+}
+
+/// All of the calls are counted, a refused one too, and then the auction is full.
+fn counts(rt: &impl Abort, auction: &mut Auction, max_calls: u32) {
+    for before in 0..max_calls {
+        assert!(rt; auction.calls() == before && !auction.is_full());
+        assert!(rt; reply_to(auction, 1, Command::Uncross).is_some());
+    }
+    assert!(rt; auction.calls() == max_calls && auction.is_full());
 }
 
 #[test]
 fn the_last_call(rt: HostRuntime) -> Result<(), Fail> {
     for max_calls in [1, 2, 3] {
         let mut auction = Auction::open(rt.alloc(), Config { max_calls, ..DAY })?;
-        for before in 0..max_calls {
-            assert!(rt; auction.calls() == before && !auction.is_full());
-            // A refused call is counted too.
-            assert!(rt; reply_to(&mut auction, 1, Command::Uncross).is_some());
-        }
-        assert!(rt; auction.calls() == max_calls && auction.is_full());
+        counts(&rt, &mut auction, max_calls);
     }
     Ok(())
 }
