@@ -190,7 +190,9 @@ def test_orders_that_arent_answered_yet_go_with_their_member(tmp_path: pathlib.P
             text = json.dumps(order | {"number": number}).encode()
             connection.sendall(raw.frame(raw.TEXT, text))
         time.sleep(0.1)
-        assert venue.do("remove", member="Anna") == {"done": "remove", "removed": 1}
+        found = venue.do("remove", member="Anna")
+        orders = [{"member": "Anna", "instrument": "XYZ", "order": it} for it in range(1, 30)]
+        assert found == {"done": "remove", "removed": 1, "deleted": orders}
         end = time.monotonic() + served.SECONDS
         while time.monotonic() < end and entries(tmp_path, "entered") != 29:
             time.sleep(0.1)

@@ -20,6 +20,7 @@ from callauction.venue.config import DayTerms, Plan
 from callauction.venue.gates import Gates
 from callauction.venue.http import Site
 from callauction.venue.log import ChangedByOthers, Log, SlowWrite
+from callauction.venue.members import Member
 from callauction.venue.messages import MessageError, Order
 from callauction.venue.metrics import Measures
 from callauction.venue.venue import MOST_CONNECTIONS, Venue
@@ -115,11 +116,61 @@ async def test_a_removed_member_says_nothing_more(inside: Venue) -> None:
     board.start_call()
     first, _ = inside.submit(member, Order(1, "XYZ", "enter,bid,1,200"))
     assert (await first).reply == "entered 1"
-    inside.remove([member])
+    await inside.remove([member])
     with pytest.raises(MessageError) as found:
         inside.submit(member, Order(9, "XYZ", "enter,bid,1,200"))
     assert found.value.code == "bad_token"
     assert (await member.done[2].answer).reply == "deleted"
+
+
+async def in_flight(inside: Venue) -> Member:
+    """A member with an order that isn't answered, which would trade with another one's."""
+    code = inside.members.codes[""]
+    (anna, _), (bert, _) = [await inside.join(code, name) for name in ("Anna", "Bert")]
+    inside.instruments["XYZ"].start_call()
+    assert (await inside.submit(bert, Order(1, "XYZ", "enter,ask,1,200"))[0]).reply == "entered 1"
+    inside.submit(anna, Order(1, "XYZ", "enter,bid,1,200"))
+    return anna
+
+
+async def test_an_order_in_flight_is_deleted_before_an_uncross(inside: Venue) -> None:
+    anna, board = await in_flight(inside), inside.instruments["XYZ"]
+    removing = asyncio.create_task(inside.remove([anna]))
+    await asyncio.sleep(0)
+    assert await board.uncross() == "opening no price"
+    found = await removing
+    assert [(it.member, it.board, it.order) for it in found.deleted] == [(anna, "XYZ", 2)]
+    assert found.halted == [] and not board.awaits("Anna")
+
+
+async def test_an_order_in_flight_is_deleted_after_a_halt(inside: Venue) -> None:
+    """Whoever comes again in between: nothing else is taken before."""
+    anna, board = await in_flight(inside), inside.instruments["XYZ"]
+    board.engine._give_up(board.engine._turn, "for a while")
+    found = await inside.remove([anna])
+    assert (found.deleted, found.halted) == ([], ["XYZ"])
+    again, _ = await inside.join(await inside.readmit(anna), "")
+    assert again is anna
+    await inside.resume()
+    assert await board.uncross() == "opening no price"
+    assert [it.order for it in found.deleted] == [2]
+
+
+async def test_what_is_held_as_it_halts_isnt_done(inside: Venue) -> None:
+    anna, board = await in_flight(inside), inside.instruments["XYZ"]
+    removing = asyncio.create_task(inside.remove([anna]))
+    await asyncio.sleep(0)
+    uncrossing = asyncio.create_task(board.uncross())
+    await asyncio.sleep(0)
+    board.engine._give_up(board.engine._turn, "for a while")
+    with pytest.raises(MessageError) as fault:
+        await uncrossing
+    assert fault.value.code == "halted"
+    assert (await removing).halted == ["XYZ"]
+    await inside.resume()
+    assert await board.uncross() == "opening no price"
+    journal = (inside.folder / "XYZ.journal.csv").read_text("latin-1")
+    assert journal.count("uncross") == 1
 
 
 async def test_a_log_that_fails_and_goes_on(

@@ -77,6 +77,8 @@ class Engine:
         self._process: Process | None = None
         self._started_last: Process | None = None
         self._pending: dict[Message, Sent] = {}
+        self._held: list[Sent] = []
+        self._holds = 0
         self._batch: list[Sent] = []
         self._views: set[asyncio.Future[None]] = set()
         self._sum, self.times = Sum(), Times()
@@ -169,23 +171,41 @@ class Engine:
     @property
     def waiting(self) -> int:
         """How many messages wait for their answers."""
-        return len(self._pending)
+        return len(self._pending) + len(self._held)
 
     # ---- messages and views
 
-    def submit(self, message: Message) -> "asyncio.Future[Entry]":
-        """Sends a message that wasn't sent before: its entry, once it is there. The future's
-        exception is a MessageError where the program takes no more commands. Raises MessageError
-        until it is open.
+    def submit(self, message: Message, is_first: bool = False) -> "asyncio.Future[Entry]":
+        """Sends a message that wasn't sent before, `is_first` before those that are held: its
+        entry, once it is there. The future's exception is a MessageError where the program takes no
+        more commands, or halts while the message is held. Raises MessageError until it is open.
         """
         if not self.is_open:
             raise MessageError("halted", self.halted or "")
         loop = asyncio.get_running_loop()
         sent = Sent(message, loop.create_future(), loop.time())
-        self._pending[message] = sent
-        turn = self._turn
-        self.log.append(self._line(message), lambda: self._send([sent], turn))
+        if self._holds and not is_first:
+            self._held.append(sent)
+        else:
+            self._take(sent)
         return sent.answer
+
+    def _take(self, sent: Sent) -> None:
+        """Sends a message once it is on the log's disk."""
+        self._pending[sent.message] = sent
+        turn = self._turn
+        self.log.append(self._line(sent.message), lambda: self._send([sent], turn))
+
+    def hold(self) -> None:
+        """Holds messages from now on, until `release` was called as often."""
+        self._holds += 1
+
+    def release(self) -> None:
+        """Sends what was held, in the order in which it came, unless it is held once more."""
+        self._holds -= 1
+        held, self._held = ([], self._held) if self._holds else (self._held, [])
+        for sent in held:
+            self._take(sent)
 
     async def show(self, views: Sequence[str]) -> list[list[str]]:
         """What the program answers to these views, all of one moment. Raises ProcessError where it
@@ -399,6 +419,10 @@ class Engine:
     def halt(self, text: str) -> None:
         """Takes nothing more, until it is tried again."""
         self.halted = text or "the program doesn't run"
+        held, self._held = self._held, []
+        for sent in held:
+            if not sent.answer.done():
+                sent.answer.set_exception(MessageError("halted"))
         self.on_change()
 
     def resume(self) -> None:

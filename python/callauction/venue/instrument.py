@@ -129,6 +129,7 @@ class Instrument:
         self._waiting: dict[str, dict[Message, str]] = {}
         self._entering = 0
         self._gone: set[str] = set()
+        self._leaving: set[str] = set()
         self._tasks: list[asyncio.Task[None]] = []
         self.wanted: Callable[[], Iterable[str]] = lambda: ()
         self.wants_ladder: Callable[[], bool] = lambda: False
@@ -143,7 +144,7 @@ class Instrument:
     # ---- begin and end
 
     async def begin(self) -> None:
-        """Looks at the program, and goes by the clock from now on. Raises ProcessError."""
+        """Looks at the program, before `run`. Raises ProcessError."""
         self.keep_time(clock.now())
         try:
             await self.look()
@@ -151,6 +152,9 @@ class Instrument:
             if fault.is_final and not self.engine.halted:
                 raise
             self.touch()
+
+    def run(self) -> None:
+        """Goes by the clock from now on, and looks at the program again and again."""
         nobody = contextvars.Context()  # what follows isn't asked for by who began it
         for work in (self.run_clock(), self.run_looks()):
             self._tasks.append(asyncio.create_task(work, context=nobody.copy()))
@@ -270,14 +274,16 @@ class Instrument:
         return found
 
     def withdraw(self, member: str, order: Order) -> "asyncio.Future[Entry]":
-        """Sends the deletion of an order of a member who is gone, in any phase."""
-        return self._send(member, order)
+        """Sends the deletion of an order of a member who is gone, in any phase, also while others'
+        messages are held.
+        """
+        return self._send(member, order, is_first=True)
 
-    def _send(self, member: str, order: Order) -> "asyncio.Future[Entry]":
+    def _send(self, member: str, order: Order, is_first: bool = False) -> "asyncio.Future[Entry]":
         """Sends a member's order. Raises MessageError."""
         record = f"{self.number_of(member)},{order.record}"
         message = Message(member, order.number, record, SOURCE.get(), order.note)
-        answer = self.engine.submit(message)
+        answer = self.engine.submit(message, is_first)
         self._waiting.setdefault(member, {})[message] = order.record
         self._entering += order.record.startswith("enter")
         answer.add_done_callback(lambda _: self._waits_no_more(message))
@@ -289,8 +295,20 @@ class Instrument:
         self._entering -= record.startswith("enter")
 
     def awaits(self, member: str) -> bool:
-        """Whether a message of a member isn't answered yet."""
-        return bool(self._waiting.get(member))
+        """Whether a message of a member isn't answered yet, or its orders aren't deleted that was
+        removed.
+        """
+        return member in self._leaving or bool(self._waiting.get(member))
+
+    def hold_for(self, members: Iterable[str]) -> None:
+        """Takes no command of anybody but deletions of these members' orders, who were removed."""
+        self._leaving.update(members)
+        self.engine.hold()
+
+    def release_after(self, members: Iterable[str]) -> None:
+        """Takes what came meanwhile, once these members' orders are to be deleted."""
+        self._leaving.difference_update(members)
+        self.engine.release()
 
     def holding_of(self, member: str) -> Holding:
         """What a member has, and what it asks for."""

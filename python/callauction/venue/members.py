@@ -59,6 +59,10 @@ class Member:
         self.last = max(self.last, number)
         done.answer.add_done_callback(lambda answer: self._answered(number, answer))
 
+    def waiting(self, market: str) -> list[Done]:
+        """Its messages to an instrument that aren't answered yet."""
+        return [it for it in self.done.values() if it.instrument == market and not it.answer.done()]
+
     def _answered(self, number: int, answer: "asyncio.Future[Entry]") -> None:
         if answer.cancelled() or answer.exception() is not None:
             self.done.pop(number, None)

@@ -10,8 +10,9 @@
   were given, and the names of a list that are absent: their values wait until they join.
 - message (text): said to all. show (shows): what the screen shows. payoffs (shows: none, own,
   ranking): what members see of them.
-- code (member, or none for the day's), door (open), remove (member or members), readmit (member),
-  rename (member, name).
+- code (member, or none for the day's), door (open), readmit (member), rename (member, name). remove
+  (member or members): answers which orders were deleted, before anything else was taken, and which
+  instruments have halted, where that is done as they go on.
 - robots (count, kind: zero, truthful or shading): that many more; all are removed where count is 0.
 - resume: tries again what had halted; an error says what halts again. reset (session): a session
   by FIX begins anew.
@@ -214,8 +215,20 @@ async def remove(venue: Venue, message: dict[str, Any]) -> shown.Json:
     for member in members:
         if member.is_removed:
             raise MessageError("bad_name", f"{member.title} is removed already")
-    venue.remove(members)
-    return {"removed": len(members)}
+    return await removed(venue, members)
+
+
+async def removed(venue: Venue, members: list[Member]) -> shown.Json:
+    """Removes members: how many, and their orders that were deleted; the instruments that have
+    halted, where they are once these go on.
+    """
+    found = await venue.remove(members)
+    deleted = [
+        {"member": it.member.title, "instrument": it.board, "order": it.order}
+        for it in found.deleted
+    ]
+    halted = {"halted": found.halted} if found.halted else {}
+    return {"removed": len(members), "deleted": deleted} | halted
 
 
 async def readmit(venue: Venue, message: dict[str, Any]) -> shown.Json:
@@ -239,9 +252,7 @@ async def change_robots(venue: Venue, message: dict[str, Any]) -> shown.Json:
     """Adds robots, or removes all of them where their count is 0. Raises MessageError."""
     count = number_of(message, "count", 0, MOST_ROBOTS)
     if count == 0:
-        robots = [it for it in venue.members.all if it.robot]
-        venue.remove(robots)
-        return {"removed": len(robots)}
+        return await removed(venue, [it for it in venue.members.all if it.robot])
     kind = text_of(message, "kind")
     if kind not in KINDS:
         raise MessageError("bad_message", f"kind is one of {', '.join(KINDS)}")

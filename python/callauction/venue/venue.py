@@ -16,7 +16,7 @@ from callauction.venue.audience import PAYOFFS, SHOWN, Audience
 from callauction.venue.engine import Settled
 from callauction.venue.gains import Value
 from callauction.venue.handing import ListedValue, Rule, named
-from callauction.venue.instrument import Board, Instrument, Point, opened, plan_of
+from callauction.venue.instrument import TICK, Board, Instrument, Point, opened, plan_of
 from callauction.venue.log import Line, Log, OtherVersion, taking
 from callauction.venue.members import Done, Member, Members, NameTakenError
 from callauction.venue.messages import MessageError, Order
@@ -55,6 +55,31 @@ runs, as the venue opens, and then with None for one that was never executed.
 Reset = Callable[[str], Awaitable[None]]
 OTHER_DEVICE = "this member goes on at another device"
 """What a device is told whose member came again by a new code."""
+
+
+@dataclasses.dataclass(frozen=True)
+class Deletion:
+    """The deletion of an order of a member who was removed, on a board of this name."""
+
+    member: Member
+    board: str
+    order: int
+    answer: "asyncio.Future[Entry]"
+
+    @property
+    def is_done(self) -> bool:
+        """Whether it was answered, and the order is deleted."""
+        return self.answer.exception() is None and self.answer.result().reply == "deleted"
+
+
+@dataclasses.dataclass
+class Removal:
+    """What became of the orders of members who were removed: which were deleted, and the boards
+    that have halted, where that is done once they go on.
+    """
+
+    deleted: list[Deletion] = dataclasses.field(default_factory=list)
+    halted: list[str] = dataclasses.field(default_factory=list)
 
 
 class Venue(Audience):
@@ -204,6 +229,7 @@ class Venue(Audience):
         async with self._reopening:
             if (lines := self._waiting.get(key)) is None:
                 return
+            board.hold_for([])
             try:
                 found = await self._opened(board, lines)
                 if found is not None:
@@ -214,21 +240,24 @@ class Venue(Audience):
                     self._changed(board)
             except FAULTS as fault:
                 board.engine.halt(str(fault))
+            board.release_after([])
 
     async def _begin(self, board: Instrument) -> None:
-        """Begins to look at a board; one of an earlier round is looked at once. Raises
-        ProcessError.
+        """Begins to look at a board, and deletes there what was left where the venue was killed as
+        it removed somebody; one of an earlier round is looked at once. Raises ProcessError.
         """
         if board in self.instruments.values():
             await board.begin()
+            for member in self.members.everybody:
+                if member.is_removed and member.group == board.board.group:
+                    self._withdraw(member, board)
+            board.run()
             return
         await board.look()
         await board.end()
 
     def _begin_round(self) -> None:
         """Deals the members of the round, once all of it is known."""
-        for member in self.members.everybody:
-            self._withdraw(member)  # what was left where the venue was killed as it did so
         if not self._waiting:
             self._deal_round()
             self._spread()
@@ -456,40 +485,68 @@ class Venue(Audience):
         self.show_members()
         return member
 
-    def remove(self, members: list[Member]) -> None:
-        """Removes members, whose open orders are deleted, also those that aren't answered yet."""
+    async def remove(self, members: list[Member]) -> Removal:
+        """Removes members, whose open orders are deleted, also those that aren't answered yet,
+        before the next command of anybody is taken; waits for that but where it has halted.
+        """
         for member in members:
             self.members.remove(member)
             self.send_away(member)
-            self._take_out(member)
             for board in self.boards_of(member).values():
                 board.leave(member.name)
+        found = Removal()
+        tasks = {it: self._take_out(it, members, found) for it in self.instruments.values()}
         for board in self.instruments.values():
             self.show_gains(board)
         self.show_members()
+        for board, task in tasks.items():
+            while not (await asyncio.wait([task], timeout=TICK))[0]:
+                if board.engine.halted or self.halted:
+                    break
+            if not (task.done() and board.engine.is_open):
+                found.halted.append(board.board.name)
+        return found
 
-    def _take_out(self, member: Member) -> None:
-        """Deletes the open orders of a member who was removed, now and as what waits is answered.
+    def _take_out(
+        self, board: Instrument, members: list[Member], found: Removal
+    ) -> asyncio.Task[None]:
+        """Deletes the open orders of those members of a board who were removed, once it is known
+        which these are: the board takes nothing else before.
         """
-        for done in [*member.done.values()]:
-            if not done.answer.done():
-                done.answer.add_done_callback(lambda _: self._withdraw(member))
-        self._withdraw(member)
+        gone = [it for it in members if it.group == board.board.group]
+        names = {it.name for it in gone}
+        board.hold_for(names)
 
-    def _withdraw(self, member: Member) -> None:
+        async def taken_out() -> None:
+            sent = [it for member in gone for it in member.waiting(board.board.market)]
+            if sent:
+                await asyncio.wait([it.answer for it in sent])
+            deletions = [it for member in gone for it in self._withdraw(member, board)]
+            board.release_after(names)
+            if deletions:
+                await asyncio.wait([it.answer for it in deletions])
+            found.deleted += [it for it in deletions if it.is_done]
+
+        return self._begun(taken_out())
+
+    def _withdraw(self, member: Member, board: Instrument) -> list[Deletion]:
         """Deletes the open orders of a member who was removed, each once, where that can be."""
-        waiting = [it for it in member.done.values() if not it.answer.done()]
-        asked = {(it.instrument, it.record) for it in waiting}
-        for board in self.boards_of(member).values() if member.is_removed else ():
-            for order in board.open_orders(member.name) if board.engine.is_open else ():
-                sent = Order(member.last + 1, board.terms.name, f"delete,{order}")
-                if (board.board.market, sent.record) not in asked:
-                    self.withdraw(member, board, sent)
+        asked = {it.record for it in member.waiting(board.board.market)}
+        found = []
+        for order in board.open_orders(member.name) if board.engine.is_open else ():
+            sent = Order(member.last + 1, board.terms.name, f"delete,{order}")
+            if sent.record not in asked:
+                answer = self.withdraw(member, board, sent)
+                found.append(Deletion(member, board.board.name, order, answer))
+        return found
 
-    def withdraw(self, member: Member, board: Instrument, order: Order) -> None:
+    def withdraw(
+        self, member: Member, board: Instrument, order: Order
+    ) -> "asyncio.Future[Entry]":
         """Sends the deletion of an order of a member in any phase. Raises MessageError."""
         answer = board.withdraw(member.name, order)
         member.keep(order.number, Done(board.board.market, order.record, answer))
+        return answer
 
     async def add_robots(self, kind: str, count: int) -> list[str]:
         """More robots of a kind: their names. Raises MessageError."""
@@ -596,6 +653,7 @@ class Venue(Audience):
             await board.engine.open([], Mark())
             await self.log.written()  # the program runs from then on
             await board.begin()
+            board.run()
         except FAULTS as fault:
             if not board.engine.is_open:
                 self._waiting[board.board.key] = []
