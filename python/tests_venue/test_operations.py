@@ -705,6 +705,37 @@ def test_what_the_operator_does_is_said(tmp_path: pathlib.Path) -> None:
     assert "a token that isn't the operator's, from 127.0.0.1" in told
 
 
+def test_whom_the_operators_words_are_about_is_said(tmp_path: pathlib.Path) -> None:
+    """Also in one second, and of what is refused."""
+    with served.served(tmp_path, FAST, "--log", "json") as venue:
+        for name in ("Anna", "Bert", "Eve", "Max"):
+            venue.join(name)
+        venue.do("code", member="Eve")
+        for name in ("Anna", "Bert"):
+            venue.do("remove", member=name)
+        for name in ("Anna", "Bert"):
+            venue.do("readmit", member=name)
+        venue.do("remove", members=["Eve", "Max"])
+        asked = {"do": "remove", "member": "Eve"}
+        assert venue.call("api/operator", asked, venue.operator)[0] == 400
+        venue.child.terminate()
+        _, error = venue.child.communicate(timeout=served.SECONDS)
+    lines = [json.loads(it) for it in error.splitlines()]
+    head = "the operator: "
+    said = [it for it in lines if it["text"].startswith(head)]
+    told = [(it["text"].removeprefix(head), it.get("member")) for it in said]
+    where = "from 127.0.0.1"
+    assert told == [
+        (f"code, {where}: Eve", "Eve"),
+        (f"remove, {where}: Anna", "Anna"),
+        (f"remove, {where}: Bert", "Bert"),
+        (f"readmit, {where}: Anna", "Anna"),
+        (f"readmit, {where}: Bert", "Bert"),
+        (f"remove, {where}: Eve, Max", None),
+        (f"remove, {where}: Eve is refused: Eve is removed already", "Eve"),
+    ]
+
+
 def test_wrong_tokens_of_the_operator_are_said_to_people(tmp_path: pathlib.Path) -> None:
     """By address, and one line a second of each; a member who asks what it may is none."""
     with served.served(tmp_path, FAST) as venue:

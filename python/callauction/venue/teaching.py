@@ -51,15 +51,27 @@ Words = dict[str, Callable[[Venue, dict[str, Any]], Awaitable[shown.Json]]]
 async def done(venue: Venue, message: dict[str, Any]) -> shown.Json:
     """Does what is asked for. Raises MessageError and PhaseError."""
     word = text_of(message, "do")
-    if (act := WORDS.get(word)) is not None:
-        found = await act(venue, message)
-    else:
-        found = await step(venue, word, message)
+    try:
+        if (act := WORDS.get(word)) is not None:
+            found = await act(venue, message)
+        else:
+            found = await step(venue, word, message)
+    except (MessageError, PhaseError) as fault:
+        say(logging.WARNING if word == "resume" else logging.INFO, message, f" is refused: {fault}")
+        raise
     await venue.log.written()
-    whose = f" of {message['instrument']}" if "instrument" in message else ""
-    asked = f"the operator: {word}{whose}, from {SOURCE.get()}"
-    NOTICES.info("%s", asked, extra={"of": asked})
+    say(logging.INFO, message)
     return {"done": word} | found
+
+
+def say(level: int, message: dict[str, Any], outcome: str = "") -> None:
+    """Says what the operator has asked for, of which instrument or members, and what came of it."""
+    whose = f" of {message['instrument']}" if "instrument" in message else ""
+    names = message.get("members", [message["member"]] if "member" in message else [])
+    listed = f": {', '.join(map(str, names))}" if isinstance(names, list) and names else ""
+    asked = f"the operator: {message['do']}{whose}, from {SOURCE.get()}{listed}{outcome}"
+    about = {"member": str(message["member"])} if message.get("member") else {}
+    NOTICES.log(level, "%s", asked, extra={"of": asked} | about)
 
 
 # ---- the auctions
