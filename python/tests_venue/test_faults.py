@@ -389,6 +389,11 @@ def test_a_full_disk(
         journal = venue.call("api/download/journal/XYZ", token=venue.operator)[1]
         assert len(judged.entries(journal)) == count > 50
         assert judged.is_lawful(journal)
+        venue.child.kill()
+        said = venue.child.communicate(timeout=served.SECONDS)[1].splitlines()
+    [failed] = [place for place, it in enumerate(said) if ": resume, from 127.0.0.1 isn't" in it]
+    goes_on = [place for place, it in enumerate(said) if it.endswith(" goes on")]
+    assert goes_on and min(goes_on) > failed, said
 
 
 FULL = """

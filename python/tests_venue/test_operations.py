@@ -732,7 +732,7 @@ def test_whom_the_operators_words_are_about_is_said(tmp_path: pathlib.Path) -> N
         (f"readmit, {where}: Anna", "Anna"),
         (f"readmit, {where}: Bert", "Bert"),
         (f"remove, {where}: Eve, Max", None),
-        (f"remove, {where}: Eve is refused: Eve is removed already", "Eve"),
+        (f"remove, {where}: Eve isn't done: Eve is removed already", "Eve"),
     ]
 
 

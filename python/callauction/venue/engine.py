@@ -87,7 +87,7 @@ class Engine:
         self._looked: object = None
         self._first = ""
         self._is_marked = True
-        self._is_closed = False
+        self._is_closed = self._is_tried = False
         self._restart: asyncio.Task[None] | None = None
 
     # ---- begin and end
@@ -264,7 +264,8 @@ class Engine:
         def go() -> None:
             if turn == self._turn and not self._is_closed and not process.has_ended:
                 self._process = process
-                self._send(first, turn)
+                if first:
+                    self._send_batch(turn, first)
                 self.on_change()
 
         self.log.append("\n".join(lines), go)
@@ -306,7 +307,7 @@ class Engine:
 
     def _answered(self, sent: Sent, line: str) -> None:
         """Takes the answer to a message, unless the program is no longer trusted."""
-        if self.halted is not None:
+        if self._is_given_up:
             return
         self._ends = 0
         if found := ENTERED.fullmatch(line):
@@ -355,7 +356,7 @@ class Engine:
 
     def _give_up(self, turn: int, text: str) -> None:
         """Ends the program of this turn, and halts."""
-        if turn != self._turn or self.halted is not None:
+        if turn != self._turn or self._is_given_up:
             return
         self.halt(text)
         self._turn += 1
@@ -384,7 +385,7 @@ class Engine:
         for shown in self._views:
             if not shown.done():
                 shown.set_exception(fault)
-        if self.is_open and not self._is_closed and self.halted is None:
+        if self.is_open and not self._is_closed and not self._is_given_up:
             self._restart = asyncio.get_running_loop().create_task(self._start_again(fault))
 
     async def _start_again(self, fault: ProcessError) -> None:
@@ -416,9 +417,14 @@ class Engine:
             if entry is not None:
                 self._settle(self._pending[message], entry)
 
+    @property
+    def _is_given_up(self) -> bool:
+        """Whether it has halted, and nobody tries it again."""
+        return self.halted is not None and not self._is_tried
+
     def halt(self, text: str) -> None:
         """Takes nothing more, until it is tried again."""
-        self.halted = text or "the program doesn't run"
+        self.halted, self._is_tried = text or "the program doesn't run", False
         held, self._held = self._held, []
         for sent in held:
             if not sent.answer.done():
@@ -426,10 +432,12 @@ class Engine:
         self.on_change()
 
     def resume(self) -> None:
-        """Tries again after a halt; one that isn't open yet is to be opened again."""
-        if self.halted is None or not self.is_open:
+        """Tries again after a halt, which lasts until `resumed` has seen that it goes on; one that
+        isn't open yet is to be opened again.
+        """
+        if self.halted is None or self._is_tried or not self.is_open:
             return
-        self.halted, self._ends = None, 0
+        self._is_tried, self._ends = True, 0
         again = self._start_again(ProcessError("", -1))
         nobody = contextvars.Context()  # what follows isn't asked for by who resumes
         self._restart = asyncio.get_running_loop().create_task(again, context=nobody)
@@ -438,13 +446,20 @@ class Engine:
         """Waits for what comes of a try: the program answers again, after all that waited, or has
         halted again. Raises OSError where the log can't be written.
         """
-        while self.halted is None and not self._is_closed:
+        while self._is_tried and not self._is_closed:
             await self.log.check_written()  # the program runs from then on
             try:
                 await self.show(["show"])
-                return
             except ProcessError:
                 await asyncio.sleep(PAUSE)
+            else:
+                self._goes_on()
+
+    def _goes_on(self) -> None:
+        """What was tried again answers."""
+        if self._is_tried:
+            self.halted, self._is_tried = None, False
+            self.on_change()
 
 
 def state_of(path: pathlib.Path) -> tuple[int, ...]:

@@ -57,7 +57,7 @@ async def done(venue: Venue, message: dict[str, Any]) -> shown.Json:
         else:
             found = await step(venue, word, message)
     except (MessageError, PhaseError) as fault:
-        say(logging.WARNING if word == "resume" else logging.INFO, message, f" is refused: {fault}")
+        say(logging.WARNING if word == "resume" else logging.INFO, message, f" isn't done: {fault}")
         raise
     await venue.log.written()
     say(logging.INFO, message)

@@ -778,7 +778,7 @@ class Venue(Audience):
             self._changed(instrument)
 
     def _log_goes_on(self) -> None:
-        """The log waited for its disk, and no longer does."""
+        """The log is written again."""
         self.halted = None
         self._notice("the venue", None)
         for instrument in self.instruments.values():
@@ -799,9 +799,12 @@ class Venue(Audience):
         """Tries again what had halted, and waits for what comes of it. Raises MessageError with
         the reason of what has halted again.
         """
-        self.halted = None
-        self._notice("the venue", None)
         self.log.retry()
+        try:
+            await self.log.check_written()
+        except OSError as fault:
+            raise MessageError("halted", self.halted or str(fault)) from None
+        self._log_goes_on()
         tried = []
         for key, board in self._boards.items():
             if key in self._waiting:
@@ -809,14 +812,10 @@ class Venue(Audience):
             elif board in self.instruments.values() and board.engine.halted is not None:
                 board.engine.resume()
                 tried.append((board, self._begun(board.engine.resumed())))
-        for board in self.instruments.values():
-            self._show_changed(board)
-        with contextlib.suppress(OSError):  # self.halted says it
-            await self.log.check_written()
-        if tried and self.halted is None:
+        if tried:
             await asyncio.wait({task for _, task in tried}, timeout=RESUME_SECONDS)
         late = f"the program hasn't answered for {RESUME_SECONDS:g} s"
-        whys = {it.board.key: it.engine.halted or late * (not task.done()) for it, task in tried}
+        whys = {it.board.key: it.engine.halted if task.done() else late for it, task in tried}
         texts = "; ".join(f"{key}: {why}" for key, why in whys.items() if why)
         if text := self.halted or texts:
             raise MessageError("halted", text)
