@@ -1042,7 +1042,7 @@ def test_a_copy_that_was_changed_is_refused(tmp_path: pathlib.Path) -> None:
     right = journal.read_text()
     journal.write_text(right.replace("entered 3", "entered 4"))
     text = ran("restore", copy, place, status=1)
-    assert text == f"restore: {copy} isn't the copy that was made: its SHA256SUMS says otherwise\n"
+    assert text == f"restore: {copy} isn't the copy that was made: XYZ.journal.csv differs\n"
     files = {it.name: it.read_bytes() for it in copy.iterdir() if it.name != copies.SUMS}
     (copy / copies.SUMS).write_bytes(copies.sums_of(files))
     assert "XYZ.journal.csv" in ran("restore", copy, place, status=1)
@@ -1054,7 +1054,35 @@ def test_a_copy_that_was_changed_is_refused(tmp_path: pathlib.Path) -> None:
     text = ran("restore", copy, place, status=1)
     assert text == f"restore: {place} is there already: move it away, or name another\n"
     (copy / copies.SUMS).unlink()
-    assert "isn't the copy" in ran("restore", copy, tmp_path / "other", status=1)
+    text = ran("restore", copy, tmp_path / "other", status=1)
+    assert text == f"restore: {copy} isn't the copy that was made: its SHA256SUMS is missing\n"
+
+
+@pytest.mark.parametrize(
+    "change, text",
+    [
+        ("rm venue.log", "venue.log is missing"),
+        ("rm XYZ.journal.csv; rm beamer.token", "XYZ.journal.csv is missing, and 1 more"),
+        ("echo >> operator.token", "operator.token differs"),
+        ("touch more", "more is none of its files"),
+        ("echo >> SHA256SUMS", "its SHA256SUMS was changed"),
+        ("printf x > SHA256SUMS", "its SHA256SUMS was changed"),
+        ("sed -i s/beamer.token/more.token/ SHA256SUMS", "more.token is missing, and 1 more"),
+    ],
+)
+def test_which_file_of_a_copy_was_changed(
+    tmp_path: pathlib.Path, change: str, text: str
+) -> None:
+    copy = tmp_path / "copy"
+    copy.mkdir()
+    files = {it: it.encode() for it in ("venue.log", "XYZ.journal.csv")}
+    files |= {f"{it}.token": it.encode() for it in ("beamer", "operator")}
+    for name, content in (files | {copies.SUMS: copies.sums_of(files)}).items():
+        (copy / name).write_bytes(content)
+    copy.chmod(0o700)
+    subprocess.run(["sh", "-c", change], cwd=copy, check=True)
+    found = ran("restore", copy, tmp_path / "place", status=1)
+    assert found == f"restore: {copy} isn't the copy that was made: {text}\n"
 
 
 def test_a_copy_isnt_put_into_its_day(tmp_path: pathlib.Path) -> None:

@@ -29,6 +29,8 @@ from callauction.venue.venue import LOG, mark_of, runs_of
 JOURNAL = ".journal.csv"
 TOKEN = ".token"
 SUMS = "SHA256SUMS"
+SUM = re.compile(r"([0-9a-f]{64})  ([^\x00-\x1f\x7f]{1,255})")
+"""A line of SUMS: the sum, and the name of its file."""
 LEFT_OUT = re.compile(rf".*\.new|.*\.cut-\d+|lost\+found|{SUMS}|.*{NAMES_FILE}|{RESULTS_FILE}")
 """What no copy has: what was begun, or put aside; what a disk has of its own; sums of a copy; what
 the end of a day leaves, which may be of an earlier moment, and is made anew by the next one.
@@ -153,6 +155,24 @@ def sums_of(files: Files) -> bytes:
     return "".join(rows).encode()
 
 
+def difference(files: Files, sums: bytes) -> str:
+    """The first of these files that isn't as the sums of a copy say, and how many others aren't;
+    empty where all are.
+    """
+    *texts, end = sums.decode("utf-8", "replace").split("\n")
+    rows = [SUM.fullmatch(it) for it in texts]
+    known = {it[2]: it[1] for it in rows if it}
+    found = [f"{name} is missing" for name in sorted(known.keys() - files.keys())]
+    found += [f"{name} is none of its files" for name in sorted(files.keys() - known.keys())]
+    for name in sorted(known.keys() & files.keys()):
+        if hashlib.sha256(files[name]).hexdigest() != known[name]:
+            found.append(f"{name} differs")
+    if not sums or end or None in rows or not found:
+        others = f"its {SUMS} {'was changed' if sums else 'is missing'}"
+        return "" if sums == sums_of(files) else others
+    return found[0] + (f", and {len(found) - 1} more" if found[1:] else "")
+
+
 def write_day(files: Files, folder: pathlib.Path) -> None:
     """Writes a day to a new folder, whole and on the disk, or nothing. Raises OSError, CopyError.
     """
@@ -189,8 +209,8 @@ def restore(copy: pathlib.Path, folder: pathlib.Path, program: str) -> Files:
         owned.check_copy(it)
     files = {it.name: read_file(it) for it in sorted(copy.iterdir())}
     sums = files.pop(SUMS, b"")
-    if sums_of(files) != sums:
-        raise CopyError(f"{copy} isn't the copy that was made: its {SUMS} says otherwise")
+    if why := difference(files, sums):
+        raise CopyError(f"{copy} isn't the copy that was made: {why}")
     if LOG not in files:
         raise CopyError(f"{copy} is no copy of a venue: it has no {LOG}")
     if consistent(files) != files:
