@@ -20,7 +20,7 @@ STAND_IN = HERE / "stand_in.py"
 NOTICED = re.compile(
     r"^venue: (.* halted: |.* goes on|.* is started again(?: \(and \d+ times more\))?$"
     r"|\S+: \d+ of at most |codes are guessed|too many connections"
-    r"|a token that isn't the operator's|the operator: resume, from )"
+    r"|a token that isn't the operator's|the operator: resume, from |the day is over)"
 )
 """What is said on standard error of what goes on outside."""
 SECONDS = 300.0

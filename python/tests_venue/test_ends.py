@@ -106,7 +106,7 @@ def test_a_check_of_a_program_that_a_signal_ends(tmp_path: pathlib.Path) -> None
     program = tmp_path / "program"
     program.write_text("#!/bin/sh\nkill -SEGV $$\n")
     program.chmod(0o700)
-    words = served.words_of("--check", "--folder", tmp_path / "venue")
+    words = served.words_of("--check", "--port", 0, "--folder", tmp_path / "venue")
     ran = subprocess.run(
         words, env=served.environment(CALLBOARD=str(program)), capture_output=True, text=True
     )

@@ -130,6 +130,6 @@ def done(module: str, *words: object) -> None:
 
 def test_the_address_that_is_checked(tmp_path: pathlib.Path) -> None:
     (tmp_path / "day.toml").write_text(fixing.day_of(9999, "ALICE", "BOB"), "utf-8")
-    words = served.words_of("--check", "--day", tmp_path / "day.toml")
+    words = served.words_of("--check", "--port", 0, "--day", tmp_path / "day.toml")
     ran = subprocess.run(words, env=served.environment(), capture_output=True, text=True)
     assert "fix: 127.0.0.1:9999, 2 sessions\n" in ran.stdout

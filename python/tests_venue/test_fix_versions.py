@@ -136,7 +136,7 @@ def test_quickfix_s_own_initiator_takes_an_empty_book(
 def test_a_version_of_nobody(tmp_path: pathlib.Path) -> None:
     day = fixing.day_of(9878, "ALICE").replace("[fix.sessions]", 'fix50 = ["EVE"]\n[fix.sessions]')
     (tmp_path / "day.toml").write_text(day, "utf-8")
-    words = served.words_of("--check", "--day", tmp_path / "day.toml")
+    words = served.words_of("--check", "--port", 0, "--day", tmp_path / "day.toml")
     ran = subprocess.run(words, env=served.environment(), capture_output=True, text=True)
     assert (ran.returncode, ran.stderr) == (
         1,

@@ -47,7 +47,7 @@ from test_robots import until
 def checked(*words: object) -> tuple[int, str, str]:
     """The status of `--check`, and what it prints."""
     ran = subprocess.run(
-        served.words_of("--check", *words),
+        served.words_of("--check", "--port", 0, *words),
         env=served.environment(),
         capture_output=True,
         text=True,
@@ -119,6 +119,80 @@ def test_each_fault_of_a_day(tmp_path: pathlib.Path) -> None:
     assert status == 1 and "instrument XYZ: high 1000.00 is 100000 ticks" in error, error
     assert checked("--listen", "0.0.0.0")[0] == 2
     assert not token.exists()
+
+
+@pytest.mark.parametrize("program", ["/bin/true", "/bin/echo"])
+def test_a_program_that_is_another_one(tmp_path: pathlib.Path, program: str) -> None:
+    words = ["--folder", str(tmp_path / "venue"), "--port", "0"]
+    for more in ((), ("--check",)):
+        ran = subprocess.run(
+            served.words_of(*words, *more),
+            env=served.environment(CALLBOARD=program),
+            capture_output=True,
+            text=True,
+            timeout=served.SECONDS,
+        )
+        told = "venue: XYZ: " if not more else "venue: "
+        told += "the program isn't callboard: name callboard by CALLBOARD\n"
+        assert (ran.returncode, ran.stderr) == (3, told)
+
+
+def test_files_of_a_day_that_are_gone(tmp_path: pathlib.Path) -> None:
+    """A check says what a start does."""
+    words = day_before(tmp_path)
+    folder = tmp_path / "venue"
+    (folder / "XYZ.journal.csv").rename(tmp_path / "journal")
+    gone = "warning: XYZ: the journal is missing, and the log knows of 10 entries: put the right"
+    assert checked(*words)[1].splitlines()[-1].startswith(gone)
+    (tmp_path / "journal").rename(folder / "XYZ.journal.csv")
+    (folder / "venue.log").rename(tmp_path / "log")
+    told = "venue: XYZ: the journal has entries, and the log none of its messages: put the right "
+    for status, error in (checked(*words)[::2], ended(*words, "--port", 0)):
+        assert status == 1 and error.startswith(told), error
+
+
+def over(folder: pathlib.Path, rounds: int = 1) -> list[object]:
+    """A day whose auctions are all over: the words that go on with it."""
+    with served.served(folder, FAST + "[[round]]\n" * rounds) as venue:
+        for _ in range(3):
+            venue.do("start")
+            reply = venue.do("uncross")["reply"]
+    assert reply.startswith("closing ")
+    return ["--day", folder / "day.toml", "--folder", folder / "venue"]
+
+
+def date(moment: float) -> str:
+    return time.strftime("%Y-%m-%d", time.localtime(moment))
+
+
+def aged(log: pathlib.Path) -> None:
+    """The day was two days before."""
+    lines = [json.loads(it) for it in log.read_text().splitlines()]
+    earlier = [it | {"time": it["time"] - 2 * serving.DAY} for it in lines]
+    log.write_text("".join(f"{json.dumps(it)}\n" for it in earlier))
+
+
+def test_a_day_that_is_over(tmp_path: pathlib.Path) -> None:
+    """It is shown again on its own day; on a later one a check fails."""
+    words = over(tmp_path)
+    status, printed, error = checked(*words)
+    assert (status, error) == (0, "")
+    assert f"warning: {serving.OVER}" in printed.splitlines()
+    assert f"{tmp_path}/venue: begun on {date(time.time())}" in printed.splitlines()
+    aged(tmp_path / "venue/venue.log")
+    text = f"{tmp_path}/venue: its day is over, lastly used on {date(time.time() - 2 * 86400)}"
+    assert checked(*words)[::2] == (2, f"venue: {text}: --folder NEW begins anew\n")
+    venue = served.started(*words, "--port", 0)
+    venue.child.terminate()
+    assert venue.child.communicate(timeout=served.SECONDS)[1] == f"venue: {serving.OVER}\n"
+
+
+def test_a_round_that_is_over(tmp_path: pathlib.Path) -> None:
+    """The next one may be on another day."""
+    words = over(tmp_path, 2)
+    aged(tmp_path / "venue/venue.log")
+    status, printed, error = checked(*words)
+    assert (status, error) == (0, "") and f"warning: {serving.OVER}" in printed.splitlines()
 
 
 def test_metrics_on_the_members_port(tmp_path: pathlib.Path) -> None:
@@ -262,7 +336,7 @@ def test_a_disk_that_has_no_room(tmp_path: pathlib.Path, how: str, why: str, nam
     disk = tmp_path / "disk"
     disk.mkdir()
     before = ["unshare", "-rm", "sh", "-c", ON_A_DISK, "sh", str(disk), how]
-    words = served.words_of("--check", "--folder", disk / name)
+    words = served.words_of("--check", "--port", 0, "--folder", disk / name)
     environment = served.environment()
     ran = subprocess.run([*before, *words], env=environment, capture_output=True, text=True)
     where = disk / name if name == "venue" else disk
@@ -298,7 +372,7 @@ def test_a_day_that_runs_is_checked_as_it_is_at_one_moment(tmp_path: pathlib.Pat
 # ---- certificates
 
 
-def certificate(folder: pathlib.Path, name: str, days: int = 2) -> list[str]:
+def certificate(folder: pathlib.Path, name: str, days: int = 30) -> list[str]:
     """A certificate and its key, as words of a venue."""
     cert, key = folder / "cert.pem", folder / "key.pem"
     words = "openssl req -x509 -newkey ec -pkeyopt ec_paramgen_curve:prime256v1 -nodes"
@@ -442,7 +516,7 @@ def test_an_ended_certificate(tmp_path: pathlib.Path, monkeypatch: pytest.Monkey
     status, printed, _ = checked("--folder", tmp_path / "venue", *words)
     assert status == 0 and "address: 127.0.0.1, by a certificate that ends in 30 days" in printed
     now = time.time()
-    monkeypatch.setattr("callauction.venue.serving.time.time", lambda: now + 31 * checking.DAY)
+    monkeypatch.setattr("callauction.venue.serving.time.time", lambda: now + 31 * serving.DAY)
     with pytest.raises(AddressError, match="the certificate .*/cert.pem has ended"):
         [*checking.checked_address(Address(cert=words[1], key=words[3]))]
 
@@ -476,7 +550,7 @@ def test_what_is_said_and_measured_of_a_certificate(tmp_path: pathlib.Path) -> N
     with served.served(tmp_path, FAST, *words, *measures) as venue:
         def days() -> float:
             ends = measured(f"http://127.0.0.1:{port}")["callboard_certificate_end_seconds"][()]
-            return (ends - time.time()) / checking.DAY
+            return (ends - time.time()) / serving.DAY
 
         assert 2.9 < days() < 3.1
         certificate(tmp_path, "second", 5)
@@ -485,9 +559,13 @@ def test_what_is_said_and_measured_of_a_certificate(tmp_path: pathlib.Path) -> N
         venue.child.terminate()
         _, error = venue.child.communicate(timeout=served.SECONDS)
     lines = error.splitlines()
-    ends = time.strftime("%Y-%m-%d", time.gmtime(time.time() + 5 * checking.DAY))
-    assert lines[0].startswith(f"venue: {for_others}"), error
+    ends = time.strftime("%Y-%m-%d", time.gmtime(time.time() + 5 * serving.DAY))
+    assert lines[1].startswith(f"venue: {for_others}"), error
     assert f"venue: the certificate was taken anew: it ends on {ends}" in lines
+    soon = [f"venue: the certificate {words[1]} ends in {it} days: put a new one there"
+            for it in (3, 5)]  # fmt: skip
+    assert [it for it in lines if " days: put a new one" in it] == soon
+    assert f"warning: {soon[1].partition(' ')[2]}" in checked(*words)[1].splitlines()
 
 
 @pytest.mark.parametrize(

@@ -76,8 +76,8 @@ def test_a_check_tries_the_ports(tmp_path: pathlib.Path) -> None:
     why = os.strerror(errno.EADDRINUSE)
     said = [f"can't listen on 127.0.0.1, port {it}: {why}: end who does, or take another"
             for it in ports]  # fmt: skip
-    found = [it for it in ran.stdout.splitlines() if it.startswith("warning: ")]
-    assert (ran.returncode, found) == (0, [f"warning: {it}" for it in said])
+    assert (ran.returncode, ran.stderr) == (2, f"venue: {'; '.join(said)}\n")
+    assert ran.stdout.startswith("XYZ: 0.01 to 10.00 EUR by 0.01, ")
 
 
 @pytest.mark.parametrize("words", [(), ("--check",)])
@@ -86,17 +86,14 @@ def test_an_address_that_is_not_here(words: tuple[str, ...], tmp_path: pathlib.P
     told = f"can't listen on 192.0.2.7, port 8080: {why}: take another"
     given = ("--folder", tmp_path / "venue", "--listen", "192.0.2.7", "--insecure", *words)
     ran = ran_once(*given)
-    if words:
-        assert (ran.returncode, f"warning: {told}" in ran.stdout.splitlines()) == (0, True)
-    else:
-        assert (ran.returncode, ran.stderr) == (2, f"venue: {told}\n")
+    assert (ran.returncode, ran.stderr) == (2, f"venue: {told}\n")
 
 
 def test_a_check_looks_whose_files_are_there_before_it_opens_one(tmp_path: pathlib.Path) -> None:
     folder = tmp_path / "venue"
     folder.mkdir(mode=0o700)
     os.mkfifo(folder / "venue.log", 0o600)
-    words = served.words_of("--folder", folder, "--check")
+    words = served.words_of("--folder", folder, "--port", 0, "--check")
     ran = subprocess.run(
         words, env=served.environment(), capture_output=True, text=True, timeout=served.SECONDS
     )

@@ -115,7 +115,8 @@ def run(asked: argparse.Namespace, address: Address, program: str) -> None:
         address.check_front(day.fix.host, day.fix.port)
         check_fix()
     if asked.check:
-        print("\n".join(checked(day, folder, address, program)))
+        for line in checked(day, folder, address, program):
+            print(line, flush=True)
         return
     owned.make_folder(folder)
 

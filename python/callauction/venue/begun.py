@@ -5,6 +5,7 @@ said.
 import dataclasses
 import hashlib
 import pathlib
+import time
 from collections.abc import Iterable
 
 from callauction.venue import config
@@ -19,6 +20,11 @@ PARTS |= {"rounds": "round", "instruments": "instrument"}
 
 class OtherDayError(ValueError):
     """A folder was begun with another instrument; the text says what is another."""
+
+
+def date_of(moment: float) -> str:
+    """The date of a time in seconds of the epoch, where this machine is."""
+    return time.strftime("%Y-%m-%d", time.localtime(moment))
 
 
 def kept(day: config.DayTerms) -> Line:

@@ -1,4 +1,6 @@
-"""What `--check` says of a day before it begins, or goes on: nothing of it is begun or changed."""
+"""What `--check` says of a day before it begins, or goes on: nothing of it is begun or changed. It
+fails by the status by which a start would.
+"""
 import asyncio
 import errno
 import fcntl
@@ -7,21 +9,25 @@ import pathlib
 import subprocess
 import tempfile
 import time
-from collections.abc import Collection, Iterator, Sequence
+from collections.abc import Collection, Iterable, Iterator, Sequence
 
 from callauction.statuses import FAILED
 from callauction.venue import begun, config, copies, gates, owned, tokens
+from callauction.venue.begun import OtherDayError, date_of
 from callauction.venue.fields import ConfigError
-from callauction.venue.log import Line, read_lines
-from callauction.venue.process import START_SECONDS, ProcessError
+from callauction.venue.log import Line, read_lines, taking
+from callauction.venue.phases import Phase, State
+from callauction.venue.process import OPENED, START_SECONDS, ProcessError
 from callauction.venue.recovery import (
+    Entry,
     RecoveryError,
     RolledBackError,
     entries_in,
     entries_of,
     settled,
 )
-from callauction.venue.serving import Address, ends_of
+from callauction.venue.rounds import Round
+from callauction.venue.serving import DAY, OVER, Address, AddressError, ends_of
 from callauction.venue.venue import (
     BEHIND,
     LEAST_BEHIND,
@@ -35,7 +41,6 @@ from callauction.venue.venue import (
     starting,
 )
 
-DAY = 86_400.0
 ROLES = ("operator", "beamer")
 MOST_OF_LINE = 4096
 """The bytes that the first line of a journal may have."""
@@ -57,13 +62,14 @@ def checked(
         sessions = len(day.fix.sessions) + bool(day.fix.copy)
         yield f"fix: {day.fix.host}:{day.fix.port}, {sessions} sessions"
     yield from checked_address(address)
+    check_program(program, day)
     yield f"program: {version_of(program)}"
     is_there = folder.exists()
     if is_there:
         owned.make_folder(folder)
     check_room(folder if is_there else folder.parent, ROOM * (len(day.instruments) + 1))
     if not is_there:
-        yield from checked_ports(day, address, False)
+        check_ports(day, address, False)
         yield f"{folder}: not there yet"
         return
     for name in (*ROLES, *(f"fix.{it}" for it in (day.fix.sessions if day.fix else ()))):
@@ -72,10 +78,9 @@ def checked(
     for name in (LOG, copies.SENT):
         if owned.check_file(folder / name):
             os.close(owned.opened(folder / name, os.O_RDONLY))
-    is_begun = (folder / LOG).exists()
-    yield from checked_ports(day, address, is_begun and is_in_use(folder / LOG))
-    if is_begun:
-        yield from checked_log(day, folder, program)
+    runs = (folder / LOG).exists() and is_in_use(folder / LOG)
+    yield from checked_running(day, folder) if runs else checked_log(day, folder, program)
+    check_ports(day, address, runs)
 
 
 def check_room(folder: pathlib.Path, room: int) -> None:
@@ -128,20 +133,35 @@ def checked_address(address: Address) -> Iterator[str]:
     yield from (f"warning: {text}" for text in address.warnings())
 
 
-def checked_ports(day: config.DayTerms, address: Address, runs: bool) -> Iterator[str]:
-    """A warning for each place where nothing can listen now; of a day that runs, what others have
-    may be its own.
+def check_ports(day: config.DayTerms, address: Address, runs: bool) -> None:
+    """Raises AddressError, which has all of them, where nothing can listen now at some places; of a
+    day that runs, what others have may be its own.
     """
     places = [(address.host, address.port)]
     places += [address.metrics] if address.metrics else []
     places += [(day.fix.host, day.fix.port)] if day.fix else []
+    faults = []
     for host, port in places:
         try:
             for each in gates.listening(host, port):
                 each.close()
         except OSError as fault:
             if not (runs and fault.errno == errno.EADDRINUSE):
-                yield f"warning: {gates.why_not(host, port, fault)}"
+                faults.append(gates.why_not(host, port, fault))
+    if faults:
+        raise AddressError("; ".join(faults))
+
+
+def check_program(program: str, day: config.DayTerms) -> None:
+    """Raises ProcessError where a program doesn't open a journal as callboard does, what `ran`
+    raises, and OSError.
+    """
+    words = day.instruments[0].words()
+    with tempfile.TemporaryDirectory() as place:
+        found = ran(program, "--live", "--journal", f"{place}/journal", *words)
+    said = found.stderr.strip().partition("\n")[0]
+    if not OPENED.match(said):
+        raise ProcessError(said, found.returncode)
 
 
 def version_of(program: str) -> str:
@@ -150,14 +170,11 @@ def version_of(program: str) -> str:
 
 
 def checked_log(day: config.DayTerms, folder: pathlib.Path, program: str) -> Iterator[str]:
-    """What is found of a day that has begun. Raises LogError, OtherDayError, OwnerError,
+    """What is found of a day that doesn't run. Raises LogError, OtherDayError, OwnerError,
     RecoveryError, ProcessError, OSError.
     """
     path = folder / LOG
-    if is_in_use(path):
-        yield from checked_running(day, folder)
-        return
-    text = path.read_bytes()
+    text = path.read_bytes() if path.exists() else b""
     lines = read_lines(text[: text.rfind(b"\n") + 1], str(path))
     yield from checked_day(day, folder, lines)
     yield from checked_journals(day, folder, lines, program)
@@ -167,6 +184,8 @@ def checked_day(day: config.DayTerms, folder: pathlib.Path, lines: list[Line]) -
     """What is found of a day beside the lines of its log. Raises LogError, OtherDayError, OSError.
     """
     check_version(lines, folder / LOG)
+    for date in dates_in(lines):
+        yield f"{folder}: begun on {date}"
     if changed := begun.changes(day, lines, folder):
         yield f"changed since it was last opened: {', '.join(changed)}"
     if behind := behind_of(lines):
@@ -178,23 +197,54 @@ def checked_day(day: config.DayTerms, folder: pathlib.Path, lines: list[Line]) -
             yield f"warning: the clock is {behind} s behind the last change of {path.name}"
 
 
+def dates_in(lines: Iterable[Line]) -> list[str]:
+    """The date of the first of these lines that has a time, where there is one. Raises LogError."""
+    for line in lines:
+        if "time" in line:
+            with taking(line):
+                return [date_of(float(line["time"]))]
+    return []
+
+
 def checked_journals(
     day: config.DayTerms, folder: pathlib.Path, lines: list[Line], program: str
 ) -> Iterator[str]:
     """What is found of the journals beside the lines of the log. Raises LogError, OwnerError,
     RecoveryError, ProcessError, OSError.
     """
-    found: list[str] = []
+    found: dict[str, list[Entry]] = {}
     boards = [*(it.name for it in day.instruments), *(line.get("instrument") for line in lines)]
     for key in dict.fromkeys(filter(None, boards)):
         own = [line for line in lines if line.get("instrument") == key]
         try:
-            count = entries_known(folder / f"{key}{copies.JOURNAL}", key, own)
-            found.append(key)
-            yield f"{key}: {count} entries"
+            found[key] = entries_known(folder / f"{key}{copies.JOURNAL}", key, own)
+            yield f"{key}: {len(found[key])} entries"
         except RolledBackError as fault:  # it halts, and the others are served
             yield f"warning: {fault}: {PUT_BACK}"
-    asyncio.run(rehearse(day, folder, lines, found, program))
+    last = asyncio.run(rehearse(day, folder, lines, found, program))
+    if all(is_over(found.get(it.board.key, [])) for it in last.boards.values()):
+        yield f"warning: {OVER}"
+        check_later(day, folder, lines, last.number)
+
+
+def is_over(entries: Iterable[Entry]) -> bool:
+    """Whether a day's last auction is among the entries of its journal."""
+    state = State()
+    for it in entries:
+        state = state.replied(it.reply)
+    return state.phase is Phase.OVER
+
+
+def check_later(
+    day: config.DayTerms, folder: pathlib.Path, lines: list[Line], number: int
+) -> None:
+    """Raises OtherDayError where a day whose rounds are all over, as this is the last of them, is
+    an earlier day's: a venue that ended shows its results again on the same day alone.
+    """
+    dates = dates_in(reversed(lines))
+    if number >= len(day.rounds) and dates and dates[0] < date_of(time.time()):
+        text = f"{folder}: its day is over, lastly used on {dates[0]}"
+        raise OtherDayError(f"{text}: --folder NEW begins anew")
 
 
 async def rehearse(
@@ -203,10 +253,10 @@ async def rehearse(
     lines: list[Line],
     found: Collection[str],
     program: str,
-) -> None:
+) -> Round:
     """Takes the lines of a log as a start does, but for those messages that are `found` in the
-    journals, in a folder without a name. Raises LogError, and ProcessError where the program takes
-    a journal for another day's.
+    journals, in a folder without a name: the last round. Raises LogError, and ProcessError where
+    the program takes a journal for another day's.
     """
     known = [line for line in lines if line["kind"] != "sent"]
     with tempfile.TemporaryDirectory() as place:
@@ -217,6 +267,7 @@ async def rehearse(
                 journal, words = boards[key].engine.journal, boards[key].engine.words
                 check_first(words, folder / journal.name, journal)
         venue.log.close()
+    return venue.round
 
 
 def check_first(words: Sequence[str], journal: pathlib.Path, copy: pathlib.Path) -> None:
@@ -262,13 +313,13 @@ def checked_running(day: config.DayTerms, folder: pathlib.Path) -> Iterator[str]
         yield f"{name}: {count} entries, and the day runs"
 
 
-def entries_known(journal: pathlib.Path, name: str, lines: list[Line]) -> int:
-    """How many entries a journal has that the log knows. Raises RecoveryError, OwnerError, OSError.
-    """
-    entries = entries_of(journal) if owned.check_file(journal) else []
+def entries_known(journal: pathlib.Path, name: str, lines: list[Line]) -> list[Entry]:
+    """The entries of a journal, which the log knows. Raises RecoveryError, OwnerError, OSError."""
+    is_there, mark = owned.check_file(journal), mark_of(lines)
+    entries = entries_of(journal) if is_there else []
     try:
-        mark_of(lines).check(entries)
+        mark.check(entries, is_there)
         settled(runs_of(lines).get(name, []), entries)
     except RecoveryError as fault:
         raise type(fault)(f"{name}: {fault}") from None
-    return len(entries)
+    return entries

@@ -134,9 +134,7 @@ class Engine:
         """
         if owned.check_file(self.journal):
             return await self._in_thread(known_entries, self.journal, mark)
-        if mark.entries:
-            text = f"the journal is missing, and the log knows of {mark.entries} entries"
-            raise RolledBackError(text)
+        mark.check([], is_there=False)
         return []
 
     async def _in_thread(self, work: Callable[P, T], *args: P.args, **kw: P.kwargs) -> T:

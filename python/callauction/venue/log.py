@@ -104,7 +104,7 @@ def taking(line: Line) -> Iterator[None]:
     """Raises LogError where a line is taken that says what can't be."""
     try:
         yield
-    except (LookupError, TypeError, ValueError, AttributeError):
+    except (ArithmeticError, LookupError, TypeError, ValueError, AttributeError):
         raise LogError(f"this line of the log can't be: {text_of(line)[:MOST_SHOWN]}") from None
 
 

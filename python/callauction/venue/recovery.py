@@ -67,8 +67,13 @@ class Mark:
     entries: int = 0
     sha256: str = ""
 
-    def check(self, entries: Sequence[Entry]) -> None:
-        """Raises RolledBackError where the entries of a journal don't begin with those."""
+    def check(self, entries: Sequence[Entry], is_there: bool = True) -> None:
+        """Raises RolledBackError where the entries of a journal don't begin with those, or where
+        they aren't there.
+        """
+        if self.entries and not is_there:
+            text = f"the journal is missing, and the log knows of {self.entries} entries"
+            raise RolledBackError(text)
         if len(entries) < self.entries:
             raise RolledBackError(
                 f"the journal is an older one: it has {len(entries)} entries, and the log knows of "

@@ -41,6 +41,7 @@ OF_PROGRAM = {
     "journal failed": "make room, or mend the disk",
     "journal ": BACK,
     "the program can't be run": f"name callboard by CALLBOARD; where it is that, {MEMORY}",
+    "the program isn't callboard": "name callboard by CALLBOARD",
     "the program answers": "name the callboard of this version by CALLBOARD",
     "the program hasn't": "look whether the disk hangs",
     "the program was ended by signal 9": MEMORY,
@@ -77,7 +78,8 @@ def said(fault: Exception) -> tuple[str, int]:
 
 def said_of_program(fault: ProcessError) -> tuple[str, int]:
     """What is said where the program ends as it starts, and the status."""
-    text = fault.text or f"the program ended with status {fault.status}"
+    ended = f"ended with status {fault.status}" if fault.status else "isn't callboard"
+    text = fault.text or f"the program {ended}"
     found = (do for begin, do in OF_PROGRAM.items() if text.startswith(begin))
     status = fault.status if BAD_FILE <= fault.status <= UNLAWFUL else FAILED
     return f"{board_of(fault)}{text}: {next(found, 'docs/FORMATS.md has it')}", status

@@ -39,6 +39,11 @@ class Round:
         """Whether no auction is going on."""
         return all(it.state.phase in (Phase.WAITING, Phase.OVER) for it in self.boards.values())
 
+    @property
+    def is_over(self) -> bool:
+        """Whether the last auctions of all boards were uncrossed."""
+        return all(it.state.phase is Phase.OVER for it in self.boards.values())
+
     def of_group(self, group: int) -> dict[str, Instrument]:
         """The boards of a group."""
         return {name: it for name, it in self.boards.items() if it.board.group == group}

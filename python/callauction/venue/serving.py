@@ -20,6 +20,7 @@ from aiohttp import web
 
 from callauction.statuses import FAILED
 from callauction.venue import addresses, gates, notices, owned, supervising
+from callauction.venue.begun import date_of
 from callauction.venue.heads import GRACE, Handler
 from callauction.venue.http import Site
 from callauction.venue.process import kill_all
@@ -37,6 +38,10 @@ COLLECTED = 10_000, 5, 2
 """After how many more objects, and how often that, Python's collector looks at the youngest, at
 those of some age, and at all.
 """
+SOON_DAYS = 14
+"""How many days before its end a certificate is warned of."""
+DAY = 86_400.0
+OVER = "the day is over: no call can start; the next round can, or --folder NEW begins anew"
 END_SECONDS = 4.5
 """How long after a signal the venue ends, whatever hangs."""
 ENDING = (signal.SIGHUP, signal.SIGINT, signal.SIGTERM)
@@ -134,9 +139,12 @@ class Address:
         return f"{self.cert} and its key {self.key} can't be used"
 
     def warnings(self) -> Iterator[str]:
-        """What is no fault, as members may reach it by another name: for whom the certificate isn't
-        by which they are told to come.
+        """What is no fault yet: that the certificate ends soon; for whom it isn't by which members
+        are told to come, as they may reach it by another name.
         """
+        left = (ends_of(self.cert) - time.time()) / DAY if self.cert else SOON_DAYS
+        if left < SOON_DAYS:
+            yield f"the certificate {self.cert} ends in {left:.0f} days: put a new one there"
         names = names_of(self.cert) if self.cert else []
         for host in self.names or self.reached()[:1]:
             if self.cert and not any(addresses.is_named(host, name) for name in names):
@@ -224,9 +232,9 @@ def lines_of_begin(venue: Venue, entries: int) -> list[str]:
     """The lines that say with what an opened venue begins, before a front admits members."""
     lines = [f"{venue.day.title}: {venue.folder}, {entries} entries so far"]
     if count := len(venue.members.all):
-        begun = time.strftime("%Y-%m-%d", time.localtime(venue.began))
-        goes_on = f"goes on with what was begun on {begun}: round {venue.round.number}"
-        lines.append(f"{goes_on}, members: {count}; --folder NEW begins anew")
+        goes_on = f"goes on with what was begun on {date_of(venue.began)}"
+        round_ = f"round {venue.round.number}, members: {count}"
+        lines.append(f"{goes_on}: {round_}; --folder NEW begins anew")
     if venue.changes:
         lines.append(f"the day has changed since it was last opened: {', '.join(venue.changes)}")
     return lines
@@ -338,6 +346,8 @@ async def listen(
         collect_rarely()
         print("\n".join([*begin, *lines_of_address(venue, address, others)]), flush=True)
         NOTICES.info("serving at port %s, %s entries so far", port, entries)
+        if venue.round.is_over:
+            NOTICES.warning(OVER)
         supervising.notify("READY=1")
         if seconds := supervising.watchdog_seconds():
             living = asyncio.create_task(supervising.live(seconds))
