@@ -5,6 +5,8 @@ import itertools
 import json
 import pathlib
 import socket
+import subprocess
+import sys
 from collections.abc import Iterator
 
 import pytest
@@ -27,6 +29,23 @@ def unmasked(kind: int, data: bytes = b"") -> bytes:
 
 def text_of(message: object) -> bytes:
     return json.dumps(message).encode()
+
+
+ANOTHER = """
+import sys, aiohttp
+aiohttp.__version__ = "3.9.5"
+from callauction.venue.__main__ import main
+sys.exit(main())
+"""
+
+
+def test_another_aiohttp() -> None:
+    """It has other things inside, and reads other frames."""
+    ran = subprocess.run(
+        [sys.executable, "-c", ANOTHER], env=served.environment(), capture_output=True, text=True
+    )
+    told = "aiohttp 3.9.5 is installed, and the venue needs 3.8: Debian 12 has it, or pip install"
+    assert (ran.returncode, ran.stderr) == (3, f"venue: {told} 'aiohttp==3.8.*'\n")
 
 
 WRONG = {

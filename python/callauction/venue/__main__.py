@@ -9,11 +9,15 @@ import sys
 from callauction import finder
 from callauction.fix.build import MISSING
 from callauction.statuses import DONE
-from callauction.venue import notices, owned, remedies
-from callauction.venue.checking import checked
-from callauction.venue.config import DayTerms
-from callauction.venue.serving import Address, AddressError, Front, serve
-from callauction.venue.venue import Venue
+from callauction.venue import notices, owned, tried
+
+tried.check_start()  # before what needs aiohttp as it is inside
+
+from callauction.venue import remedies  # noqa: E402
+from callauction.venue.checking import checked  # noqa: E402
+from callauction.venue.config import DayTerms  # noqa: E402
+from callauction.venue.serving import Address, AddressError, Front, serve  # noqa: E402
+from callauction.venue.venue import Venue  # noqa: E402
 
 NOTICES = logging.getLogger("callauction.venue")
 FOLDER = "class.venue"

@@ -2,8 +2,12 @@
 protocol (1002). aiohttp sees to reserved bits, to kinds that there aren't, and to signs of life and
 closes that are long or in parts; it takes frames without a mask, and a message within another one.
 """
-from aiohttp import FlowControlDataQueue, WSCloseCode, WSMessage, WSMsgType, web
-from aiohttp.http_websocket import WebSocketError, WebSocketReader, WebSocketWriter
+from callauction.venue import tried
+
+tried.check()  # before anything of it is taken
+
+from aiohttp import FlowControlDataQueue, WSCloseCode, WSMessage, WSMsgType, web  # noqa: E402
+from aiohttp.http_websocket import WebSocketError, WebSocketReader, WebSocketWriter  # noqa: E402
 
 LIMIT = 1 << 16
 """Bytes of messages that wait to be read, from twice of which on nothing more is read."""

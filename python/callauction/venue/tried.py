@@ -1,0 +1,24 @@
+"""With which aiohttp the venue was tried: `frames` stands on what that has inside."""
+import sys
+
+import aiohttp
+
+from callauction.statuses import FAILED
+
+WANTED = "3.8"
+
+
+def check() -> None:
+    """Raises ImportError where it is another aiohttp."""
+    if not aiohttp.__version__.startswith(f"{WANTED}."):
+        text = f"aiohttp {aiohttp.__version__} is installed, and the venue needs {WANTED}"
+        raise ImportError(f"{text}: Debian 12 has it, or pip install 'aiohttp=={WANTED}.*'")
+
+
+def check_start() -> None:
+    """Ends this process by a line and its status where it is another aiohttp."""
+    try:
+        check()
+    except ImportError as fault:
+        print(f"venue: {fault}", file=sys.stderr)
+        sys.exit(FAILED)
