@@ -20,7 +20,8 @@ STAND_IN = HERE / "stand_in.py"
 NOTICED = re.compile(
     r"^venue: (.* halted: |.* goes on|.* is started again(?: \(and \d+ times more\))?$"
     r"|\S+: \d+ of at most |codes are guessed|too many connections"
-    r"|a token that isn't the operator's|the operator: resume, from |the day is over)"
+    r"|a token that isn't the operator's|the operator: resume, from |the day is over"
+    r"|the machine's clock is )"
 )
 """What is said on standard error of what goes on outside."""
 SECONDS = 300.0
@@ -55,6 +56,7 @@ class Served:
     operator: str
     beamer: str
     others: list[str]
+    metrics: str = ""
 
     def call(
         self, path: str, body: Any = None, token: str = "", headers: dict[str, str] = {}
@@ -173,4 +175,5 @@ def begun(child: "subprocess.Popen[str]") -> Served:
     found = {name: value for name, value in re.findall(r"^(\w+) +(\S+)$", text, re.M)}
     teacher, beamer = (found[name].partition("#")[2] for name in ("teacher", "beamer"))
     others = re.findall(r"^or +(\S+)$", text, re.M)
-    return Served(child, found["members"], found.get("code", ""), teacher, beamer, others)
+    code, metrics = found.get("code", ""), found.get("metrics", "")
+    return Served(child, found["members"], code, teacher, beamer, others, metrics)

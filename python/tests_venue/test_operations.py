@@ -27,7 +27,7 @@ import psutil
 import pytest
 import served
 from callauction.venue import (
-    AsyncClient, Client, addresses, checking, copies, metrics, notices, process, serving,
+    AsyncClient, Client, addresses, checking, copies, gates, metrics, notices, process, serving,
 )
 from callauction.venue.__main__ import arguments
 from callauction.venue.latency import Times
@@ -753,6 +753,21 @@ class Counted(Measures):
     def collect(self) -> Iterator[Metric]:
         self.count += 1
         yield GaugeMetricFamily("count", "how often", self.count)
+
+
+def test_the_port_of_metrics_is_told(tmp_path: pathlib.Path) -> None:
+    """Also where the system chooses it."""
+    with served.served(tmp_path, FAST, "--metrics", "127.0.0.1:0") as venue:
+        assert re.fullmatch(r"http://127\.0\.0\.1:[1-9]\d*/metrics", venue.metrics)
+        with urllib.request.urlopen(venue.metrics, timeout=served.SECONDS) as answer:
+            assert b"\ncallboard_up 1.0\n" in answer.read()
+
+
+def test_all_addresses_of_a_host_have_one_port() -> None:
+    found = gates.listening("localhost", 0)
+    assert len({it.getsockname()[1] for it in found}) == 1
+    for each in found:
+        each.close()
 
 
 def test_metrics_are_measured_once_a_second_however_many_ask() -> None:

@@ -553,8 +553,9 @@ def listening(host: str, port: int) -> list[socket.socket]:
             each.setsockopt(socket.SOL_SOCKET, socket.SO_REUSEADDR, 1)
             if family == socket.AF_INET6:
                 each.setsockopt(socket.IPPROTO_IPV6, socket.IPV6_V6ONLY, 1)
-            each.bind(address)
+            each.bind((address[0], port, *address[2:]))
             each.listen(BACKLOG)
+            port = each.getsockname()[1]  # the others too, where the system has chosen it
             each.setblocking(False)
     except OSError:
         for each in found:

@@ -230,7 +230,8 @@ class Front(Protocol):
 
 def lines_of_begin(venue: Venue, entries: int) -> list[str]:
     """The lines that say with what an opened venue begins, before a front admits members."""
-    lines = [f"{venue.day.title}: {venue.folder}, {entries} entries so far"]
+    without = f" but for {', '.join(venue.unknown)}" if venue.unknown else ""
+    lines = [f"{venue.day.title}: {venue.folder}, {entries} entries so far{without}"]
     if count := len(venue.members.all):
         goes_on = f"goes on with what was begun on {date_of(venue.began)}"
         round_ = f"round {venue.round.number}, members: {count}"
@@ -238,6 +239,12 @@ def lines_of_begin(venue: Venue, entries: int) -> list[str]:
     if venue.changes:
         lines.append(f"the day has changed since it was last opened: {', '.join(venue.changes)}")
     return lines
+
+
+def url_of_metrics(address: Address, port: int) -> str:
+    """Where operations look."""
+    host = address.metrics[0] if address.metrics else ""
+    return f"http://{f'[{host}]' if ':' in host else host}:{port}/metrics"
 
 
 def lines_of_address(venue: Venue, address: Address, fronts: Sequence[str]) -> list[str]:
@@ -332,20 +339,23 @@ async def listen(
     """Serves an opened venue until it is stopped. Raises AddressError."""
     kept = sum(it.files for it in fronts) + MOST_OF_METRICS * (address.metrics is not None)
     own = gates.Gates(gates.most_connections(kept))
-    begin = lines_of_begin(venue, entries)
+    begin, others = lines_of_begin(venue, entries), []
     site = Site(venue, program, address.hosts(), own)
     async with contextlib.AsyncExitStack() as stack:
         if address.metrics is not None:
             pages = measures(venue, own, fronts)
             few = gates.Gates(MOST_OF_METRICS, MOST_OF_METRICS)
-            await stack.enter_async_context(served(pages, few, *address.metrics))
+            looked = await stack.enter_async_context(served(pages, few, *address.metrics))
+            others.append(f"metrics  {url_of_metrics(address, looked)}")
         where = address.host, address.port, context
         port = await stack.enter_async_context(served(site.application(), own, *where))
         venue.urls = functools.partial(address.urls, port)
-        others = [await stack.enter_async_context(it.served(context)) for it in fronts]
+        others += [await stack.enter_async_context(it.served(context)) for it in fronts]
         collect_rarely()
         print("\n".join([*begin, *lines_of_address(venue, address, others)]), flush=True)
         NOTICES.info("serving at port %s, %s entries so far", port, entries)
+        for line in others:
+            NOTICES.info("%s", line)
         if venue.round.is_over:
             NOTICES.warning(OVER)
         supervising.notify("READY=1")

@@ -154,6 +154,11 @@ class Venue(Audience):
         return not self._waiting
 
     @property
+    def unknown(self) -> list[str]:
+        """The boards of which that isn't known, by their keys."""
+        return [*self._waiting]
+
+    @property
     def _boards(self) -> dict[str, Instrument]:
         """The boards of all rounds, by their keys."""
         return {it.board.key: it for round_ in self.rounds for it in round_.boards.values()}
