@@ -8,22 +8,24 @@ import json
 import pathlib
 import socket
 import time
-from collections.abc import AsyncIterator
+from collections.abc import AsyncIterator, Callable
 from typing import Any
 
 import aiohttp
 import pytest
 import pytest_asyncio
 import served
-from callauction.venue import clock, connection, gates, http, log, rates, serving, tokens, views
+from callauction.venue import (
+    clock, connection, gates, http, log, rates, serving, teaching, tokens, views,
+)
 from callauction.venue.config import DayTerms, Plan
 from callauction.venue.gates import Gates
 from callauction.venue.http import Site
 from callauction.venue.log import ChangedByOthers, Log, SlowWrite
-from callauction.venue.members import Member
+from callauction.venue.members import Member, NameTakenError
 from callauction.venue.messages import MessageError, Order
 from callauction.venue.metrics import Measures
-from callauction.venue.venue import MOST_CONNECTIONS, Venue
+from callauction.venue.venue import LATER, MOST_CONNECTIONS, Venue
 
 pytestmark = pytest.mark.asyncio
 
@@ -171,6 +173,77 @@ async def test_what_is_held_as_it_halts_isnt_done(inside: Venue) -> None:
     assert await board.uncross() == "opening no price"
     journal = (inside.folder / "XYZ.journal.csv").read_text("latin-1")
     assert journal.count("uncross") == 1
+
+
+async def comes(what: Callable[[], object]) -> None:
+    """Waits until something is so."""
+    async with asyncio.timeout(served.SECONDS):
+        while not what():
+            await asyncio.sleep(0.05)
+
+
+async def test_which_entries_arent_counted_is_said(inside: Venue) -> None:
+    """Those of an instrument whose journal is an older one."""
+    [line] = serving.lines_of_begin(inside, 0)
+    assert line.endswith(", 0 entries so far")
+    inside._waiting["XYZ"] = []
+    assert serving.lines_of_begin(inside, 0) == [f"{line} but for XYZ"]
+
+
+async def test_a_log_that_is_moved_is_seen_at_once(inside: Venue) -> None:
+    """Also where nothing is to be written."""
+    log, other = inside.folder / "venue.log", inside.folder / "moved"
+    await inside.log.written()
+    log.rename(other)
+    await comes(lambda: inside.halted)
+    assert inside.halted == "the venue's log can't be written: it was changed by others"
+    other.rename(log)
+    await inside.resume()
+    assert inside.halted is None
+
+
+async def test_who_joins_as_the_log_fails_is_answered(inside: Venue) -> None:
+    """And joins once it goes on: nobody else has the name meanwhile, nor the token."""
+    code = inside.members.codes[""]
+    log, other = inside.folder / "venue.log", inside.folder / "moved"
+    await inside.log.written()
+    log.rename(other)
+    for text in (LATER, "the venue has halted; nothing was done"):
+        with pytest.raises(MessageError) as found:
+            await inside.join(code, "Anna")
+        assert (found.value.code, found.value.text) == ("halted", text)
+    other.rename(log)
+    await inside.resume()
+    member, token = await inside.join(code, " Anna")
+    assert inside.role_of(token) == ("member", member)
+    with pytest.raises(NameTakenError):
+        await inside.join(code, "Anna")
+
+
+async def test_what_the_operator_wants_as_the_log_fails_is_answered(inside: Venue) -> None:
+    log, other = inside.folder / "venue.log", inside.folder / "moved"
+    await inside.log.written()
+    log.rename(other)
+    with pytest.raises(MessageError) as found:
+        await teaching.done(inside, {"do": "door", "open": False})
+    assert (found.value.code, found.value.text) == ("halted", LATER)
+    other.rename(log)
+    await inside.resume()
+    assert not inside.members.is_open and '"kind":"door"' in log.read_text()
+
+
+async def test_a_clock_that_is_set_is_said(
+    inside: Venue, monkeypatch: pytest.MonkeyPatch, caplog: pytest.LogCaptureFixture
+) -> None:
+    """Once, on standard error, in the log and to operations."""
+    monkeypatch.setattr(clock, "set_by", lambda: 3600.04)
+    log = inside.folder / "venue.log"
+    await comes(lambda: '"kind":"clock_set","ahead":3600.0' in log.read_text())
+    inside._look_at_clock()
+    said = [it.getMessage() for it in caplog.records]
+    assert len(said) == 1 and said[0].startswith("the machine's clock is 3600.0 s ahead of the ")
+    measures = {it.name: it for it in Measures(inside, Gates()).collect()}
+    assert measures["callboard_clock_ahead_seconds"].samples[0].value == 3600.04
 
 
 async def test_a_log_that_fails_and_goes_on(

@@ -6,6 +6,13 @@ import time
 BEGAN = time.time() - time.clock_gettime(time.CLOCK_BOOTTIME)
 
 
+def set_by() -> float:
+    """By how many seconds the machine's clock was set since this process began: it is as much ahead
+    of `now`.
+    """
+    return time.time() - now()
+
+
 def now() -> float:
     """The time, in seconds of the epoch."""
     return BEGAN + time.clock_gettime(time.CLOCK_BOOTTIME)

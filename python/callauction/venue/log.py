@@ -258,6 +258,14 @@ class Log:
         self._is_slow = True
         self.on_fault(SlowWrite())
 
+    async def look(self) -> None:
+        """Takes it for failed where others have changed it, as at the next write."""
+        try:
+            await asyncio.get_running_loop().run_in_executor(self._thread, self._check)
+        except OSError as fault:
+            if self._fault is None and not self._is_closed:
+                self._failed(fault)
+
     def close(self) -> None:
         """Lets `run` end once all is written."""
         self._is_closed = True

@@ -37,8 +37,8 @@ class Done:
 @dataclasses.dataclass(eq=False)
 class Member:
     """A member: its name, what is kept of its token, and its messages by their numbers; its title,
-    its group in this round, the kind of robot that it is, whether it was removed, and how many
-    tokens it had, each for another device.
+    its group in this round, the kind of robot that it is, whether it was removed, how many tokens
+    it had, each for another device, and whether nobody was given the last one.
     """
 
     name: str
@@ -49,6 +49,7 @@ class Member:
     robot: str = ""
     is_removed: bool = False
     devices: int = 0
+    is_unanswered: bool = False
     done: dict[int, Done] = dataclasses.field(default_factory=dict)
     last: int = 0
     hellos: Bucket = dataclasses.field(default_factory=lambda: Bucket(HELLO_RATE, HELLO_BURST))
@@ -160,7 +161,9 @@ class Members:
             raise MessageError("bad_code")
         if not self.is_open:
             raise MessageError("joining_closed")
-        return self._come_again(self._new_title(name))
+        wanted = unicodedata.normalize("NFC", " ".join(name.split()))
+        left = [it.name for it in self.all if it.is_unanswered and it.title == wanted]
+        return self._come_again(left[0] if left else self._new_title(name))
 
     def join_robot(self, name: str, robot: str) -> Member:
         """A robot of the venue itself, whose token nobody has. Raises MessageError."""

@@ -10,7 +10,7 @@ from prometheus_client import CONTENT_TYPE_LATEST, CollectorRegistry, generate_l
 from prometheus_client.core import CounterMetricFamily, GaugeMetricFamily, HistogramMetricFamily
 from prometheus_client.metrics_core import Metric
 
-from callauction.venue import heads
+from callauction.venue import clock, heads
 from callauction.venue.gates import Gates
 from callauction.venue.instrument import Instrument
 from callauction.venue.phases import Phase
@@ -51,6 +51,7 @@ class Measures:
             "members": ("members who have joined", len(venue.members.all)),
             "members_connected": ("members who are connected", len({it.member for it in there})),
             "connections": ("connections that are open", len(self._gates)),
+            "clock_ahead_seconds": ("how far the clock was set since the start", clock.set_by()),
             "log_waiting_lines": ("lines that wait for the disk", venue.log.waiting),
             "disk_free_bytes": ("room on the disk of the day", disk.f_bavail * disk.f_frsize),
         }

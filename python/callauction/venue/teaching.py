@@ -59,7 +59,7 @@ async def done(venue: Venue, message: dict[str, Any]) -> shown.Json:
     except (MessageError, PhaseError) as fault:
         say(logging.WARNING if word == "resume" else logging.INFO, message, f" isn't done: {fault}")
         raise
-    await venue.log.written()
+    await venue.noted()
     say(logging.INFO, message)
     return {"done": word} | found
 

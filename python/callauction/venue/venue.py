@@ -36,6 +36,7 @@ RESUME_SECONDS = 20.0
 LEAST_BEHIND = 1.0
 """From how many seconds on a clock was set back since the log's last line."""
 BEHIND = "the clock is %s s behind the log's last line: calls go on with what was left of them then"
+SET = "the machine's clock is %s s ahead of the venue's and its log's, which is that of the start"
 JOURNAL_FAILED = "journal failed"
 """What the program says where its journal can't be written."""
 MAKE_ROOM = "make room, or mend the disk, then `resume`"
@@ -53,6 +54,7 @@ Heard = Callable[[Instrument, Message, Entry | None], None]
 runs, as the venue opens, and then with None for one that was never executed.
 """
 Reset = Callable[[str], Awaitable[None]]
+LATER = "the venue has halted; this is done once it goes on"
 OTHER_DEVICE = "this member goes on at another device"
 """What a device is told whose member came again by a new code."""
 
@@ -99,6 +101,7 @@ class Venue(Audience):
         self.on_entry: Heard = lambda board, message, entry: None
         self.reset_session: Reset = no_sessions
         self.secrets = {role: tokens.secret_of(folder, role) for role in ("operator", "beamer")}
+        self._ahead = 0.0
         self._waiting: dict[str, list[Line]] = {}
         self._noticed: dict[str, str | None] = {}
         self._tasks: set[asyncio.Task[None]] = set()
@@ -221,11 +224,23 @@ class Venue(Audience):
         return found
 
     async def _look(self) -> None:
-        """Looks every few seconds whether the journals are as their programs wrote them."""
+        """Looks every few seconds whether the machine's clock was set, and whether the journals and
+        the log are as they were written.
+        """
         while True:
             await asyncio.sleep(LOOK_SECONDS)
+            self._look_at_clock()
             for board in [*self.instruments.values()]:
                 await board.engine.look()
+            await self.log.look()
+
+    def _look_at_clock(self) -> None:
+        """Says where the machine's clock was set."""
+        ahead = round(clock.set_by(), 1)
+        if abs(ahead - self._ahead) >= LEAST_BEHIND:
+            self._ahead = ahead
+            NOTICES.warning(SET, ahead)
+            self.log.note(kind="clock_set", ahead=ahead)
 
     async def _open_again(self, board: Instrument) -> None:
         """Opens a board whose journal was put back, or whose program may begin now, or halts again.
@@ -473,10 +488,21 @@ class Venue(Audience):
             for board in self.boards_of(member).values():
                 board.come_back(member.name)
                 self.show_gains(board)
-        await self.log.written()
+        member.is_unanswered = True
+        await self.noted()
+        member.is_unanswered = False
         self.send_away(member)
         self.show_members()
         return member, token
+
+    async def noted(self) -> None:
+        """Waits until what was done is on the log's disk. Raises MessageError where it can't be
+        now: it is done once the venue goes on.
+        """
+        try:
+            await self.log.check_written()
+        except OSError:
+            raise MessageError("halted", LATER) from None
 
     async def admit(self, name: str, token: str) -> Member:
         """The member of this name; where there is none, a new one with this token. Raises
