@@ -801,9 +801,11 @@ def test_what_the_operator_does_is_said(tmp_path: pathlib.Path) -> None:
 def test_whom_the_operators_words_are_about_is_said(tmp_path: pathlib.Path) -> None:
     """Also in one second, and of what is refused."""
     with served.served(tmp_path, FAST, "--log", "json") as venue:
-        for name in ("Anna", "Bert", "Eve", "Max"):
-            venue.join(name)
+        tokens = [venue.join(name) for name in ("Anna", "Bert", "Eve", "Max")]
         venue.do("code", member="Eve")
+        venue.do("start")
+        with Client(venue.url, tokens[0]) as me:
+            me.enter("bid", 1, "2.00")
         for name in ("Anna", "Bert"):
             venue.do("remove", member=name)
         for name in ("Anna", "Bert"):
@@ -820,11 +822,12 @@ def test_whom_the_operators_words_are_about_is_said(tmp_path: pathlib.Path) -> N
     where = "from 127.0.0.1"
     assert told == [
         (f"code, {where}: Eve", "Eve"),
-        (f"remove, {where}: Anna", "Anna"),
-        (f"remove, {where}: Bert", "Bert"),
+        (f"start, {where}", None),
+        (f"remove, {where}: Anna: 1 orders deleted", "Anna"),
+        (f"remove, {where}: Bert: 0 orders deleted", "Bert"),
         (f"readmit, {where}: Anna", "Anna"),
         (f"readmit, {where}: Bert", "Bert"),
-        (f"remove, {where}: Eve, Max", None),
+        (f"remove, {where}: Eve, Max: 0 orders deleted", None),
         (f"remove, {where}: Eve isn't done: Eve is removed already", "Eve"),
     ]
 

@@ -60,8 +60,16 @@ async def done(venue: Venue, message: dict[str, Any]) -> shown.Json:
         say(logging.WARNING if word == "resume" else logging.INFO, message, f" isn't done: {fault}")
         raise
     await venue.noted()
-    say(logging.INFO, message)
+    say(logging.INFO, message, told(found))
     return {"done": word} | found
+
+
+def told(found: shown.Json) -> str:
+    """What became of the orders of members who were removed, empty where nobody was."""
+    if "deleted" not in found:
+        return ""
+    later = f", and those of {', '.join(found['halted'])} later" if "halted" in found else ""
+    return f": {len(found['deleted'])} orders deleted{later}"
 
 
 def say(level: int, message: dict[str, Any], outcome: str = "") -> None:
