@@ -182,6 +182,34 @@ async def comes(what: Callable[[], object]) -> None:
             await asyncio.sleep(0.05)
 
 
+async def test_what_waits_as_it_halts_is_answered_once(
+    client: Any, inside: Venue, monkeypatch: pytest.MonkeyPatch
+) -> None:
+    """By its entry, once it goes on, as nobody knows before whether it has one."""
+    _, token = await inside.join(inside.members.codes[""], "Anna")
+    board = inside.instruments["XYZ"]
+    board.start_call()
+    order = {"type": "enter", "side": "bid", "quantity": 1, "price": "2.00"}
+    async with client.ws_connect("/api/socket") as socket:
+        await socket.send_json({"type": "hello", "token": token})
+        with monkeypatch.context() as held:
+            held.setattr(board.engine, "_send", lambda those, turn: None)
+            await socket.send_json(order | {"number": 1})
+            await comes(lambda: board.engine.waiting)
+        board.engine._give_up(board.engine._turn, "for a while")
+        await socket.send_json(order | {"number": 2})
+        await asyncio.sleep(0.5)
+        await inside.resume()
+        await socket.send_json(order | {"number": 3})
+        found: list[tuple[int, str]] = []
+        async with asyncio.timeout(served.SECONDS):
+            while not found or found[-1][0] != 3:
+                said = await socket.receive_json()
+                if said["type"] in ("answer", "error"):
+                    found.append((said["number"], said.get("reply", said.get("error"))))
+    assert found == [(2, "halted"), (1, "entered 1"), (3, "entered 2")]
+
+
 async def test_which_entries_arent_counted_is_said(inside: Venue) -> None:
     """Those of an instrument whose journal is an older one."""
     [line] = serving.lines_of_begin(inside, 0)

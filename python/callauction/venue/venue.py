@@ -562,13 +562,12 @@ class Venue(Audience):
 
     def _withdraw(self, member: Member, board: Instrument) -> list[Deletion]:
         """Deletes the open orders of a member who was removed, each once, where that can be."""
-        asked = {it.record for it in member.waiting(board.board.market)}
+        asked = {it.record: it.answer for it in member.waiting(board.board.market)}
         found = []
         for order in board.open_orders(member.name) if board.engine.is_open else ():
             sent = Order(member.last + 1, board.terms.name, f"delete,{order}")
-            if sent.record not in asked:
-                answer = self.withdraw(member, board, sent)
-                found.append(Deletion(member, board.board.name, order, answer))
+            answer = asked.get(sent.record) or self.withdraw(member, board, sent)
+            found.append(Deletion(member, board.board.name, order, answer))
         return found
 
     def withdraw(
