@@ -299,7 +299,11 @@ def test_two_tabs_of_a_telephone(lesson: dict[str, Any], tmp_path: pathlib.Path)
         joins(page, venue.do("code", member="Tim")["code"], "Tim")
         driver.switch_to.window(second)
         page.waits(lambda it: it.text("who") == "Tim" and it.shows("trading"))
-    venue.do("remove", member="Tim")
+        assert page.text("join-said") == ""
+        venue.do("remove", member="Tim")
+        for tab in (second, first):
+            driver.switch_to.window(tab)
+            page.waits(lambda it: it.text("join-said").startswith("You aren't known here any"))
 
 
 @pytest.mark.parametrize("page", ["teacher", "beamer"])

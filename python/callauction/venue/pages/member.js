@@ -14,7 +14,7 @@ import {
   takesOrders, tradesOf,
 } from "./states.js";
 
-const KEPT = "venue.token";
+const KEPT = "venue.token", WHY = "venue.why";
 const SLOW = 300;
 const OTHER_DEVICE = "goes on at another device";
 const clock = new Clock(find("clock"));
@@ -228,8 +228,7 @@ function doneText(reply, order, sent) {
 
 function takeError(message) {
   if (message.error === "bad_token") {
-    leave();
-    sayJoin(message.text.endsWith(OTHER_DEVICE) ? text("other_device") : errorText(message));
+    leave(message.text.endsWith(OTHER_DEVICE) ? text("other_device") : errorText(message));
     return;
   }
   say(errorText(message), true);
@@ -278,7 +277,10 @@ async function join(event) {
   }
 }
 
-function leave() {
+// Why it isn't its own wish is said in its other tabs too.
+function leave(why = "") {
+  sayJoin(why);
+  localStorage.setItem(WHY, why);
   if (localStorage.getItem(KEPT) === connection?.token) localStorage.removeItem(KEPT);
   connection?.end();
   [connection, name, lostAt, words, round, payoff] = [null, "", null, null, null, null];
@@ -294,7 +296,7 @@ function begin(token) {
 // Another tab of this telephone left, or joined as somebody else.
 function follow({ key, newValue }) {
   if (key !== KEPT || newValue === (connection?.token ?? null)) return;
-  if (connection) leave();
+  if (connection) leave(newValue ? "" : localStorage.getItem(WHY) ?? "");
   if (newValue) begin(newValue);
 }
 
