@@ -248,6 +248,30 @@ async def test_who_joins_as_the_log_fails_is_answered(inside: Venue) -> None:
         await inside.join(code, "Anna")
 
 
+async def test_nobody_is_another_by_a_join_that_failed(inside: Venue) -> None:
+    """Who comes again by a code of its own as the log fails: its name stays its own."""
+    member, _ = await inside.join(inside.members.codes[""], "Anna")
+    own = inside.members.set_code("Anna", "OWN123")
+    log, other = inside.folder / "venue.log", inside.folder / "moved"
+    await inside.log.written()
+    log.rename(other)
+    with pytest.raises(MessageError):
+        await inside.join(own, "")
+    other.rename(log)
+    await inside.resume()
+    with pytest.raises(NameTakenError):
+        await inside.join(inside.members.codes[""], "Anna")
+    assert (await inside.join(own, ""))[0] is member
+
+
+async def test_two_who_join_by_one_name_at_once(inside: Venue) -> None:
+    code = inside.members.codes[""]
+    asked = [inside.join(code, "Anna") for _ in range(2)]
+    first, second = await asyncio.gather(*asked, return_exceptions=True)
+    assert isinstance(second, NameTakenError) and not isinstance(first, BaseException)
+    assert inside.role_of(first[1]) == ("member", first[0])
+
+
 async def test_what_the_operator_wants_as_the_log_fails_is_answered(inside: Venue) -> None:
     log, other = inside.folder / "venue.log", inside.folder / "moved"
     await inside.log.written()

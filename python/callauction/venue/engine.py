@@ -201,9 +201,10 @@ class Engine:
     def release(self) -> None:
         """Sends what was held, in the order in which it came, unless it is held once more."""
         self._holds -= 1
-        held, self._held = ([], self._held) if self._holds else (self._held, [])
-        for sent in held:
-            self._take(sent)
+        if not self._holds:
+            held, self._held = self._held, []
+            for sent in held:
+                self._take(sent)
 
     async def show(self, views: Sequence[str]) -> list[list[str]]:
         """What the program answers to these views, all of one moment. Raises ProcessError where it

@@ -38,7 +38,7 @@ class Done:
 class Member:
     """A member: its name, what is kept of its token, and its messages by their numbers; its title,
     its group in this round, the kind of robot that it is, whether it was removed, how many tokens
-    it had, each for another device, and whether nobody was given the last one.
+    it had, each for another device, and whether nobody was given any of them.
     """
 
     name: str

@@ -488,8 +488,11 @@ class Venue(Audience):
             for board in self.boards_of(member).values():
                 board.come_back(member.name)
                 self.show_gains(board)
-        member.is_unanswered = True
-        await self.noted()
+        try:
+            await self.noted()
+        except MessageError:
+            member.is_unanswered |= member.name not in before
+            raise
         member.is_unanswered = False
         self.send_away(member)
         self.show_members()
