@@ -21,7 +21,7 @@ NOTICED = re.compile(
     r"^venue: (.* halted: |.* goes on|.* is started again(?: \(and \d+ times more\))?$"
     r"|\S+: \d+ of at most |codes are guessed|too many connections"
     r"|a token that isn't the operator's|the operator: resume, from |the day is over"
-    r"|the machine's clock is )"
+    r"|the machine's clock is |\S+: the end of its journal was )"
 )
 """What is said on standard error of what goes on outside."""
 SECONDS = 300.0

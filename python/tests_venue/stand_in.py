@@ -56,6 +56,8 @@ class Session:
             raise ended("journal in use", 2) from None
         text = pathlib.Path(path).read_text(encoding="latin-1")
         whole = text[: text.rfind("\n") + 1]
+        if text[len(whole) :].strip("\0"):
+            pathlib.Path(f"{path}.cut-1").write_text(text[len(whole) :], encoding="latin-1")
         os.ftruncate(found, len(whole))
         self.journal = found
         if whole:

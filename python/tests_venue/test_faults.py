@@ -454,6 +454,23 @@ def test_a_day_goes_on(tmp_path: pathlib.Path) -> None:
     assert '"instr{' not in log.read_text()
 
 
+def test_the_end_of_a_journal_is_put_aside(tmp_path: pathlib.Path) -> None:
+    """What was cut off as it was written, and that is said."""
+    words = day_before(tmp_path)
+    with open(tmp_path / "venue/XYZ.journal.csv", "a") as file:
+        file.write("1,enter,bid")
+    venue = served.started(*words)
+    venue.child.terminate()
+    _, error = venue.child.communicate(timeout=served.SECONDS)
+    name = "XYZ.journal.csv.cut-1"
+    text = "XYZ: the end of its journal was no whole line, and was put aside"
+    assert error == f"venue: {text}: {name} has it\n"
+    assert (tmp_path / "venue" / name).read_text() == "1,enter,bid"
+    venue = served.started(*words)
+    venue.child.terminate()
+    assert venue.child.communicate(timeout=served.SECONDS)[1] == ""
+
+
 def test_a_journal_of_another_day(tmp_path: pathlib.Path) -> None:
     words = day_before(tmp_path)
     (tmp_path / "day.toml").write_text(FAST + '[[instrument]]\nlow = "0.02"\n')

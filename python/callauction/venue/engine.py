@@ -9,6 +9,7 @@ import asyncio
 import contextvars
 import dataclasses
 import errno
+import glob
 import logging
 import operator
 import os
@@ -40,6 +41,7 @@ from callauction.venue.recovery import (
 ENTERED = re.compile(r"(\d+): (.*)")
 NO_CALLS = ("calls are reserved for the operator", "too many commands")
 NOTICES = logging.getLogger("callauction.venue")
+CUT_OFF = "%s: the end of its journal was no whole line, and was put aside: %s has it"
 MOST_ENDS = 8
 """How often the program may end without an answer in between before the engine halts."""
 PAUSE = 0.05
@@ -115,8 +117,10 @@ class Engine:
         """A run of the program, and the entries of its journal, which are those of which the log
         knows, before it began and after. Raises what `open` raises.
         """
-        before = await self._known_entries(mark)
+        before, cut = await self._known_entries(mark), self._cut_off()
         process, count = await self._started()
+        for name in sorted(self._cut_off() - cut):
+            NOTICES.warning(CUT_OFF, self.name, name)
         try:
             entries = (await self._known_entries(mark))[:count]
             both = min(len(before), count)  # an earlier run of the program may have gone on
@@ -127,6 +131,11 @@ class Engine:
             await process.stop()
             raise
         return process, entries
+
+    def _cut_off(self) -> set[str]:
+        """The files in which its program has kept ends of the journal that were no whole lines."""
+        names = glob.escape(self.journal.name)
+        return {it.name for it in self.journal.parent.glob(f"{names}.cut-*")}
 
     async def _known_entries(self, mark: Mark) -> list[Entry]:
         """The entries of the journal, which begin with those of the mark. Raises RolledBackError
