@@ -20,7 +20,7 @@ from test_kills import Keeper
 
 KILLS = int(os.environ.get("VENUE_FIX_KILLS", "60"))
 MEMBERS = ("ALICE", "BOB", "CAROL")
-MOST_UNANSWERED = 8
+MOST_UNANSWERED, MOST_AT_ONCE = 32, 6
 TARGETS = ("venue", "program", "connection")
 AUCTIONS = ("opening", "intraday", "closing")
 MORE: list[Pairs] = [[], [], [(59, "2")], [(59, "7")], [(111, "1")]]
@@ -57,8 +57,9 @@ class Robot:
         """One connection. Raises Closed, OSError."""
         self.peer.logon(fixing.token_of(self.folder, self.peer.member))
         while not self.ended.is_set():
-            if not self.done.is_set() and len(self.unanswered()) < MOST_UNANSWERED:
-                self.act()
+            for _ in range(self.chance.randint(1, MOST_AT_ONCE)):
+                if not self.done.is_set() and len(self.unanswered()) < MOST_UNANSWERED:
+                    self.act()
             try:
                 self.peer.all(self.chance.random() * 0.02)
             finally:
@@ -86,13 +87,17 @@ class Robot:
             self.open.pop(given[37], None)
 
     def act(self) -> None:
-        """Sends an order, a change, a cancel, or a cancel of all."""
+        """Sends an order, a change, a cancel, a cancel of all, or what is refused at once."""
         client = f"{self.peer.member}-{len(self.asked) + 1}"
         self.asked.append(client)
         shares, price = self.chance.randint(1, 900), f"{self.chance.randint(180, 220) / 100:.2f}"
         held = self.chance.choice([*self.open.values()]) if self.open else None
-        kind = self.chance.choices("DGFq", (60, 20, 20, 3))[0]
-        if kind == "q":
+        kind = self.chance.choices("DGFqHN", (60, 20, 20, 3, 10, 10))[0]
+        if kind == "H":
+            self.peer.say("H", [(11, client), (55, "XYZ"), (54, "1")])  # of no order
+        elif kind == "N":
+            self.peer.cancel("none", client, "1")
+        elif kind == "q":
             self.peer.say("q", [(11, client), (530, "7"), (60, fixing.stamp())])
         elif kind == "D" or held is None:
             more = self.chance.choice(MORE)

@@ -104,7 +104,8 @@ class Front:
         self.files = MOST_CONNECTIONS + OTHER_FILES
         self._sent = Sent(venue.folder, venue.day.is_synced)
         self._sent.log.on_fault = self._failed
-        desk = Desk(venue, self._stream, self._tell, self._send, self._next, self._watch, MORE)
+        follow = self._next, self._since
+        desk = Desk(venue, self._stream, self._tell, self._send, *follow, self._watch, MORE)
         seats = [Seat(it, name, self._begin_of(it), desk) for it, name in terms.sessions.items()]
         if terms.copy:
             seats.append(CopySeat(terms.copy, self._begin_of(terms.copy), desk))
@@ -195,9 +196,9 @@ class Front:
                 seat.learn(pairs_of(text))
                 await self._give_way()
             sent = self._sent.earlier(seat.session)
-            for number, text in sent.items():
+            for number, (text, since) in sent.items():
                 self.engine.restore(seat.session, number, text)
-                seat.recall(pairs_of(text))
+                seat.recall(pairs_of(text), since)
                 await self._give_way()
             self._owe(seat, sent)
             seat.lost()
@@ -472,7 +473,7 @@ class Front:
         """Writes what sessions were sent, and sends then what waits for that."""
         self._is_writing = True
         seats = (it for it in self._seats.values() if not it.owed and it not in self._beginning)
-        self._sent.write(self.engine, [it.session for it in seats], self._written)
+        self._sent.write(self.engine, {it.session: it.since for it in seats}, self._written)
 
     def _written(self) -> None:
         """What was to be written is."""
@@ -490,6 +491,13 @@ class Front:
     def _next(self, seat: Seat) -> int:
         """The number of the next message to a session."""
         return self.engine.next(seat.session)
+
+    def _since(self, seat: Seat, following: int) -> int:
+        """The number of the first message of a session whose answer a crash may take, among those
+        before this number to the session; 0 where it can take none.
+        """
+        is_safe = self._sent.is_safe(seat.session, following - 1)
+        return 0 if is_safe else self._sent.firm(seat.session)
 
     def _send(
         self,

@@ -67,7 +67,9 @@ DIGITS = Context(prec=15)
 """How many digits of an average price are sent: as many as a float of FIX may have."""
 CLIENT, ORIGIN, TIME = map(str, (Tag.CL_ORD_ID, Tag.ORIG_CL_ORD_ID, Tag.TIME_IN_FORCE))
 NUMBER, WHEN, SAID = map(str, (Tag.MSG_SEQ_NUM, Tag.TRANSACT_TIME, Tag.TEXT))
-"""What the log keeps beside a message of a member by FIX; the last three are of the report of it.
+SINCE = str(Tag.BEGIN_SEQ_NO)
+"""What the log keeps beside a message of a member by FIX; NUMBER, WHEN and SAID are of the report
+of it, SINCE is the number of the first message whose answer a crash might take then.
 """
 
 

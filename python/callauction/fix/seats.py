@@ -8,6 +8,7 @@ import collections
 import contextlib
 import dataclasses
 import functools
+import itertools
 import re
 from collections.abc import Awaitable, Callable, Collection, Mapping
 from typing import Any
@@ -18,6 +19,7 @@ from callauction.fix.orders import (
     ORIGIN,
     SAID,
     SENTENCES,
+    SINCE,
     TIME,
     TIMES,
     WHEN,
@@ -115,7 +117,8 @@ Answers = Collection["asyncio.Future[Entry]"]
 @dataclasses.dataclass(eq=False)
 class Desk:
     """What a seat needs of its front: the stream of a board, and how messages are sent, those that
-    are an event once; the number of the `next` one; `watch` has its session hear of what changes,
+    are an event once; the number of the `next` one, and `since` which message of the session a
+    crash may take an answer before that, 0 for none; `watch` has its session hear of what changes,
     and `more` has what it takes beside orders.
     """
 
@@ -124,6 +127,7 @@ class Desk:
     tell: Callable[[Report], None]
     send: Callable[["Seat", str, Pairs, Groups], int]
     next: Callable[["Seat"], int]
+    since: Callable[["Seat", int], int]
     watch: Callable[["Seat"], None]
     more: "Mapping[str, Act]"
 
@@ -156,8 +160,8 @@ class Seat:
         self._came: collections.deque[tuple[Given, Pairs]] = collections.deque()
         self._wakes = asyncio.Event()
         self._unanswered: dict[asyncio.Future[Entry], Instrument] = {}
-        self._awaited: set[int] = set()
-        self._greatest, self._is_waiting = 0, False
+        self._awaited: dict[int, None] = {}
+        self._firm, self._greatest, self._is_waiting = 1, 0, False
         self._fault: Exception | None = None
         self.feeds = Feeds(desk.venue)
         self._does: dict[str, Act] = {
@@ -206,15 +210,20 @@ class Seat:
         return refusal_of(self.comp_id, number, self.epoch)
 
     def expected(self) -> int:
-        """The number of the first message that may be missing: the first in the log that was never
-        executed nor refused, else the one after the last that was taken.
+        """The number of the first message that may be missing: in the log, and never executed nor
+        refused, or the first that isn't settled after those that are for sure.
         """
         head = self.refusal_of("")
         refused = (it.removeprefix(head) for it in self.told if it.startswith(head))
         settled = {int(it) for it in refused if it.isdecimal()}
         settled |= {number for number, is_done in self.numbers.items() if is_done}
-        missing = self.numbers.keys() - settled
-        return min(missing) if missing else max(settled, default=0) + 1
+        first = next(it for it in itertools.count(self._firm) if it not in settled)
+        return min([first, *self.numbers.keys() - settled])
+
+    def since(self) -> int:
+        """The number of the first message that came and isn't settled yet, 0 for none."""
+        came = (int(given[Tag.MSG_SEQ_NUM]) for given, _ in self._came if given is not LOST)
+        return min([*itertools.islice(self._awaited, 1), *itertools.islice(came, 1)], default=0)
 
     def put(self, given: Given, rows: Pairs) -> None:
         """It says this, with these fields in groups; it is taken in its `turn`."""
@@ -272,8 +281,10 @@ class Seat:
             if not number.message:
                 return
         is_done = entry is not None and not number.part
+        if not number.part:
+            self._firm = max(self._firm, int(message.note.get(SINCE, number.message + 1)))
         if entry is not None and not number.part:
-            self._awaited.discard(number.message)
+            self._awaited.pop(number.message, None)
             self.promised[entry_event(board, entry.place)] = int(message.note.get(NUMBER, "0"))
         self.numbers[number.message] = self.numbers.get(number.message, False) or is_done
         if self.numbers[number.message]:
@@ -297,7 +308,8 @@ class Seat:
         """Its session was reset, so often so far."""
         self.epoch = epoch
         self.told, self.numbers, self._lost = set(), {}, {}
-        self.promised, self.owed, self._awaited, self._greatest = {}, {}, set(), 0
+        self.promised, self.owed, self._awaited = {}, {}, {}
+        self._firm, self._greatest = 1, 0
         self.deleted.clear()
         self._parts.clear()
 
@@ -444,6 +456,8 @@ class Seat:
         """
         board = self.board(given)
         number = self.clients.get(client)
+        if number and number.epoch == self.epoch and number.message > int(given[Tag.MSG_SEQ_NUM]):
+            return None  # this one comes again, and was before that
         if done := self.member.done.get(-number.key) if number else None:
             try:
                 await self.until_answered(board, [done.answer])
@@ -482,11 +496,17 @@ class Seat:
             if answer:
                 self.mass.setdefault(client, answer)
 
-    def recall(self, pairs: Pairs) -> None:
-        """Recalls a message that it was sent in an earlier run, since its last reset."""
+    def recall(self, pairs: Pairs, since: int) -> None:
+        """Recalls a message that it was sent in an earlier run, since its last reset, as all before
+        `since` was settled, or, where that is 0, all before what it answers.
+        """
         given = dict(pairs)
         if event := event_in(given, self.comp_id, self.epoch):
             self.told.add(event)
+        answered = event.removeprefix(self.refusal_of(""))
+        if answered.isdecimal():
+            following = int(answered) + 1
+            self._firm = max(self._firm, min(since or following, following))
         if given[Tag.MSG_TYPE] == Type.LOGON:
             self.cancels = given.get(Tag.CANCELS_ON_DISCONNECT) == "Y"
         self.learn(pairs)
@@ -498,7 +518,7 @@ class Seat:
         number = event.removeprefix(self.refusal_of(""))
         given[Tag.MSG_SEQ_NUM] = number if number.isdecimal() else "0"  # from before a reset
         is_refused = given.get(Tag.EXEC_TYPE) == Status.REJECTED
-        is_own = event.startswith(refusal_of(self.comp_id, "", 0))
+        is_own = event.startswith(refusal_of(self.comp_id, "", 0)) and given.get(Tag.TEXT) != USED
         if is_own and (is_refused or given[Tag.MSG_TYPE] in OF_CLIENTS):
             is_mass = given[Tag.MSG_TYPE] == Type.MASS_CANCELED
             self.keep(given, [it for it in pairs if is_mass and it[0] in OF_MASS])
@@ -509,10 +529,13 @@ class Seat:
         self, given: Given, number: int, board: Instrument, record: str, time: str
     ) -> None:
         """Sends a command, with its ids beside it in the log. Raises MessageError."""
-        client, own, promised = given[Tag.CL_ORD_ID], self.number(number), self._promised()
+        client, own, following = given[Tag.CL_ORD_ID], self.number(number), self.desk.next(self)
+        promised = self._promised(following)
         note = {CLIENT: client, WHEN: now()}
         if promised:
             note[NUMBER] = str(promised)
+        if since := self.desk.since(self, following):
+            note[SINCE] = str(since)
         if Tag.ORIG_CL_ORD_ID in given:
             note[ORIGIN] = given[Tag.ORIG_CL_ORD_ID]
         if time:
@@ -520,16 +543,16 @@ class Seat:
         order = Order(-own.key, board.terms.name, record, note)
         answer, _ = self.desk.venue.submit(self.member, order)
         self._greatest = promised or self._greatest
-        self._awaited.add(number)
+        self._awaited[number] = None
         self.clients[client] = own
         self._unanswered[answer] = board
         answer.add_done_callback(lambda it: self._answered(given, number, it))
 
-    def _promised(self) -> int:
+    def _promised(self, following: int) -> int:
         """The number under which the next command will be answered if nothing else comes before
         that, 0 where this was said of another command.
         """
-        found = self.desk.next(self) + len(self._awaited) + len(self.promised)
+        found = following + len(self._awaited) + len(self.promised)
         return found if found > self._greatest else 0
 
     def _answered(self, given: Given, number: int, answer: "asyncio.Future[Entry]") -> None:
@@ -537,7 +560,7 @@ class Seat:
         self._unanswered.pop(answer, None)
         fault = None if answer.cancelled() else answer.exception()
         if isinstance(fault, MessageError):
-            self._awaited.discard(number)
+            self._awaited.pop(number, None)
             refuse(self, given, self.refusal_of(number), fault)
 
     def deletion(self, board: Instrument, order: int, message: int, note: dict[str, str]) -> Order:

@@ -8,7 +8,7 @@ start makes them again.
 import collections
 import json
 import pathlib
-from collections.abc import Callable, Iterable
+from collections.abc import Callable, Iterator, Mapping
 
 from callauction.fix._quickfix import Engine
 from callauction.fix.tags import number_of
@@ -26,22 +26,31 @@ class Sent:
         self.log = Log(folder / SENT, is_synced)
         self.resets: collections.Counter[str] = collections.Counter()
         self.former: dict[str, list[bytes]] = {}
-        self._texts: dict[str, list[bytes]] = {}
+        self._texts: dict[str, list[tuple[bytes, int]]] = {}
         self._new: dict[str, list[tuple[int, bytes]]] = {}
         self._safe: collections.Counter[str] = collections.Counter()
+        self._firm: dict[str, int] = {}
         self._following: dict[str, set[int]] = {}
         for line in self.log.lines():
             with taking(line):
                 session = line["session"]
                 if line["kind"] == "reset":
                     self.resets[session] += 1
-                    self.former.setdefault(session, []).extend(self._texts.pop(session, []))
+                    texts = [text for text, _ in self._texts.pop(session, [])]
+                    self.former.setdefault(session, []).extend(texts)
                 else:
-                    self._texts.setdefault(session, []).append(line["text"].encode("latin-1"))
+                    text = line["text"].encode("latin-1"), int(line.get("since", 0))
+                    self._texts.setdefault(session, []).append(text)
 
-    def earlier(self, session: str) -> dict[int, bytes]:
-        """What was written that a session was sent in earlier runs, by its numbers."""
-        return {number_of(text): text for text in self._texts.pop(session, [])}
+    def earlier(self, session: str) -> dict[int, tuple[bytes, int]]:
+        """What was written that a session was sent in earlier runs, by its numbers, each with the
+        number of the first message of it that wasn't settled then, 0 where that isn't known.
+        """
+        return {number_of(text): (text, it) for text, it in self._texts.pop(session, [])}
+
+    def firm(self, session: str) -> int:
+        """Up to which of its messages a session's answers are on the disk, and none of them."""
+        return self._firm.get(session, 1)
 
     # ---- what may be sent
 
@@ -77,20 +86,24 @@ class Sent:
         for session, number, text in engine.stored():
             self._new.setdefault(session, []).append((number, text))
 
-    def write(self, engine: Engine, sessions: Iterable[str], then: Callable[[], None]) -> None:
-        """Writes what sessions were sent so far, in the order of its numbers: it is safe then."""
+    def write(
+        self, engine: Engine, sessions: Mapping[str, Callable[[], int]], then: Callable[[], None]
+    ) -> None:
+        """Writes what sessions were sent so far, in the order of its numbers: it is safe then. Each
+        has what gives the number of the first message that isn't settled yet, 0 for none.
+        """
         self._take(engine)
         last = {it: engine.next(it) - 1 for it in sessions}
-        lines = []
-        for session in last:
-            if texts := self._new.pop(session, []):
-                head = text_of({"kind": "out", "session": session})[:-1]
-                for _, text in sorted(texts):
-                    lines.append(f'{head},"text":{json.dumps(text.decode("latin-1"))}}}')
+        new = {it: self._new.pop(it) for it in sessions if it in self._new}
+        firm = {it: sessions[it]() or engine.expected(it) for it in new}
+        lines: list[str] = []
+        for session, texts in new.items():
+            lines += lines_of(session, firm[session], texts)
 
         def written() -> None:
             for session, number in last.items():
                 self.reach(session, number)
+            self._firm.update(firm)
             then()
 
         self.log.append("\n".join(lines), written)
@@ -102,8 +115,18 @@ class Sent:
             self._take(engine)
             self._new.pop(session, None)
             self._following.pop(session, None)
+            self._firm.pop(session, None)
             self._safe[session] = 0
             then()
 
         self.log.note(begun, kind="reset", session=session)
         await self.log.written()
+
+
+def lines_of(session: str, since: int, texts: list[tuple[int, bytes]]) -> Iterator[str]:
+    """The lines of what a session was sent, with the number of the first message of it that isn't
+    settled: an answer may be before those to messages that wait.
+    """
+    head = text_of({"kind": "out", "session": session, "since": since})[:-1]
+    for _, text in sorted(texts):
+        yield f'{head},"text":{json.dumps(text.decode("latin-1"))}}}'

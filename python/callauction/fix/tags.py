@@ -17,6 +17,7 @@ class Tag:
     EXEC_ID = 17
     LAST_PX = 31
     LAST_QTY = 32
+    BEGIN_SEQ_NO = 7
     MSG_SEQ_NUM = 34
     MSG_TYPE = 35
     NEW_SEQ_NO = 36
