@@ -14,6 +14,7 @@
 #include <quickfix/Session.h>
 #include <algorithm>
 #include <cstdlib>
+#include <ctime>
 #include <map>
 #include <memory>
 #include <set>
@@ -32,7 +33,8 @@ struct Fresh { std::string session; int number; std::string text; };
 
 namespace {
 
-const size_t most_unread = 16384;  // bytes of a message that hasn't ended
+const size_t most_length = 65536, most_of_logon = 16384;  // bytes of a message's body, and of one that logs on
+const size_t most_around = 1024;  // bytes around a message's body
 const size_t most_unsent = 65536;  // bytes to send with which a connection is read no further
 const int most_again = 64;  // messages that are sent again at a time
 const char* const unsupported = "3";
@@ -40,6 +42,7 @@ const int last_tag = 1617;  // of the standard
 const size_t most_digits = 9, most_letters = 18;  // of a MsgSeqNum and a HeartBtInt, without zeros before and with them
 const size_t to_second = 17;  // letters of a time, without what is less than a second
 const size_t most_shown = 24;  // letters of what a refused Logon says of itself
+const int most_wait = 10;  // seconds after which what was asked for is asked for again
 const int most_waits = 3;  // seconds in which a Logout is to be answered
 const std::string too_low = "MsgSeqNum too low";  // how QuickFIX begins a Logout for one
 const std::string remedy =
@@ -49,9 +52,12 @@ const std::string no_reset =
 const char* const seconds = " from 0 (no heartbeats) to 999999999 seconds";
 const char* const wrong_ids = "SenderCompID (49) or TargetCompID (56) isn't this session's";
 const char* const wrong_time = "SendingTime (52) isn't the time, or is before OrigSendingTime (122)";
+const std::string bad_length = "BodyLength (9) is a number of at most " + std::to_string(most_length);
+const char* const not_ended = "what came has no end of a message (10) where it says it has (9)";
 const char* const logged_on = "this connection is logged on: a Logon (35=A) is its first message alone; connect again";
 const std::set<std::string> taken_types = {"D", "F", "G", "H", "V", "g", "q", "x", "AF"};  // what members may say
 const std::set<std::string> passing_types = {"W", "X", "h"};  // what isn't sent again
+const std::set<int> of_parties = {447, 448, 452};  // the tags of a row of NoPartyIDs
 const char* const reject = "3";
 const char* const reject_again = "U3";  // it is sent again, which QuickFIX does with no message of the session
 const int cancels_on_disconnect = 8013;  // Y in a Logon: CancelOrdersOnDisconnect
@@ -177,6 +183,36 @@ struct Counts { long received = 0, sent = 0, rejects = 0, resends = 0; };
 // sent for the first time comes after it.
 struct Again { std::string asked, after; int begin = 0, end = 0; bool is_begun = false; };
 
+// What has come on a connection, of which whole messages are taken.
+class Reader {
+ public:
+  void add(const std::string& data) { bytes_ += data; }
+  // Takes the next whole message, if there is one: whether there is. Raises MessageParseError where its length can't be.
+  bool read(std::string& text) {
+    size_t body = 0;
+    int length = 0;
+    const size_t begin = bytes_.find("8=");
+    if (begin == std::string::npos) return false;
+    bytes_.erase(0, begin);
+    if (!parser_.extractLength(length, body, bytes_)) return false;
+    if (length > static_cast<int>(most_length)) throw FIX::MessageParseError();
+    if (bytes_.size() < body + length) return false;
+    const size_t sum = bytes_.find("\00110=", body + length - 1);
+    const size_t end = sum == std::string::npos ? sum : bytes_.find('\001', sum + 4);
+    if (end == std::string::npos) return false;
+    text.assign(bytes_, 0, end + 1);
+    bytes_.erase(0, end + 1);
+    return true;
+  }
+
+ private:
+  FIX::Parser parser_;
+  std::string bytes_;
+};
+
+// The numbers that were asked for last on a connection: from which on, up to which, and when.
+struct Asked { int begin = 0, end = 0; std::time_t time = 0; };
+
 // A connection: what is to be sent on it, and whether it is to be closed then.
 struct Wire : FIX::Responder {
   explicit Wire(Counts& counts) : counts(counts) {}
@@ -190,8 +226,9 @@ struct Wire : FIX::Responder {
   }
   void disconnect() override { is_closed = true; }
   Counts& counts;
-  FIX::Parser parser;
+  Reader reader;
   FIX::Session* session = nullptr;
+  Asked asked;
   size_t unread = 0;
   std::string out, logout;  // to be sent; a Logout that came, and is answered after all that came before it
   Again again;
@@ -247,7 +284,7 @@ class Engine : public FIX::Application, FIX::LogFactory {
   // Takes what has come, and what was left before: whether some is left, until what is to be sent was taken.
   bool feed(int number, const std::string& data) {
     Wire& wire = *wires_.at(number);
-    wire.parser.addToStream(data);
+    wire.reader.add(data);
     wire.unread += data.size();
     while (!wire.is_closed && wire.out.size() <= most_unsent)
       if (!takes(wire)) return false;
@@ -423,6 +460,7 @@ class Engine : public FIX::Application, FIX::LogFactory {
     if (initiator_ && type == "A") message.setField(FIX::FIELD::Password, password_);
     if (acceptor_ && type == "A" && cancelling_.count(id)) message.setField(cancels_on_disconnect, "Y");
     if (acceptor_ && type == "5") tell_end(message);
+    if (type == "2") keep_asked(message);
     ends_.clear();
     if (type != reject || !message.isSetField(FIX::FIELD::SessionRejectReason)) return;
     const int reason = std::stoi(message.getField(FIX::FIELD::SessionRejectReason));
@@ -501,17 +539,17 @@ class Engine : public FIX::Application, FIX::LogFactory {
   bool takes(Wire& wire) {
     if (!wire.again.asked.empty()) return send_part(wire);
     if (!wire.logout.empty()) {
-      wire.is_closed = wire.unread > most_unread;
+      wire.is_closed = is_too_much(wire);
       return false;
     }
     std::string text;
     try {
-      if (!wire.parser.readFixMessage(text)) {
-        wire.is_closed = wire.unread > most_unread;
+      if (!wire.reader.read(text)) {
+        if (is_too_much(wire)) end(wire, not_ended);
         return false;
       }
     } catch (FIX::Exception&) {
-      wire.is_closed = true;
+      end(wire, bad_length);
       return true;
     }
     wire.unread = 0;
@@ -522,30 +560,67 @@ class Engine : public FIX::Application, FIX::LogFactory {
     return !is_logout;
   }
 
+  // Whether more has come on a connection than a message has.
+  static bool is_too_much(const Wire& wire) {
+    return wire.unread > (wire.session ? most_length + most_around : most_of_logon);
+  }
+
+  // Ends a connection, on which no message can follow: says why, and to a session in a Logout.
+  void end(Wire& wire, const std::string& why) {
+    wire.is_closed = true;
+    if (!wire.session) {
+      refused(why);
+      return;
+    }
+    put("event", wire.session->getSessionID().toString(), "a connection is ended: " + why);
+    say_why(wire, why);
+  }
+
   // Takes a message. One with a wrong checksum is passed over, as the standard says.
   void take(Wire& wire, const std::string& text) {
     heard_ = &text;
+    hearing_ = &wire;
     try {
       if (!wire.session) wire.is_closed = !begins(wire, text) || !takes_logon(wire, text);
       else if (acceptor_ && type_of(text) == "A") wire.is_closed = !say_why(wire, logged_on);
       else if (acceptor_ && !has_head(text) && !is_passed(wire, text)) return;
       else if (acceptor_ && is_long(wire, text)) begin_again(wire, text);
-      else hand(*wire.session, text);
+      else hand(wire, text);
     } catch (FIX::InvalidMessage&) {
       wire.is_closed = !wire.session || !wire.session->isLoggedOn();
     } catch (FIX::Exception&) {
       wire.is_closed = true;
     }
     heard_ = nullptr;
+    hearing_ = nullptr;
   }
 
   // Gives QuickFIX a message. It would count a Logout or a Reject also where messages before it are missing, and then
   // never ask for one of those.
-  static void hand(FIX::Session& session, const std::string& text) {
+  static void hand(const Wire& wire, const std::string& text) {
+    FIX::Session& session = *wire.session;
     const int expected = session.getExpectedTargetNum();
+    session.setSendRedundantResendRequests(asks_again(wire.asked, text, expected));
     session.next(text, FIX::UtcTimeStamp());
     if (session.getExpectedTargetNum() == expected || type_of(text) == "4") return;
     if (FIX::IntConvertor::convert(value_of(text, "34")) != expected) session.setNextTargetMsgSeqNum(expected);
+  }
+
+  // Whether messages are asked for again where this one is too early. QuickFIX takes what it has asked for as being on
+  // its way until a number after that comes in its turn, and asks for nothing else before: not where a gap was filled
+  // up to a message that is missing, nor where what is sent again has a gap itself.
+  static bool asks_again(const Asked& asked, const std::string& text, int expected) {
+    if (asked.begin == 0) return false;
+    const bool is_gap_in_it = expected > asked.begin && value_of(text, "43") == "Y";
+    return expected > asked.end || is_gap_in_it || std::time(nullptr) - asked.time > most_wait;
+  }
+
+  // What a ResendRequest asks for: all before the message that was too early.
+  void keep_asked(const FIX::Message& message) {
+    if (!hearing_ || !heard_) return;
+    const std::string early = value_of(*heard_, "34");
+    const int begin = FIX::IntConvertor::convert(message.getField(FIX::FIELD::BeginSeqNo));
+    hearing_->asked = {begin, is_count(early) ? FIX::IntConvertor::convert(early) - 1 : begin, std::time(nullptr)};
   }
 
   // Which tag of what was heard is at fault, where QuickFIX says only that an id is, or a time.
@@ -807,10 +882,12 @@ class Engine : public FIX::Application, FIX::LogFactory {
     if (!text.empty()) message.setField(FIX::Text(is_low ? text + remedy : text));
   }
 
-  // Says of a Reject for a tag of the standard that it isn't defined for that message.
-  static void tell_other_tag(FIX::Message& message) {
+  // Says of a Reject for a tag of the standard that it isn't defined for that message; of one of a group, its count.
+  void tell_other_tag(FIX::Message& message) const {
     const int tag = message.isSetField(FIX::FIELD::RefTagID) ? std::stoi(message.getField(FIX::FIELD::RefTagID)) : 0;
     if (tag < 1 || tag > last_tag) return;
+    const int group = FIX::FIELD::NoPartyIDs;
+    if (of_parties.count(tag) && heard_ && !value_of(*heard_, "453").empty()) message.setField(FIX::RefTagID(group));
     message.setField(FIX::SessionRejectReason(FIX::SessionRejectReason_TAG_NOT_DEFINED_FOR_THIS_MESSAGE_TYPE));
     message.setField(FIX::Text(FIX::SessionRejectReason_TAG_NOT_DEFINED_FOR_THIS_MESSAGE_TYPE_TEXT));
   }
@@ -927,6 +1004,7 @@ class Engine : public FIX::Application, FIX::LogFactory {
   std::string password_, time_;  // of a Logon, and of what is sent now
   std::string ends_;  // what a Logout says that follows a Reject
   const std::string* heard_ = nullptr;  // what is taken now
+  Wire* hearing_ = nullptr;  // where that has come
   bool is_quiet_ = false;  // while a part is sent again
   std::vector<Kept> events_;
   std::vector<Said> said_;
