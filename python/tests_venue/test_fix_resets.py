@@ -1,8 +1,12 @@
 """What a session is sent after the operator has reset it and the venue has begun again; and gaps in
 place of numbers under which nothing was sent.
 """
+import contextlib
 import pathlib
 import signal
+import socket
+import threading
+import time
 
 import fixing
 import pytest
@@ -15,6 +19,7 @@ from test_fix_requests import Killable, killable
 
 OLD_ORDERS, NEW_ORDERS = 12, 3
 """Orders before and after the reset: the old numbers are above the new ones."""
+MEMBERS = [f"M{number}" for number in range(40)]
 
 
 def ended(day: Killable, how: signal.Signals) -> None:
@@ -87,6 +92,121 @@ def test_a_reset_leaves_nothing_of_the_old_numbers(tmp_path: pathlib.Path) -> No
             assert bob.logon(fixing.token_of(folder, "BOB"))[34] == "1"
             ended(day, how)
             assert bob.logon(fixing.token_of(folder, "BOB"))[34] in ("2", "3")
+
+
+def with_fill(folder: pathlib.Path, day: Killable, port: int) -> Peer:
+    """A client that was told of an order of it, of its trade, and of its end."""
+    alice = Peer(port, "ALICE")
+    alice.logon(fixing.token_of(folder, "ALICE"))
+    alice.enter("a1", "1", 10, "2.00", (59, "2"))
+    alice.enter("a2", "2", 6, "2.00")
+    alice.take(lambda it: it.get(11) == "a2")
+    day.venue.do("uncross")
+    alice.take(lambda it: it.get(150) == "C")
+    return alice
+
+
+def said_anew(folder: pathlib.Path, port: int) -> dict[str, Message]:
+    """What a client that begins at 1 with an empty store is told, by its ids."""
+    peer = Peer(port, "ALICE")
+    peer.logon(fixing.token_of(folder, "ALICE"))
+    peer.all()
+    peer.close()
+    return {it[17]: it for it in peer.got}
+
+
+@pytest.mark.parametrize("how", [signal.SIGTERM, signal.SIGKILL])
+def test_a_kill_right_after_a_reset(tmp_path: pathlib.Path, how: signal.Signals) -> None:
+    """All comes as it would have without: as PossResend, with the time at which it happened."""
+    port, folder = served.free_port(), tmp_path / "venue"
+    with killable(tmp_path, fixing.day_of(port, "ALICE", sync="true")) as day:
+        first = {it[17]: it for it in with_fill(folder, day, port).got}
+        assert {*first} == {"XYZ.1", "XYZ.2", "XYZ.3.1b", "XYZ.3.1a", "XYZ.3.x1"}
+        for _ in range(3):
+            assert reset(day.venue, "ALICE")[0] == 200
+            ended(day, how)
+            found = said_anew(folder, port)
+            assert {event: (it.get(97), it[60]) for event, it in found.items()} == {
+                event: ("Y", it[60]) for event, it in first.items()
+            }
+
+
+def test_a_reset_that_was_not_written(tmp_path: pathlib.Path) -> None:
+    """What was written for it before the line that says so is nothing, also to a later reset."""
+    port, folder = served.free_port(), tmp_path / "venue"
+    with killable(tmp_path, fixing.day_of(port, "ALICE", sync="true")) as day:
+        peer = with_fill(folder, day, port)
+        peer.all()
+        assert reset(day.venue, "ALICE")[0] == 200
+        day.venue.child.kill()
+        day.venue.child.communicate()
+        sent = folder / "fix.sent"
+        lines = sent.read_text("ascii").splitlines(True)
+        assert [it for it in lines if '"kind":"reset"' in it] == lines[-1:]
+        sent.write_text("".join(lines[:-2]), "ascii")
+        day.venue = served.started(*day.words)
+        told = len(peer.got)
+        day.venue.do("start")
+        peer.logon(fixing.token_of(folder, "ALICE"))  # its numbers go on
+        peer.enter("a3", "1", 10, "2.00")
+        peer.take(lambda it: it.get(11) == "a3")
+        assert len(peer.got) == told + 1
+        assert reset(day.venue, "ALICE")[0] == 200
+        ended(day, signal.SIGKILL)
+        found = said_anew(folder, port)
+        assert {*found} == {it[17] for it in peer.got}
+        assert len(found) == told + 1 and all(it[97] == "Y" for it in found.values())
+
+
+def test_a_reset_right_after_a_start(tmp_path: pathlib.Path) -> None:
+    """What the start makes again of the journal comes as PossResend too, all of it."""
+    port, folder, orders = served.free_port(), tmp_path / "venue", 1500
+    with killable(tmp_path, fixing.day_of(port, "ALICE")) as day:
+        alice = Peer(port, "ALICE")
+        alice.logon(fixing.token_of(folder, "ALICE"))
+        for number in range(orders):
+            alice.enter(f"a{number}", "1", 10, "2.00")
+        alice.take(lambda it: it.get(11) == f"a{orders - 1}")
+        alice.close()
+        first = {it[17]: it[60] for it in alice.got}
+        ended(day, signal.SIGKILL)
+        assert reset(day.venue, "ALICE")[0] == 200
+        found = said_anew(folder, port)
+        assert {event: it[60] for event, it in found.items()} == first
+        assert all(it.get(97) == "Y" for it in found.values())
+
+
+def test_a_reset_before_sessions_begin(tmp_path: pathlib.Path) -> None:
+    """It waits for them, as they do for programs that begin slowly."""
+    port, folder = served.free_port(), tmp_path / "venue"
+    slow = tmp_path / "slow"
+    slow.write_text(f'#!/bin/sh\nsleep 2\nexec "{served.program()}" "$@"\n')
+    slow.chmod(0o755)
+    with killable(tmp_path, fixing.day_of(port, "ALICE", sync="true")) as day:
+        with_fill(folder, day, port).close()
+        day.venue.child.kill()
+        day.venue.child.communicate()
+        day.venue = served.started(*day.words, CALLBOARD=str(slow))
+        assert reset(day.venue, "ALICE")[0] == 200
+        assert all(it.get(97) == "Y" for it in said_anew(folder, port).values())
+
+
+def test_the_port_opens_once_sessions_are_there(tmp_path: pathlib.Path) -> None:
+    """Who has it open finds the passwords, also at the first start."""
+    port, folder = served.free_port(), tmp_path / "venue"
+    opened: list[bool] = []
+
+    def look() -> None:
+        last = time.monotonic() + served.SECONDS
+        while not opened and time.monotonic() < last:
+            with contextlib.suppress(OSError), socket.create_connection(("127.0.0.1", port), 1.0):
+                opened.append(all((folder / f"fix.{it}.token").exists() for it in MEMBERS))
+
+    looking = threading.Thread(target=look)
+    looking.start()
+    with served.served(tmp_path, fixing.day_of(port, *MEMBERS)):
+        looking.join()
+    assert opened == [True]
 
 
 # ---- numbers under which nothing was sent

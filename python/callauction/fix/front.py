@@ -12,7 +12,7 @@ import re
 import socket
 import ssl
 import tempfile
-from collections.abc import AsyncIterator, Callable, Container, Coroutine
+from collections.abc import AsyncIterator, Callable, Container, Coroutine, Iterator
 from typing import Any
 
 from callauction.fix import requests, resets
@@ -83,6 +83,7 @@ COUNTED = {
 DIGITS = re.compile("[0-9]+")
 """What differs in texts of one kind."""
 RESET = "the operator resets this session: begin at 1 with an empty store"
+NOT_READY = "sessions by FIX haven't begun: an instrument hasn't answered since the start"
 UNANSWERED = "{} isn't reset: not all that it said is answered: resume what has halted first"
 ENDS = "the venue ends: what was answered stays"
 REMOVED = "the operator has removed this member, whose orders are cancelled"
@@ -120,7 +121,7 @@ class Front:
         self._held: dict[int, list[Outgoing]] = {}
         self._due: dict[Seat, None] = {}
         self._turns = self._unsent = self._steps = 0
-        self._news = asyncio.Event()
+        self._news, self._has_begun = asyncio.Event(), asyncio.Event()
         self._on: dict[Seat, Wire] = {}
         self._listener: gates.Listener | None = None
         self._sockets: list[socket.socket] = []
@@ -143,12 +144,8 @@ class Front:
     @contextlib.asynccontextmanager
     async def served(self, context: ssl.SSLContext | None) -> AsyncIterator[str]:
         """Listens, with this TLS: the line that says where. Raises AddressError."""
-        try:
-            sockets = gates.listening(self._terms.host, self._terms.port)
-        except OSError as fault:
-            where = self._terms.host, self._terms.port
-            text = gates.why_not(*where, fault, "another `address`")
-            raise AddressError(f"fix: {text}") from None
+        with self._taking_address():
+            sockets = gates.bound(self._terms.host, self._terms.port)
         try:
             with tempfile.TemporaryDirectory() as folder:
                 sessions = {it.comp_id: it.begin for it in self._seats.values()}
@@ -165,11 +162,23 @@ class Front:
         self._start(self._tick())
         self._start(self._feed())
         self._sockets = sockets
+        with self._taking_address():
+            gates.listen(sockets)
         self._start(self._listen(context))
         try:
             yield f"fix      {named(self._terms.host)}:{sockets[0].getsockname()[1]}"
         finally:
             await self._close()
+
+    @contextlib.contextmanager
+    def _taking_address(self) -> Iterator[None]:
+        """Raises AddressError where the address can't be had."""
+        where = self._terms.host, self._terms.port
+        try:
+            yield
+        except OSError as fault:
+            text = gates.why_not(*where, fault, "another `address`")
+            raise AddressError(f"fix: {text}") from None
 
     async def _listen(self, context: ssl.SSLContext | None) -> None:
         """Takes connections, which wait for a while where a session owes reports, as it can't begin
@@ -207,6 +216,7 @@ class Front:
                 NOTICES.info("%s: message %d is expected again", seat.session, last)
                 self.engine.set_expected(seat.session, last)
         self._is_ready = True
+        self._has_begun.set()
         for stream in [*self._streams.values()]:
             self._start(stream.run())
         for seat in self._seats.values():
@@ -519,8 +529,9 @@ class Front:
         MessageError.
         """
         seat = next((it for it in self._seats.values() if it.comp_id == comp_id), None)
-        if seat is None or not self._is_ready:
+        if seat is None:
             raise MessageError("bad_message", f"there is no session {comp_id}")
+        await self._until_ready()
         if seat in self._resetting:
             raise MessageError("bad_phase", f"{comp_id} is being reset")
         self._resetting.add(seat)
@@ -531,19 +542,32 @@ class Front:
                 asyncio.get_running_loop().call_later(LEAVE_SECONDS, wire.cut)
             await asyncio.wait_for(self._ended(seat), RESET_SECONDS)
             self._beginning.add(seat)
-            begin_anew = functools.partial(resets.begin_anew, self.engine, seat)
-            await self._sent.begin_anew(self.engine, seat.session, begin_anew)
+            anew = functools.partial(resets.begin_anew, self.engine, seat)
+            await self._sent.begin_anew(self.engine, seat.session, anew)
         except TimeoutError:
             raise MessageError("halted", UNANSWERED.format(comp_id)) from None
         finally:
             self._resetting.discard(seat)
             self._beginning.discard(seat)
 
+    async def _until_ready(self) -> None:
+        """Waits until sessions may begin. Raises MessageError where they may not soon."""
+        try:
+            await asyncio.wait_for(self._has_begun.wait(), RESET_SECONDS)
+        except TimeoutError:
+            raise MessageError("halted", NOT_READY) from None
+        if not self._is_ready:
+            raise MessageError("halted", ENDS)
+
     async def _ended(self, seat: Seat) -> None:
-        """Waits until a session is off and all that it said is answered."""
-        while seat in self._on:
+        """Waits until a session is off, all that it said is answered, and all entries so far were
+        sent, which a start does again.
+        """
+        while seat in self._on or seat.owed:
             await asyncio.sleep(RESET_PAUSE)
         await seat.idle()
+        for stream in [*self._streams.values()]:
+            await stream.until_now()
 
     # ---- what the venue says
 

@@ -30,6 +30,7 @@ class Sent:
         self._new: dict[str, list[tuple[int, bytes]]] = {}
         self._safe: collections.Counter[str] = collections.Counter()
         self._firm: dict[str, int] = {}
+        staged: dict[str, list[tuple[bytes, int]]] = {}
         self._following: dict[str, set[int]] = {}
         for line in self.log.lines():
             with taking(line):
@@ -38,9 +39,12 @@ class Sent:
                     self.resets[session] += 1
                     texts = [text for text, _ in self._texts.pop(session, [])]
                     self.former.setdefault(session, []).extend(texts)
+                    anew, count = staged.pop(session, []), int(line.get("anew", 0))
+                    self._texts[session] = anew[len(anew) - count :]
                 else:
+                    those = staged if line["kind"] == "anew" else self._texts
                     text = line["text"].encode("latin-1"), int(line.get("since", 0))
-                    self._texts.setdefault(session, []).append(text)
+                    those.setdefault(session, []).append(text)
 
     def earlier(self, session: str) -> dict[int, tuple[bytes, int]]:
         """What was written that a session was sent in earlier runs, by its numbers, each with the
@@ -98,7 +102,7 @@ class Sent:
         firm = {it: sessions[it]() or engine.expected(it) for it in new}
         lines: list[str] = []
         for session, texts in new.items():
-            lines += lines_of(session, firm[session], texts)
+            lines += lines_of("out", session, firm[session], texts)
 
         def written() -> None:
             for session, number in last.items():
@@ -108,25 +112,31 @@ class Sent:
 
         self.log.append("\n".join(lines), written)
 
-    async def begin_anew(self, engine: Engine, session: str, then: Callable[[], None]) -> None:
-        """Writes that a session begins anew, which it then does."""
+    async def begin_anew(self, engine: Engine, session: str, anew: Callable[[], None]) -> None:
+        """Begins a session anew, and writes that with all that it is sent anew: the line that says
+        so comes last, and what is before it is nothing without it.
+        """
+        self._take(engine)
+        self._new.pop(session, None)
+        self._following.pop(session, None)
+        anew()
+        self._take(engine)
+        texts, last = self._new.pop(session, []), engine.next(session) - 1
 
         def begun() -> None:
-            self._take(engine)
-            self._new.pop(session, None)
-            self._following.pop(session, None)
             self._firm.pop(session, None)
             self._safe[session] = 0
-            then()
+            self.reach(session, last)
 
-        self.log.note(begun, kind="reset", session=session)
+        self.log.append("\n".join(lines_of("anew", session, 1, texts)))
+        self.log.note(begun, kind="reset", session=session, anew=len(texts))
         await self.log.written()
 
 
-def lines_of(session: str, since: int, texts: list[tuple[int, bytes]]) -> Iterator[str]:
+def lines_of(kind: str, session: str, since: int, texts: list[tuple[int, bytes]]) -> Iterator[str]:
     """The lines of what a session was sent, with the number of the first message of it that isn't
     settled: an answer may be before those to messages that wait.
     """
-    head = text_of({"kind": "out", "session": session, "since": since})[:-1]
+    head = text_of({"kind": kind, "session": session, "since": since})[:-1]
     for _, text in sorted(texts):
         yield f'{head},"text":{json.dumps(text.decode("latin-1"))}}}'

@@ -544,6 +544,19 @@ def why_not(host: str, port: int, fault: OSError, other: str = "another") -> str
 
 def listening(host: str, port: int) -> list[socket.socket]:
     """Sockets that listen on a host. Raises OSError."""
+    found = bound(host, port)
+    listen(found)
+    return found
+
+
+def listen(sockets: list[socket.socket]) -> None:
+    """Lets bound sockets listen."""
+    for each in sockets:
+        each.listen(BACKLOG)
+
+
+def bound(host: str, port: int) -> list[socket.socket]:
+    """Sockets that nobody else may listen at, and that don't yet. Raises OSError."""
     found: list[socket.socket] = []
     rows = socket.getaddrinfo(host, port, type=socket.SOCK_STREAM, flags=socket.AI_PASSIVE)
     try:
@@ -554,7 +567,6 @@ def listening(host: str, port: int) -> list[socket.socket]:
             if family == socket.AF_INET6:
                 each.setsockopt(socket.IPPROTO_IPV6, socket.IPV6_V6ONLY, 1)
             each.bind((address[0], port, *address[2:]))
-            each.listen(BACKLOG)
             port = each.getsockname()[1]  # the others too, where the system has chosen it
             each.setblocking(False)
     except OSError:
