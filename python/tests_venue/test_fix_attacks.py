@@ -134,7 +134,7 @@ def test_strangers_are_sent_nothing(front: Fronted, kind: str) -> None:
         ([(98, "0")], "Required tag missing: 108"),
         ([(98, "1"), (108, "30")], "Value is incorrect (out of range) for this tag: 98"),
         ([(98, "0"), (108, "x")], "Incorrect data format for value: x: 108"),
-        ([(98, "0"), (108, "30"), (464, "Y")], "Invalid tag number: 464"),
+        ([(98, "0"), (108, "30"), (9999, "Y")], "Invalid tag number: 9999"),
         ([(98, "0"), (108, "30"), (8013, "")], "Tag specified without a value: 8013"),
     ],
 )
@@ -256,6 +256,13 @@ def refused(front: Fronted, more: Pairs) -> dict[int, str]:
 def test_a_tag_that_is_unknown_is_refused(front: Fronted, tag: int) -> None:
     found = refused(front, [(tag, "1")])
     assert (found[35], found[45], found[371]) == ("3", "2", str(tag))
+
+
+def test_a_party_is_refused_by_the_group_s_count(front: Fronted) -> None:
+    """Not by one of its row's tags, which are sent before or after it."""
+    parties: list[tuple[int, str]] = [(453, "1"), (448, "DESK"), (447, "D"), (452, "1")]
+    found = refused(front, parties)
+    assert (found[35], found[45], found[371], found[373]) == ("3", "2", "453", "2")
 
 
 @pytest.mark.parametrize("pair", [(59, "3"), (111, "x"), (111, "1.5"), (54, "5")])

@@ -346,6 +346,23 @@ def test_a_subscription_has_its_own_id(tmp_path: pathlib.Path) -> None:
         rows(peer, "W")
 
 
+def test_the_end_of_a_subscription_that_there_is_not(tmp_path: pathlib.Path) -> None:
+    """It is answered; that of one that there was isn't."""
+    port, gone = served.free_port(), "there is no subscription of this id"
+    with on(tmp_path, fixing.day_of(port, "ALICE"), port, "ALICE") as (_, [peer]):
+        ask_data(peer, "d1", "1")
+        rows(peer, "W")
+        ask_data(peer, "d1", "2")
+        for _ in range(2):
+            ask_data(peer, "d1", "2")
+            found = peer.take(lambda it: it[35] == "Y")
+            assert (found[262], found[281], found[58]) == ("d1", "4", gone)
+        peer.say("g", [(335, "p1"), (263, "2")])
+        found = peer.take(lambda it: it[35] == "h")
+        assert (found[335], found[340], found[567], found[58]) == ("p1", "6", "99", gone)
+        assert [it[35] for it in peer.got] == ["Y", "Y", "h"]
+
+
 @dataclasses.dataclass
 class Killable:
     """A venue that is killed and begins again."""

@@ -256,7 +256,7 @@ def test_a_logon_is_given_back(tmp_path: pathlib.Path) -> None:
         peer = Peer(port, "ALICE")
         peer.connect()
         password = fixing.token_of(folder, "ALICE")
-        more = [(553, "me"), (789, "99")]
+        more = [(553, "me"), (789, "99"), (383, "4096"), (464, "N")]
         peer.say("A", [(98, "0"), (108, "1"), (554, password), *more], [(369, "7")])
         found = peer.take(lambda it: it[35] == "A")
         assert picked(found, 49, 56, 98, 108) == ("VENUE", "ALICE", "0", "1")

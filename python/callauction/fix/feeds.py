@@ -12,6 +12,7 @@ from callauction.fix.refusals import (
     DEPTH,
     DUPLICATE,
     ENTRY_TYPE,
+    OTHER,
     TOO_MUCH,
     UNSUPPORTED,
     UPDATE_TYPE,
@@ -38,6 +39,7 @@ NEW, CHANGE, DELETE = "0", "1", "2"
 """MDUpdateAction."""
 SEEN_SECONDS = 1.0
 """How long the market of a program that doesn't answer is waited for, by all that is said after."""
+NO_FEED = "there is no subscription of this id"
 MOST_FEEDS = 64
 """What a session may ask for at a time."""
 HALTED = "1"
@@ -207,7 +209,8 @@ class Feeds:
         """Answers what is asked of the market. Raises MessageError."""
         request, how = given[Tag.MD_REQ_ID], given[Tag.SUBSCRIPTION_REQUEST_TYPE]
         if how == OFF:
-            self._data.pop(request, None)
+            if self._data.pop(request, None) is None:
+                raise SeatError(OTHER, NO_FEED)
             return
         types = frozenset(value for tag, value in asked if tag == Tag.MD_ENTRY_TYPE)
         update = given.get(Tag.MD_UPDATE_TYPE, WHOLE)
@@ -238,7 +241,8 @@ class Feeds:
         """Answers what is asked of phases. Raises MessageError."""
         request, how = given[Tag.TRAD_SES_REQ_ID], given[Tag.SUBSCRIPTION_REQUEST_TYPE]
         if how == OFF:
-            self._phases.pop(request, None)
+            if self._phases.pop(request, None) is None:
+                raise SeatError(OTHER, NO_FEED)
             return
         if how not in (ONCE, ON):
             raise SeatError(UNSUPPORTED, "SubscriptionRequestType is 0, 1 or 2")

@@ -187,7 +187,7 @@ struct Again { std::string asked, after; int begin = 0, end = 0; bool is_begun =
 class Reader {
  public:
   void add(const std::string& data) { bytes_ += data; }
-  // Takes the next whole message, if there is one: whether there is. Raises MessageParseError where its length can't be.
+  // Takes the next whole message: whether there is one. Raises MessageParseError where its length can't be.
   bool read(std::string& text) {
     size_t body = 0;
     int length = 0;
