@@ -6,9 +6,8 @@ from collections.abc import Callable
 
 import fixing
 import held
-import pytest
 import served
-from fixing import Message, Peer
+from fixing import Peer
 from test_fix_requests import until_logged
 from test_fix_tags import picked
 
