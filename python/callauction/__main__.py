@@ -16,10 +16,11 @@ from collections.abc import Collection, Iterable
 from typing import TYPE_CHECKING, Any, NoReturn
 
 from callauction.cells import FrameError
+from callauction.overwriting import STANDARD_INPUT, STANDARD_OUTPUT, refuse_overwriting
 from callauction.program import OPTIONS, Day, ProgramError
 from callauction.statuses import BAD_DAY, BAD_FILE, DONE, FAILED
 from callauction.tables import book_at, books_of, journal_of
-from callauction.verdict import command
+from callauction.verdict import command, shapes
 from callauction.verdict.columns import ColumnError
 from callauction.verdict.reading import ExtractError
 
@@ -65,6 +66,7 @@ def main(words: list[str] | None = None) -> int:
     asked = _parser().parse_args(words)
     asked.words = sys.argv[1:] if words is None else words
     try:
+        _refuse_overwriting(asked)
         asked.status = asked.run(asked)
         sys.stdout.flush()
         return int(asked.status)
@@ -79,6 +81,22 @@ def main(words: list[str] | None = None) -> int:
         return _fail(str(fault), BAD_FILE)
     except ValueError as fault:
         return _fail(str(fault), BAD_DAY)
+
+
+def _refuse_overwriting(asked: argparse.Namespace) -> None:
+    """Raises OverwriteError where a command line would write to a file that it reads, and
+    ShapeError.
+    """
+    options = vars(asked)
+    shape = options.get("shape")
+    read = {name: options.get(name) for name in ("published", "days", "worth")}
+    read["file"] = STANDARD_INPUT if asked.file == "-" else asked.file
+    read["shape"] = None if shape is None else shapes.path_of(shape)
+    written = {f"--{name}": options.get(name) for name in ("output", "findings", "orders")}
+    refuse_overwriting(
+        {f"the {name} that is read": it for name, it in read.items()},
+        {**written, "the standard output": STANDARD_OUTPUT},
+    )
 
 
 def _fail(text: str, status: int) -> int:

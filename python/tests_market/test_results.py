@@ -244,6 +244,19 @@ def test_results_among_the_files(program: str, tmp_path: pathlib.Path) -> None:
     assert {file.name for file in folder.iterdir()} == {"A.csv", "B.csv"}
 
 
+def test_a_result_takes_no_place_of_what_is_read(program: str, tmp_path: pathlib.Path) -> None:
+    folder, listed, log = tmp_path / "journals", tmp_path / "list.txt", tmp_path / "r.log"
+    write(folder, LAWFUL)
+    listed.write_text("A\nB\n")
+    os.link(listed, tmp_path / "other.txt")
+    os.link(listed, log)
+    for result in (listed, tmp_path / "other.txt", tmp_path / "r"):
+        ran = command("audit", folder, "--expect", listed, "-o", result, program=program)
+        assert (ran.returncode, ran.stdout) == (2, "")
+        assert "would overwrite the file of --expect" in ran.stderr
+    assert listed.read_text() == "A\nB\n" and not (tmp_path / "r").exists()
+
+
 def is_alive(process: psutil.Process) -> bool:
     """Whether a process runs: one that was killed may not have been waited for yet."""
     try:

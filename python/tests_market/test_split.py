@@ -12,6 +12,7 @@ import pytest
 import rules
 from callauction import market
 from callauction.market import files, names, splitting
+from callauction.overwriting import OverwriteError
 from conftest import TOP, columns, command, environment
 from distributed import Client
 
@@ -162,6 +163,20 @@ def test_an_older_journal_is_replaced_whole(tmp_path: pathlib.Path) -> None:
     assert (tmp_path / "X.csv").read_text() == "old\n"
     market.split(TABLE[:1], days=DAYS, folder=tmp_path)
     assert (tmp_path / "X.csv").read_text() == "".join(JOURNALS["X"].splitlines(True)[:2])
+
+
+def test_no_journal_takes_the_place_of_a_table(tmp_path: pathlib.Path) -> None:
+    TABLE.to_csv(tmp_path / "X.csv", index=False)
+    DAYS.to_csv(tmp_path / "Y%2FZ.csv", index=False)
+    before = {path: path.read_bytes() for path in tmp_path.iterdir()}
+    parts: Any = [[str(tmp_path / "X.csv")]]
+    for table, name, days in (
+        (tmp_path / "X.csv", "X.csv", DAYS), (parts, "X.csv", None), (TABLE, "Y%2FZ.csv", None),
+    ):  # fmt: skip
+        given = tmp_path / "Y%2FZ.csv" if days is None else days
+        with pytest.raises(OverwriteError, match=f"the journal .*{name} would overwrite"):
+            market.split(table, days=given, folder=tmp_path)
+        assert {path: path.read_bytes() for path in tmp_path.iterdir()} == before
 
 
 def test_another_column_names_the_instruments(tmp_path: pathlib.Path) -> None:

@@ -23,6 +23,7 @@ from callauction.market.splitting import TableError, split
 from callauction.market.summary import Summary
 from callauction.market.task import MIB, Request
 from callauction.market.workers import MarketError, Workers, connected
+from callauction.overwriting import OverwriteError, refuse_overwriting
 from callauction.statuses import BAD_DAY, BAD_FILE, BROKEN_OFF, DONE, FAILED
 
 if TYPE_CHECKING:
@@ -55,8 +56,13 @@ def journals(paths: Iterable[str]) -> dict[str, str]:
 
 def checked_output(path: pathlib.Path, asked: argparse.Namespace, files: Iterable[str]) -> None:
     """Raises MarketError where a result can't take the place of what is there, or would be a file
-    of the next run.
+    of the next run, and OverwriteError where it or its log would be another file that is read.
     """
+    keys = {name: getattr(asked, name) for name in ("expect", "tls_ca", "tls_cert", "tls_key")}
+    refuse_overwriting(
+        {f"the file of --{name.replace('_', '-')}": it for name, it in keys.items()},
+        {"-o": path, "its log": log_path(path)},
+    )
     for each in (path, log_path(path)):
         if each.is_symlink() or (each.exists() and not each.is_file()):
             raise MarketError(f"no result can be written to {each}")
@@ -193,7 +199,7 @@ def examine(asked: argparse.Namespace) -> int:
             checked_folder(asked.into, files.values())
         expected = read_list(asked.expect) if asked.expect else None
         security_of(asked)
-    except (MarketError, OSError) as fault:
+    except (MarketError, OverwriteError, OSError) as fault:
         warn(fault)
         return BAD_DAY
     try:
@@ -221,7 +227,7 @@ def split_table(asked: argparse.Namespace) -> int:
     except TableError as fault:
         warn(fault)
         return BAD_FILE
-    except InUse as fault:
+    except (InUse, OverwriteError) as fault:
         warn(fault)
         return BAD_DAY
     except OSError as fault:

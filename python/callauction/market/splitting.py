@@ -16,6 +16,7 @@ from typing import IO, TYPE_CHECKING, TypeAlias, cast
 
 from callauction.market.files import locked
 from callauction.market.names import file_of
+from callauction.overwriting import refuse_overwriting
 from callauction.words import MARKET
 
 if TYPE_CHECKING:
@@ -295,12 +296,25 @@ class Journals:
             with self.opened(self.files[instrument]) as out:
                 out.writelines(those)
 
-    def finish(self, folder: pathlib.Path) -> list[str]:
-        """Moves the journals to their folder: their paths, in the order of the instruments."""
+    def finish(self, folder: pathlib.Path, read: Collection[str]) -> list[str]:
+        """Moves the journals to their folder: their paths, in the order of the instruments. Raises
+        OverwriteError where one would take the place of a file that is read.
+        """
         names = [self.files[instrument] for instrument in sorted(self.files)]
+        tables = {path: path for path in read}
+        for name in names:
+            refuse_overwriting(tables, {"the journal": folder / name})
         for name in names:
             os.replace(self.begun / name, folder / name)
         return [str(folder / name) for name in names]
+
+
+def paths_of(table: "Table | None") -> list[str]:
+    """The paths of the files that a table consists of; none of what can be read once."""
+    if isinstance(table, str | os.PathLike):
+        return [os.fspath(table)]
+    parts = table if isinstance(table, list | tuple) else ()
+    return [path for part in parts for path in paths_of(part)]
 
 
 def split(
@@ -325,7 +339,8 @@ def split(
     The journals take their places in `folder`, and those of files with the same names, when all
     are whole; at an error nothing is left of them. What a field says is no matter here: the program
     refuses what is bad. Raises TableError, InUse where another split or run writes to the folder,
-    and OSError where something can't be read or written.
+    OverwriteError where a journal would take the place of a table, and OSError where something
+    can't be read or written.
     """
     place = pathlib.Path(folder)
     place.mkdir(parents=True, exist_ok=True)
@@ -336,6 +351,6 @@ def split(
             journals = Journals(begun, openings, by, ignore)
             for frame in partitions_of(table):
                 journals.add(frame)
-            return journals.finish(place)
+            return journals.finish(place, [*paths_of(table), *paths_of(days)])
         finally:
             shutil.rmtree(begun)
