@@ -259,28 +259,39 @@ Short = tuple[tuple[object, str], ...]
 
 def text_source(content: bytes, separator: str) -> tuple[Source, Short]:
     """The rows of a CSV text by their lines. Raises csv.Error."""
-    lines: Ints | None = None
+    lines, ends = None, dict[int, int]()
     content += b"\n"
     if b'"' in content or (b"\r" in content and content.count(b"\r") != content.count(b"\r\n")):
-        content, lines = _unquoted(content.decode(), separator)
+        content, ends = _unquoted(content.decode(), separator)
+        lines = numpy.array([*ends], "i8")
         separator = _UNIT
     if len(content) > _WIDE:
         raise csv.Error("the file has more than 4 GB: part it")
-    return _split(content, separator.encode()[0], lines)
+    source, short = _split(content, separator.encode()[0], lines)
+    return source, tuple((line, f"{why}{_in_quotes(line, ends)}") for line, why in short)
 
 
-def _unquoted(text: str, separator: str) -> tuple[bytes, Ints]:
-    """The same table without quotes, its fields parted by a sign that is in no text, and the line
-    of each row.
+def _unquoted(text: str, separator: str) -> tuple[bytes, dict[int, int]]:
+    """The same table without quotes, its fields parted by a sign that is in no text, and by the
+    line of each row that in which it ends.
     """
     reader = csv.reader(io.StringIO(text, newline=""), delimiter=separator)
-    rows, lines, line = [], [], 1
+    last = text.rstrip("\r\n").count("\n") + 1
+    rows, ends, line = [], dict[int, int](), 1
     for fields in reader:
         if fields:
             rows.append(_UNIT.join(field.replace("\n", " ") for field in fields))
-            lines.append(line)
+            ends[line] = min(reader.line_num, last)
         line = reader.line_num + 1
-    return ("\n".join(rows) + "\n").encode(), numpy.array(lines, "i8")
+    return ("\n".join(rows) + "\n").encode(), ends
+
+
+def _in_quotes(line: object, ends: Mapping[int, int]) -> str:
+    """Which lines a row takes in by a quote, where it has several."""
+    end = ends.get(line, 0) if isinstance(line, int) else 0
+    if not isinstance(line, int) or end <= line:
+        return ""
+    return f": a quote that it opens takes in {end - line:,} more rows, up to row {end}"
 
 
 def parted_source(

@@ -224,7 +224,8 @@ class _Trades:
         found = paired([*self._both(both, places, self.lawful), *self._alone(places)])
         shares = filled.by_key(), due.by_key()
         places_of = self._places_by_order(*shares)
-        by_order = paired(compared_shares(rows, *shares, self._price, places_of, self.many))
+        of_shares = compared_shares(rows, *shares, self._price, places_of, self.many)
+        by_order = paired(stamped(of_shares, self.stamps))
         return Compared(by_order if len(by_order) < len(found) else found, same, by_order)
 
     def _shares(self, bid: Codes, ask: Codes, quantity: Ints) -> Sums:
@@ -331,11 +332,15 @@ def compared_fills(
             shares = int(rows.quantity[place])
             one, due = Fill(key, shares, int(rows.price[place])), Fill(key, shares, price)
             found.append(Difference(FILL, one, due, (place,), (key,)))
-    found = [
+    return paired(stamped(found, stamps))
+
+
+def stamped(differences: Iterable[Difference], stamps: Ints) -> list[Difference]:
+    """These differences with the stamps of their first rows."""
+    return [
         dataclasses.replace(it, stamp=int(stamps[it.places[0]])) if it.places else it
-        for it in found
+        for it in differences
     ]
-    return paired(found)
 
 
 def compared_shares(
@@ -365,7 +370,8 @@ def _recorded_price(rows: Rows, places: tuple[int, ...], lawful: int) -> int:
 
 def paired(differences: Iterable[Difference]) -> list[Difference]:
     """The same differences, a missing and an extra trade of as many shares that share an order, or
-    a missing and an extra fill of as many shares, being one that is different.
+    both on the other sides, or a missing and an extra fill of as many shares, being one that is
+    different.
     """
     found = dict(enumerate(differences))
     missing: dict[object, list[int]] = {}
@@ -388,7 +394,8 @@ def _marks(value: Value) -> tuple[object, ...]:
     if isinstance(value, Fill):
         return ((FILL, value.quantity),)
     if isinstance(value, Trade):
-        return (("bid", value.bid, value.quantity), ("ask", value.ask, value.quantity))
+        both = (*sorted((value.bid, value.ask)), value.quantity)
+        return (both, ("bid", value.bid, value.quantity), ("ask", value.ask, value.quantity))
     return ()
 
 

@@ -15,7 +15,9 @@ from callauction.verdict.cells import Ints
 from callauction.verdict.judged import Judged, Rules
 from callauction.verdict.phases import Result, Uncross, recorded_sums
 from callauction.verdict.ranges import Range
-from callauction.verdict.rows import MARKET, NEW, REPLACE, SIDES, Rows
+from callauction.verdict.rows import (
+    CANCEL, FILL, MARKET, NEW, REPLACE, SIDES, TRADE, Rows,
+)  # fmt: skip
 from callauction.words import AUCTIONS
 
 
@@ -32,7 +34,7 @@ def price_text(price: Decimal, tick_size: Decimal | None) -> str:
 @dataclasses.dataclass(frozen=True, slots=True)
 class RestingOrder:
     """An open order: `key` is its number, `order` the present id; `since` is the time, and `row`
-    the row, from which its place in time is.
+    the row, from which its place in time is, `event` what that row did (entered or replaced).
     """
 
     key: int
@@ -43,6 +45,7 @@ class RestingOrder:
     price: Decimal | None
     since: str
     row: object
+    event: str
 
 
 @dataclasses.dataclass(frozen=True)
@@ -129,8 +132,20 @@ class Context:
         return RestingOrder(
             key, self.order(key), self.member(key), SIDES[book.side[at]], int(book.quantity[at]),
             None if price == MARKET else rows.prices[price], rows.names.time(since),
-            rows.labels[since],
+            rows.labels[since], "replaced" if rows.kind[since] == REPLACE else "entered",
         )  # fmt: skip
+
+    def closed_by(self, key: int) -> int | None:
+        """The last row above the uncross that cancels an order as a whole, or is a trade or a fill of
+        it; None where there is none.
+        """
+        rows = self.rows
+        is_out = (rows.kind == CANCEL) & (rows.quantity <= 0) | (rows.kind == FILL)
+        is_trade = (rows.kind == TRADE) & ((rows.bid == key) | (rows.ask == key))
+        these = numpy.flatnonzero(is_out & (rows.key == key) | is_trade)
+        own = numpy.concatenate([self.judged.traded, self.judged.filled])
+        these = these[(these < self.judged.place) & ~numpy.isin(these, own)]
+        return int(these[-1]) if len(these) else None
 
     @functools.cached_property
     def at(self) -> dict[int, int]:

@@ -8,7 +8,9 @@ from callauction.verdict.comparing import (
     FILL, PRIORITY, Difference, Fill, Trade, keys_of, members_of,
 )  # fmt: skip
 from callauction.verdict.context import Context, RestingOrder
-from callauction.verdict.rows import INTERRUPTED, MARKET, MISSING, OWN, RESTRICTIONS, SIDES
+from callauction.verdict.rows import (
+    CANCEL, INTERRUPTED, MARKET, MISSING, OWN, RESTRICTIONS, SIDES,
+)  # fmt: skip
 
 PRICE_ITEMS = ("volume", "surplus", "side")
 PRIORITIES = "The volume falls to the orders of each side in their priority."
@@ -160,6 +162,8 @@ def _of_trade(context: Context, difference: Difference) -> Iterator[str]:
         yield f"Its orders trade in the {lawful}, and not in the {context.auction}."
         return
     if isinstance(recorded, Trade | Fill):
+        sides = " ".join(_of_sides(context, recorded))
+        yield from [sides] * bool(sides)
         for key in keys_of(recorded):
             yield from _of_closed(context, key)
         if isinstance(lawful, Trade | Fill):
@@ -196,9 +200,29 @@ def _of_closed(context: Context, key: int) -> Iterator[str]:
         is_later = place > context.judged.place
         label = context.rows.labels[place]
         when = f"is entered in row {label}, behind this uncross" if is_later else (
-            "isn't open in this auction: it was executed, cancelled or refused before"
+            f"isn't open in this auction: it was {_closing(context, key)}"
         )
         yield f"{context.order(key)} {when}."
+
+
+def _closing(context: Context, key: int) -> str:
+    """What took an order out of the book, and where."""
+    place = context.closed_by(key)
+    if place is None:
+        return "executed, cancelled or refused before"
+    word = "cancelled" if context.rows.kind[place] == CANCEL else "executed"
+    time = context.rows.names.time(place)
+    return f"{word} in row {context.rows.labels[place]}{f', {time}' if time else ''}"
+
+
+def _of_sides(context: Context, recorded: Trade | Fill) -> Iterator[str]:
+    """Which order is of the other side than a trade has it on."""
+    keys = keys_of(recorded) if isinstance(recorded, Trade) else ()
+    for key, side in zip(keys, ("bid", "ask")):
+        place = context.entered.get(key)
+        own = SIDES[context.rows.side[place]] if place is not None else side
+        if own in ("bid", "ask") and own != side:
+            yield f"{context.order(key)} is {_a(own)}."
 
 
 def _of_excluded(context: Context, order: RestingOrder) -> Iterator[str]:
@@ -282,8 +306,7 @@ def _before(context: Context, early: RestingOrder, late: RestingOrder) -> str:
 
 
 def _entered(order: RestingOrder) -> str:
-    when = f"entered {order.since}" if order.since else f"entered in row {order.row}"
-    return f"{order.order} {when}"
+    return f"{order.order} {order.event} {order.since or f'in row {order.row}'}"
 
 
 def _share(context: Context, order: RestingOrder) -> str:

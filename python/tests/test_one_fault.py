@@ -1,0 +1,105 @@
+"""One fault is one finding, in words that are true: of each day the fault is planted by hand."""
+from pathlib import Path
+
+import pytest
+from callauction.__main__ import main
+
+HEADER = "event,order,side,price,quantity,surplus,auction,trades,bid,ask,time\n"
+
+
+def lines_of(
+    text: str, auctions: str, folder: Path, capsys: pytest.CaptureFixture[str], status: int = 4
+) -> list[str]:
+    """What an audit of a day prints on both outputs, its trades and results in HEADER's columns."""
+    path = folder / "day.csv"
+    path.write_text(HEADER + text)
+    words = ["audit", str(path), "--reference", "10", "--tick-size", "0.01", "--quantity", "open"]
+    assert main([*words, "--auctions", auctions]) == status
+    printed = capsys.readouterr()
+    return [*printed.err.splitlines(), *printed.out.splitlines()]
+
+
+def new(order: str, side: str, quantity: int, time: str = "") -> str:
+    return f"new,{order},{side},10.00,{quantity},,,,,,{time}\n"
+
+
+def uncross(auction: str, volume: int, surplus: int, side: str, trades: int) -> str:
+    return f"uncross,,{side},10.00,{volume},{surplus},{auction},{trades},,,\n"
+
+
+def trade(auction: str, bid: str, ask: str, quantity: int) -> str:
+    return f"trade,,,10.00,{quantity},,{auction},,{bid},{ask},\n"
+
+
+PASSED_OVER = "".join([
+    new("A", "ask", 13), new("C", "ask", 16), new("D", "ask", 8), new("B", "bid", 7),
+    new("F", "bid", 11), uncross("intraday", 18, 19, "ask", 3), trade("intraday", "B", "D", 7),
+    trade("intraday", "F", "D", 1), trade("intraday", "F", "C", 10), new("E", "bid", 12),
+    new("G", "bid", 7), uncross("closing", 19, 0, "none", 3), trade("closing", "E", "A", 12),
+    trade("closing", "G", "A", 1), trade("closing", "G", "C", 6),
+])  # fmt: skip
+
+
+def test_a_passed_over_order_that_trades_in_the_next_auction(
+    tmp_path: Path, capsys: pytest.CaptureFixture[str]
+) -> None:
+    """D, the last ask, has its 8 shares in place of A, the first, and C more than its 5. The
+    closing follows from these: A has its 13 then, and C the 6 that it has left.
+    """
+    lines = lines_of(PASSED_OVER, "intraday,closing", tmp_path, capsys)
+    assert "findings 1" in lines
+    assert ": recorded no such fill, lawful A 13 at 10.00: A entered in row 2 stands before D " \
+        "entered in row 4 at 10.00" in lines[0]
+    assert [line.strip() for line in lines[1:3]] == [
+        "fill: recorded D 8 at 10.00, lawful no such fill",
+        "fill: recorded C 10 at 10.00, lawful C 5 at 10.00",
+    ]
+
+
+def test_a_place_in_time_is_that_of_the_replace(
+    tmp_path: Path, capsys: pytest.CaptureFixture[str]
+) -> None:
+    text = new("A", "bid", 5, "08:00:00") + new("B", "bid", 9, "08:01:00")
+    text += "replace,A,bid,10.00,9,,,,,,08:02:00\n" + new("S", "ask", 9, "08:03:00")
+    text += uncross("opening", 9, 9, "bid", 1) + trade("opening", "A", "S", 9)
+    said = "B entered 08:01:00 stands before A replaced 08:02:00 at 10.00"
+    lines = lines_of(text.replace(",\n", ",09:00:00\n"), "opening", tmp_path, capsys)
+    assert lines[0].endswith(said) and "findings 1" in lines
+
+
+@pytest.mark.parametrize("time, said", [
+    ("08:02:00", "cancelled in row 4, 08:02:00"), ("", "cancelled in row 4"),
+])  # fmt: skip
+def test_what_took_an_order_out_is_said(
+    time: str, said: str, tmp_path: Path, capsys: pytest.CaptureFixture[str]
+) -> None:
+    text = new("A", "bid", 9) + new("B", "bid", 9) + f"cancel,A,bid,,,,,,,,{time}\n"
+    text += new("S", "ask", 9) + uncross("opening", 9, 0, "none", 1)
+    lines = lines_of(text + trade("opening", "A", "S", 9), "opening", tmp_path, capsys)
+    assert lines[-10].startswith("row 7, ") and "findings 1" in lines
+    assert lines[-10].endswith(f"A isn't open in this auction: it was {said}.")
+
+
+def test_an_order_that_was_executed_before(
+    tmp_path: Path, capsys: pytest.CaptureFixture[str]
+) -> None:
+    text = new("A", "bid", 9) + new("S", "ask", 9) + uncross("opening", 9, 0, "none", 1)
+    text += trade("opening", "A", "S", 9) + new("B", "bid", 9) + new("T", "ask", 9)
+    text += uncross("closing", 9, 0, "none", 1) + trade("closing", "A", "T", 9)
+    lines = lines_of(text, "opening,closing", tmp_path, capsys)
+    assert "A isn't open in this auction: it was executed in row 5." in lines[0]
+
+
+def test_orders_on_the_other_sides_are_one_finding(
+    tmp_path: Path, capsys: pytest.CaptureFixture[str]
+) -> None:
+    text = new("A", "bid", 9) + new("S", "ask", 9) + uncross("opening", 9, 0, "none", 1)
+    lines = lines_of(text + trade("opening", "S", "A", 9), "opening", tmp_path, capsys)
+    assert "findings 1" in lines and lines[0].endswith(": S is an ask. A is a bid.")
+
+
+def test_a_quote_that_is_not_closed(tmp_path: Path, capsys: pytest.CaptureFixture[str]) -> None:
+    text = new("A", "bid", 9) + new('"B', "bid", 9) + new("S", "ask", 9) + new("T", "ask", 9)
+    lines = lines_of(text, "opening", tmp_path, capsys, 5)
+    said = "a quote that it opens takes in 2 more rows, up to row 5"
+    assert f"callauction: row 3: has 2 fields, the header 11: {said}" in lines
