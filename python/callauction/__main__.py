@@ -234,7 +234,7 @@ def _report(asked: argparse.Namespace) -> int:
         _report_extract(content, title, asked)
         return DONE
     values, size = _values(asked.worth), asked.tick_size
-    facts, day = evidence.facts_of([content], asked.words), _day(asked, content)
+    facts, day = evidence.facts_of([content], asked), _day(asked, content)
     text = report.html_of(day, title, watch, values, size, facts)
     pathlib.Path(asked.output).write_text(text, encoding="utf-8")
     return DONE
@@ -243,7 +243,7 @@ def _report(asked: argparse.Namespace) -> int:
 def _report_extract(content: bytes, title: str, asked: argparse.Namespace) -> None:
     from callauction.verdict import evidence, market_page, page
 
-    facts, path = evidence.facts_of([content], asked.words), pathlib.Path(asked.output)
+    facts, path = evidence.facts_of([content], asked), pathlib.Path(asked.output)
     if asked.by is not None:
         market = command.market(content, asked)
         market_page.write(market, path, title, facts, _watch("instruments"))

@@ -80,6 +80,8 @@ def add_reading(parser: argparse.ArgumentParser) -> None:
 
 def reading_of(asked: argparse.Namespace) -> Reading:
     """How an extract is asked to be read. Raises UsageError, ShapeError and OSError."""
+    if vars(asked).get("days") is not None and asked.by is None:
+        raise UsageError("--days needs --by: the column of the instruments whose days they are")
     shape = Reading() if asked.shape is None else shapes.reading_of(asked.shape)
     said = {
         "columns": _pairs("columns", asked.columns),

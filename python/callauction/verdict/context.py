@@ -136,8 +136,8 @@ class Context:
         )  # fmt: skip
 
     def closed_by(self, key: int) -> int | None:
-        """The last row above the uncross that cancels an order as a whole, or is a trade or a fill of
-        it; None where there is none.
+        """The last row above the uncross that cancels an order as a whole, or is a trade or a fill
+        of it; None where there is none.
         """
         rows = self.rows
         is_out = (rows.kind == CANCEL) & (rows.quantity <= 0) | (rows.kind == FILL)

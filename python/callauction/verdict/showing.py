@@ -22,7 +22,7 @@ def show(found: list[Audited], asked: argparse.Namespace, contents: Sequence[byt
     `asked` has before the first line, as nobody may read these. Raises ExtractError and ValueError
     where no instrument can be judged, and OSError.
     """
-    facts = facts_of(contents, asked.words)
+    facts = facts_of(contents, asked)
     asked.status = STATUSES[worst_of(each.word for each in found)]
     if asked.findings is not None:
         write_findings(found, asked.findings, facts)
