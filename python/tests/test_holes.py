@@ -64,15 +64,34 @@ def test_a_lawful_day_of_which_rows_are_missing_is_never_unlawful(
     assert doubtful > 3
 
 
-def test_a_day_that_lacks_nothing_stays_lawful_beside_a_hole(
-    tmp_path: Path, capsys: Printed
+@pytest.mark.parametrize("each, status", [(10**6, 5), (5, 0)])
+def test_a_number_that_is_missing_is_a_row_where_few_are(
+    each: int, status: int, tmp_path: Path, capsys: Printed
 ) -> None:
-    """The missing number was another system's."""
+    """One number of a day that lacks none else was a row's, which isn't known; where many are
+    missing they were another system's.
+    """
     rows = numbered([dict(row) for row in base_day().rows])
-    for row in rows[len(rows) // 2 :]:
-        row["sequence"] = str(int(row["sequence"]) + 1)
-    assert audited(text_of(rows), [], tmp_path) == 0
-    assert "(are rows missing?)" in capsys.readouterr().err
+    middle = len(rows) // 2
+    for at, row in enumerate(rows):
+        row["sequence"] = str(int(row["sequence"]) + (at >= middle) + at // each)
+    found = tmp_path / "found.csv"
+    assert audited(text_of(rows), ["--findings", str(found)], tmp_path) == status
+    printed = capsys.readouterr()
+    assert "(are rows missing?)" in printed.err and "findings 0\n" in printed.out
+    said = f"no row has the number {middle + int(rows[0]['sequence'])} of the sequence"
+    assert (said in printed.err) == (said in found.read_text()) == (status == 5)
+
+
+def test_a_gap_of_one_instrument_leaves_its_day_incomplete() -> None:
+    """Where a sequence is theirs together the row may have been of either."""
+    for is_shared in (False, True):
+        rows, days = of_two(7, is_shared)
+        mine = [at for at, row in enumerate(rows) if row["isin"] == "DE1"]
+        left = [row for at, row in enumerate(rows) if at != mine[len(mine) // 2]]
+        found = audit_instruments(frame_of(left), "isin", days=days)
+        words = {row.instrument: row.verdict for row in found.itertuples()}
+        assert words == {"DE1": "incomplete", "DE2": "incomplete" if is_shared else "lawful"}
 
 
 def of_two(seed: int, is_shared: bool) -> tuple[Rows, pandas.DataFrame]:

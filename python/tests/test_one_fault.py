@@ -10,13 +10,13 @@ HEADER = "event,order,side,price,quantity,surplus,auction,trades,bid,ask,time\n"
 def lines_of(
     text: str, auctions: str, folder: Path, capsys: pytest.CaptureFixture[str], status: int = 4
 ) -> list[str]:
-    """What an audit of a day prints on both outputs, its trades and results in HEADER's columns."""
+    """What an audit of a day prints, on standard error last, its trades and results in HEADER's columns."""
     path = folder / "day.csv"
     path.write_text(HEADER + text)
     words = ["audit", str(path), "--reference", "10", "--tick-size", "0.01", "--quantity", "open"]
     assert main([*words, "--auctions", auctions]) == status
     printed = capsys.readouterr()
-    return [*printed.err.splitlines(), *printed.out.splitlines()]
+    return [*printed.out.splitlines(), *printed.err.splitlines()]
 
 
 def new(order: str, side: str, quantity: int, time: str = "") -> str:
@@ -103,3 +103,16 @@ def test_a_quote_that_is_not_closed(tmp_path: Path, capsys: pytest.CaptureFixtur
     lines = lines_of(text, "opening", tmp_path, capsys, 5)
     said = "a quote that it opens takes in 2 more rows, up to row 5"
     assert f"callauction: row 3: has 2 fields, the header 11: {said}" in lines
+
+
+@pytest.mark.parametrize("column, is_said", [(",restriction", False), ("", True)])
+def test_orders_without_a_restriction_are_said_beside_a_finding(
+    column: str, is_said: bool, tmp_path: Path, capsys: pytest.CaptureFixture[str]
+) -> None:
+    path = tmp_path / "day.csv"
+    rows = (HEADER + PASSED_OVER).splitlines()
+    path.write_text("\n".join([rows[0] + column, *(row + "," * bool(column) for row in rows[1:])]))
+    words = ["audit", str(path), "--reference", "10", "--tick-size", "0.01", "--quantity", "open"]
+    assert main([*words, "--auctions", "intraday,closing"]) == 4
+    said = "orders of which no column restriction says whether they are for one auction alone: 7"
+    assert (said in capsys.readouterr().err) == is_said

@@ -19,9 +19,11 @@ from callauction.verdict.mixed import (
 from callauction.verdict.ranges import range_of
 from callauction.verdict.reading import Reading, Table, read_table
 from callauction.verdict.readings import judged_day
-from callauction.verdict.rows import BadRow, Doubt, Rows
+from callauction.verdict.rows import NEW, BadRow, Doubt, Rows
 from callauction.verdict.units import without_noise
 from callauction.words import AUCTIONS
+
+UNRESTRICTED = "orders of which no column restriction says whether they are for one auction alone"
 
 
 def audit_events(
@@ -84,6 +86,8 @@ def judge_rows(rows: Rows, rules: Rules, watch: Watch = iter) -> Verdict:
     found = judged_day(rows, rules, whole, watch)
     if found.unlawful:
         refuse_sums(whole, rules.due)
+        if "restriction" not in rows.names.theirs and len(rules.due) > 1:
+            found.notes[UNRESTRICTED] += len(rows.of(NEW))
     return verdict_of(found, rows, rules)
 
 

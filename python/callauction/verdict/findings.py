@@ -91,7 +91,8 @@ class Verdict:
         """
         if self.findings:
             return UNLAWFUL
-        is_open = self.doubtful or self.bad_rows or self.judgement.doubt
+        lacks_rows = self.bad_rows or self.rows.lacks_rows
+        is_open = self.doubtful or lacks_rows or self.judgement.doubt
         return LAWFUL if self.coverage.is_complete and not is_open else INCOMPLETE
 
     @property
@@ -170,7 +171,8 @@ class Verdict:
         """What the command line prints on standard error: the first bad rows, how many there are,
         and the notes.
         """
-        rows = [str(row) for row in self.bad_rows[:MOST_BAD_ROWS]]
+        holes = self.rows.holes if self.rows.lacks_rows else []
+        rows = [str(row) for row in (*self.bad_rows[:MOST_BAD_ROWS], *holes[:MOST_BAD_ROWS])]
         if self.bad_rows:
             rows.append(f"bad rows {len(self.bad_rows)}")
         return rows + [f"{name}: {count}" for name, count in self.notes.items()]

@@ -10,14 +10,19 @@ from callauction.verdict.rows import (
 )  # fmt: skip
 
 GAPS = "numbers of the sequence that no row has (are rows missing?)"
+RARE = 20
+"""Of so many numbers one is missing at most where none but a row's may be."""
 _ORDERS, _MADE = (NEW, REPLACE, CANCEL), (TRADE, FILL)
 
 
 class Gap(NamedTuple):
-    """Numbers that no row has: the first and the last."""
+    """Numbers that no row has: the first and the last, and whether so few are missing that each was
+    a row's.
+    """
 
     first: int
     last: int
+    is_rare: bool = False
 
     @property
     def size(self) -> int:
@@ -32,10 +37,12 @@ def gaps_of(*numbers: Ints) -> list[Gap]:
     known = numpy.unique(numpy.concatenate(numbers))
     known = known[known >= 0]
     steps = numpy.diff(known)
-    if int((steps - 1).sum()) >= len(known):
+    missing = int((steps - 1).sum())
+    if missing >= len(known):
         return []
-    before = numpy.flatnonzero(steps > 1)
-    return [Gap(int(known[at]) + 1, int(known[at + 1]) - 1) for at in before.tolist()]
+    ends = numpy.flatnonzero(steps > 1).tolist()
+    is_rare = missing * RARE <= len(known)
+    return [Gap(int(known[at]) + 1, int(known[at + 1]) - 1, is_rare) for at in ends]
 
 
 def remark_of(gaps: Sequence[Gap]) -> dict[str, int]:
@@ -53,6 +60,7 @@ def find_holes(rows: Rows, gaps: Sequence[Gap]) -> None:
     own = own[numpy.argsort(rows.number[own], kind="stable")]
     lasts = numpy.array([it.last for it in gaps], "i8")
     nexts = numpy.searchsorted(rows.number[own], lasts, "right")
+    rows.lacks_rows = any(it.is_rare for it in gaps)
     first_below = numpy.minimum.accumulate(own[::-1])[::-1]
     ends = rows.of(UNCROSS)
     is_above = bool(numpy.isin(rows.kind[ends[ends > 0] - 1], _MADE).any())
@@ -62,7 +70,7 @@ def find_holes(rows: Rows, gaps: Sequence[Gap]) -> None:
             above = int(own[at - 1]) if at else -1
             doubt = _doubt_between(rows, above, int(own[at]), is_above)
             since = int(first_below[at]) - 1
-        rows.holes.append(Hole.of(doubt, since, *gaps[number]))
+        rows.holes.append(Hole.of(doubt, since, gaps[number].first, gaps[number].last))
 
 
 def _doubt_between(rows: Rows, above: int, below: int, is_above: bool) -> Doubt:

@@ -97,6 +97,8 @@ class Audited:
     ranges: tuple[str, ...] = ()
     is_unread: bool = False
     """Whether the fault is one of the file, and not of what the day was opened with."""
+    lacks_rows: bool = False
+    """Whether rows are missing in a sequence whose numbers else have no gap."""
 
     def plain(self) -> dict[str, object]:
         """What a machine reads of it."""
@@ -111,7 +113,9 @@ class Audited:
     def records(self) -> list[Mapping[str, object]]:
         """The findings, or that there are none (RECORD)."""
         none = dict.fromkeys(RECORD, "")
-        why = self.fault or self.remarks[0] if self.fault or self.bad_rows else ""
+        why = self.fault
+        if self.bad_rows or self.lacks_rows:
+            why = why or self.remarks[0]
         none |= {"instrument": self.name, "kind": NO_FINDING, "why": why}
         return [{**it, "verdict": self.word} for it in self.found or (none,)]
 
@@ -135,6 +139,7 @@ def audited(name: str, verdict: Verdict, is_explained: bool = False) -> Audited:
         name, verdict.word, len(verdict.findings), len(verdict.doubtful), (*lines,),
         (*verdict.remarks(),), verdict.coverage, len(verdict.bad_rows), first,
         found=tuple(_record(name, it) for it in found), ranges=(*verdict.ranges(),),
+        lacks_rows=verdict.rows.lacks_rows,
     )  # fmt: skip
 
 

@@ -225,6 +225,8 @@ class Rows:
     bad: list[BadRow] = dataclasses.field(default_factory=list)
     holes: list[Hole] = dataclasses.field(default_factory=list)
     """Where rows may be missing, which are no bad rows."""
+    lacks_rows: bool = False
+    """Whether rows are missing in a sequence whose numbers else have no gap."""
     notes: Counter[str] = dataclasses.field(default_factory=Counter)
     dropped: frozenset[str] = frozenset()
     """The ids of orders in trades and fills that don't meet the conditions."""
