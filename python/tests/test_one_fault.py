@@ -116,3 +116,54 @@ def test_orders_without_a_restriction_are_said_beside_a_finding(
     assert main([*words, "--auctions", "intraday,closing"]) == 4
     said = "orders of which no column restriction says whether they are for one auction alone: 7"
     assert (said in capsys.readouterr().err) == is_said
+
+
+def passed_over(time: bool) -> list[str]:
+    """The rows of the day of PASSED_OVER, with times or without."""
+    rows = PASSED_OVER.splitlines()
+    ends = [at for at, row in enumerate(rows) if row.startswith("uncross")]
+    hour = [8 + sum(at > end for end in ends) for at in range(len(rows))]
+    clocks = [f"{hour[at]:02}:{at:02}:00" for at in range(len(rows))]
+    for at, row in enumerate(rows):
+        if row.startswith(("uncross", "trade")):
+            clocks[at] = clocks[max(end for end in ends if end <= at)]
+    return [row + clock * time for row, clock in zip(rows, clocks)]
+
+
+@pytest.mark.parametrize("is_lawful", [True, False])
+def test_a_day_that_is_pasted_twice(
+    is_lawful: bool, tmp_path: Path, capsys: pytest.CaptureFixture[str]
+) -> None:
+    """The copied trades may be trades of their own, which the passed over order has none of."""
+    rows = passed_over(True)
+    if is_lawful:
+        rows = [row for row in rows if not row.startswith(("trade,", "uncross,", "new,E", "new,G"))]
+        rows += [uncross("intraday", 18, 19, "ask", 3)[:-1] + "09:00:00"]
+        pairs = (("B", "A", 7), ("F", "A", 6), ("F", "C", 5))
+        rows += [trade("intraday", *it)[:-1] + "09:00:00" for it in pairs]
+    text = "".join(f"{row}\n" for row in [*rows, *rows])
+    auctions = "intraday" if is_lawful else "intraday,closing"
+    lines = lines_of(text, auctions, tmp_path, capsys, 5 if is_lawful else 4)
+    assert f"findings {0 if is_lawful else 1}" in lines
+    if not is_lawful:
+        [line] = [line for line in lines if line.startswith("row ")]
+        assert "A entered 08:00:00 stands before D entered 08:02:00 at 10.00" in line
+
+
+@pytest.mark.parametrize("is_lawful", [True, False])
+def test_trades_at_the_end_without_a_time_or_an_auction(
+    is_lawful: bool, tmp_path: Path, capsys: pytest.CaptureFixture[str]
+) -> None:
+    """They are of the auctions that may have them, with the fault of the first."""
+    made = [row for row in passed_over(False) if row.startswith("trade,")]
+    rows = [row for row in passed_over(True) if not row.startswith("trade,")]
+    if is_lawful:
+        made[:3] = [trade("", *it)[:-1] for it in (("B", "A", 7), ("F", "A", 6), ("F", "C", 5))]
+        made[3:] = [trade("", *it)[:-1] for it in (("E", "C", 11), ("E", "D", 1), ("G", "D", 7))]
+    made = [row.replace("intraday", "").replace("closing", "") for row in made]
+    text = "".join(f"{row}\n" for row in [*rows, *made])
+    text = text.replace(",intraday,", ",,").replace(",closing,", ",,")
+    lines = lines_of(text, "intraday,closing", tmp_path, capsys, 5 if is_lawful else 4)
+    assert f"findings {0 if is_lawful else 1}" in lines
+    certain = [line for line in lines if line.startswith("row ")]
+    assert is_lawful or "lawful A 13 at 10.00: A entered 08:00:00 stands before " in certain[0]

@@ -22,6 +22,7 @@ from callauction.verdict.rows import (
     BAD, FILL, INTERRUPTED, MARKET, NEW, OF_ORDERS, REPLACE, TRADE, UNCROSS, Doubt, Rows,
 )  # fmt: skip
 from callauction.verdict.spelling import respelled
+from callauction.verdict.standing import Change, Day, standing
 from callauction.verdict.units import in_one_unit, why_two_units
 from callauction.verdict.unnamed import namings, with_names
 
@@ -33,9 +34,6 @@ CORRECTED = "an auction has two results: the later one may correct the other"
 UNNAMED = "a result may be missing or correct another, and none says which auction it is of"
 MOST_READINGS = 64
 """How many readings are tried."""
-Day = tuple[Rows, Rules]
-Change = tuple[Callable[[Day], Day], str]
-"""What is read otherwise, and why."""
 
 
 def judged_day(rows: Rows, rules: Rules, whole: Rows, watch: Watch = iter) -> Judgement:
@@ -64,7 +62,7 @@ def judged_day(rows: Rows, rules: Rules, whole: Rows, watch: Watch = iter) -> Ju
     first = found
     for those in sorted(filter(None, readings), key=len)[:MOST_READINGS]:
         found = _without(found, first, (rows, rules), those)
-    return found
+    return standing(found, (rows, rules), [each for those in ways for each in those])
 
 
 def _without(found: Judgement, first: Judgement, day: Day, those: list[Change]) -> Judgement:
