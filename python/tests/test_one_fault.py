@@ -1,8 +1,11 @@
 """One fault is one finding, in words that are true: of each day the fault is planted by hand."""
+import datetime
 from pathlib import Path
 
 import pytest
 from callauction.__main__ import main
+from extracts import Rows
+from test_desk import audited, base_day, text_of
 
 HEADER = "event,order,side,price,quantity,surplus,auction,trades,bid,ask,time\n"
 
@@ -167,3 +170,50 @@ def test_trades_at_the_end_without_a_time_or_an_auction(
     assert f"findings {0 if is_lawful else 1}" in lines
     certain = [line for line in lines if line.startswith("row ")]
     assert is_lawful or "lawful A 13 at 10.00: A entered 08:00:00 stands before " in certain[0]
+
+
+def over_midnight(is_wrong: bool) -> Rows:
+    """The rows of a lawful day whose opening is at 23:59:59, or with a wrong surplus at its end."""
+    rows = [dict(row) for row in base_day().rows]
+    ends = [row for row in rows if row["event"] == "uncross"]
+    ends[-1]["surplus"] = str(int(ends[-1]["surplus"]) + is_wrong)
+    shift = datetime.timedelta(days=1, seconds=-1) - of_clock(ends[0]["time"])
+    for row in rows:
+        row["moment"] = datetime.datetime(2026, 11, 27) + of_clock(row.pop("time")) + shift
+    return rows
+
+
+def of_clock(text: str) -> datetime.timedelta:
+    return datetime.datetime.fromisoformat(f"2026-11-27T{text}") - datetime.datetime(2026, 11, 27)
+
+
+@pytest.mark.parametrize("is_wrong", [False, True])
+@pytest.mark.parametrize("form, has_sequence, words, wrong", [
+    ("%H:%M:%S.%f", True, ["--sort"], 4), ("%H:%M:%S.%f", False, ["--sort"], 5),
+    ("%Y-%m-%dT%H:%M:%S.%f", False, [], 4), ("%Y-%m-%dT%H:%M:%S.%f", True, ["--sort"], 4),
+])  # fmt: skip
+def test_a_session_over_midnight_is_one_day(
+    form: str, has_sequence: bool, words: list[str], wrong: int, is_wrong: bool, tmp_path: Path,
+    capsys: pytest.CaptureFixture[str],
+) -> None:  # fmt: skip
+    """Its dates or its sequence say so; else it is what its rows may be."""
+    rows = over_midnight(is_wrong)
+    for number, row in enumerate(rows, 100):
+        row["time"] = row.pop("moment").strftime(form)
+        row |= {"sequence": str(number)} if has_sequence else {}
+    found = audited(text_of(rows), words, tmp_path)
+    assert found == (wrong if is_wrong else 0), capsys.readouterr()
+
+
+def test_results_of_two_days_are_not_one(
+    tmp_path: Path, capsys: pytest.CaptureFixture[str]
+) -> None:
+    """A closing and the next day's opening, which are less than a day apart."""
+    rows = over_midnight(False)
+    for row in rows:
+        row["time"] = row.pop("moment").isoformat()
+        row["auction"] = {"opening": "closing", "closing": "opening"}.get(
+            row.get("auction", ""), row.get("auction", "")
+        )
+    assert audited(text_of(rows), [], tmp_path) == 1
+    assert "results of two days" in capsys.readouterr().err

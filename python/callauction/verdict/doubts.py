@@ -15,6 +15,7 @@ import numpy
 from callauction.verdict import clocks
 from callauction.verdict.cells import Ints, Mask
 from callauction.verdict.comparing import Difference, Fill, Trade, keys_of, members_of
+from callauction.verdict.mixed import is_one_session
 from callauction.verdict.phases import Book, Result
 from callauction.verdict.reading import ExtractError
 from callauction.verdict.rows import (
@@ -114,7 +115,9 @@ class Doubts:
         for place in [*self.uncrosses[:1].tolist(), *self.orders[starts].tolist()]:
             known.setdefault(rows.names.date(place), place)
         labels = [rows.labels[place] for date, place in known.items() if date is not None][:2]
-        if len(labels) < 2:
+        if self.rows.next_day:
+            return Reason(self.rows.next_day)
+        if len(labels) < 2 or is_one_session(self.rows):
             return None
         return Reason(f"rows {labels[0]} and {labels[1]} are of two days: --where leaves one out")
 
@@ -180,6 +183,8 @@ class Doubts:
         """
         if self.gap is not None and place >= self.gap[0]:
             return self.gap[1]
+        if self.rows.next_day:
+            return self.rows.next_day
         odd = (row for row in self.bad if row.doubt is Doubt.ANY and row.since < place)
         return next((row.unknown for row in odd), "")
 

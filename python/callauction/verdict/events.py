@@ -19,6 +19,7 @@ from callauction.verdict.cells import Cells, Codes, Ints, Mask, numbered, paired
 from callauction.verdict.columns import EVENTS, KINDS
 from callauction.verdict.holes import find_holes, gaps_of, remark_of
 from callauction.verdict.joining import join_sides, take_busted
+from callauction.verdict.mixed import LONGEST
 from callauction.verdict.names import make_keys
 from callauction.verdict.reading import ExtractError, Reading, Table
 from callauction.verdict.rows import (
@@ -55,6 +56,10 @@ def rows_of(
     kind = rows.kind.copy()
     if reading.sort and "time" in columns.names:
         rows.slack = _slack(columns, kind)
+        later = numpy.flatnonzero((time >= clocks.DAY) & (time < 2 * clocks.DAY))
+        if len(later) and sequence is None:
+            first = columns.source.labels[later[0]]
+            rows.next_day = f"the time of row {first} has no date: is it the next day's?"
     _look_at_orders(rows, columns, is_market)
     pairs = columns.source.cells(reading.pair).codes()[0] if reading.pair else None
     join_sides(rows, pairs, lead)
@@ -165,14 +170,36 @@ def _ordered(
         _refuse_unread(columns, time)
         _refuse_forms(columns, lead[order])
         known = numpy.where(time != clocks.NONE, numpy.arange(len(time)), 0)
-        keys = (time[numpy.maximum.accumulate(known)], lead[order])
         sequence = columns.sequence()
+        time = _over_midnight(time, sequence, lead[order])
+        keys = (time[numpy.maximum.accumulate(known)], lead[order])
         again = numpy.lexsort(keys if sequence is None else (sequence, *keys))
         if (again[1:] < again[:-1]).any():
             _refuse_untimed(columns, time)
-        order = order[again]
-        columns, time = _timed(table, order, reading)
+        order, time = order[again], time[again]
+        columns, _ = _timed(table, order, reading)
     return columns, order, time
+
+
+def _over_midnight(time: Ints, sequence: Ints | None, lead: Codes) -> Ints:
+    """The times, those of an instrument a day later that go on in its sequence, or among its rows,
+    behind one that is later by more than LONGEST: once, as a session goes on over midnight. Dates
+    say it themselves.
+    """
+    timed = numpy.flatnonzero(time != clocks.NONE)
+    is_known = sequence is None or (sequence[timed] >= 0).all()
+    if (time[timed] >= clocks.DAY).any() or not is_known:
+        return time
+    keys = (timed, lead[timed]) if sequence is None else (timed, sequence[timed], lead[timed])
+    timed = timed[numpy.lexsort(keys)]
+    falls = numpy.flatnonzero(numpy.diff(time[timed]) < -LONGEST)
+    found = time.copy()
+    for number in numpy.unique(lead[timed[falls]]).tolist():
+        ends = falls[(lead[timed[falls]] == number) & (lead[timed[falls + 1]] == number)]
+        if len(ends) == 1:
+            behind = timed[int(ends[0]) + 1 :]
+            found[behind[lead[behind] == number]] += clocks.DAY
+    return found
 
 
 def _refuse_unread(columns: Columns, time: Ints) -> None:

@@ -15,6 +15,10 @@ from callauction.verdict.rows import (
 )  # fmt: skip
 from callauction.words import AUCTIONS
 
+LONGEST = 18 * 3600 * clocks.SECOND
+"""How long a session may be in nanoseconds: times that fall by more are the next day's."""
+
+
 def _results(rows: Rows) -> Ints:
     """The rows uncross that publish something of an auction that ended."""
     says = (rows.price != MISSING) | (rows.quantity >= 0)
@@ -23,6 +27,18 @@ def _results(rows: Rows) -> Ints:
 
 
 # ---- two days
+
+
+def is_one_session(rows: Rows) -> bool:
+    """Whether rows of two dates are of one day, as of a session over midnight: all are within less
+    than LONGEST, and results name auctions in their order.
+    """
+    at = rows.time[(rows.kind != BAD) & (rows.time != clocks.NONE)]
+    names = rows.state[_results(rows)]
+    return bool(
+        len(at) and at.max() - at.min() < LONGEST and (names > 0).all()
+        and (numpy.diff(names.astype("i8")) > 0).all()
+    )  # fmt: skip
 
 
 def refuse_days(rows: Rows) -> None:
@@ -34,7 +50,7 @@ def refuse_days(rows: Rows) -> None:
         date = rows.names.date(place)
         days += [(str(date), place)] if date is not None else []
     (first, one), (last, other) = min(days, default=("", 0)), max(days, default=("", 0))
-    if first != last:
+    if first != last and not is_one_session(rows):
         condition = f"{rows.names.theirs['time']} < {last}T00:00:00"
         _refuse(rows, (one, other), "results of two days", f"--where '{condition}'")
     of_auctions = [results[rows.state[results] == 1 + number] for number in range(len(AUCTIONS))]

@@ -225,6 +225,10 @@ class Rows:
     bad: list[BadRow] = dataclasses.field(default_factory=list)
     holes: list[Hole] = dataclasses.field(default_factory=list)
     """Where rows may be missing, which are no bad rows."""
+    next_day: str = ""
+    """Why rows of the next day may be of the same one, where times without dates fall by most of a
+    day and no sequence says that they go on.
+    """
     lacks_rows: bool = False
     """Whether rows are missing in a sequence whose numbers else have no gap."""
     notes: Counter[str] = dataclasses.field(default_factory=Counter)
